@@ -1,0 +1,15 @@
+//! One direction of a relayed connection: a bounded ring of bytes between a source and a destination.
+//!
+//! Bytes go in behind ([`Flow::take_in`]) and leave at the front ([`Flow::drop_front`]) in the same
+//! order. When the source is at its end of input ([`Flow::mark_end`]) nothing more goes in, and once
+//! the ring is empty the end may be passed on to the destination ([`Flow::mark_shut`], shutdown(2)).
+//!
+//! Contracts see a [`Flow`] as the record `Stream` of `specs/Stream.antt`: a list of bytes, its
+//! capacity, and the two marks. How the bytes lie in memory shows nowhere.
+#![tactic(auto)]
+
+mod flow;
+#[cfg(test)]
+mod tests;
+
+pub use flow::Flow;
