@@ -1,0 +1,26 @@
+-- The name of an end: which end of which connection, told apart from every earlier connection in the
+-- same slot by the slot's generation.
+use Rattle.std.specs.Prelude.{ℕ, ◌+◌, ◌*◌, ◌≤◌}
+use Rattle.token.specs.declared.side.Side.{Side}
+use Rattle.token.specs.Sides.{side_number}
+
+pub record EndName : Type 0 where
+  pub slot : ℕ
+  pub side : Side
+  pub generation : ℕ
+
+-- the slots that have a name
+abbrev pub IsSlot : ℕ → Type 0
+IsSlot slot = slot ≤ 32767
+
+-- the generations that have a name, 1 to 2^47 - 1: a slot that was never opened has generation 0
+abbrev pub IsGeneration : ℕ → Type 0
+IsGeneration generation = (1 ≤ generation) × (generation ≤ 140737488355327)
+
+-- the names that there are
+abbrev pub IsEndName : EndName → Type 0
+IsEndName name = IsSlot name.slot × IsGeneration name.generation
+
+-- the number of a name: the generation above sixteen bits, which are the slot and, last, the side
+abbrev pub end_number : EndName → ℕ
+end_number name = name.generation * 65536 + name.slot * 2 + side_number name.side

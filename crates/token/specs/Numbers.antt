@@ -1,0 +1,40 @@
+-- What a number stands for that a readiness queue hands back: the listener, the waker, or one end of
+-- one connection.
+use Rattle.std.specs.Prelude.{◌≡◌, ℕ, ◌+◌, ◌*◌, ◌/◌, ◌%◌, ◌==◌, nat_le, ◌&&◌, if◌then◌else◌, ⊤, Option, Some, None}
+use Rattle.token.specs.declared.side.Side.{Side}
+use Rattle.token.specs.declared.side.Side.TheVariants.{Client, Target}
+use Rattle.token.specs.declared.name.Name.{Name}
+use Rattle.token.specs.declared.name.Name.TheVariants.{Listener, Waker, End}
+use Rattle.token.specs.Names.{EndName, IsEndName, end_number}
+
+-- the number of a name
+abbrev pub name_number : Name → ℕ
+name_number Listener = 0
+name_number Waker = 1
+name_number (End name) = end_number name
+
+-- the names that there are
+abbrev pub IsName : Name → Type 0
+IsName Listener = ⊤
+IsName Waker = ⊤
+IsName (End name) = IsEndName name
+
+-- the side of a bit
+abbrev pub side_of : ℕ → Side
+side_of bit = if bit == 0 then Client else Target
+
+-- the parts of an end's number
+abbrev pub end_of : ℕ → EndName
+end_of number = record { slot = number % 65536 / 2; side = side_of (number % 2); generation = number / 65536 }
+
+-- the name of a number, if it has one
+abbrev pub name_of : ℕ → Option Name
+name_of number =
+    if number == 0 then Some Listener
+    else if number == 1 then Some Waker
+    else if nat_le 1 (number / 65536) && nat_le (number / 65536) 140737488355327 then Some (End (end_of number))
+    else None
+
+-- the generation of a slot that is opened once more; none after the last that has a name
+abbrev pub generation_after : ℕ → Option ℕ
+generation_after generation = if generation == 140737488355327 then None else Some (generation + 1)

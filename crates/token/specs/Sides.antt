@@ -1,0 +1,41 @@
+-- The two sides of a connection, and the two directions in which bytes go through it.
+use Rattle.std.specs.Prelude.{ℕ}
+use Rattle.token.specs.declared.side.Side.{Side}
+use Rattle.token.specs.declared.side.Side.TheVariants.{Client, Target}
+use Rattle.token.specs.declared.direction.Direction.{Direction}
+use Rattle.token.specs.declared.direction.Direction.TheVariants.{Up, Down}
+
+-- the side across
+abbrev pub other_side : Side → Side
+other_side Client = Target
+other_side Target = Client
+
+-- the bit that stands for a side in a number
+abbrev pub side_number : Side → ℕ
+side_number Client = 0
+side_number Target = 1
+
+-- the way back
+abbrev pub opposite : Direction → Direction
+opposite Up = Down
+opposite Down = Up
+
+-- the side whose bytes go this way
+abbrev pub source : Direction → Side
+source Up = Client
+source Down = Target
+
+-- the side to which bytes go this way
+abbrev pub destination : Direction → Side
+destination Up = Target
+destination Down = Client
+
+-- the direction whose source a side is
+abbrev pub outward : Side → Direction
+outward Client = Up
+outward Target = Down
+
+-- the direction whose destination a side is
+abbrev pub inward : Side → Direction
+inward Client = Down
+inward Target = Up

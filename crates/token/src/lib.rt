@@ -1,0 +1,23 @@
+//! The words that every layer of the relay shares, and the numbers by which a readiness queue names
+//! what it reports on.
+//!
+//! A connection has two [`Side`]s and two [`Direction`]s, and a call on one of its sockets fails by a
+//! [`Kind`]. An end of a connection is named by a [`Token`]: the slot in which the connection lies,
+//! the side, and the slot's generation, which tells a report for this connection from a late one for
+//! an earlier connection in the same slot. A token travels through epoll(7) as one number
+//! ([`Token::value`]), and [`unpack`] reads any number back.
+#![tactic(auto)]
+
+mod direction;
+mod kind;
+mod name;
+mod side;
+#[cfg(test)]
+mod tests;
+mod token;
+
+pub use direction::Direction;
+pub use kind::Kind;
+pub use name::{Name, unpack};
+pub use side::Side;
+pub use token::{MAX_GEN, MAX_SLOT, Token, TokenFault, next_gen};

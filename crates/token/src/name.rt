@@ -1,0 +1,46 @@
+ghost use Rattle.std.specs.Prelude.{◌≡◌, ◌≤◌, ◌↔◌, Some};
+ghost use Rattle.token.specs.Numbers.{IsName, name_number, name_of};
+ghost use Rattle.token.specs.declared.name.Name.{Name};
+
+use crate::side::Side;
+use crate::token::Token;
+
+/// What a readiness queue reports on.
+#[derive(Clone, Copy, Debug, PartialEq, Eq)]
+pub enum Name {
+    /// The listening socket: number 0.
+    Listener,
+    /// The waker, by which another thread ends a wait for reports: number 1.
+    Waker,
+    /// One end of one connection.
+    End(Token),
+}
+
+/// The name of a number, if it has one: the reverse of [`Token::value`] for the ends.
+pub fn unpack(number: u64) -> Option<Name>
+    ensures value { result ≡ name_of number }
+    ensures inverse { (name : Name) → IsName name → (result ≡ Some name) ↔ (name_number name ≡ number) }
+{
+    match number {
+        0 => Some(Name::Listener),
+        1 => Some(Name::Waker),
+        _ => end_of(number),
+    }
+}
+
+/// The end that a number names, if it names one: it is neither the listener's nor the waker's.
+fn end_of(number: u64) -> Option<Name>
+    requires { 2 ≤ number }
+    ensures { result ≡ name_of number }
+{
+    let slot = (number % 65_536 / 2) as usize;
+    let side = if number % 2 == 0 {
+        Side::Client
+    } else {
+        Side::Target
+    };
+    match Token::pack(slot, side, number / 65_536) {
+        Ok(token) => Some(Name::End(token)),
+        Err(_) => None,
+    }
+}

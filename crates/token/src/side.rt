@@ -1,0 +1,33 @@
+ghost use Rattle.std.specs.Prelude.{◌≡◌};
+ghost use Rattle.token.specs.Sides.{other_side, side_number};
+
+/// One of the two ends of a connection.
+#[derive(Clone, Copy, Debug, PartialEq, Eq)]
+pub enum Side {
+    /// The end that connected to the relay.
+    Client,
+    /// The end to which the relay connected.
+    Target,
+}
+
+impl Side {
+    /// The side across from this one.
+    pub fn other(self) -> Side
+        ensures { result ≡ other_side self }
+    {
+        match self {
+            Side::Client => Side::Target,
+            Side::Target => Side::Client,
+        }
+    }
+
+    /// The side's bit in a token: 0 for the client, 1 for the target.
+    pub fn bit(self) -> u64
+        ensures { result ≡ side_number self }
+    {
+        match self {
+            Side::Client => 0,
+            Side::Target => 1,
+        }
+    }
+}

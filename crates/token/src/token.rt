@@ -1,0 +1,112 @@
+ghost use Rattle.std.specs.Prelude.{◌≡◌, ◌≤◌, ◌<◌, ◌+◌, ◌↔◌, Some, Ok, Err, IsErrOf};
+ghost use Rattle.token.specs.Names.{EndName, IsSlot, IsGeneration, end_number};
+ghost use Rattle.token.specs.Numbers.{name_of, generation_after};
+ghost use Rattle.token.specs.declared.name.Name.TheVariants.{End};
+
+use crate::side::Side;
+use std::marker::Model;
+use thiserror::Error;
+
+/// The highest number of a slot.
+pub const MAX_SLOT: usize = 32_767;
+
+/// The highest generation of a slot. A slot that has reached it is not opened again.
+pub const MAX_GEN: u64 = 140_737_488_355_327;
+
+/// Why a slot and a generation have no token.
+#[derive(Clone, Copy, Debug, PartialEq, Eq, Error)]
+pub enum TokenFault {
+    /// The slot is over [`MAX_SLOT`].
+    #[error("slot out of range")]
+    SlotRange,
+    /// The generation is 0 or over [`MAX_GEN`].
+    #[error("generation out of range")]
+    GenRange,
+}
+
+/// The name of one end of one connection, by which a readiness queue reports on it: the slot, the side
+/// and the slot's generation.
+#[derive(Clone, Copy, Debug, PartialEq, Eq)]
+pub struct Token {
+    slot: usize,
+    side: Side,
+    generation: u64,
+}
+
+impl Model for Token {
+    ghost use Rattle.std.specs.Prelude.{◌≤◌};
+    ghost use Rattle.token.specs.Names.{EndName, IsSlot, IsGeneration};
+
+    ghost Value = { EndName };
+
+    ghost view = { λ t. record { slot = t.slot; side = t.side; generation = t.generation } };
+
+    ghost invariant = { λ t. IsSlot t.slot × IsGeneration t.generation };
+
+    ghost inverse = { λ name. record { slot = name.slot; side = name.side; generation = name.generation } };
+}
+
+impl Token {
+    /// The token of an end. The slot is looked at first.
+    pub fn pack(slot: usize, side: Side, generation: u64) -> Result<Token, TokenFault>
+        ensures packed { IsSlot slot → IsGeneration generation → result ≡ Ok (record { slot = slot; side = side; generation = generation }) }
+        ensures slot_range { IsErrOf result TokenFault.SlotRange ↔ (32767 < slot) }
+        ensures gen_range { IsErrOf result TokenFault.GenRange ↔ (IsSlot slot × ¬ IsGeneration generation) }
+    {
+        if slot > MAX_SLOT {
+            return Err(TokenFault::SlotRange);
+        }
+        if generation == 0 || generation > MAX_GEN {
+            return Err(TokenFault::GenRange);
+        }
+        Ok(Token {
+            slot,
+            side,
+            generation,
+        })
+    }
+
+    /// The slot in which the connection lies.
+    pub fn slot(self) -> usize
+        ensures value { result ≡ self.slot }
+        ensures range { IsSlot result }
+    {
+        self.slot
+    }
+
+    /// The side of the connection on which the end is.
+    pub fn side(self) -> Side
+        ensures { result ≡ self.side }
+    {
+        self.side
+    }
+
+    /// How often the slot had been opened when the connection began.
+    pub fn generation(self) -> u64
+        ensures value { result ≡ self.generation }
+        ensures range { IsGeneration result }
+    {
+        self.generation
+    }
+
+    /// The token as one number: generation * 65,536 + slot * 2 + side.
+    pub fn value(self) -> u64
+        ensures number { result ≡ end_number self }
+        ensures unpacks { name_of result ≡ Some (End self) }
+    {
+        self.generation * 65_536 + self.slot as u64 * 2 + self.side.bit()
+    }
+}
+
+/// The generation of a slot of generation `generation` once it is opened again: one more, or none after
+/// [`MAX_GEN`].
+pub fn next_gen(generation: u64) -> Option<u64>
+    requires { generation ≤ 140737488355327 }
+    ensures { result ≡ generation_after generation }
+{
+    if generation == MAX_GEN {
+        None
+    } else {
+        Some(generation + 1)
+    }
+}
