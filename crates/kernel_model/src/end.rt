@@ -1,0 +1,325 @@
+ghost use Rattle.std.specs.Prelude.{◌≡◌, Ok, Err, false, if◌then◌else◌};
+ghost use Rattle.std.specs.Option.{option_copied};
+ghost use Rattle.kernel_model.specs.Outcome.{guard, Meets, MeetsAlways, Tells, TellsAlways};
+ghost use Rattle.kernel_model.specs.Ends.{opened, is_readable, is_writable, arrival, finish, failure, new_room};
+ghost use Rattle.kernel_model.specs.Replies.{bytes_read, failed, blocked_write, wrote, after_read, after_write, after_join, after_shut};
+
+use crate::{Refusal, Reply};
+use std::alloc::Global;
+use std::marker::Model;
+use std::mem;
+use token::{Kind, Side};
+
+/// One end of a connection: a stream socket by plain values.
+#[derive(Drop)]
+pub struct End {
+    arrived: Vec<u8>,
+    /// How many of the bytes that arrived were read.
+    read: usize,
+    taken: Vec<u8>,
+    fin: bool,
+    err: bool,
+    room: bool,
+    shut: bool,
+    read_armed: bool,
+    write_armed: bool,
+}
+
+impl Model for End {
+    ghost use Rattle.std.specs.Prelude.{◌≤◌, drop, vec_len};
+    ghost use Rattle.kernel_model.specs.Ends.{Endpoint};
+
+    ghost Value = { Endpoint };
+
+    ghost view = { λ e. record {
+      arrived = e.arrived.items;
+      unread = drop e.read e.arrived.items;
+      taken = e.taken.items;
+      fin = e.fin;
+      err = e.err;
+      room = e.room;
+      shut = e.shut;
+      read_armed = e.read_armed;
+      write_armed = e.write_armed;
+    } };
+
+    ghost invariant = { λ e. e.read ≤ vec_len e.arrived };
+}
+
+impl End {
+    /// An end as its connection opens. The client's is connected and has room; the target's is still
+    /// connecting, and gets room when the connect has ended. Takes no memory.
+    pub fn new(alloc: Global, side: Side) -> End
+        ensures { result ≡ opened side }
+    {
+        End {
+            arrived: Vec::new(alloc),
+            read: 0,
+            taken: Vec::new(alloc),
+            fin: false,
+            err: false,
+            room: side == Side::Client,
+            shut: false,
+            read_armed: false,
+            write_armed: false,
+        }
+    }
+
+    /// Every byte that ever came.
+    pub fn arrived(&self) -> &[u8]
+        ensures { result.now ≡ self.now.arrived }
+    {
+        self.arrived.as_slice()
+    }
+
+    /// The bytes that were not read yet.
+    pub fn unread(&self) -> &[u8]
+        ensures { result.now ≡ self.now.unread }
+    {
+        &self.arrived[self.read..]
+    }
+
+    /// Every byte that writes took.
+    pub fn taken(&self) -> &[u8]
+        ensures { result.now ≡ self.now.taken }
+    {
+        self.taken.as_slice()
+    }
+
+    /// Whether the peer's end of input has come. Unread bytes may stand before it.
+    pub fn has_fin(&self) -> bool
+        ensures { result ≡ self.now.fin }
+    {
+        self.fin
+    }
+
+    /// Whether an error has come, as a reset by the peer.
+    pub fn has_err(&self) -> bool
+        ensures { result ≡ self.now.err }
+    {
+        self.err
+    }
+
+    /// Whether a write would take at least one byte.
+    pub fn has_room(&self) -> bool
+        ensures { result ≡ self.now.room }
+    {
+        self.room
+    }
+
+    /// Whether sending was shut down.
+    pub fn is_shut(&self) -> bool
+        ensures { result ≡ self.now.shut }
+    {
+        self.shut
+    }
+
+    /// Whether the next thing to read is to be reported, since a read answered blocked.
+    pub fn is_read_armed(&self) -> bool
+        ensures { result ≡ self.now.read_armed }
+    {
+        self.read_armed
+    }
+
+    /// Whether the next room is to be reported, since a write or a join answered blocked.
+    pub fn is_write_armed(&self) -> bool
+        ensures { result ≡ self.now.write_armed }
+    {
+        self.write_armed
+    }
+
+    /// Whether a read would not block: unread bytes, the end of input, or an error.
+    pub fn is_readable(&self) -> bool
+        ensures { result ≡ is_readable self.now }
+    {
+        self.read < self.arrived.len() || self.fin || self.err
+    }
+
+    /// Whether a write would not block: room, or an error.
+    pub fn is_writable(&self) -> bool
+        ensures { result ≡ is_writable self.now }
+    {
+        self.room || self.err
+    }
+
+    /// Bytes come from the peer, at least one. Tells whether that is to be reported. Not allowed
+    /// behind the end of input or an error.
+    pub fn arrive(&mut self, bytes: &[u8]) -> Result<bool, Refusal>
+        ensures { Tells (arrival self.old bytes.now) self.old self.new result }
+    {
+        if bytes.is_empty() || self.fin || self.err {
+            return Err(Refusal::NotAllowed);
+        }
+        self.arrived.extend_from_slice(bytes)?;
+        Ok(self.report_read())
+    }
+
+    /// The peer's end of input comes. Tells whether that is to be reported. Not allowed twice, nor
+    /// behind an error. Takes no memory.
+    pub fn fin(&mut self) -> Result<bool, Refusal>
+        ensures { TellsAlways (finish self.old) self.old self.new result }
+    {
+        if self.fin || self.err {
+            return Err(Refusal::NotAllowed);
+        }
+        self.fin = true;
+        Ok(self.report_read())
+    }
+
+    /// An error comes, as a reset by the peer. Tells whether that is to be reported. Not allowed
+    /// twice. Takes no memory.
+    pub fn reset(&mut self) -> Result<bool, Refusal>
+        ensures { TellsAlways (failure self.old) self.old self.new result }
+    {
+        if self.err {
+            return Err(Refusal::NotAllowed);
+        }
+        self.err = true;
+        let read = self.report_read();
+        let write = self.report_write();
+        Ok(read || write)
+    }
+
+    /// Room for writes comes. Tells whether that is to be reported. Not allowed where there is room,
+    /// nor behind an error. Takes no memory.
+    pub fn room(&mut self) -> Result<bool, Refusal>
+        ensures { TellsAlways (new_room self.old) self.old self.new result }
+    {
+        if self.room || self.err {
+            return Err(Refusal::NotAllowed);
+        }
+        self.room = true;
+        Ok(self.report_write())
+    }
+
+    /// The bytes that a read of at most `most` hands over where it answers with `count` of them: the
+    /// first that are unread. None where it may not answer so.
+    pub fn bytes_read(&self, most: usize, count: usize) -> Option<&[u8]>
+        ensures { option_copied result ≡ bytes_read self.now most count }
+    {
+        if count == 0 || count > most {
+            return None;
+        }
+        self.unread().get(..count)
+    }
+
+    /// A read of at most `most` bytes gets this reply (read(2)). Takes no memory.
+    pub fn read(&mut self, most: usize, reply: Reply) -> Result<(), Refusal>
+        ensures { MeetsAlways (after_read self.old most reply) self.old self.new result }
+    {
+        match reply {
+            Reply::Bytes(count) => {
+                if self.bytes_read(most, count).is_none() {
+                    return Err(Refusal::NotAllowed);
+                }
+                self.read += count;
+                Ok(())
+            }
+            Reply::End => allowed(self.read == self.arrived.len() && self.fin),
+            Reply::Blocked => {
+                if self.is_readable() {
+                    return Err(Refusal::NotAllowed);
+                }
+                self.read_armed = true;
+                Ok(())
+            }
+            Reply::Interrupted => Ok(()),
+            Reply::Failed(kind) => allowed(kind != Kind::Zero),
+            Reply::Wrote(..) | Reply::Joined | Reply::Shut => Err(Refusal::NotAllowed),
+        }
+    }
+
+    /// A write of `offer` gets this reply (write(2)).
+    pub fn write(&mut self, offer: &[u8], reply: Reply) -> Result<(), Refusal>
+        ensures { Meets (after_write self.old offer.now reply) self.old self.new result }
+    {
+        match reply {
+            Reply::Wrote(count, full) => self.take(offer, count, full),
+            Reply::Blocked => self.block_write(),
+            Reply::Interrupted | Reply::Failed(_) => Ok(()),
+            Reply::Bytes(_) | Reply::End | Reply::Joined | Reply::Shut => Err(Refusal::NotAllowed),
+        }
+    }
+
+    /// The question whether the connect has ended gets this reply (connect(2)). Takes no memory.
+    pub fn join(&mut self, reply: Reply) -> Result<(), Refusal>
+        ensures { MeetsAlways (after_join self.old reply) self.old self.new result }
+    {
+        match reply {
+            Reply::Joined => allowed(self.room),
+            Reply::Blocked => self.block_write(),
+            Reply::Interrupted => Ok(()),
+            Reply::Failed(kind) => allowed(kind != Kind::Zero),
+            Reply::Bytes(_) | Reply::End | Reply::Wrote(..) | Reply::Shut => {
+                Err(Refusal::NotAllowed)
+            }
+        }
+    }
+
+    /// A shutdown of sending gets this reply (shutdown(2) with `SHUT_WR`). Takes no memory.
+    pub fn shut(&mut self, reply: Reply) -> Result<(), Refusal>
+        ensures { MeetsAlways (after_shut self.old reply) self.old self.new result }
+    {
+        match reply {
+            Reply::Shut => {
+                self.shut = true;
+                Ok(())
+            }
+            Reply::Interrupted => Ok(()),
+            Reply::Failed(kind) => allowed(kind != Kind::Zero),
+            Reply::Bytes(_) | Reply::End | Reply::Wrote(..) | Reply::Joined | Reply::Blocked => {
+                Err(Refusal::NotAllowed)
+            }
+        }
+    }
+
+    /// A read is to be reported, or not: tells it and clears the arm.
+    fn report_read(&mut self) -> bool
+        ensures told { result ≡ self.old.read_armed }
+        ensures cleared { self.new ≡ record self.old { read_armed = false } }
+    {
+        mem::replace(&mut self.read_armed, false)
+    }
+
+    /// Room is to be reported, or not: tells it and clears the arm.
+    fn report_write(&mut self) -> bool
+        ensures told { result ≡ self.old.write_armed }
+        ensures cleared { self.new ≡ record self.old { write_armed = false } }
+    {
+        mem::replace(&mut self.write_armed, false)
+    }
+
+    /// A write takes the first `count` bytes of the offer.
+    fn take(&mut self, offer: &[u8], count: usize, full: bool) -> Result<(), Refusal>
+        ensures { Meets (wrote self.old offer.now count full) self.old self.new result }
+    {
+        if !self.room || count == 0 || count > offer.len() {
+            return Err(Refusal::NotAllowed);
+        }
+        self.taken.extend_from_slice(&offer[..count])?;
+        self.room = !full;
+        Ok(())
+    }
+
+    /// A write or a join would block.
+    fn block_write(&mut self) -> Result<(), Refusal>
+        ensures { MeetsAlways (blocked_write self.old) self.old self.new result }
+    {
+        if self.is_writable() {
+            return Err(Refusal::NotAllowed);
+        }
+        self.write_armed = true;
+        Ok(())
+    }
+}
+
+/// A reply that changes nothing, where it is allowed.
+fn allowed(is_allowed: bool) -> Result<(), Refusal>
+    ensures { result ≡ (if is_allowed then Ok tt else Err Refusal.NotAllowed) }
+{
+    if is_allowed {
+        Ok(())
+    } else {
+        Err(Refusal::NotAllowed)
+    }
+}

@@ -1,0 +1,23 @@
+use token::Kind;
+
+/// What a socket replies to a call, by its sizes. Which replies a call may get, and what each does to
+/// the end, stands in `specs/Replies.antt`.
+#[derive(Clone, Copy, Debug, PartialEq, Eq)]
+pub enum Reply {
+    /// To a read: this many bytes, at least one (read(2)).
+    Bytes(usize),
+    /// To a read: end of input, which is a count of 0 (read(2)).
+    End,
+    /// To a write: it took this many bytes, at least one. With `true` there is no room left (write(2)).
+    Wrote(usize, bool),
+    /// To the question whether the connect has ended: it has (connect(2)).
+    Joined,
+    /// To a shutdown: sending is shut down (shutdown(2)).
+    Shut,
+    /// To a read, a write or a join: nothing could be done now (EAGAIN).
+    Blocked,
+    /// To any call: a signal came first, and nothing was done (EINTR).
+    Interrupted,
+    /// To any call: it failed. A write alone may fail by taking 0 bytes.
+    Failed(Kind),
+}
