@@ -1,0 +1,5 @@
+pub mod Cuts
+pub mod Digits
+pub mod Keeping
+pub mod Reading
+pub mod Telling

@@ -1,0 +1,73 @@
+-- How the lines and words of a script are cut, and what numbers and bytes look like in it.
+use Rattle.std.specs.Prelude.{ℕ, ◌+◌, ◌-◌, ◌*◌, ◌^◌, ◌==◌, nat_lt, nat_le, Bool, true, false, not, ◌&&◌, ◌||◌, if◌then◌else◌, List, [], ◌∷◌, length, fold, Option, Some, None}
+use Rattle.std.specs.List.{slice_split, list_all}
+use Rattle.std.specs.Result.{result_ok}
+use Rattle.hex.specs.Hex.{decode_of}
+
+-- Lines end at LF, and the last may lack it. Words stand between single spaces. No other byte parts
+-- them.
+abbrev pub pieces_of : ℕ → List ℕ → List (List ℕ)
+pieces_of separator text = slice_split (λ byte. byte == separator) text
+
+abbrev pub lines_of : List ℕ → List (List ℕ)
+lines_of text = pieces_of 10 text
+
+abbrev pub words_of : List ℕ → List (List ℕ)
+words_of line = pieces_of 32 line
+
+-- a line, with its number in the text
+pub record NumberedLine : Type 0 where
+  pub number : ℕ
+  pub text : List ℕ
+
+-- the pieces between separators of what is left of a text, if anything is
+abbrev pub pieces_left : ℕ → Option (List ℕ) → List (List ℕ)
+pieces_left separator None = []
+pieces_left separator (Some rest) = pieces_of separator rest
+
+-- an empty line, and one that begins with #, says nothing
+abbrev pub says_nothing : List ℕ → Bool
+says_nothing [] = true
+says_nothing (byte ∷ bytes) = byte == 35
+
+-- the lines that say something, where the first of all has this number: the others count too
+abbrev pub telling_lines : ℕ → List (List ℕ) → List NumberedLine
+telling_lines n [] = []
+telling_lines n (text ∷ texts) =
+    if says_nothing text then telling_lines (n + 1) texts
+    else (record { number = n; text = text }) ∷ telling_lines (n + 1) texts
+
+-- decimal digits
+abbrev pub is_digit : ℕ → Bool
+is_digit byte = nat_le 48 byte && nat_le byte 57
+
+-- a number, and one more digit behind it
+abbrev pub with_digit : ℕ → ℕ → ℕ
+with_digit n digit = n * 10 + (digit - 48)
+
+-- the value of decimal digits, the highest first
+abbrev pub value_of : List ℕ → ℕ
+value_of digits = fold with_digit 0 digits
+
+-- one digit at least, and none but a lone 0 in front
+abbrev pub is_plain : List ℕ → Bool
+is_plain [] = false
+is_plain (digit ∷ []) = true
+is_plain (digit ∷ next ∷ digits) = not (digit == 48)
+
+-- the number that a text is in decimal digits without leading zeros, if that is below 2^64
+abbrev pub number_of : List ℕ → Option ℕ
+number_of text =
+    if is_plain text && (list_all is_digit text && nat_lt (value_of text) (2 ^ 64)) then Some (value_of text) else None
+
+-- digits of lower-case hexadecimal
+abbrev pub is_lower_hex : ℕ → Bool
+is_lower_hex byte = is_digit byte || (nat_le 97 byte && nat_le byte 102)
+
+-- two to 2,048 digits of lower-case hexadecimal, but for an odd number of them
+abbrev pub is_hex_text : List ℕ → Bool
+is_hex_text text = nat_lt 0 (length text) && (nat_le (length text) 2048 && list_all is_lower_hex text)
+
+-- the bytes that a text is in lower-case hexadecimal, 1 to 1,024 of them
+abbrev pub bytes_of : List ℕ → Option (List ℕ)
+bytes_of text = if is_hex_text text then result_ok (decode_of text) else None

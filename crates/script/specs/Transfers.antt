@@ -1,0 +1,61 @@
+-- One direction as a machine: a source, a ring and a destination, and what each step of a script does.
+use Rattle.std.specs.Prelude.{ℕ, min, not, ◌&&◌, if◌then◌else◌, ◌≡◌, List, [], ◌∷◌, take, Option, Some, None, option_map, Result, Ok, Err}
+use Rattle.token.specs.declared.side.Side.TheVariants.{Client, Target}
+use Rattle.flow.specs.Stream.{Stream, empty_stream, free_room, taken_in, dropped, ended, closed}
+use Rattle.kernel_model.specs.Ends.{opened, is_nonempty, arrival, finish, new_room}
+use Rattle.kernel_model.specs.Replies.{after_read, after_write, after_shut}
+use Rattle.kernel_model.specs.declared.reply.Reply.TheVariants as reply
+use Rattle.script.specs.declared.fault.Fault.{Fault}
+use Rattle.script.specs.declared.fault.Fault.TheVariants.{NotAllowed}
+use Rattle.script.specs.declared.step.Step.{Step}
+use Rattle.script.specs.declared.step.Step.TheVariants.{Arrive, Fin, Room, Read, End, Wrote, Shut}
+use Rattle.script.specs.declared.step.NumberedStep.{NumberedStep}
+use Rattle.script.specs.declared.transfer.Transfer.{Transfer}
+use Rattle.script.specs.Steps.{word_of}
+use Rattle.script.specs.Scripts.{Plan}
+use Rattle.script.specs.Faults.{and_then, Gives}
+
+-- nothing has come; the source is connected, and the destination has no room yet
+abbrev pub opening : ℕ → Transfer
+opening ring = record { source = opened Client; flow = empty_stream ring; destination = opened Target }
+
+-- the most bytes that the next read asks for
+abbrev pub read_size : Stream → ℕ
+read_size flow = min (free_room flow) 16384
+
+-- the ends and the ring after a step, if it is allowed: what came and what a socket replies by the
+-- rules of sockets, and no read once the end was seen, no shutdown before the last byte has left
+abbrev pub stepped : Transfer → Step → Option Transfer
+stepped t (Arrive bytes) = option_map (λ r. record t { source = r.value }) (arrival t.source bytes)
+stepped t Fin = option_map (λ r. record t { source = r.value }) (finish t.source)
+stepped t Room = option_map (λ r. record t { destination = r.value }) (new_room t.destination)
+stepped t (Read n) =
+    if t.flow.end_seen then None
+    else option_map (λ e. record t { source = e; flow = taken_in t.flow (take n t.source.unread) }) (after_read t.source (read_size t.flow) (reply.Bytes n))
+stepped t End =
+    if t.flow.end_seen then None
+    else option_map (λ e. record t { source = e; flow = ended t.flow }) (after_read t.source (read_size t.flow) reply.End)
+stepped t (Wrote n full) =
+    option_map (λ e. record t { destination = e; flow = dropped t.flow n }) (after_write t.destination t.flow.ring (reply.Wrote n full))
+stepped t Shut =
+    if t.flow.end_seen && (not (is_nonempty t.flow.ring) && not t.flow.shut)
+    then option_map (λ e. record t { destination = e; flow = closed t.flow }) (after_shut t.destination reply.Shut)
+    else None
+
+-- the step's outcome, or the fault of its line
+abbrev pub or_not_allowed : NumberedStep → Option Transfer → Result Transfer Fault
+or_not_allowed s (Some t) = Ok t
+or_not_allowed s None = Err (NotAllowed s.line (word_of s.step))
+
+-- the step of a line was made, or the fault is that of the line and nothing changed; or memory ran out
+abbrev pub Carries : Transfer → NumberedStep → Result (Unit {0}) Fault → Transfer → Type 0
+Carries old s (Ok x) new = or_not_allowed s (stepped old s.step) ≡ Ok new
+Carries old s (Err fault) new = Gives (or_not_allowed s (stepped old s.step)) (Err fault) × (new ≡ old)
+
+-- one step after another, to the first that is not allowed
+abbrev pub carried : Transfer → List NumberedStep → Result Transfer Fault
+carried t [] = Ok t
+carried t (s ∷ ss) = and_then (λ u. carried u ss) (or_not_allowed s (stepped t s.step))
+
+abbrev pub run_of : Plan → Result Transfer Fault
+run_of plan = carried (opening plan.ring) plan.steps

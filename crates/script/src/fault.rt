@@ -1,0 +1,59 @@
+ghost use Rattle.std.specs.Prelude.{◌≡◌, Some};
+
+use crate::Word;
+use std::alloc::{AllocError, AllocFailed};
+use std::error::Error;
+use std::fmt;
+
+/// Why a script has no report. Its text is the line that a run writes in the report's place.
+#[derive(Clone, Copy, Debug, PartialEq, Eq)]
+pub enum Fault {
+    /// The text has over 1,048,576 bytes.
+    TooLong,
+    /// No line says anything.
+    NoWorld,
+    /// This line is not of any known form. The first such line of the whole text is told.
+    Malformed(u64),
+    /// The step of this line can't happen where it stands.
+    NotAllowed(u64, Word),
+    /// Memory ran out.
+    NoMemory,
+}
+
+impl fmt::Display for Fault {
+    ghost use Rattle.script.specs.Faults.{fault_text};
+
+    ghost output = { λ fault. Some (fault_text fault) };
+
+    fn fmt<W: fmt::Write>(&self, f: &mut fmt::Formatter<W>) -> fmt::Result {
+        match *self {
+            Fault::TooLong => f.write_str("script too long"),
+            Fault::NoWorld => f.write_str("no world"),
+            Fault::Malformed(line) => write!(f, "line {line}: malformed"),
+            Fault::NotAllowed(line, word) => write!(f, "line {line}: not allowed: {word}"),
+            Fault::NoMemory => f.write_str("out of memory"),
+        }
+    }
+}
+
+impl Error for Fault {}
+
+impl From<AllocError> for Fault {
+    ghost use Rattle.script.specs.declared.fault.Fault.TheVariants.{NoMemory};
+
+    ghost from_gives = { λ _ fault. fault ≡ NoMemory };
+
+    fn from(_error: AllocError) -> Fault {
+        Fault::NoMemory
+    }
+}
+
+impl<T: Drop> From<AllocFailed<T>> for Fault {
+    ghost use Rattle.script.specs.declared.fault.Fault.TheVariants.{NoMemory};
+
+    ghost from_gives = { λ _ fault. fault ≡ NoMemory };
+
+    fn from(_error: AllocFailed<T>) -> Fault {
+        Fault::NoMemory
+    }
+}

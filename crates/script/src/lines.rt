@@ -1,0 +1,127 @@
+ghost use Rattle.std.specs.Prelude.{◌≡◌, ◌∷◌, ◌+◌, ◌<◌, ◌^◌, [], length, MatchOption, position, ◌==◌};
+ghost use Rattle.std.specs.Option.{option_copied};
+ghost use Rattle.script.specs.Texts.{pieces_of, pieces_left, lines_of, says_nothing, telling_lines};
+
+use std::marker::Model;
+
+/// A text that is cut at each separator: the pieces that are left.
+#[derive(Drop)]
+pub(crate) struct Pieces<'a> {
+    rest: Option<&'a [u8]>,
+    separator: u8,
+}
+
+impl<'a> Model for Pieces<'a> {
+    ghost use Rattle.std.specs.Prelude.{ℕ, List};
+    ghost use Rattle.std.specs.Option.{option_copied};
+    ghost use Rattle.script.specs.Texts.{pieces_left};
+
+    ghost Value = { List (List ℕ) };
+
+    ghost view = { λ p. pieces_left p.separator (option_copied p.rest) };
+}
+
+impl<'a> Pieces<'a> {
+    /// All pieces of a text.
+    pub(crate) fn new(text: &'a [u8], separator: u8) -> Pieces<'a>
+        ensures { result ≡ pieces_of separator text.now }
+    {
+        Pieces {
+            rest: Some(text),
+            separator,
+        }
+    }
+
+    /// The next piece, if one is left.
+    pub(crate) fn next(&mut self) -> Option<&'a [u8]>
+        ensures { MatchOption result ((self.old ≡ []) × (self.new ≡ [])) (λ piece. self.old ≡ piece.now ∷ self.new) }
+    {
+        let text = self.rest?;
+        let (piece, rest) = cut(text, self.separator);
+        self.rest = rest;
+        Some(piece)
+    }
+}
+
+/// The first piece, and what stands behind its separator, if one comes.
+fn cut(text: &[u8], separator: u8) -> (&[u8], Option<&[u8]>)
+    ensures { pieces_of separator text.now ≡ result.0.now ∷ pieces_left separator (option_copied result.1) }
+{
+    match first(text, separator) {
+        Some(at) => (&text[..at], Some(&text[at + 1..])),
+        None => (text, None),
+    }
+}
+
+/// Where a byte first stands.
+fn first(text: &[u8], sought: u8) -> Option<usize>
+    ensures { result ≡ position (λ byte. byte == sought) text.now }
+{
+    text.iter().position(|byte| *byte == sought)
+}
+
+/// A line that says something.
+#[derive(Clone, Copy)]
+pub(crate) struct Line<'a> {
+    /// Its number in the text, from 1 on.
+    pub(crate) number: u64,
+    pub(crate) text: &'a [u8],
+}
+
+/// The lines of a text that say something: those that are left.
+#[derive(Drop)]
+pub(crate) struct Lines<'a> {
+    texts: Pieces<'a>,
+    /// The number of the last line that was looked at.
+    number: u64,
+}
+
+impl<'a> Model for Lines<'a> {
+    ghost use Rattle.std.specs.Prelude.{◌+◌, ◌<◌, ◌^◌, List, length};
+    ghost use Rattle.script.specs.Texts.{NumberedLine, telling_lines};
+
+    ghost Value = { List NumberedLine };
+
+    ghost view = { λ l. telling_lines (l.number + 1) l.texts };
+
+    ghost invariant = { λ l. l.number + length l.texts < 2 ^ 63 };
+}
+
+impl<'a> Lines<'a> {
+    /// The lines of a text.
+    pub(crate) fn new(text: &'a [u8]) -> Lines<'a>
+        requires { length text.now < 2 ^ 62 }
+        ensures { result ≡ telling_lines 1 (lines_of text.now) }
+    {
+        Lines {
+            texts: Pieces::new(text, b'\n'),
+            number: 0,
+        }
+    }
+
+    /// The next line that says something.
+    pub(crate) fn next(&mut self) -> Option<Line<'a>>
+        ensures { MatchOption result (self.old ≡ []) (λ line. self.old ≡ (record { number = line.number; text = line.text.now }) ∷ self.new) }
+    {
+        while let Some(text) = self.texts.next() {
+            self.number += 1;
+            if !says_nothing(text) {
+                return Some(Line {
+                    number: self.number,
+                    text,
+                });
+            }
+        }
+        None
+    }
+}
+
+/// Whether a line is empty or a comment.
+fn says_nothing(text: &[u8]) -> bool
+    ensures { result ≡ says_nothing text.now }
+{
+    match text {
+        [] => true,
+        [first, ..] => *first == b'#',
+    }
+}

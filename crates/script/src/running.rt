@@ -1,0 +1,155 @@
+ghost use Rattle.std.specs.Prelude.{◌≡◌, ◌≤◌, IfOk, IfErr, IfSome, Ok, Err, vec_len};
+ghost use Rattle.std.specs.Io.KnownBytes.{Appends};
+ghost use Rattle.script.specs.Faults.{Gives};
+ghost use Rattle.script.specs.Reports.{outcome_of};
+ghost use Rattle.script.specs.Runs.{ReadsOn, ReadsUp, Tells, WritesReport, WritesFault, EveryByte, EveryEnd};
+
+use crate::parsing::MOST_BYTES;
+use crate::report::{fault_line, print};
+use crate::{Fault, Transfer, parse};
+use std::alloc::Global;
+use std::io::{Read, Write};
+use thiserror::Error;
+
+/// What a run wrote.
+#[derive(Clone, Copy, Debug, PartialEq, Eq)]
+pub enum Outcome {
+    /// The report of the state after the whole script.
+    Report,
+    /// The one line of the script's fault.
+    Refused,
+}
+
+/// Why a run could not tell its outcome.
+#[derive(Clone, Copy, Debug, PartialEq, Eq, Error)]
+pub enum ScriptFault {
+    /// The script could not be read. Nothing was written.
+    #[error("input: cannot be read")]
+    Read,
+    /// The outcome could not be written. How much went out is not known.
+    #[error("output: cannot be written")]
+    Write,
+}
+
+/// Reads a script to its end, or one byte past the most that it may have, then computes, and then
+/// writes the report of the state after it or the one line of its fault.
+///
+/// It makes at most 1,048,577 reads. Any error of the reader, a signal too, is [`ScriptFault::Read`] at
+/// once. Where memory runs out, the line is `out of memory`.
+pub fn run<R: Read, W: Write>(
+    alloc: Global,
+    reader: &mut R,
+    writer: &mut W,
+) -> Result<Outcome, ScriptFault>
+    // What is written is the report of the script that was read, or the line of its fault, or that
+    // memory ran out; and nothing else.
+    ensures report { result ≡ Ok Outcome.Report → IfSome (R.remaining reader.old) (λ text. WritesReport text (W.contents writer.old) (W.contents writer.new)) }
+    ensures refused { result ≡ Ok Outcome.Refused → IfSome (R.remaining reader.old) (λ text. WritesFault text (W.contents writer.old) (W.contents writer.new)) }
+
+    // Where the script could not be read, nothing is written.
+    ensures unread { result ≡ Err ScriptFault.Read → writer.new ≡ writer.old }
+
+    // In every script, the bytes that arrived are the sent bytes, then the ring, then the unread bytes;
+    // and the end is passed on only after every byte.
+    ensures every_byte { IfSome (R.remaining reader.old) EveryByte }
+    ensures every_end { IfSome (R.remaining reader.old) EveryEnd }
+{
+    let outcome = play(alloc, reader)?;
+    tell(alloc, writer, outcome)
+}
+
+/// Reads a script, and computes the state after it or its fault. An `Err` is that it was not read.
+fn play<R: Read>(alloc: Global, reader: &mut R) -> Result<Result<Transfer, Fault>, ScriptFault>
+    ensures ok { IfOk result (λ outcome. IfSome (R.remaining reader.old) (λ text. Gives (outcome_of text) outcome)) }
+    ensures err { IfErr result (λ fault. fault ≡ ScriptFault.Read) }
+{
+    match read(alloc, reader) {
+        Ok(text) => Ok(compute(alloc, text.as_slice())),
+        Err(InputFault::NoMemory) => Ok(Err(Fault::NoMemory)),
+        Err(InputFault::Unreadable) => Err(ScriptFault::Read),
+    }
+}
+
+/// Why a script was not read.
+#[derive(Clone, Copy, Debug, PartialEq, Eq)]
+enum InputFault {
+    Unreadable,
+    NoMemory,
+}
+
+/// Reads to the end, or one byte past the most that a script may have. Each read but the last gives a
+/// byte, so there are at most as many as that.
+fn read<R: Read>(alloc: Global, reader: &mut R) -> Result<Vec<u8>, InputFault>
+    ensures { IfOk result (λ text. IfSome (R.remaining reader.old) (λ input. ReadsUp input text.items)) }
+{
+    let mut text = Vec::new(alloc);
+    for _reads in 0..MOST_BYTES + 1 {
+        let count = read_on(reader, &mut text)?;
+        if count == 0 {
+            return Ok(text);
+        }
+        if text.len() > MOST_BYTES {
+            return Ok(text);
+        }
+    }
+    unreachable!()
+}
+
+/// One read, to the end of the text.
+fn read_on<R: Read>(reader: &mut R, text: &mut Vec<u8>) -> Result<usize, InputFault>
+    requires { vec_len text.old ≤ 1048577 }
+    ensures reads { IfOk result (λ count. ReadsOn (R.remaining reader.old) (R.remaining reader.new) text.old.items text.new.items count) }
+    ensures most { vec_len text.new ≤ 1048577 }
+{
+    let mut buffer = [0u8; 4096];
+    let most = buffer.len().min(MOST_BYTES + 1 - text.len());
+    match reader.read(&mut buffer[..most]) {
+        Ok(count) => match text.extend_from_slice(&buffer[..count]) {
+            Ok(()) => Ok(count),
+            Err(_) => Err(InputFault::NoMemory),
+        },
+        Err(_) => Err(InputFault::Unreadable),
+    }
+}
+
+/// The state after the script that a text is, or its fault.
+fn compute(alloc: Global, text: &[u8]) -> Result<Transfer, Fault>
+    ensures { Gives (outcome_of text.now) result }
+{
+    parse(alloc, text)?.carry_out(alloc)
+}
+
+/// Writes the report of a state, or the line of a fault.
+fn tell<W: Write>(
+    alloc: Global,
+    writer: &mut W,
+    outcome: Result<Transfer, Fault>,
+) -> Result<Outcome, ScriptFault>
+    ensures ok { IfOk result (λ told. Tells outcome told (W.contents writer.old) (W.contents writer.new)) }
+    ensures err { IfErr result (λ fault. fault ≡ ScriptFault.Write) }
+{
+    match outcome {
+        Ok(transfer) => match print(alloc, &transfer) {
+            Ok(report) => write(writer, report.as_bytes(), Outcome::Report),
+            Err(_) => write(writer, NO_MEMORY, Outcome::Refused),
+        },
+        Err(fault) => match fault_line(alloc, fault) {
+            Ok(line) => write(writer, line.as_bytes(), Outcome::Refused),
+            Err(_) => write(writer, NO_MEMORY, Outcome::Refused),
+        },
+    }
+}
+
+/// The line that tells that memory ran out, and takes none.
+const NO_MEMORY: &[u8] = b"out of memory\n";
+
+/// Writes a line, all of it.
+fn write<W: Write>(writer: &mut W, line: &[u8], told: Outcome) -> Result<Outcome, ScriptFault>
+    ensures ok { IfOk result (λ outcome. (outcome ≡ told) × Appends (W.contents writer.old) (W.contents writer.new) line.now) }
+    ensures err { IfErr result (λ fault. fault ≡ ScriptFault.Write) }
+{
+    if writer.write_all(line).is_err() || writer.flush().is_err() {
+        return Err(ScriptFault::Write);
+    }
+    Ok(told)
+}

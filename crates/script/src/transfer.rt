@@ -1,0 +1,120 @@
+ghost use Rattle.std.specs.Prelude.{◌≡◌, ◌≤◌, Ok, Err, IfOk};
+ghost use Rattle.kernel_model.specs.Outcome.{Meets};
+ghost use Rattle.script.specs.Transfers.{opening, stepped, read_size, Carries};
+ghost use Rattle.script.specs.Reports.{report, shown_bytes, yes_or_no};
+
+use crate::{Fault, NumberedStep, Step};
+use flow::Flow;
+use kernel_model::{End, Refusal, Reply};
+use std::alloc::{AllocError, Global};
+use token::Side;
+
+/// The most bytes that one read asks for.
+const READ_MOST: usize = 16_384;
+
+/// One direction: a source, a ring, and a destination that is connected.
+#[derive(Drop)]
+pub struct Transfer {
+    pub source: End,
+    pub flow: Flow,
+    pub destination: End,
+}
+
+impl Transfer {
+    /// One direction to which nothing has come, with a ring of at most `ring` bytes.
+    pub fn new(alloc: Global, ring: usize) -> Result<Transfer, AllocError>
+        requires least { 1 ≤ ring }
+        requires most { ring ≤ 65536 }
+        ensures { IfOk result (λ transfer. transfer ≡ opening ring) }
+    {
+        Ok(Transfer {
+            source: End::new(alloc, Side::Client),
+            flow: Flow::new(alloc, ring)?,
+            destination: End::new(alloc, Side::Target),
+        })
+    }
+
+    /// Makes one step, or refuses it and changes nothing.
+    pub fn step(&mut self, step: &Step) -> Result<(), Refusal>
+        ensures { Meets (stepped self.old step.now) self.old self.new result }
+    {
+        match step {
+            Step::Arrive(bytes) => {
+                self.source.arrive(bytes.as_slice())?;
+            }
+            Step::Fin => {
+                self.source.fin()?;
+            }
+            Step::Room => {
+                self.destination.room()?;
+            }
+            Step::Read(count) => self.read(*count)?,
+            Step::End => self.end()?,
+            Step::Wrote(count, full) => {
+                self.destination
+                    .write(self.flow.front(), Reply::Wrote(*count, *full))?;
+                self.flow.drop_front(*count);
+            }
+            Step::Shut => self.shut()?,
+        }
+        Ok(())
+    }
+
+    /// Makes the step of a line, or tells the fault of that line.
+    pub(crate) fn carry_out(&mut self, numbered: &NumberedStep) -> Result<(), Fault>
+        ensures { Carries self.old numbered.now result self.new }
+    {
+        match self.step(&numbered.step) {
+            Ok(()) => Ok(()),
+            Err(Refusal::NotAllowed) => Err(Fault::NotAllowed(numbered.line, numbered.step.word())),
+            Err(Refusal::NoMemory) => Err(Fault::NoMemory),
+        }
+    }
+
+    /// The most bytes that the next read asks for.
+    fn read_size(&self) -> usize
+        ensures { result ≡ read_size self.now.flow }
+    {
+        self.flow.free().min(READ_MOST)
+    }
+
+    /// The source's read gives bytes, which go into the ring.
+    fn read(&mut self, count: usize) -> Result<(), Refusal>
+        ensures { Meets (stepped self.old (Step.Read count)) self.old self.new result }
+    {
+        let most = self.read_size();
+        if self.flow.end_seen() {
+            return Err(Refusal::NotAllowed);
+        }
+        let Some(bytes) = self.source.bytes_read(most, count) else {
+            return Err(Refusal::NotAllowed);
+        };
+        self.flow.take_in(bytes);
+        self.source.read(most, Reply::Bytes(count))
+    }
+
+    /// The source's read gives the end of input.
+    fn end(&mut self) -> Result<(), Refusal>
+        ensures { Meets (stepped self.old Step.End) self.old self.new result }
+    {
+        let most = self.read_size();
+        if self.flow.end_seen() {
+            return Err(Refusal::NotAllowed);
+        }
+        self.source.read(most, Reply::End)?;
+        self.flow.mark_end();
+        Ok(())
+    }
+
+    /// The end is passed on to the destination.
+    fn shut(&mut self) -> Result<(), Refusal>
+        ensures { Meets (stepped self.old Step.Shut) self.old self.new result }
+    {
+        if !self.flow.end_seen() || !self.flow.is_empty() || self.flow.is_shut() {
+            return Err(Refusal::NotAllowed);
+        }
+        self.destination.shut(Reply::Shut)?;
+        self.flow.mark_shut();
+        Ok(())
+    }
+}

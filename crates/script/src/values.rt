@@ -1,0 +1,78 @@
+ghost use Rattle.std.specs.Prelude.{◌≡◌, IfOk};
+ghost use Rattle.std.specs.List.{list_all};
+ghost use Rattle.script.specs.Texts.{number_of, bytes_of, is_digit, is_lower_hex, is_hex_text, is_plain};
+
+use crate::Bytes;
+use std::alloc::{AllocError, Global};
+
+/// The number that a text is in decimal digits without leading zeros, if it is below 2^64.
+pub(crate) fn number(text: &[u8]) -> Option<usize>
+    ensures { result ≡ number_of text.now }
+{
+    if !is_plain(text) {
+        return None;
+    }
+    let mut value: usize = 0;
+    for byte in text {
+        if !is_digit(*byte) {
+            return None;
+        }
+        value = value
+            .checked_mul(10)?
+            .checked_add(usize::from(*byte - b'0'))?;
+    }
+    Some(value)
+}
+
+/// Whether a byte is a decimal digit.
+fn is_digit(byte: u8) -> bool
+    ensures { result ≡ is_digit byte }
+{
+    b'0' <= byte && byte <= b'9'
+}
+
+/// Whether a text has a byte, and no leading zero but a lone one.
+fn is_plain(text: &[u8]) -> bool
+    ensures { result ≡ is_plain text.now }
+{
+    match text {
+        [] => false,
+        [_] => true,
+        [first, ..] => *first != b'0',
+    }
+}
+
+/// The bytes that a text is in lower-case hexadecimal, 1 to 1,024 of them.
+pub(crate) fn bytes(alloc: Global, text: &[u8]) -> Result<Option<Bytes>, AllocError>
+    ensures { IfOk result (λ bytes. bytes ≡ bytes_of text.now) }
+{
+    if !is_hex_text(text) {
+        return Ok(None);
+    }
+    match hex::decode(alloc, text) {
+        Ok(bytes) => Ok(Some(Bytes::new(bytes))),
+        Err(hex::FromHexError::OutOfMemory) => Err(AllocError),
+        Err(_) => Ok(None),
+    }
+}
+
+/// Whether a text is 1 to 1,024 bytes in lower-case hexadecimal, but for an odd length.
+fn is_hex_text(text: &[u8]) -> bool
+    ensures { result ≡ is_hex_text text.now }
+{
+    0 < text.len() && text.len() <= 2048 && is_all_lower_hex(text)
+}
+
+/// Whether each byte is a digit of lower-case hexadecimal.
+fn is_all_lower_hex(text: &[u8]) -> bool
+    ensures { result ≡ list_all is_lower_hex text.now }
+{
+    text.iter().all(|byte| is_lower_hex(*byte))
+}
+
+/// Whether a byte is a digit of lower-case hexadecimal.
+fn is_lower_hex(byte: u8) -> bool
+    ensures { result ≡ is_lower_hex byte }
+{
+    is_digit(byte) || b'a' <= byte && byte <= b'f'
+}
