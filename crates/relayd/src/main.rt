@@ -1,0 +1,24 @@
+//! The program: a simulator of the relay on standard input and output.
+//!
+//! [`program::act`] does all that the program does, from its words, a reader and two writers to a
+//! status. `main` hands it the process's own.
+#![tactic(auto)]
+
+mod program;
+#[cfg(test)]
+mod tests;
+
+use std::process::ExitCode;
+use std::{env, io};
+
+fn main(rt: HostRuntime) -> io::Result<ExitCode> {
+    let mut words = Vec::new(rt.alloc());
+    for word in env::args(&rt)? {
+        words.push(word)?;
+    }
+    let mut input = rt.stdin();
+    let mut output = rt.stdout();
+    let mut errors = rt.stderr();
+    let status = program::act(&rt, words.as_slice(), &mut input, &mut output, &mut errors);
+    Ok(ExitCode::from(status))
+}
