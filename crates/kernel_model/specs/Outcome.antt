@@ -1,5 +1,5 @@
 -- How a call of the model ends, told against the value that its definition gives, or gives not.
-use Rattle.std.specs.Prelude.{◌≡◌, Bool, Option, Some, None, Result, Ok, Err, if◌then◌else◌}
+use Rattle.std.specs.Prelude.{◌≡◌, Bool, Option, Some, None, IsSome, Result, Ok, Err, if◌then◌else◌}
 use Rattle.kernel_model.specs.declared.refusal.Refusal.{Refusal}
 use Rattle.kernel_model.specs.declared.refusal.Refusal.TheVariants.{NotAllowed, NoMemory}
 
@@ -12,12 +12,12 @@ pub record Told (X Y : Type 0) : Type 0 where
   pub value : X
   pub told : Y
 
--- The call made the value that is defined. Where none is, it answers NotAllowed; where memory ran out,
--- NoMemory; and both leave the old value.
+-- The call made the value that is defined. Where none is, it answers NotAllowed; where one is and memory
+-- ran out, NoMemory; and both leave the old value.
 abbrev pub Meets : {X : Type 0} → Option X → X → X → Result (Unit {0}) Refusal → Type 0
 Meets defined old new (Ok x) = defined ≡ Some new
 Meets defined old new (Err NotAllowed) = (defined ≡ None) × (new ≡ old)
-Meets defined old new (Err NoMemory) = new ≡ old
+Meets defined old new (Err NoMemory) = IsSome defined × (new ≡ old)
 
 -- the same for a call that takes no memory
 abbrev pub MeetsAlways : {X : Type 0} → Option X → X → X → Result (Unit {0}) Refusal → Type 0
@@ -29,7 +29,7 @@ MeetsAlways defined old new (Err NoMemory) = ⊥
 abbrev pub Tells : {X Y : Type 0} → Option (Told X Y) → X → X → Result Y Refusal → Type 0
 Tells defined old new (Ok told) = defined ≡ Some (record { value = new; told = told })
 Tells defined old new (Err NotAllowed) = (defined ≡ None) × (new ≡ old)
-Tells defined old new (Err NoMemory) = new ≡ old
+Tells defined old new (Err NoMemory) = IsSome defined × (new ≡ old)
 
 -- the same for a call that takes no memory
 abbrev pub TellsAlways : {X Y : Type 0} → Option (Told X Y) → X → X → Result Y Refusal → Type 0

@@ -49,6 +49,11 @@ after_write e offer Interrupted = Some e
 after_write e offer (Failed kind) = Some e
 after_write e offer _ = None
 
+-- the replies that a call needs memory for: those by which a write takes bytes
+abbrev pub needs_memory : Reply → Bool
+needs_memory (Wrote n full) = true
+needs_memory _ = false
+
 -- the question whether the connect has ended (connect(2))
 abbrev pub after_join : Endpoint → Reply → Option Endpoint
 after_join e Joined = guard e.room e

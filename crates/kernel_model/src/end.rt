@@ -1,8 +1,8 @@
-ghost use Rattle.std.specs.Prelude.{◌≡◌, Ok, Err, false, if◌then◌else◌};
+ghost use Rattle.std.specs.Prelude.{◌≡◌, Ok, Err, IsErrOf, IsTrue, false, if◌then◌else◌};
 ghost use Rattle.std.specs.Option.{option_copied};
 ghost use Rattle.kernel_model.specs.Outcome.{guard, Meets, MeetsAlways, Tells, TellsAlways};
 ghost use Rattle.kernel_model.specs.Ends.{opened, is_readable, is_writable, arrival, finish, failure, new_room};
-ghost use Rattle.kernel_model.specs.Replies.{bytes_read, failed, blocked_write, wrote, after_read, after_write, after_join, after_shut};
+ghost use Rattle.kernel_model.specs.Replies.{bytes_read, failed, blocked_write, wrote, after_read, after_write, needs_memory, after_join, after_shut};
 
 use crate::{Refusal, Reply};
 use std::alloc::Global;
@@ -231,7 +231,8 @@ impl End {
 
     /// A write of `offer` gets this reply (write(2)).
     pub fn write(&mut self, offer: &[u8], reply: Reply) -> Result<(), Refusal>
-        ensures { Meets (after_write self.old offer.now reply) self.old self.new result }
+        ensures outcome { Meets (after_write self.old offer.now reply) self.old self.new result }
+        ensures memory { IsErrOf result Refusal.NoMemory → IsTrue (needs_memory reply) }
     {
         match reply {
             Reply::Wrote(count, full) => self.take(offer, count, full),
