@@ -1,0 +1,259 @@
+//! The program by its statuses and texts: the rows that the script's definitions were checked against,
+//! malformed scripts, and a reader or a writer that fails after some bytes.
+
+mod ends;
+
+use crate::program::act;
+use ends::{Sink, Source};
+use std::alloc::{AllocError, Global};
+use std::process::Abort;
+use std::test::Fail;
+
+/// What a run wrote, and its status.
+#[derive(Drop)]
+struct Told {
+    status: u8,
+    output: Vec<u8>,
+    errors: Vec<u8>,
+}
+
+/// Runs the program on a script.
+fn play(rt: &impl AllocGlobal, script: &[u8]) -> Told {
+    let mut source = Source::whole(script);
+    let mut output = Vec::new(rt.alloc());
+    let mut errors = Vec::new(rt.alloc());
+    let status = act(rt, &[], &mut source, &mut output, &mut errors);
+    Told {
+        status,
+        output,
+        errors,
+    }
+}
+
+/// A script by its steps, which stand on lines of their own.
+fn lines(alloc: Global, steps: &str) -> Result<Vec<u8>, AllocError> {
+    let mut script = Vec::new(alloc);
+    for byte in steps.bytes() {
+        if byte == b';' {
+            script.push(b'\n')?;
+        } else {
+            script.push(byte)?;
+        }
+    }
+    Ok(script)
+}
+
+/// The script of one direction from its first byte to its shutdown.
+const WHOLE: &str = "flow ring=4;arrive 616263;room;read 3;fin;wrote 3;end;shut";
+
+#[test]
+fn rows(rt: HostRuntime) -> Result<(), Fail> {
+    for (steps, status, output) in [
+        (
+            WHOLE,
+            0,
+            "up sent=616263 ring=- unread=- end=yes shut=yes\n",
+        ),
+        (
+            "flow ring=2;arrive 616263;read 2;room;wrote 1 full;read 1;fin",
+            0,
+            "up sent=61 ring=6263 unread=- end=no shut=no\n",
+        ),
+        (
+            "flow ring=2;arrive 616263;read 2;room;wrote 1 full;read 1;fin;shut",
+            1,
+            "line 8: not allowed: shut\n",
+        ),
+        ("", 1, "no world\n"),
+        ("wrold", 1, "line 1: malformed\n"),
+        (
+            "flow ring=1;arrive 61;fin;read 1;end",
+            0,
+            "up sent=- ring=61 unread=- end=yes shut=no\n",
+        ),
+        // The first malformed line is told before any step that is not allowed.
+        ("flow ring=1;shut;arrive 6", 1, "line 3: malformed\n"),
+        ("flow ring=1;read 0", 1, "line 2: not allowed: read\n"),
+        ("flow ring=1;wrote 0", 1, "line 2: not allowed: wrote\n"),
+        (
+            "#;;flow ring=1;# 66;;fin;fin",
+            1,
+            "line 7: not allowed: fin\n",
+        ),
+        ("#", 1, "no world\n"),
+        (
+            "world slots=1 workers=1 ring=4 budget=64",
+            1,
+            "line 1: malformed\n",
+        ),
+    ] {
+        let script = lines(rt.alloc(), steps)?;
+        let run = play(&rt, script.as_slice());
+        assert_eq!(rt; run.status, status, "{steps}");
+        assert_eq!(rt; run.output.as_slice(), output.as_bytes(), "{steps}");
+        assert!(rt; run.errors.is_empty(), "{steps}");
+    }
+    Ok(())
+}
+
+#[test]
+fn malformed_lines(rt: HostRuntime) -> Result<(), Fail> {
+    for step in [
+        "fin\r",
+        " fin",
+        "fin ",
+        "fin fin",
+        "arrive",
+        "arrive  61",
+        "arrive 6",
+        "arrive 6A",
+        "arrive 61 61",
+        "read",
+        "read 01",
+        "read 00",
+        "read -1",
+        "read +1",
+        "read 18446744073709551616",
+        "wrote 1 half",
+        "wrote 1  full",
+        "wrote full",
+        "Fin",
+        "\t",
+        " ",
+        " # fin",
+        "flow ring=1",
+        "vanish",
+    ] {
+        let script = format!(in rt.alloc(); "flow ring=1\n{step}\n")?;
+        let run = play(&rt, script.as_bytes());
+        assert_eq!(rt;
+            run.output.as_slice(),
+            b"line 2: malformed\n".as_slice(),
+            "{step:?}"
+        );
+        assert_eq!(rt; run.status, 1, "{step:?}");
+    }
+    for header in [
+        "flow",
+        "flow ring=0",
+        "flow ring=65537",
+        "flow ring=01",
+        "flow ring=",
+        "flow Ring=1",
+        "flow ring=1 x",
+        "flow  ring=1",
+    ] {
+        let run = play(&rt, header.as_bytes());
+        assert_eq!(rt;
+            run.output.as_slice(),
+            b"line 1: malformed\n".as_slice(),
+            "{header:?}"
+        );
+    }
+    for header in ["flow ring=1", "flow ring=65536"] {
+        let run = play(&rt, header.as_bytes());
+        assert_eq!(rt; run.status, 0, "{header:?}");
+    }
+    // A number may be as large as any that a machine word holds.
+    let run = play(&rt, b"flow ring=1\nread 18446744073709551615");
+    assert_eq!(rt;
+        run.output.as_slice(),
+        b"line 2: not allowed: read\n".as_slice()
+    );
+    Ok(())
+}
+
+#[test]
+fn longest_arrival(rt: HostRuntime) -> Result<(), Fail> {
+    for (bytes, status) in [(1024, 0), (1025, 1)] {
+        let mut script = Vec::from_slice(rt.alloc(), b"flow ring=1\narrive ")?;
+        for _ in 0..bytes {
+            script.extend_from_slice(b"ff")?;
+        }
+        let run = play(&rt, script.as_slice());
+        assert_eq!(rt; run.status, status, "{bytes} bytes");
+    }
+    Ok(())
+}
+
+#[test]
+fn longest_script(rt: HostRuntime) -> Result<(), Fail> {
+    for (bytes, output) in [(1_048_576, "no world\n"), (1_048_577, "script too long\n")] {
+        let script = vec![in rt.alloc(); b'#'; bytes]?;
+        let run = play(&rt, script.as_slice());
+        assert_eq!(rt; run.output.as_slice(), output.as_bytes(), "{bytes} bytes");
+        assert_eq!(rt; run.status, 1, "{bytes} bytes");
+    }
+    Ok(())
+}
+
+/// Whether a text is one of the lines that a cut script may give.
+fn is_cut(line: &[u8]) -> bool {
+    line.starts_with(b"up sent=".as_slice())
+        || line == b"no world\n".as_slice()
+        || line.starts_with(b"line ".as_slice()) && line.ends_with(b": malformed\n".as_slice())
+}
+
+#[test]
+fn cut_after_each_byte(rt: HostRuntime) -> Result<(), Fail> {
+    let script = lines(rt.alloc(), WHOLE)?;
+    for length in 0..script.len() + 1 {
+        if let Some(front) = script.get(..length) {
+            let run = play(&rt, front);
+            assert!(rt; is_cut(run.output.as_slice()), "after {length} bytes");
+        }
+    }
+    Ok(())
+}
+
+#[test]
+fn reads_in_small_pieces(rt: HostRuntime) -> Result<(), Fail> {
+    let script = lines(rt.alloc(), WHOLE)?;
+    let mut source = Source::in_pieces(script.as_slice(), 1);
+    let mut output = Vec::new(rt.alloc());
+    let mut errors = Vec::new(rt.alloc());
+    assert_eq!(rt; act(&rt, &[], &mut source, &mut output, &mut errors), 0);
+    assert_eq!(rt;
+        output.as_slice(),
+        b"up sent=616263 ring=- unread=- end=yes shut=yes\n".as_slice()
+    );
+    assert_eq!(rt; source.reads(), script.len() + 1);
+    Ok(())
+}
+
+#[test]
+fn a_reader_that_fails(rt: HostRuntime) -> Result<(), Fail> {
+    let script = lines(rt.alloc(), WHOLE)?;
+    for length in 0..script.len() {
+        let mut source = Source::failing_after(script.as_slice(), length);
+        let mut output = Vec::new(rt.alloc());
+        let mut errors = Vec::new(rt.alloc());
+        let status = act(&rt, &[], &mut source, &mut output, &mut errors);
+        assert_eq!(rt; status, 1, "after {length} bytes");
+        assert!(rt; output.is_empty(), "after {length} bytes");
+        assert_eq!(rt;
+            errors.as_slice(),
+            b"relayd: input: cannot be read\n".as_slice()
+        );
+    }
+    Ok(())
+}
+
+#[test]
+fn a_writer_that_fails(rt: HostRuntime) -> Result<(), Fail> {
+    let script = lines(rt.alloc(), WHOLE)?;
+    let report = play(&rt, script.as_slice()).output;
+    for length in 0..report.len() {
+        let mut source = Source::whole(script.as_slice());
+        let mut sink = Sink::failing_after(rt.alloc(), length);
+        let mut errors = Vec::new(rt.alloc());
+        let status = act(&rt, &[], &mut source, &mut sink, &mut errors);
+        assert_eq!(rt; status, 1, "after {length} bytes");
+        assert!(rt; report.starts_with(sink.taken()), "after {length} bytes");
+        assert_eq!(rt;
+            errors.as_slice(),
+            b"relayd: output: cannot be written\n".as_slice()
+        );
+    }
+    Ok(())
+}
