@@ -1,0 +1,14 @@
+# Thin targets over the toolchain's command `rt`. See README.md.
+
+.PHONY: sim test
+
+# Runs the simulator on standard input, and writes nothing but its report to standard output. The first
+# time the program is proved and built, which takes minutes; what that prints goes to a file.
+sim:
+	@.ci/build relayd
+	@crates/relayd/out/relayd
+
+# The gate: proves every crate and its tests from nothing, tries the edits that must be refused, and
+# runs the tests and the program.
+test:
+	rt ci
