@@ -1,0 +1,67 @@
+-- The contracts of the calls by cases on what the word said.
+use Rattle.std.proofs.Common.{◌≡◌, ℕ, zero, suc, Bool, true, false, if◌then◌else◌, refl, sym, subst, ap}
+use Rattle.claims.specs.declared.view.Account.{Account}
+use Rattle.claims.specs.declared.answers.Posted.{Posted}
+use Rattle.claims.specs.declared.answers.Released.{Released}
+use Rattle.claims.specs.declared.answers.Posted.TheVariants.{Wake, Quiet}
+use Rattle.claims.specs.declared.answers.Released.TheVariants.{Wake as ReleaseWakes, Quiet as ReleaseQuiet}
+use Rattle.claims.specs.Words.{some_wait, wakes, answer_of, WordState, post, claim, adopt, wake, quiet, held, busy, adopted, not_free}
+use Rattle.claims.specs.Views.{account_after, after_post, after_claim, after_release, after_adopt}
+use Rattle.claims.specs.Seats.{SeatState, account_at, HoldsNot, Changed, Stepped}
+use Rattle.claims.specs.Calls.{PostChange, PostStep, ReleaseChange, release_answer}
+
+module _ (slot : ℕ) (old new : SeatState) where
+  pub post_change : (r : Posted) (woke : Bool) → r ≡ (if woke then Wake else Quiet) → Changed slot old new (after_post woke (account_at old slot)) → (woke ≡ true → HoldsNot old slot)
+      → PostChange slot old r new
+  post_change r true is changed alone = subst (λ q. PostChange slot old q new) (sym is) (changed, alone refl)
+  post_change r false is changed alone = subst (λ q. PostChange slot old q new) (sym is) changed
+
+  pub post_step : (r : Posted) (woke : Bool) → r ≡ (if woke then Wake else Quiet) → Stepped post slot old new (if woke then wake else quiet) → PostStep slot old r new
+  post_step r true is step = subst (λ q. PostStep slot old q new) (sym is) step
+  post_step r false is step = subst (λ q. PostStep slot old q new) (sym is) step
+
+  pub release_change : (r : Released) (woke : Bool) → r ≡ (if woke then ReleaseWakes else ReleaseQuiet) → Changed slot old new (after_release woke (account_at old slot))
+      → (woke ≡ false → (account_at old slot).known ≡ 0) → ReleaseChange slot old r new
+  release_change r true is changed none = subst (λ q. ReleaseChange slot old q new) (sym is) changed
+  release_change r false is changed none = subst (λ q. ReleaseChange slot old q new) (sym is) (changed, none refl)
+
+pub release_says : (woke : Bool) → release_answer (if woke then ReleaseWakes else ReleaseQuiet) ≡ (if woke then wake else quiet)
+release_says true = refl
+release_says false = refl
+
+-- nobody holds a slot at which a post wakes
+pub wakes_no_holder : (w : WordState) → wakes w ≡ true → w.held ≡ false
+wakes_no_holder w is = by_held w.held (some_wait w.pending) is
+  where
+    by_held : (h waits : Bool) → (if h then false else (if waits then false else true)) ≡ true → h ≡ false
+    by_held true waits is = cc
+    by_held false waits is = refl
+
+pub none_wait : (p : ℕ) → some_wait p ≡ false → p ≡ 0
+none_wait zero is = refl
+none_wait (suc p) is = cc
+
+module _ (w : WordState) (a : Account) where
+  pub claim_busy : w.held ≡ true → account_after claim w a ≡ a
+  claim_busy is = ap (λ h. if h then a else after_claim w.pending a) is
+
+  pub claim_gains : w.held ≡ false → account_after claim w a ≡ after_claim w.pending a
+  claim_gains is = ap (λ h. if h then a else after_claim w.pending a) is
+
+  pub adopt_gains : w.free ≡ true → account_after adopt w a ≡ after_adopt w.pending a
+  adopt_gains is = ap (λ f. if f then after_adopt w.pending a else a) is
+
+  pub adopt_not_free : w.free ≡ false → account_after adopt w a ≡ a
+  adopt_not_free is = ap (λ f. if f then after_adopt w.pending a else a) is
+
+pub says_busy : (w : WordState) → w.held ≡ true → busy ≡ answer_of claim w
+says_busy w is = sym (ap (λ h. if h then busy else held) is)
+
+pub says_held : (w : WordState) → w.held ≡ false → held ≡ answer_of claim w
+says_held w is = sym (ap (λ h. if h then busy else held) is)
+
+pub says_adopted : (w : WordState) → w.free ≡ true → adopted ≡ answer_of adopt w
+says_adopted w is = sym (ap (λ f. if f then adopted else not_free) is)
+
+pub says_not_free : (w : WordState) → w.free ≡ false → not_free ≡ answer_of adopt w
+says_not_free w is = sym (ap (λ f. if f then adopted else not_free) is)

@@ -1,0 +1,11 @@
+use Rattle.std.proofs.Common.{◌≡◌, ◌-◌, replicate}
+use Rattle.claims.specs.Views.{blank, view_of}
+use Rattle.claims.specs.Seats.{fresh}
+use Rattle.claims.proofs.opening.seated.Given as goal
+
+-- the first seat may still make the seats that are left, and those that it made have done nothing
+abbrev pub invariant-loop-made : goal.invariant-loop-made
+invariant-loop-made l =
+    (l.first.table_id ≡ l.table.shared.table_id)
+    × (l.first.me.0 ≡ view_of (replicate l.slots blank) (l.seats - l._made))
+    × (l.all.items ≡ replicate (l._made - 1) (fresh l.table.shared.table_id))

@@ -1,0 +1,55 @@
+-- What one exchange tells the seat that made it.
+use Rattle.std.specs.Prelude.{◌≡◌, ℕ, ◌-◌, ◌^◌, ◌<◌, true, List, length, replicate, sum_by, slice_index, slice_set}
+use mathlib.Core.Option.{some}
+use lib.ListN.{get_elem?}
+use Rattle.claims.specs.declared.view.Account.{Account}
+use Rattle.claims.specs.declared.view.View.{View}
+use Rattle.claims.specs.Words.{word_of, word_after, WordState, Kind, post, claim, take, release, retire, adopt}
+use Rattle.claims.specs.Views.{blank, posted_of, view_of, account_in, account_after}
+use Rattle.claims.specs.Rule.{ClaimRule}
+
+-- the view that a step of this kind leaves
+abbrev pub view_after : Kind → WordState → ℕ → View → View
+view_after kind w slot v = record v { accounts = slice_set v.accounts slot (account_after kind w (account_in slot v)) }
+
+-- what each kind of step asks of its seat's account: take, release and retire are for the holder
+abbrev pub NeedsHolder : Kind → Account → Type 0
+NeedsHolder post a = Unit {0}
+NeedsHolder claim a = Unit {0}
+NeedsHolder take a = a.holds ≡ true
+NeedsHolder release a = a.holds ≡ true
+NeedsHolder retire a = a.holds ≡ true
+NeedsHolder adopt a = Unit {0}
+
+-- what each kind of step asks of its seat
+abbrev pub MayDo : Kind → ℕ → View → Type 0
+MayDo post slot v = sum_by posted_of v.accounts < 2 ^ 56
+MayDo kind slot v = NeedsHolder kind (account_in slot v)
+
+-- what the word of this slot says
+abbrev pub state_at : {slots slot : ℕ} {words : List ℕ} {views : List View} → ClaimRule slots words views → slot < slots → WordState
+state_at rule inside = (rule.slot_rules _ inside).state
+
+-- Where the number was found the rule held, with the seat's view in it. It holds after the step, with the view that the step leaves
+pub record Told (kind : Kind) (slot found : ℕ) (v w : View) : Type 0 where
+  pub slots : ℕ
+  pub seat : ℕ
+  pub words : List ℕ
+  pub views : List View
+  pub inside : slot < slots
+  pub before : ClaimRule slots words views
+  pub mine : get_elem? views seat ≡ some v
+  pub word_was : found ≡ slice_index words slot
+  pub becomes : w ≡ view_after kind (state_at before inside) slot v
+  pub after : ClaimRule slots (slice_set words slot (word_of (word_after kind (state_at before inside)))) (slice_set views seat w)
+
+-- the view of the first seat, which may still make the others
+abbrev pub first_view : ℕ → ℕ → View
+first_view slots seats = view_of (replicate slots blank) (seats - 1)
+
+-- a seat makes another, which has done nothing and makes none
+abbrev pub one_spare_less : View → View
+one_spare_less v = record v { spare = v.spare - 1 }
+
+abbrev pub newcomer : View → View
+newcomer v = view_of (replicate (length v.accounts) blank) 0

@@ -1,0 +1,78 @@
+-- What a seat has done at one slot, its account, and the view of a seat: an account for each slot.
+use Rattle.std.specs.Prelude.{ℕ, ◌+◌, Bool, true, false, List, map, if◌then◌else◌, slice_index_or}
+use Rattle.claims.specs.declared.view.Account.{Account}
+use Rattle.claims.specs.declared.view.View.{View}
+use Rattle.claims.specs.Words.{one, some_wait, wakes, WordState, Kind, post, claim, take, release, retire, adopt}
+
+-- the account of a seat that has done nothing at the slot
+abbrev pub blank : Account
+blank = record { posted = 0; taken = 0; minted = 0; redeemed = 0; holds = false; known = 0 }
+
+abbrev pub posted_of : Account → ℕ
+posted_of a = a.posted
+
+abbrev pub taken_of : Account → ℕ
+taken_of a = a.taken
+
+abbrev pub minted_of : Account → ℕ
+minted_of a = a.minted
+
+abbrev pub redeemed_of : Account → ℕ
+redeemed_of a = a.redeemed
+
+abbrev pub holds_of : Account → Bool
+holds_of a = a.holds
+
+-- 1 where the seat holds the slot
+abbrev pub holding_of : Account → ℕ
+holding_of a = one a.holds
+
+-- the seats that a seat may still make
+abbrev pub spare_of : View → ℕ
+spare_of v = v.spare
+
+abbrev pub view_of : List Account → ℕ → View
+view_of accounts spare = record { accounts = accounts; spare = spare }
+
+-- the account of this slot
+abbrev pub account_in : ℕ → View → Account
+account_in slot v = slice_index_or v.accounts slot blank
+
+-- the accounts of this slot, one for each view
+abbrev pub column : ℕ → List View → List Account
+column slot views = map (account_in slot) views
+
+-- What each call makes of its caller's account
+
+-- a post, which answered Wake or Quiet
+abbrev pub after_post : Bool → Account → Account
+after_post woke a = record a { posted = a.posted + 1; minted = a.minted + one woke; known = a.known + one a.holds }
+
+-- a claim of a slot that was not held, where so many notes waited. It redeems the ticket that they had
+abbrev pub after_claim : ℕ → Account → Account
+after_claim pending a = record a { holds = true; known = pending; redeemed = a.redeemed + one (some_wait pending) }
+
+-- a take that answered so many notes
+abbrev pub after_take : ℕ → Account → Account
+after_take count a = record a { taken = a.taken + count; known = 0 }
+
+-- a release, which answered Wake or Quiet
+abbrev pub after_release : Bool → Account → Account
+after_release woke a = record a { holds = false; known = 0; minted = a.minted + one woke }
+
+-- a retire, which leaves the slot free
+abbrev pub after_retire : Account → Account
+after_retire a = record a { holds = false; known = 0 }
+
+-- an adopt of a free slot where so many notes waited
+abbrev pub after_adopt : ℕ → Account → Account
+after_adopt pending a = record a { holds = true; known = pending }
+
+-- the same by the kind of step and by what the word said
+abbrev pub account_after : Kind → WordState → Account → Account
+account_after post w a = after_post (wakes w) a
+account_after claim w a = if w.held then a else after_claim w.pending a
+account_after take w a = after_take w.pending a
+account_after release w a = after_release (some_wait w.pending) a
+account_after retire w a = after_retire a
+account_after adopt w a = if w.free then after_adopt w.pending a else a

@@ -1,0 +1,39 @@
+// What the calls answer.
+
+/// What a post found.
+#[derive(Clone, Copy, Debug, PartialEq, Eq)]
+pub enum Posted {
+    /// No note waited and nobody held the slot. The caller has to put a ticket for it.
+    Wake,
+    /// A ticket for the slot is under way, or its holder will see the note.
+    Quiet,
+    /// This seat has posted 2^56 times, and nothing was done.
+    Worn,
+}
+
+/// What a claim found.
+#[derive(Clone, Copy, Debug, PartialEq, Eq)]
+pub enum Claimed {
+    /// The caller's seat now holds the slot.
+    Held,
+    /// The slot was held, or free, and nothing has changed.
+    Busy,
+}
+
+/// What a release found.
+#[derive(Clone, Copy, Debug, PartialEq, Eq)]
+pub enum Released {
+    /// Notes wait. The caller has to put a ticket for the slot.
+    Wake,
+    /// No note waited.
+    Quiet,
+}
+
+/// What an adopt found.
+#[derive(Clone, Copy, Debug, PartialEq, Eq)]
+pub enum Adopted {
+    /// The slot was free, and the caller's seat now holds it.
+    Adopted,
+    /// The slot was not free, and nothing has changed.
+    NotFree,
+}

@@ -1,0 +1,115 @@
+// `Claims::open`: the words at their start, and a seat for each thread.
+ghost use Rattle.std.specs.Prelude.{◌≡◌, ◌+◌, ◌<◌, ◌≤◌, ◌↔◌, IfOk, OnOk, IsErrOf, false, replicate};
+ghost use Rattle.claims.specs.Views.{blank, view_of};
+ghost use Rattle.claims.specs.Steps.{first_view};
+ghost use Rattle.claims.specs.Seats.{fresh};
+ghost use Rattle.claims.specs.Opening.{IsWithin, IsOutside, OpensLawful};
+
+use crate::calls::{Claims, Words};
+use crate::rule::NextSeat;
+use crate::seat::ClaimSeat;
+use crate::view::View;
+use crate::word::UNUSED;
+use atomic_table::{Seat, Table};
+use std::alloc::{AllocError, Global};
+use thiserror::Error;
+
+const MOST_SLOTS: usize = 32_768;
+
+const MOST_SEATS: usize = 32;
+
+/// Why `Claims::open` made nothing.
+#[derive(Debug, Drop, Error)]
+pub enum OpenFault {
+    #[error("the number of slots is not from 1 to 32768")]
+    SlotRange,
+    #[error("the number of seats is not from 1 to 32")]
+    SeatRange,
+    #[error("out of memory")]
+    NoMemory,
+}
+
+impl Claims {
+    /// Makes a word for each slot, free and with no note, and the seats, which are all that these words ever have.
+    ///
+    /// Refuses, in this order: a number of slots that is not from 1 to 32,768 (`SlotRange`), a number of seats that
+    /// is not from 1 to 32 (`SeatRange`), and a want of memory (`NoMemory`).
+    pub fn open(
+        alloc: Global,
+        slots: usize,
+        seats: usize,
+    ) -> Result<(Claims, Vec<ClaimSeat>), OpenFault>
+        ensures slot_range { IsErrOf result OpenFault.SlotRange ↔ IsOutside 1 32768 slots }
+        ensures seat_range { IsErrOf result OpenFault.SeatRange ↔ (IsWithin 1 32768 slots × IsOutside 1 32 seats) }
+        ensures in_range { OnOk result (IsWithin 1 32768 slots × IsWithin 1 32 seats) }
+        ensures opened { IfOk result (λ made. (made.0.words ≡ slots) × (made.1.items ≡ replicate seats (fresh made.0))) }
+        ensures lawful { IfOk result (λ made. OpensLawful slots made.1.items) }
+    {
+        if slots < 1 || MOST_SLOTS < slots {
+            return Err(OpenFault::SlotRange);
+        }
+        if seats < 1 || MOST_SEATS < seats {
+            return Err(OpenFault::SeatRange);
+        }
+        match made(alloc, slots, seats) {
+            Ok(both) => Ok(both),
+            Err(AllocError) => Err(OpenFault::NoMemory),
+        }
+    }
+}
+
+fn made(alloc: Global, slots: usize, seats: usize) -> Result<(Claims, Vec<ClaimSeat>), AllocError>
+    requires slots { IsWithin 1 32768 slots }
+    requires seats { IsWithin 1 32 seats }
+    ensures { IfOk result (λ made. (made.0.words ≡ slots) × (made.1.items ≡ replicate seats (fresh made.0))) }
+{
+    let (table, first) = laid(alloc, slots, seats)?;
+    let all = seated(alloc, &table, first, slots, seats)?;
+    Ok((Claims::over(table), all))
+}
+
+// The words, and the seat that may make all others.
+fn laid(alloc: Global, slots: usize, seats: usize) -> Result<(Words, Seat<(), View>), AllocError>
+    requires slots { IsWithin 1 32768 slots }
+    requires seats { IsWithin 1 32 seats }
+    ensures table { IfOk result (λ t. (t.0.shared.table_id.words ≡ slots) × (t.0.shared.key.0 ≡ slots)) }
+    ensures seat { IfOk result (λ t. (t.1.table_id ≡ t.0.shared.table_id) × (t.1.me.0 ≡ first_view slots seats)) }
+{
+    let words = vec![in alloc; UNUSED; slots]?;
+    Table::of_words(alloc, words.as_slice(), &(slots, seats))
+}
+
+// All seats: each but the last is made by a split of the first.
+fn seated(
+    alloc: Global,
+    table: &Words,
+    mut first: Seat<(), View>,
+    slots: usize,
+    seats: usize,
+) -> Result<Vec<ClaimSeat>, AllocError>
+    requires slots { IsWithin 1 32768 slots × (table.now.shared.table_id.words ≡ slots) × (table.now.shared.key.0 ≡ slots) }
+    requires seats { IsWithin 1 32 seats }
+    requires first { (first.table_id ≡ table.now.shared.table_id) × (first.me.0 ≡ first_view slots seats) }
+    ensures { IfOk result (λ all. all.items ≡ replicate seats (fresh table.now.shared.table_id)) }
+{
+    let mut all = Vec::with_capacity(alloc, seats)?;
+    for _made in 1..seats {
+        let next = table.shared.split_seat::<NextSeat>(&mut first);
+        all.push(seat_of(alloc, next, slots)?)?;
+    }
+    all.push(seat_of(alloc, first, slots)?)?;
+    Ok(all)
+}
+
+fn seat_of(alloc: Global, seat: Seat<(), View>, slots: usize) -> Result<ClaimSeat, AllocError>
+    requires words { seat.table_id.words ≡ slots }
+    requires unused { seat.me.0 ≡ view_of (replicate slots blank) 0 }
+    ensures { IfOk result (λ s. s ≡ fresh seat.table_id) }
+{
+    let held = vec![in alloc; false; slots]?;
+    Ok(ClaimSeat {
+        seat,
+        posts: 0,
+        held,
+    })
+}

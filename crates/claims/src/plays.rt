@@ -1,0 +1,42 @@
+// The six kinds of step, and what each tells the seat that made it.
+ghost use Rattle.claims.specs.Words.{post, claim, take, release, retire, adopt};
+ghost use Rattle.claims.specs.Steps.{Told};
+
+use crate::view::View;
+use atomic_table::Play;
+
+pub(crate) struct Post;
+
+impl Play<(), View> for Post {
+    ghost then = { λ step old found new. Told post step.word found old.0 new.0 };
+}
+
+pub(crate) struct Claim;
+
+impl Play<(), View> for Claim {
+    ghost then = { λ step old found new. Told claim step.word found old.0 new.0 };
+}
+
+pub(crate) struct Take;
+
+impl Play<(), View> for Take {
+    ghost then = { λ step old found new. Told take step.word found old.0 new.0 };
+}
+
+pub(crate) struct Release;
+
+impl Play<(), View> for Release {
+    ghost then = { λ step old found new. Told release step.word found old.0 new.0 };
+}
+
+pub(crate) struct Retire;
+
+impl Play<(), View> for Retire {
+    ghost then = { λ step old found new. Told retire step.word found old.0 new.0 };
+}
+
+pub(crate) struct Adopt;
+
+impl Play<(), View> for Adopt {
+    ghost then = { λ step old found new. Told adopt step.word found old.0 new.0 };
+}

@@ -1,0 +1,40 @@
+// The seat of one thread.
+ghost use Rattle.std.specs.Prelude.{◌≡◌, ◌<◌};
+ghost use Rattle.claims.specs.Seats.{account_at};
+
+use crate::view::View;
+use atomic_table::Seat;
+use std::marker::Model;
+
+/// A seat at the claim words of one `open`, with which one thread makes its calls.
+///
+/// In a clause it is its table and its accounts, one for each slot: what this seat has done there. Only its own calls
+/// change them. A seat can be moved into a thread.
+#[derive(Drop)]
+pub struct ClaimSeat {
+    pub(crate) seat: Seat<(), View>,
+    // How often this seat has posted.
+    pub(crate) posts: u64,
+    // Whether it holds the slot, for each slot: the words name no holder.
+    pub(crate) held: Vec<bool>,
+}
+
+impl Model for ClaimSeat {
+    ghost use Rattle.claims.specs.Seats.{SeatState, seat_state, SeatOk};
+
+    ghost Value = { SeatState };
+
+    ghost view = { λ s. seat_state s.seat.table_id s.seat.me.0 };
+
+    ghost invariant = { λ s. SeatOk s.posts s.held.items s.seat.table_id s.seat.me.0 };
+}
+
+impl ClaimSeat {
+    /// Whether this seat holds the slot: after Held or Adopted, until `release` or `retire`.
+    pub fn holds(&self, slot: usize) -> bool
+        requires { slot < self.now.table.words }
+        ensures { result ≡ (account_at self.now slot).holds }
+    {
+        self.held[slot]
+    }
+}

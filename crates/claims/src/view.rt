@@ -1,0 +1,24 @@
+// The view of a seat, what its thread knows. It stands in proofs alone: no value of it is ever made.
+use std::collections::LinkedList;
+
+/// What one seat has done at one slot.
+pub struct Account {
+    /// Its posts.
+    pub posted: u64,
+    /// The notes that its takes answered.
+    pub taken: u64,
+    /// The answers Wake that it got, each of which obliges it to put a ticket.
+    pub minted: u64,
+    /// Its claims that found notes, each of which uses up a ticket.
+    pub redeemed: u64,
+    /// Whether it holds the slot.
+    pub holds: bool,
+    /// Notes that it knows to wait, while it holds the slot.
+    pub known: u64,
+}
+
+/// An account for each slot, and the seats that this one may still make.
+pub struct View {
+    pub accounts: LinkedList<Account>,
+    pub spare: u64,
+}

@@ -1,0 +1,60 @@
+// How a claim word is read: 4 for each note that waits, 2 where the slot is free, 1 where it is held.
+ghost use Rattle.std.specs.Prelude.{◌≡◌, if◌then◌else◌};
+ghost use Rattle.claims.specs.Words.{word_of, WordState, some_wait, wakes};
+
+use crate::answers::{Posted, Released};
+
+pub(crate) const HELD: u64 = 1;
+
+pub(crate) const FREE: u64 = 2;
+
+pub(crate) const NOTE: u64 = 4;
+
+// The word of a slot that is free, at the start.
+pub(crate) const UNUSED: u64 = FREE + HELD;
+
+pub(crate) fn notes(found: u64) -> u64
+    ensures { (w : WordState) → found ≡ word_of w → result ≡ w.pending }
+{
+    found / NOTE
+}
+
+pub(crate) fn some_notes(found: u64) -> bool
+    ensures { (w : WordState) → found ≡ word_of w → result ≡ some_wait w.pending }
+{
+    found >= NOTE
+}
+
+pub(crate) fn is_free(found: u64) -> bool
+    ensures { (w : WordState) → found ≡ word_of w → result ≡ w.free }
+{
+    found % NOTE >= FREE
+}
+
+pub(crate) fn is_held(found: u64) -> bool
+    ensures { (w : WordState) → found ≡ word_of w → result ≡ w.held }
+{
+    found % FREE == HELD
+}
+
+// What a post answers that found this word.
+pub(crate) fn posted(found: u64) -> Posted
+    ensures { (w : WordState) → found ≡ word_of w → result ≡ (if wakes w then Posted.Wake else Posted.Quiet) }
+{
+    if some_notes(found) || is_held(found) {
+        Posted::Quiet
+    } else {
+        Posted::Wake
+    }
+}
+
+// What a release answers that found this word.
+pub(crate) fn released(found: u64) -> Released
+    ensures { (w : WordState) → found ≡ word_of w → result ≡ (if some_wait w.pending then Released.Wake else Released.Quiet) }
+{
+    if some_notes(found) {
+        Released::Wake
+    } else {
+        Released::Quiet
+    }
+}
