@@ -1,0 +1,4 @@
+pub mod Decimals
+pub mod AddressParts
+pub mod Unknown
+pub mod Unique

@@ -1,0 +1,20 @@
+-- An IPv4 address with a port, and its one text.
+use Rattle.std.specs.Prelude.{◌≡◌, ◌≢◌, ℕ, ◌<◌, ◌^◌, List, ◌∷◌, ◌++◌, length, map, slice_index, All}
+use Rattle.std.specs.List.{join_with_byte}
+use Rattle.std.specs.Fmt.{decimal}
+
+-- four numbers, the first first, and a port
+abbrev pub SocketAddress : Type 0
+SocketAddress = List ℕ × ℕ
+
+-- the numbers are four bytes, and the port has 16 bits
+abbrev pub IsAddress : SocketAddress → Type 0
+IsAddress a = (length a.0 ≡ 4) × All (λ n. n < 2 ^ 8) a.0 × (a.1 < 2 ^ 16)
+
+-- the four numbers joined by `.`, then `:` and the port, each in decimal
+abbrev pub address_text : SocketAddress → List ℕ
+address_text a = join_with_byte 46 (map decimal a.0) ++ 58 ∷ decimal a.1
+
+-- no plus sign in front, and a zero only where it stands alone
+abbrev pub IsPlain : List ℕ → Type 0
+IsPlain text = (slice_index text 0 ≢ 43) × (slice_index text 0 ≡ 48 → length text ≡ 1)

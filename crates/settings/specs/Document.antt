@@ -1,0 +1,67 @@
+-- What a TOML document sets, by the table of the settings, and what is wrong in one.
+use Rattle.std.specs.Prelude.{◌≡◌, ◌≢◌, ℕ, ◌≤◌, List, [], ◌∷◌, Some, None, MatchOption, IsSome, pos, ◌⊎◌}
+use Rattle.std.specs.Ordering.{nat_cmp}
+use Rattle.std.specs.Cmp.Lexicographic.{slice_cmp}
+use Rattle.std.specs.declared.cmp.Ordering.TheVariants.{Greater}
+use Rattle.toml.specs.Data.{Data, Members, get_member, as_str, as_integer}
+use Rattle.settings.specs.Names.{key_name, level_name}
+use Rattle.settings.specs.Addresses.{IsAddress, address_text}
+use Rattle.settings.specs.Table.{Setting, address, number, level, Kind, an_address, a_number, a_level, Row}
+use Rattle.settings.specs.declared.keys.Key.{Key}
+use Rattle.settings.specs.declared.faults.SettingsFault.{SettingsFault}
+use Rattle.settings.specs.declared.faults.SettingsFault.TheVariants.{Missing, WrongKind, OutOfRange, BadAddress}
+
+-- the value is a text, or a whole number, as the kind asks
+abbrev pub HasKind : Kind → Data → Type 0
+HasKind (an_address lowest) d = IsSome (as_str d)
+HasKind (a_number low high) d = IsSome (as_integer d)
+HasKind a_level d = IsSome (as_str d)
+
+-- the value writes this setting, which is in the range of the kind
+abbrev pub Writes : Kind → Data → Setting → Type 0
+Writes (an_address lowest) d (address a) = (as_str d ≡ Some (address_text a)) × IsAddress a × (lowest ≤ a.1)
+Writes (a_number low high) d (number n) = (as_integer d ≡ Some (pos n)) × (low ≤ n) × (n ≤ high)
+Writes a_level d (level l) = as_str d ≡ Some (level_name l)
+Writes _ _ _ = ⊥
+
+-- the fault of a value that has the kind and writes no setting
+abbrev pub refusal : Kind → Key → SettingsFault
+refusal (an_address lowest) k = BadAddress k
+refusal (a_number low high) k = OutOfRange k
+refusal a_level k = OutOfRange k
+
+-- the document sets the key to this: by the value that it has for the key, or else by default
+abbrev pub Gives : Row → Members → Setting → Type 0
+Gives row doc v = MatchOption (get_member (key_name row.key) doc) (row.default ≡ Some v) (λ d. Writes row.kind d v)
+
+-- the value is not of the kind, or it is and writes no setting
+abbrev pub Refuses : Kind → Key → Data → SettingsFault → Type 0
+Refuses kind k d fault =
+    ((¬ (HasKind kind d)) × (fault ≡ WrongKind k))
+    ⊎ (HasKind kind d × ((v : Setting) → ¬ (Writes kind d v)) × (fault ≡ refusal kind k))
+
+-- the key has this fault in the document: a required key is missing, or its value is refused
+abbrev pub Faults : Row → Members → SettingsFault → Type 0
+Faults row doc fault =
+    MatchOption (get_member (key_name row.key) doc) ((row.default ≡ None) × (fault ≡ Missing row.key)) (λ d. Refuses row.kind row.key d fault)
+
+-- each key is set
+abbrev pub GivesEach : List Row → Members → (Key → Setting) → Type 0
+GivesEach [] doc v = Unit {0}
+GivesEach (row ∷ rows) doc v = Gives row doc (v row.key) × GivesEach rows doc v
+
+-- the first row that has a fault in the document has this one
+abbrev pub IsFirstFault : List Row → Members → SettingsFault → Type 0
+IsFirstFault [] doc fault = ⊥
+IsFirstFault (row ∷ rows) doc fault = Faults row doc fault ⊎ (((v : Setting) × Gives row doc v) × IsFirstFault rows doc fault)
+
+-- a name at the top level of the document, which is no key's
+abbrev pub IsUnknown : Members → List ℕ → Type 0
+IsUnknown doc name = IsSome (get_member name doc) × ((k : Key) → name ≢ key_name k)
+
+-- the first unknown name by the order of bytes
+abbrev pub IsFirstUnknown : Members → List ℕ → Type 0
+IsFirstUnknown doc name = IsUnknown doc name × ((other : List ℕ) → IsUnknown doc other → slice_cmp nat_cmp name other ≢ Greater)
+
+abbrev pub HasNoUnknown : Members → Type 0
+HasNoUnknown doc = (name : List ℕ) → ¬ (IsUnknown doc name)

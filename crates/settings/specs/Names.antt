@@ -1,0 +1,26 @@
+-- The words that a settings text uses for its keys and for the levels of `log`.
+use Rattle.std.specs.Prelude.{ℕ, List, codes}
+use Rattle.settings.specs.declared.keys.Key.{Key}
+use Rattle.settings.specs.declared.keys.Key.TheVariants.{Listen, Target, Ring, Budget, Workers, Slots, StopAfter, Log}
+use Rattle.settings.specs.declared.levels.LogLevel.{LogLevel}
+use Rattle.settings.specs.declared.levels.LogLevel.TheVariants.{Off, Error, Warn, Info, Debug, Trace}
+
+-- a key as it is written
+abbrev pub key_name : Key → List ℕ
+key_name Listen = codes "listen"
+key_name Target = codes "target"
+key_name Ring = codes "ring"
+key_name Budget = codes "budget"
+key_name Workers = codes "workers"
+key_name Slots = codes "slots"
+key_name StopAfter = codes "stop_after"
+key_name Log = codes "log"
+
+-- a level as it is written
+abbrev pub level_name : LogLevel → List ℕ
+level_name Off = codes "off"
+level_name Error = codes "error"
+level_name Warn = codes "warn"
+level_name Info = codes "info"
+level_name Debug = codes "debug"
+level_name Trace = codes "trace"

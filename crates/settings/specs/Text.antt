@@ -1,0 +1,60 @@
+-- The settings of a text, its fault, and how settings are printed.
+use Rattle.std.specs.Prelude.{◌≡◌, ℕ, List, [], ◌∷◌, ◌++◌, Some, ◌⊎◌}
+use Rattle.std.specs.Str.{IsUtf8}
+use Rattle.std.specs.Fmt.{decimal}
+use Rattle.toml.specs.Data.{Members}
+use Rattle.toml.specs.Parse.{parse_document}
+use Rattle.settings.specs.Names.{key_name, level_name}
+use Rattle.settings.specs.Addresses.{address_text}
+use Rattle.settings.specs.Table.{Setting, address, number, level, Row, table}
+use Rattle.settings.specs.Document.{GivesEach, IsFirstFault, IsFirstUnknown, HasNoUnknown}
+use Rattle.settings.specs.declared.keys.Key.{Key}
+use Rattle.settings.specs.declared.keys.Key.TheVariants.{Listen, Target, Ring, Budget, Workers, Slots, StopAfter, Log}
+use Rattle.settings.specs.declared.faults.SettingsFault.{SettingsFault}
+use Rattle.settings.specs.declared.faults.SettingsFault.TheVariants.{NotToml, UnknownKey}
+use Rattle.settings.specs.declared.fields.Settings.{Settings}
+
+-- the setting of a key
+abbrev pub setting : Settings → Key → Setting
+setting s Listen = address s.listen
+setting s Target = address s.target
+setting s Ring = number s.ring
+setting s Budget = number s.budget
+setting s Workers = number s.workers
+setting s Slots = number s.slots
+setting s StopAfter = number s.stop_after
+setting s Log = level s.log
+
+-- the bytes are UTF-8, and TOML reads them as this document
+abbrev pub IsDocument : List ℕ → Members → Type 0
+IsDocument text doc = IsUtf8 text × (parse_document text ≡ Some doc)
+
+-- the text has these settings: no unknown key, and each key set by the table
+abbrev pub IsSettingsOf : List ℕ → Settings → Type 0
+IsSettingsOf text s = (doc : Members) × IsDocument text doc × HasNoUnknown doc × GivesEach table doc (setting s)
+
+-- the document has this fault: its first unknown key, or where it has none the first fault in the table's order
+abbrev pub IsFaultOfDocument : Members → SettingsFault → Type 0
+IsFaultOfDocument doc fault =
+    ((name : List ℕ) × (fault ≡ UnknownKey name) × IsFirstUnknown doc name) ⊎ (HasNoUnknown doc × IsFirstFault table doc fault)
+
+-- the text has this fault: it is no document, or it is one that has this fault
+abbrev pub IsFaultOf : List ℕ → SettingsFault → Type 0
+IsFaultOf text fault =
+    ((fault ≡ NotToml) × ((doc : Members) → ¬ (IsDocument text doc)))
+    ⊎ ((doc : Members) × IsDocument text doc × IsFaultOfDocument doc fault)
+
+-- a setting as it is printed
+abbrev pub setting_text : Setting → List ℕ
+setting_text (address a) = address_text a
+setting_text (number n) = decimal n
+setting_text (level l) = level_name l
+
+-- a line `KEY=VALUE` for each row
+abbrev pub lines_text : List Row → Settings → List ℕ
+lines_text [] s = []
+lines_text (row ∷ rows) s = key_name row.key ++ 61 ∷ (setting_text (setting s row.key) ++ 10 ∷ lines_text rows s)
+
+-- the lines in the order of the table
+abbrev pub settings_text : Settings → List ℕ
+settings_text s = lines_text table s

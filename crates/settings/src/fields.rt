@@ -1,0 +1,52 @@
+//! The settings as the relay uses them.
+ghost use Rattle.std.specs.Prelude.{◌≡◌, ◌≤◌, Some};
+
+use crate::addresses::{Address, AddressText};
+use crate::levels::LogLevel;
+use std::fmt;
+
+/// What a settings text sets, with the defaults for the keys that it leaves out.
+#[derive(Clone, Copy, Debug, PartialEq, Eq)]
+pub struct Settings {
+    /// The IPv4 address and the port on which clients connect. At port 0 the system picks one.
+    pub listen: Address,
+    /// The IPv4 address and the port, at least 1, to which each connection is forwarded.
+    pub target: Address,
+    /// Bytes buffered for each direction of a connection, 1 to 65,536.
+    pub ring: usize,
+    /// The most system calls that a worker makes for one connection before others get their turn,
+    /// 1 to 1,024.
+    pub budget: u32,
+    /// Worker threads, 1 to 16.
+    pub workers: usize,
+    /// The most connections at a time, 1 to 4,096.
+    pub slots: usize,
+    /// The relay ends after this many connections, or never at 0.
+    pub stop_after: u32,
+    /// The level of the messages on standard error.
+    pub log: LogLevel,
+    // What each reader may rely on: the ranges hold of every value of the type.
+    pub ghost target_port: { 1 ≤ target.1 },
+    pub ghost ring_range: { (1 ≤ ring) × (ring ≤ 65536) },
+    pub ghost budget_range: { (1 ≤ budget) × (budget ≤ 1024) },
+    pub ghost workers_range: { (1 ≤ workers) × (workers ≤ 16) },
+    pub ghost slots_range: { (1 ≤ slots) × (slots ≤ 4096) },
+}
+
+/// A line `KEY=VALUE` for each key, in the order of `Key`.
+impl fmt::Display for Settings {
+    ghost use Rattle.settings.specs.Text.{settings_text};
+
+    ghost output = { λ s. Some (settings_text s) };
+
+    fn fmt<W: fmt::Write>(&self, f: &mut fmt::Formatter<W>) -> fmt::Result {
+        let listen = AddressText(self.listen);
+        let target = AddressText(self.target);
+        let (ring, budget, workers) = (self.ring, self.budget, self.workers);
+        let (slots, stop_after, log) = (self.slots, self.stop_after, self.log);
+        write!(
+            f,
+            "listen={listen}\ntarget={target}\nring={ring}\nbudget={budget}\nworkers={workers}\nslots={slots}\nstop_after={stop_after}\nlog={log}\n"
+        )
+    }
+}

@@ -1,0 +1,22 @@
+//! The settings of a relay: what a TOML text sets, or the first thing that is wrong in it.
+//!
+//! `parse` reads a text. `Settings` has one field for each key and prints as `KEY=VALUE` lines, and
+//! `SettingsFault` prints as the line that a person sees. The table of the keys, with kinds, ranges
+//! and defaults, stands in `specs/Table.antt`.
+#![tactic(auto)]
+
+mod addresses;
+mod faults;
+mod fields;
+mod keys;
+mod levels;
+mod read;
+#[cfg(test)]
+mod tests;
+
+pub use addresses::Address;
+pub use faults::{KeyText, SettingsFault};
+pub use fields::Settings;
+pub use keys::Key;
+pub use levels::LogLevel;
+pub use read::parse;

@@ -1,0 +1,174 @@
+//! Reading a settings text.
+ghost use Rattle.std.specs.Prelude.{◌≡◌, ◌≢◌, ℕ, ◌≤◌, IfSome, IfNone, IfOk, IfErr, Err, string_bytes, option_map};
+ghost use Rattle.std.specs.Str.{IsUtf8};
+ghost use Rattle.toml.specs.Data.{get_member};
+ghost use Rattle.toml.specs.Errors.{IsBlank};
+ghost use Rattle.toml.specs.View.{view, table_view};
+ghost use Rattle.settings.specs.Names.{key_name};
+ghost use Rattle.settings.specs.Table.{an_address, a_number, a_level, address, number, level, required, optional, table};
+ghost use Rattle.settings.specs.Document.{Gives, GivesEach, Faults, Refuses, Writes, IsFirstFault, IsFirstUnknown, HasNoUnknown};
+ghost use Rattle.settings.specs.Text.{setting, IsSettingsOf, IsFaultOf};
+
+use crate::addresses::{Address, address_of};
+use crate::faults::{KeyText, SettingsFault};
+use crate::fields::Settings;
+use crate::keys::Key;
+use crate::levels::LogLevel;
+use std::alloc::Global;
+use toml::{Table, Value};
+
+/// The settings of a text, or the first fault in it.
+///
+/// `NoMemory` comes where an allocation was refused, and then says nothing of the text; a blank
+/// text and bytes that are not UTF-8 take no memory.
+pub fn parse(alloc: Global, bytes: &[u8]) -> Result<Settings, SettingsFault>
+    ensures settings { IfOk result (λ s. IsSettingsOf bytes.now s) }
+    ensures fault { IfErr result (λ fault. fault ≢ SettingsFault.NoMemory → IsFaultOf bytes.now fault) }
+    ensures only { IfOk result (λ s. (t : Settings) → IsSettingsOf bytes.now t → (key : Key) → setting t key ≡ setting s key) }
+    ensures none { IfErr result (λ fault. fault ≢ SettingsFault.NoMemory → (s : Settings) → ¬ (IsSettingsOf bytes.now s)) }
+    ensures memory { result ≡ Err SettingsFault.NoMemory → IsUtf8 bytes.now × (¬ (IsBlank bytes.now)) }
+{
+    let Ok(text) = std::str::from_utf8(bytes) else {
+        return Err(SettingsFault::NotToml);
+    };
+    let document = match toml::table_from_str(alloc, text) {
+        Ok(document) => document,
+        Err(error) if error.is_memory() => return Err(SettingsFault::NoMemory),
+        Err(_) => return Err(SettingsFault::NotToml),
+    };
+    match first_unknown(&document) {
+        Some(name) => Err(unknown_key(alloc, name.as_str())),
+        None => settings_of(&document),
+    }
+}
+
+/// The fault for an unknown key, whose name it keeps if there is memory for a copy.
+fn unknown_key(alloc: Global, name: &str) -> SettingsFault
+    ensures { result ≢ SettingsFault.NoMemory → result ≡ SettingsFault.UnknownKey name.now }
+{
+    match KeyText::new(alloc, name) {
+        Ok(name) => SettingsFault::UnknownKey(name),
+        Err(_) => SettingsFault::NoMemory,
+    }
+}
+
+/// The first name at the top level, by the order of bytes, that is no key.
+fn first_unknown(document: &Table) -> Option<&String>
+    ensures some { IfSome result (λ name. IsFirstUnknown (table_view document.now) (string_bytes name.now)) }
+    ensures none { IfNone result (HasNoUnknown (table_view document.now)) }
+{
+    for name in document.keys() {
+        if Key::named(name.as_str()).is_none() {
+            return Some(name);
+        }
+    }
+    None
+}
+
+/// The settings of a document that has no unknown key, or the fault of the first key that has one.
+fn settings_of(document: &Table) -> Result<Settings, SettingsFault>
+    ensures settings { IfOk result (λ s. GivesEach table (table_view document.now) (setting s)) }
+    ensures fault { IfErr result (IsFirstFault table (table_view document.now)) }
+{
+    Ok(Settings {
+        listen: address_at(document, Key::Listen, 0)?,
+        target: address_at(document, Key::Target, 1)?,
+        ring: number_at(document, Key::Ring, 1, 65_536, 16_384)? as usize,
+        budget: number_at(document, Key::Budget, 1, 1_024, 64)?,
+        workers: number_at(document, Key::Workers, 1, 16, 4)? as usize,
+        slots: number_at(document, Key::Slots, 1, 4_096, 1_024)? as usize,
+        stop_after: number_at(document, Key::StopAfter, 0, 4_294_967_295, 0)?,
+        log: level_at(document, Key::Log, LogLevel::Info)?,
+    })
+}
+
+/// The address of a required key, whose port is `lowest_port` at least.
+fn address_at(document: &Table, key: Key, lowest_port: u16) -> Result<Address, SettingsFault>
+    ensures gives { IfOk result (λ a. Gives (required key (an_address lowest_port)) (table_view document.now) (address a)) }
+    ensures range { IfOk result (λ a. lowest_port ≤ a.1) }
+    ensures fault { IfErr result (Faults (required key (an_address lowest_port)) (table_view document.now)) }
+{
+    match value_at(document, key) {
+        Some(value) => as_address(value, key, lowest_port),
+        None => Err(SettingsFault::Missing(key)),
+    }
+}
+
+/// The whole number of a key, from `low` to `high`.
+fn number_at(
+    document: &Table,
+    key: Key,
+    low: u32,
+    high: u32,
+    default: u32,
+) -> Result<u32, SettingsFault>
+    requires { (low ≤ default) × (default ≤ high) }
+    ensures gives { IfOk result (λ n. Gives (optional key (a_number low high) (number default)) (table_view document.now) (number n)) }
+    ensures range { IfOk result (λ n. (low ≤ n) × (n ≤ high)) }
+    ensures fault { IfErr result (Faults (optional key (a_number low high) (number default)) (table_view document.now)) }
+{
+    match value_at(document, key) {
+        Some(value) => as_number(value, key, low, high),
+        None => Ok(default),
+    }
+}
+
+/// The level that a key names.
+fn level_at(document: &Table, key: Key, default: LogLevel) -> Result<LogLevel, SettingsFault>
+    ensures gives { IfOk result (λ l. Gives (optional key a_level (level default)) (table_view document.now) (level l)) }
+    ensures fault { IfErr result (Faults (optional key a_level (level default)) (table_view document.now)) }
+{
+    match value_at(document, key) {
+        Some(value) => as_level(value, key),
+        None => Ok(default),
+    }
+}
+
+/// The value that the document has for a key.
+fn value_at(document: &Table, key: Key) -> Option<&Value>
+    ensures { option_map (λ v. view v.now) result ≡ get_member (key_name key) (table_view document.now) }
+{
+    document.get(key.name())
+}
+
+/// The address that a value writes, whose port is `lowest_port` at least.
+fn as_address(value: &Value, key: Key, lowest_port: u16) -> Result<Address, SettingsFault>
+    ensures writes { IfOk result (λ a. Writes (an_address lowest_port) (view value.now) (address a)) }
+    ensures fault { IfErr result (Refuses (an_address lowest_port) key (view value.now)) }
+{
+    let Some(text) = value.as_str() else {
+        return Err(SettingsFault::WrongKind(key));
+    };
+    match address_of(text) {
+        Some(address) if lowest_port <= address.1 => Ok(address),
+        _ => Err(SettingsFault::BadAddress(key)),
+    }
+}
+
+/// The whole number that a value writes, from `low` to `high`.
+fn as_number(value: &Value, key: Key, low: u32, high: u32) -> Result<u32, SettingsFault>
+    ensures writes { IfOk result (λ n. Writes (a_number low high) (view value.now) (number n)) }
+    ensures fault { IfErr result (Refuses (a_number low high) key (view value.now)) }
+{
+    let Some(n) = value.as_integer() else {
+        return Err(SettingsFault::WrongKind(key));
+    };
+    match u32::try_from(n) {
+        Ok(n) if low <= n && n <= high => Ok(n),
+        _ => Err(SettingsFault::OutOfRange(key)),
+    }
+}
+
+/// The level that a value names.
+fn as_level(value: &Value, key: Key) -> Result<LogLevel, SettingsFault>
+    ensures writes { IfOk result (λ l. Writes a_level (view value.now) (level l)) }
+    ensures fault { IfErr result (Refuses a_level key (view value.now)) }
+{
+    let Some(text) = value.as_str() else {
+        return Err(SettingsFault::WrongKind(key));
+    };
+    match LogLevel::named(text) {
+        Some(level) => Ok(level),
+        None => Err(SettingsFault::OutOfRange(key)),
+    }
+}
