@@ -1,5 +1,5 @@
 -- The two sides of a connection, and the two directions in which bytes go through it.
-use Rattle.std.specs.Prelude.{ℕ}
+use Rattle.std.specs.Prelude.{ℕ, List, codes}
 use Rattle.token.specs.declared.side.Side.{Side}
 use Rattle.token.specs.declared.side.Side.TheVariants.{Client, Target}
 use Rattle.token.specs.declared.direction.Direction.{Direction}
@@ -9,6 +9,11 @@ use Rattle.token.specs.declared.direction.Direction.TheVariants.{Up, Down}
 abbrev pub other_side : Side → Side
 other_side Client = Target
 other_side Target = Client
+
+-- the word for a side
+abbrev pub side_name : Side → List ℕ
+side_name Client = codes "client"
+side_name Target = codes "target"
 
 -- the bit that stands for a side in a number
 abbrev pub side_number : Side → ℕ

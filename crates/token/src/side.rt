@@ -1,5 +1,5 @@
 ghost use Rattle.std.specs.Prelude.{◌≡◌};
-ghost use Rattle.token.specs.Sides.{other_side, side_number};
+ghost use Rattle.token.specs.Sides.{other_side, side_name, side_number};
 
 /// One of the two ends of a connection.
 #[derive(Clone, Copy, Debug, PartialEq, Eq)]
@@ -18,6 +18,16 @@ impl Side {
         match self {
             Side::Client => Side::Target,
             Side::Target => Side::Client,
+        }
+    }
+
+    /// The word for the side in scripts, reports and log messages.
+    pub fn name(self) -> &'static str
+        ensures { result.now ≡ side_name self }
+    {
+        match self {
+            Side::Client => "client",
+            Side::Target => "target",
         }
     }
 

@@ -68,10 +68,11 @@ fn generations(rt: HostRuntime) {
 
 #[test]
 fn sides_and_directions(rt: HostRuntime) {
-    for (side, other, bit) in [
-        (Side::Client, Side::Target, 0),
-        (Side::Target, Side::Client, 1),
+    for (side, name, other, bit) in [
+        (Side::Client, "client", Side::Target, 0),
+        (Side::Target, "target", Side::Client, 1),
     ] {
+        assert_eq!(rt; side.name(), name);
         assert_eq!(rt; side.other(), other);
         assert_eq!(rt; side.bit(), bit);
     }
