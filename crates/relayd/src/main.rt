@@ -1,9 +1,12 @@
-//! The program: a simulator of the relay on standard input and output.
+//! The program: the relay's simulator on standard input and output, and a check of its settings.
 //!
 //! [`program::act`] does all that the program does, from its words, a reader and two writers to a
 //! status. `main` hands it the process's own.
 #![tactic(auto)]
 
+mod command_line;
+mod config;
+mod faults;
 mod program;
 #[cfg(test)]
 mod tests;

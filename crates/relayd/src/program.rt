@@ -1,5 +1,13 @@
+//! What the program does, from its words to its status.
+
+use crate::command_line::{Asked, read_words};
+use crate::config;
+use crate::faults::ProgramFault;
+use clap::error::ErrorKind;
 use script::Outcome;
+use std::alloc::{AllocError, Global};
 use std::io::{Read, Write};
+use std::rt::Files;
 
 /// The status of a program that did what it was asked for.
 const DONE: u8 = 0;
@@ -7,25 +15,97 @@ const DONE: u8 = 0;
 /// The status of a program that met a fault.
 const FAULT: u8 = 1;
 
-/// Runs the program: the script that `reader` has goes in, and its report, or the one line of its
-/// fault, goes to `writer`. What can't be told there goes to `errors`, after `relayd: `.
+/// The status of a program whose command line was refused.
+const USAGE: u8 = 2;
+
+/// Runs the program. `words` is the command line, the program's own name first.
 ///
-/// `words` is the command line, the program's own name first; its words are not looked at. Answers the
-/// exit status: 0 for a report, 1 for a fault.
-pub fn act<R: AllocGlobal, I: Read, O: Write, E: Write>(
+/// | command | what it does |
+/// |---|---|
+/// | `sim`, or none | runs the script that `reader` has, and writes its report or its fault's line to `writer` |
+/// | `check --config FILE` | reads a settings file and writes each setting to `writer` |
+///
+/// Answers the exit status: 0 for what was asked for, help too; 1 for a fault, which is told to
+/// `errors` after `relayd: ` unless it is a script's own; 2 where the command line is refused, which is
+/// told to `errors`.
+pub fn act<R: AllocGlobal + Files, I: Read, O: Write, E: Write>(
     rt: &R,
-    _words: &[String],
+    words: &[String],
     reader: &mut I,
     writer: &mut O,
     errors: &mut E,
 ) -> u8 {
-    match script::run(rt.alloc(), reader, writer) {
-        Ok(Outcome::Report) => DONE,
-        Ok(Outcome::Refused) => FAULT,
-        Err(fault) => {
-            // Where not even this can be written, the status is all that is left to tell.
-            let _ = writeln!(errors, "relayd: {fault}");
-            FAULT
-        }
+    let Ok(words) = texts(rt.alloc(), words) else {
+        return told(errors, ProgramFault::NoMemory);
+    };
+    let outcome = match read_words(rt.alloc(), words.as_slice()) {
+        Ok(Asked::Simulate) => simulate(rt.alloc(), reader, writer),
+        Ok(Asked::Check(path)) => check(rt, path, writer),
+        Err(error) => return answered(&error, writer, errors),
+    };
+    match outcome {
+        Ok(status) => status,
+        Err(fault) => told(errors, fault),
     }
+}
+
+/// The words as texts.
+fn texts(alloc: Global, words: &[String]) -> Result<Vec<&str>, AllocError> {
+    words.iter().map(|word| word.as_str()).collect(alloc)
+}
+
+/// Runs a script.
+fn simulate<I: Read, O: Write>(
+    alloc: Global,
+    reader: &mut I,
+    writer: &mut O,
+) -> Result<u8, ProgramFault> {
+    match script::run(alloc, reader, writer) {
+        Ok(Outcome::Report) => Ok(DONE),
+        Ok(Outcome::Refused) => Ok(FAULT),
+        Err(fault) => Err(ProgramFault::Script(fault)),
+    }
+}
+
+/// Prints what a settings file sets.
+fn check<R: AllocGlobal + Files, O: Write>(
+    rt: &R,
+    path: &str,
+    writer: &mut O,
+) -> Result<u8, ProgramFault> {
+    let settings = config::load(rt, path)?;
+    let text = format!(in rt.alloc(); "{settings}")?;
+    write(writer, text.as_str())?;
+    Ok(DONE)
+}
+
+/// Writes a text, all of it.
+fn write(writer: &mut impl Write, text: &str) -> Result<(), ProgramFault> {
+    if writer.write_all(text.as_bytes()).is_err() || writer.flush().is_err() {
+        return Err(ProgramFault::Write);
+    }
+    Ok(())
+}
+
+/// Answers a command line that asked for help, or was refused.
+fn answered<O: Write, E: Write>(error: &clap::Error, writer: &mut O, errors: &mut E) -> u8 {
+    if error.kind() == ErrorKind::OutOfMemory {
+        return told(errors, ProgramFault::NoMemory);
+    }
+    if error.use_stderr() {
+        // Where not even this can be written, the status is all that is left to tell.
+        let _ = write!(errors, "{error}");
+        return USAGE;
+    }
+    if write!(writer, "{error}").is_err() || writer.flush().is_err() {
+        return told(errors, ProgramFault::Write);
+    }
+    DONE
+}
+
+/// Tells a fault, and answers its status.
+fn told(errors: &mut impl Write, fault: ProgramFault) -> u8 {
+    // Where not even this can be written, the status is all that is left to tell.
+    let _ = writeln!(errors, "relayd: {fault}");
+    FAULT
 }

@@ -1,12 +1,12 @@
 //! The program by its statuses and texts: the rows that the script's definitions were checked against,
 //! malformed scripts, and a reader or a writer that fails after some bytes.
 
+mod checks;
 mod ends;
 
 use crate::program::act;
 use ends::{Sink, Source};
 use std::alloc::{AllocError, Global};
-use std::process::Abort;
 use std::test::Fail;
 
 /// What a run wrote, and its status.
@@ -18,7 +18,7 @@ struct Told {
 }
 
 /// Runs the program on a script.
-fn play(rt: &impl AllocGlobal, script: &[u8]) -> Told {
+fn play(rt: &HostRuntime, script: &[u8]) -> Told {
     let mut source = Source::whole(script);
     let mut output = Vec::new(rt.alloc());
     let mut errors = Vec::new(rt.alloc());

@@ -1,0 +1,67 @@
+//! The words of the command line.
+
+use clap::{Arg, ArgMatches, Command, Error};
+use std::alloc::{AllocError, Global};
+
+/// What the command line asks for.
+#[derive(Clone, Copy)]
+pub enum Asked<'a> {
+    /// Run the script on standard input.
+    Simulate,
+    /// Read this settings file and print what it sets.
+    Check(&'a str),
+}
+
+/// Reads the command line, the program's own name first. An error is help that was asked for, or why
+/// the words were refused.
+pub fn read_words<'a>(alloc: Global, words: &'a [&'a str]) -> Result<Asked<'a>, Error> {
+    let matches = relayd(alloc)?.try_get_matches_from(words)?;
+    Ok(chosen(&matches))
+}
+
+/// The command that was chosen; without one, the simulator.
+fn chosen<'a>(matches: &ArgMatches<'a>) -> Asked<'a> {
+    let check = matches.subcommand_matches("check");
+    match check.and_then(|check| check.get_str("config")) {
+        Some(path) => Asked::Check(path),
+        None => Asked::Simulate,
+    }
+}
+
+/// The program's command line.
+fn relayd<'a>(alloc: Global) -> Result<Command<'a>, AllocError> {
+    Command::new(alloc, "relayd")
+        .about("A TCP relay on edge-triggered readiness, and its simulator")
+        .after_help(
+            "Without a command, relayd does what `relayd sim` does.\n\nExample:\n  relayd sim < examples/one-direction.flow\n\nrelayd(1) tells more, and relayd.toml(5) describes the settings.",
+        )
+        .subcommand(simulate(alloc))?
+        .subcommand(check(alloc)?)
+}
+
+/// `relayd sim`.
+fn simulate<'a>(alloc: Global) -> Command<'a> {
+    Command::new(alloc, "sim")
+        .about("Runs the script on standard input and prints its report")
+        .after_help(
+            "A script is a header and steps, one a line: what comes from the network, and what the\nsockets reply to the relay. The report says where every byte is after the last step. A\nscript with a fault gives one line that tells the fault, and the status 1.\n\nExample:\n  relayd sim < examples/one-direction.flow",
+        )
+}
+
+/// `relayd check --config FILE`.
+fn check<'a>(alloc: Global) -> Result<Command<'a>, AllocError> {
+    Ok(
+        Command::new(alloc, "check")
+            .about("Reads a settings file and prints every setting, or what is wrong")
+            .after_help(
+                "Prints a line KEY=VALUE for each setting, defaults included. Where the file is not as it\nshould be, it says which key is at fault and why, and ends with the status 1.\n\nExample:\n  relayd check --config examples/relayd.toml\n\nrelayd.toml(5) describes the settings.",
+            )
+            .arg(
+                Arg::new(alloc, "config")
+                    .long("config")
+                    .value_name("FILE")
+                    .required(true)
+                    .help("The settings file, at most 65,536 bytes of TOML"),
+            )?,
+    )
+}

@@ -1,0 +1,35 @@
+//! What the program tells on standard error.
+
+use script::ScriptFault;
+use settings::SettingsFault;
+use std::alloc::AllocError;
+use thiserror::Error;
+
+/// A fault of the program. Its text is what a person sees behind `relayd: `.
+#[derive(Debug, Drop, Error)]
+pub enum ProgramFault {
+    /// The settings file could not be opened or read.
+    #[error("config: cannot be read")]
+    ConfigRead,
+    /// The settings file has over 65,536 bytes.
+    #[error("config: too long")]
+    ConfigLong,
+    /// The settings file sets something wrong.
+    #[error(transparent)]
+    Settings(SettingsFault),
+    /// The script could not be read, or its outcome not written.
+    #[error(transparent)]
+    Script(ScriptFault),
+    /// What was asked for could not be written.
+    #[error("output: cannot be written")]
+    Write,
+    /// Memory ran out.
+    #[error("out of memory")]
+    NoMemory,
+}
+
+impl From<AllocError> for ProgramFault {
+    fn from(_error: AllocError) -> ProgramFault {
+        ProgramFault::NoMemory
+    }
+}

@@ -1,0 +1,192 @@
+//! The command line, and the check of a settings file.
+
+use super::Told;
+use super::ends::Source;
+use crate::program::act;
+use std::alloc::{AllocError, Global};
+use std::test::Fail;
+use std::{env, fs, process};
+
+/// Runs the program with these words, and an empty input.
+fn play_words(rt: &HostRuntime, words: &[String]) -> Told {
+    let mut source = Source::whole(b"");
+    let mut output = Vec::new(rt.alloc());
+    let mut errors = Vec::new(rt.alloc());
+    let status = act(rt, words, &mut source, &mut output, &mut errors);
+    Told {
+        status,
+        output,
+        errors,
+    }
+}
+
+/// The words of a command line, which single spaces part.
+fn words(alloc: Global, line: &str) -> Result<Vec<String>, AllocError> {
+    let mut words = Vec::new(alloc);
+    for word in line.split(' ') {
+        words.push(String::from_str(alloc, word)?)?;
+    }
+    Ok(words)
+}
+
+/// The words of a check of this file.
+fn check_words(alloc: Global, path: &str) -> Result<Vec<String>, AllocError> {
+    let mut words = words(alloc, "relayd check --config")?;
+    words.push(String::from_str(alloc, path)?)?;
+    Ok(words)
+}
+
+/// Checks a settings file of these bytes.
+fn play_check(rt: &HostRuntime, name: &str, text: &[u8]) -> Result<Told, Fail> {
+    let number = process::id(rt.process());
+    let path = env::temp_dir(rt)?;
+    let path = path
+        .to_str()
+        .ok_or("a temporary folder whose name is no text")?;
+    let path = format!(in rt.alloc(); "{path}/relayd-{number}-{name}.toml")?;
+    fs::write(rt, path.as_str(), text)?;
+    let words = check_words(rt.alloc(), path.as_str())?;
+    let told = play_words(rt, words.as_slice());
+    fs::remove_file(rt, path.as_str())?;
+    Ok(told)
+}
+
+/// The two lines that a settings file needs.
+const NEEDED: &str = "listen = \"127.0.0.1:7000\"\ntarget = \"127.0.0.1:7001\"\n";
+
+/// What the check prints of them.
+const DEFAULTS: &str =
+    "listen=127.0.0.1:7000\ntarget=127.0.0.1:7001\nring=16384\nbudget=64\nworkers=4\nslots=1024\nstop_after=0\nlog=info\n";
+
+#[test]
+fn prints_every_setting(rt: HostRuntime) -> Result<(), Fail> {
+    let told = play_check(&rt, "defaults", NEEDED.as_bytes())?;
+    assert_eq!(rt; told.output.as_slice(), DEFAULTS.as_bytes());
+    assert!(rt; told.errors.is_empty());
+    assert_eq!(rt; told.status, 0);
+    Ok(())
+}
+
+#[test]
+fn tells_what_is_wrong(rt: HostRuntime) -> Result<(), Fail> {
+    for (line, fault) in [
+        ("ring = 0", "settings: ring: out of range"),
+        ("ring = \"4\"", "settings: ring: wrong kind"),
+        ("rings = 4", "settings: rings: unknown key"),
+        ("log = \"loud\"", "settings: log: out of range"),
+        ("zoo = 1\nabc = 1", "settings: abc: unknown key"),
+        ("ring = 0\nbudget = \"x\"", "settings: ring: out of range"),
+        ("ring = ", "settings: not toml"),
+    ] {
+        let text = format!(in rt.alloc(); "{NEEDED}{line}\n")?;
+        let told = play_check(&rt, "wrong", text.as_bytes())?;
+        let wanted = format!(in rt.alloc(); "relayd: {fault}\n")?;
+        assert_eq!(rt; told.errors.as_slice(), wanted.as_bytes(), "{line}");
+        assert!(rt; told.output.is_empty(), "{line}");
+        assert_eq!(rt; told.status, 1, "{line}");
+    }
+    for (text, fault) in [
+        (
+            b"listen = \"127.0.0.1:7000\"".as_slice(),
+            "relayd: settings: target: missing\n",
+        ),
+        (b"\xff".as_slice(), "relayd: settings: not toml\n"),
+        (
+            b"listen = \"127.0.0.1:7000\"\ntarget = \"127.0.0.01:7001\"".as_slice(),
+            "relayd: settings: target: bad address\n",
+        ),
+    ] {
+        let told = play_check(&rt, "text", text)?;
+        assert_eq!(rt; told.errors.as_slice(), fault.as_bytes());
+        assert_eq!(rt; told.status, 1);
+    }
+    Ok(())
+}
+
+/// The two lines, and a comment that makes them so many bytes.
+fn padded(alloc: Global, length: usize) -> Result<Vec<u8>, AllocError> {
+    let mut text = Vec::from_slice(alloc, NEEDED.as_bytes())?;
+    for _ in 0..length.saturating_sub(NEEDED.len()) {
+        text.push(b'#')?;
+    }
+    Ok(text)
+}
+
+#[test]
+fn longest_file(rt: HostRuntime) -> Result<(), Fail> {
+    let longest = padded(rt.alloc(), 65_536)?;
+    let told = play_check(&rt, "longest", longest.as_slice())?;
+    assert_eq!(rt; told.output.as_slice(), DEFAULTS.as_bytes());
+    let longer = padded(rt.alloc(), 65_537)?;
+    let told = play_check(&rt, "longer", longer.as_slice())?;
+    assert_eq!(rt;
+        told.errors.as_slice(),
+        b"relayd: config: too long\n".as_slice()
+    );
+    assert_eq!(rt; told.status, 1);
+    Ok(())
+}
+
+#[test]
+fn no_file(rt: HostRuntime) -> Result<(), Fail> {
+    for path in ["", "no/such/file.toml", "."] {
+        let words = check_words(rt.alloc(), path)?;
+        let told = play_words(&rt, words.as_slice());
+        assert_eq!(rt;
+            told.errors.as_slice(),
+            b"relayd: config: cannot be read\n".as_slice(),
+            "{path}"
+        );
+        assert_eq!(rt; told.status, 1, "{path}");
+    }
+    Ok(())
+}
+
+#[test]
+fn runs_the_simulator(rt: HostRuntime) -> Result<(), Fail> {
+    // An empty script is a fault of its own.
+    for line in ["relayd", "relayd sim"] {
+        let words = words(rt.alloc(), line)?;
+        let told = play_words(&rt, words.as_slice());
+        assert_eq!(rt; told.output.as_slice(), b"no world\n".as_slice(), "{line}");
+        assert_eq!(rt; told.status, 1, "{line}");
+    }
+    Ok(())
+}
+
+#[test]
+fn tells_how_it_is_used(rt: HostRuntime) -> Result<(), Fail> {
+    for line in [
+        "relayd --help",
+        "relayd -h",
+        "relayd help check",
+        "relayd sim -h",
+        "relayd check --help",
+    ] {
+        let words = words(rt.alloc(), line)?;
+        let told = play_words(&rt, words.as_slice());
+        assert!(rt; told.output.ends_with(b"\n".as_slice()), "{line}");
+        assert!(rt; told.errors.is_empty(), "{line}");
+        assert_eq!(rt; told.status, 0, "{line}");
+    }
+    Ok(())
+}
+
+#[test]
+fn refuses_other_command_lines(rt: HostRuntime) -> Result<(), Fail> {
+    for line in [
+        "relayd run",
+        "relayd run --config x",
+        "relayd check",
+        "relayd check --config",
+        "relayd --config x",
+        "relayd sim x",
+    ] {
+        let words = words(rt.alloc(), line)?;
+        let told = play_words(&rt, words.as_slice());
+        assert!(rt; told.errors.starts_with(b"error: ".as_slice()), "{line}");
+        assert!(rt; told.output.is_empty(), "{line}");
+        assert_eq!(rt; told.status, 2, "{line}");
+    }
+    Ok(())
+}
