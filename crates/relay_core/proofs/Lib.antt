@@ -1,0 +1,4 @@
+pub mod Possible
+pub mod Streams
+pub mod Faults
+pub mod Over

@@ -1,0 +1,190 @@
+-- What an answer does to the stream of one direction.
+use Rattle.std.proofs.Common.{◌≡◌, ℕ, ◌≤◌, length, Bool, true, false, List, [], ◌++◌, take, Some, refl, ap, ◌∙◌, sym, append-nil, take-append-drop, inl, inr, ◌⊎◌}
+use Rattle.std.specs.Prelude.{if◌then◌else◌}
+use Rattle.token.specs.declared.side.Side.{Side}
+use Rattle.token.specs.declared.side.Side.TheVariants.{Client, Target}
+use Rattle.token.specs.declared.direction.Direction.{Direction}
+use Rattle.token.specs.declared.direction.Direction.TheVariants.{Up, Down}
+use Rattle.token.specs.Sides.{opposite}
+use Rattle.flow.specs.Stream.{Stream, free_room, taken_in, dropped, ended, closed}
+use Rattle.relay_core.specs.declared.call.Call.{Call}
+use Rattle.relay_core.specs.Calls.{side_of, direction_of}
+use Rattle.relay_core.specs.Pairs.{Flags, Relay, stream_of, with_stream, with_flags, flags_of, mark_joined, with_sent}
+use Rattle.relay_core.specs.Order.{next_call}
+use Rattle.relay_core.specs.Replies.{Reply, Bytes, End, Wrote, Joined, Shut, Blocked, Interrupted, Failed, fits, change_stream, without_flag, effect, after}
+use Rattle.relay_core.specs.Moved.{same_way, carried}
+use Rattle.relay_core.specs.Laws.{IsDrained, IsClosedLast, PassesEndLast, KeepsOrder}
+use Rattle.std.proofs.Math.Seq.{drop-nil}
+use Rattle.relay_core.proofs.Possible.{bytes_fit, shut_fits}
+
+-- what an answer does to the stream that its call serves
+abbrev pub served : Reply → Stream → Stream
+served (Bytes bytes) s = taken_in s bytes
+served End s = ended s
+served (Wrote n) s = dropped s n
+served Shut s = closed s
+served reply s = s
+
+stream_with_turn : (p : Relay) (t d : Direction) → stream_of (record p { turn = t }) d ≡ stream_of p d
+stream_with_turn p t Up = refl
+stream_with_turn p t Down = refl
+
+stream_joined : (p : Relay) (side : Side) (d : Direction) → stream_of (mark_joined p side) d ≡ stream_of p d
+stream_joined p Client d = refl
+stream_joined p Target Up = refl
+stream_joined p Target Down = refl
+
+stream_with_flags : (p : Relay) (side : Side) (flags : Flags) (d : Direction) → stream_of (with_flags p side flags) d ≡ stream_of p d
+stream_with_flags p Client flags Up = refl
+stream_with_flags p Client flags Down = refl
+stream_with_flags p Target flags Up = refl
+stream_with_flags p Target flags Down = refl
+
+stream_with_sent : (p : Relay) (e : Direction) (n : ℕ) (d : Direction) → stream_of (with_sent p e n) d ≡ stream_of p d
+stream_with_sent p Up n Up = refl
+stream_with_sent p Up n Down = refl
+stream_with_sent p Down n Up = refl
+stream_with_sent p Down n Down = refl
+
+stream_changed : (p : Relay) (e : Direction) (f : Stream → Stream) (d : Direction) → stream_of (with_stream p e (f (stream_of p e))) d ≡ (if same_way e d then f (stream_of p d) else stream_of p d)
+stream_changed p Up f Up = refl
+stream_changed p Up f Down = refl
+stream_changed p Down f Up = refl
+stream_changed p Down f Down = refl
+
+alike : (b : Bool) (s : Stream) → s ≡ (if b then s else s)
+alike true s = refl
+alike false s = refl
+
+-- only the direction that the call serves changes, and only by the answer
+stream_after : (p : Relay) (d : Direction) (call : Call) (reply : Reply) → stream_of (after p call reply) d ≡ (if same_way (direction_of call) d then served reply (stream_of p d) else stream_of p d)
+stream_after p d call (Bytes bytes) =
+    stream_with_turn (effect p call (Bytes bytes)) (opposite (direction_of call)) d
+    ∙ (stream_joined (change_stream p call (λ s. taken_in s bytes)) (side_of call) d
+    ∙ stream_changed p (direction_of call) (λ s. taken_in s bytes) d)
+stream_after p d call End =
+    stream_with_turn (effect p call End) (opposite (direction_of call)) d
+    ∙ (stream_joined (change_stream p call ended) (side_of call) d
+    ∙ stream_changed p (direction_of call) ended d)
+stream_after p d call (Wrote n) =
+    let moved : Relay = change_stream p call (λ s. dropped s n) in
+    let joined : Relay = mark_joined moved (side_of call) in
+    stream_with_turn (effect p call (Wrote n)) (opposite (direction_of call)) d
+    ∙ (stream_with_sent joined (direction_of call) _ d
+    ∙ (stream_joined moved (side_of call) d
+    ∙ stream_changed p (direction_of call) (λ s. dropped s n) d))
+stream_after p d call Joined =
+    stream_with_turn (effect p call Joined) (opposite (direction_of call)) d
+    ∙ (stream_joined p (side_of call) d ∙ alike (same_way (direction_of call) d) (stream_of p d))
+stream_after p d call Shut =
+    stream_with_turn (effect p call Shut) (opposite (direction_of call)) d ∙ stream_changed p (direction_of call) closed d
+stream_after p d call Blocked =
+    stream_with_turn (effect p call Blocked) (opposite (direction_of call)) d
+    ∙ (stream_with_flags p (side_of call) (without_flag call (flags_of p (side_of call))) d
+    ∙ alike (same_way (direction_of call) d) (stream_of p d))
+stream_after p d call Interrupted =
+    stream_with_turn p (opposite (direction_of call)) d ∙ alike (same_way (direction_of call) d) (stream_of p d)
+stream_after p d call (Failed kind) =
+    stream_with_turn (effect p call (Failed kind)) (opposite (direction_of call)) d
+    ∙ (failed_keeps d ∙ alike (same_way (direction_of call) d) (stream_of p d))
+  where
+    failed_keeps : (d : Direction) → stream_of (effect p call (Failed kind)) d ≡ stream_of p d
+    failed_keeps Up = refl
+    failed_keeps Down = refl
+
+-- the order of bytes, by what the answer does
+read_order : (b : Bool) (s : Stream) (bytes : List ℕ) → s.ring ++ (if b then bytes else []) ≡ (if b then taken_in s bytes else s).ring
+read_order true s bytes = refl
+read_order false s bytes = append-nil s.ring
+
+written_order : (b : Bool) (s : Stream) (n : ℕ) → s.ring ++ [] ≡ (if b then take n s.ring else []) ++ (if b then dropped s n else s).ring
+written_order true s n = append-nil s.ring ∙ sym (take-append-drop n s.ring)
+written_order false s n = append-nil s.ring
+
+same_order : (b : Bool) (s t : Stream) → t.ring ≡ s.ring → s.ring ++ [] ≡ (if b then t else s).ring
+same_order true s t e = append-nil s.ring ∙ sym e
+same_order false s t e = append-nil s.ring
+
+ring_after : (p : Relay) (d : Direction) (call : Call) (reply : Reply) → (if same_way (direction_of call) d then served reply (stream_of p d) else stream_of p d).ring ≡ (stream_of (after p call reply) d).ring
+ring_after p d call reply = sym (ap (λ (s : Stream). s.ring) (stream_after p d call reply))
+
+after_keeps_order : (p : Relay) (call : Call) (reply : Reply) → KeepsOrder p call reply (after p call reply)
+after_keeps_order p call (Bytes bytes) = λ d. read_order (same_way (direction_of call) d) (stream_of p d) bytes ∙ ring_after p d call (Bytes bytes)
+after_keeps_order p call End = λ d. same_order (same_way (direction_of call) d) (stream_of p d) (ended (stream_of p d)) refl ∙ ring_after p d call End
+after_keeps_order p call (Wrote n) = λ d.
+    written_order (same_way (direction_of call) d) (stream_of p d) n
+    ∙ ap (λ (ring : List ℕ). carried p d call (Wrote n) ++ ring) (ring_after p d call (Wrote n))
+after_keeps_order p call Joined = λ d. same_order (same_way (direction_of call) d) (stream_of p d) (stream_of p d) refl ∙ ring_after p d call Joined
+after_keeps_order p call Shut = λ d. same_order (same_way (direction_of call) d) (stream_of p d) (closed (stream_of p d)) refl ∙ ring_after p d call Shut
+after_keeps_order p call Blocked = λ d. same_order (same_way (direction_of call) d) (stream_of p d) (stream_of p d) refl ∙ ring_after p d call Blocked
+after_keeps_order p call Interrupted = λ d. same_order (same_way (direction_of call) d) (stream_of p d) (stream_of p d) refl ∙ ring_after p d call Interrupted
+after_keeps_order p call (Failed kind) = λ d. same_order (same_way (direction_of call) d) (stream_of p d) (stream_of p d) refl ∙ ring_after p d call (Failed kind)
+
+-- bytes leave in the order in which they came
+pub order_kept : (p : Relay) (call : Call) (reply : Reply) (q : Relay) → q ≡ after p call reply → KeepsOrder p call reply q
+order_kept p call reply q e = rw e (after_keeps_order p call reply)
+
+same_direction : (e d : Direction) → same_way e d ≡ true → e ≡ d
+same_direction Up Up h = refl
+same_direction Up Down h = absurd (cc)
+same_direction Down Up h = absurd (cc)
+same_direction Down Down h = refl
+
+-- only a shutdown marks the end as passed on
+marked : (b : Bool) (reply : Reply) (s : Stream) (D : Type 0) → (b ≡ true → reply ≡ Shut → D) → (if b then served reply s else s).shut ≡ true → (s.shut ≡ true) ⊎ D
+marked false reply s D drained h = inl h
+marked true Shut s D drained h = inr (drained refl refl)
+marked true (Bytes bytes) s D drained h = inl h
+marked true End s D drained h = inl h
+marked true (Wrote n) s D drained h = inl h
+marked true Joined s D drained h = inl h
+marked true Blocked s D drained h = inl h
+marked true Interrupted s D drained h = inl h
+marked true (Failed kind) s D drained h = inl h
+
+-- and nothing takes the mark away
+stays : (b : Bool) (reply : Reply) (s : Stream) → s.shut ≡ true → (if b then served reply s else s).shut ≡ true
+stays false reply s h = h
+stays true Shut s h = refl
+stays true (Bytes bytes) s h = h
+stays true End s h = h
+stays true (Wrote n) s h = h
+stays true Joined s h = h
+stays true Blocked s h = h
+stays true Interrupted s h = h
+stays true (Failed kind) s h = h
+
+drained_before : (p : Relay) (d : Direction) (call : Call) (reply : Reply) → next_call p ≡ Some call → fits p call reply ≡ true → same_way (direction_of call) d ≡ true → reply ≡ Shut → IsDrained (stream_of p d)
+drained_before p d call reply next fit way shut =
+    let e : direction_of call ≡ d = same_direction (direction_of call) d way in
+    let fit_shut : fits p call Shut ≡ true = rw shut at fit in
+    rw e at (shut_fits p call next fit_shut)
+
+open_before : (p : Relay) (d : Direction) (call : Call) (reply : Reply) → next_call p ≡ Some call → fits p call reply ≡ true → same_way (direction_of call) d ≡ true → (bytes : List ℕ) → reply ≡ Bytes bytes → (stream_of p d).end_seen ≡ false
+open_before p d call reply next fit way bytes came =
+    let e : direction_of call ≡ d = same_direction (direction_of call) d way in
+    let fit_bytes : fits p call (Bytes bytes) ≡ true = rw came at fit in
+    let room : (length bytes ≤ free_room (stream_of p (direction_of call))) × ((stream_of p (direction_of call)).end_seen ≡ false) = bytes_fit p call bytes next fit_bytes in
+    rw e at (room.1)
+
+-- nothing comes after the end, and the end is passed on after everything
+closed_last : (b : Bool) (reply : Reply) (s : Stream) → (b ≡ true → (bytes : List ℕ) → reply ≡ Bytes bytes → s.end_seen ≡ false) → (b ≡ true → reply ≡ Shut → IsDrained s) → IsClosedLast s → IsClosedLast (if b then served reply s else s)
+closed_last false reply s open_end drained c = c
+closed_last true (Bytes bytes) s open_end drained c = record { ended = c.ended; empty = λ h. let seen : s.end_seen ≡ true = c.ended h in let unseen : s.end_seen ≡ false = open_end refl bytes refl in absurd (cc) }
+closed_last true End s open_end drained c = record { ended = λ h. refl; empty = c.empty }
+closed_last true (Wrote n) s open_end drained c = record { ended = c.ended; empty = λ h. rw (c.empty h) (drop-nil n) }
+closed_last true Shut s open_end drained c = record { ended = λ h. (drained refl refl).ended; empty = λ h. (drained refl refl).empty }
+closed_last true Joined s open_end drained c = c
+closed_last true Blocked s open_end drained c = c
+closed_last true Interrupted s open_end drained c = c
+closed_last true (Failed kind) s open_end drained c = c
+
+-- the end of input is passed on last, and for good
+pub end_passed_last : (p : Relay) (call : Call) (reply : Reply) (q : Relay) → next_call p ≡ Some call → fits p call reply ≡ true → q ≡ after p call reply → (d : Direction) → PassesEndLast (stream_of p d) (stream_of q d)
+end_passed_last p call reply q next fit e d =
+    let is : stream_of q d ≡ (if same_way (direction_of call) d then served reply (stream_of p d) else stream_of p d) = rw e (stream_after p d call reply) in
+    record {
+      last = λ h. marked (same_way (direction_of call) d) reply (stream_of p d) (IsDrained (stream_of p d)) (drained_before p d call reply next fit) (rw is at h);
+      for_good = λ h. rw is (stays (same_way (direction_of call) d) reply (stream_of p d) h);
+      closed_last = λ c. rw is (closed_last (same_way (direction_of call) d) reply (stream_of p d) (open_before p d call reply next fit) (drained_before p d call reply next fit) c);
+    }

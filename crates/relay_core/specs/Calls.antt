@@ -1,0 +1,37 @@
+-- The calls that the relay makes on a connection's two sockets, and the answers that they get.
+use Rattle.std.specs.Prelude.{ℕ, List, codes}
+use Rattle.token.specs.declared.side.Side.{Side}
+use Rattle.token.specs.declared.direction.Direction.{Direction}
+use Rattle.token.specs.Sides.{inward, outward}
+use Rattle.relay_core.specs.declared.call.Call.{Call}
+use Rattle.relay_core.specs.declared.call.Call.TheVariants.{Write, Join, Shut, Read}
+use Rattle.relay_core.specs.declared.call.CallKind.{CallKind}
+use Rattle.relay_core.specs.declared.call.CallKind.TheVariants.{Write as WriteKind, Join as JoinKind, Shut as ShutKind, Read as ReadKind}
+
+-- the side on whose socket a call is made
+abbrev pub side_of : Call → Side
+side_of (Write side) = side
+side_of (Join side) = side
+side_of (Shut side) = side
+side_of (Read side most) = side
+
+-- which of the four calls it is
+abbrev pub kind_of : Call → CallKind
+kind_of (Write side) = WriteKind
+kind_of (Join side) = JoinKind
+kind_of (Shut side) = ShutKind
+kind_of (Read side most) = ReadKind
+
+-- the word for it
+abbrev pub call_name : CallKind → List ℕ
+call_name WriteKind = codes "write"
+call_name JoinKind = codes "join"
+call_name ShutKind = codes "shut"
+call_name ReadKind = codes "read"
+
+-- the direction that a call serves: a read its socket's outward one, the others its inward one
+abbrev pub direction_of : Call → Direction
+direction_of (Write side) = inward side
+direction_of (Join side) = inward side
+direction_of (Shut side) = inward side
+direction_of (Read side most) = outward side

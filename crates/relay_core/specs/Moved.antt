@@ -1,0 +1,44 @@
+-- The bytes that answers move: those that reads bring into a direction, and those that writes take out.
+use Rattle.std.specs.Prelude.{ℕ, Bool, true, false, if◌then◌else◌, List, [], ◌∷◌, ◌++◌, take, Option, option_map, unwrap_or}
+use Rattle.token.specs.declared.direction.Direction.{Direction}
+use Rattle.token.specs.declared.direction.Direction.TheVariants.{Up, Down}
+use Rattle.relay_core.specs.declared.call.Call.{Call}
+use Rattle.relay_core.specs.Calls.{direction_of}
+use Rattle.relay_core.specs.Pairs.{Relay, stream_of}
+use Rattle.relay_core.specs.Order.{next_call}
+use Rattle.relay_core.specs.Replies.{Reply, Bytes, Wrote}
+use Rattle.relay_core.specs.Runs.{answered}
+
+abbrev pub same_way : Direction → Direction → Bool
+same_way Up Up = true
+same_way Up Down = false
+same_way Down Up = false
+same_way Down Down = true
+
+-- the bytes that an answer brings in
+abbrev pub brought : Direction → Call → Reply → List ℕ
+brought d call (Bytes bytes) = if same_way (direction_of call) d then bytes else []
+brought d call reply = []
+
+-- the bytes that an answer takes out
+abbrev pub carried : Relay → Direction → Call → Reply → List ℕ
+carried p d call (Wrote n) = if same_way (direction_of call) d then take n (stream_of p d).ring else []
+carried p d call reply = []
+
+-- nothing, where there is no call
+abbrev pub or_nothing : Option (List ℕ) → List ℕ
+or_nothing bytes = unwrap_or bytes []
+
+-- all bytes that a list of answers brings in, each to the call that comes next at that point
+abbrev pub all_brought : Relay → Direction → List Reply → List ℕ
+all_brought p d [] = []
+all_brought p d (reply ∷ replies) =
+    or_nothing (option_map (λ (call : Call). brought d call reply) (next_call p))
+    ++ or_nothing (option_map (λ (q : Relay). all_brought q d replies) (answered p reply))
+
+-- and all bytes that it takes out
+abbrev pub all_carried : Relay → Direction → List Reply → List ℕ
+all_carried p d [] = []
+all_carried p d (reply ∷ replies) =
+    or_nothing (option_map (λ (call : Call). carried p d call reply) (next_call p))
+    ++ or_nothing (option_map (λ (q : Relay). all_carried q d replies) (answered p reply))

@@ -1,0 +1,44 @@
+-- The order of work: which call comes next.
+use Rattle.std.specs.Prelude.{ℕ, Bool, not, ◌&&◌, nat_lt, min, if◌then◌else◌, List, length, Option, Some, None}
+use Rattle.std.specs.Option.{option_or}
+use Rattle.token.specs.declared.side.Side.{Side}
+use Rattle.token.specs.declared.direction.Direction.{Direction}
+use Rattle.token.specs.Sides.{source, destination, opposite, inward}
+use Rattle.flow.specs.Stream.{Stream, free_room}
+use Rattle.relay_core.specs.declared.call.Call.{Call}
+use Rattle.relay_core.specs.declared.call.Call.TheVariants.{Write, Join, Shut, Read}
+use Rattle.relay_core.specs.Pairs.{Relay, stream_of, flags_of, is_joined, verdict, is_live}
+
+-- bytes wait in the ring
+abbrev pub is_waiting : Stream → Bool
+is_waiting stream = nat_lt 0 (length stream.ring)
+
+-- every byte has left after the end of input, and the end itself is still to be passed on
+abbrev pub is_drained : Stream → Bool
+is_drained stream = stream.end_seen && not (is_waiting stream) && not stream.shut
+
+-- more bytes may come, and the ring has room for some
+abbrev pub is_open : Stream → Bool
+is_open stream = not stream.end_seen && nat_lt 0 (free_room stream)
+
+-- the most bytes that one read asks for
+abbrev pub read_most : Stream → ℕ
+read_most stream = min (free_room stream) 16384
+
+-- the first possible call that serves one direction
+abbrev pub call_for : Relay → Direction → Option Call
+call_for p d =
+    if is_waiting (stream_of p d) && (flags_of p (destination d)).write then Some (Write (destination d))
+    else if is_drained (stream_of p d) && not (is_joined p (destination d)) && (flags_of p (destination d)).write then Some (Join (destination d))
+    else if is_drained (stream_of p d) && is_joined p (destination d) then Some (Shut (destination d))
+    else if is_open (stream_of p d) && (flags_of p (source d)).read then Some (Read (source d) (read_most (stream_of p d)))
+    else None
+
+-- the call that a pair makes next: one for the direction whose turn it is, or else one for the other
+-- direction, and none once the pair is done or failed
+abbrev pub next_call : Relay → Option Call
+next_call p = if is_live (verdict p) then option_or (call_for p p.turn) (call_for p (opposite p.turn)) else None
+
+-- the bytes that are bound for a side: a write offers them all
+abbrev pub offer : Relay → Side → List ℕ
+offer p side = (stream_of p (inward side)).ring

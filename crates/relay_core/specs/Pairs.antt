@@ -1,0 +1,104 @@
+-- One connection, as the relay keeps it: a stream of bytes for each direction, and for each side's
+-- socket what the relay believes of its readiness.
+use Rattle.std.specs.Prelude.{ℕ, Bool, true, false, ◌&&◌, Option, Some, None}
+use Rattle.token.specs.declared.side.Side.{Side}
+use Rattle.token.specs.declared.side.Side.TheVariants.{Client, Target}
+use Rattle.token.specs.declared.direction.Direction.{Direction}
+use Rattle.token.specs.declared.direction.Direction.TheVariants.{Up, Down}
+use Rattle.flow.specs.Stream.{Stream, empty_stream}
+pub use Rattle.relay_core.specs.declared.flags.Flags.{Flags}
+use Rattle.relay_core.specs.declared.verdict.Fault.{Fault}
+use Rattle.relay_core.specs.declared.verdict.Verdict.{Verdict}
+use Rattle.relay_core.specs.declared.verdict.Verdict.TheVariants.{Live, Done, Failed}
+
+-- `client` and `target` are what the relay believes of the two sockets: a flag that is set says that the
+-- call is worth a try, and one that is not, that the last try would have had to wait and no report came
+-- since. `joined` says that the target's connect is known to have ended, `turn` is the direction that is
+-- looked at first, and `sent_up` and `sent_down` count the bytes that writes took
+pub record Relay : Type 0 where
+  pub slot : ℕ
+  pub generation : ℕ
+  pub up : Stream
+  pub down : Stream
+  pub client : Flags
+  pub target : Flags
+  pub joined : Bool
+  pub turn : Direction
+  pub failure : Option Fault
+  pub sent_up : ℕ
+  pub sent_down : ℕ
+
+-- both calls are worth a try
+abbrev pub ready : Flags
+ready = record { read = true; write = true }
+
+-- a connection that was just made
+abbrev pub fresh : ℕ → ℕ → ℕ → Relay
+fresh slot generation capacity = record {
+  slot = slot;
+  generation = generation;
+  up = empty_stream capacity;
+  down = empty_stream capacity;
+  client = ready;
+  target = ready;
+  joined = false;
+  turn = Up;
+  failure = None;
+  sent_up = 0;
+  sent_down = 0;
+}
+
+-- the stream of one direction
+abbrev pub stream_of : Relay → Direction → Stream
+stream_of p Up = p.up
+stream_of p Down = p.down
+
+abbrev pub with_stream : Relay → Direction → Stream → Relay
+with_stream p Up stream = record p { up = stream }
+with_stream p Down stream = record p { down = stream }
+
+-- the flags of one side's socket
+abbrev pub flags_of : Relay → Side → Flags
+flags_of p Client = p.client
+flags_of p Target = p.target
+
+abbrev pub with_flags : Relay → Side → Flags → Relay
+with_flags p Client flags = record p { client = flags }
+with_flags p Target flags = record p { target = flags }
+
+-- whether one side's socket is known to be connected: the client always is
+abbrev pub is_joined : Relay → Side → Bool
+is_joined p Client = true
+is_joined p Target = p.joined
+
+abbrev pub mark_joined : Relay → Side → Relay
+mark_joined p Client = p
+mark_joined p Target = record p { joined = true }
+
+-- how many bytes writes took in one direction
+abbrev pub sent : Relay → Direction → ℕ
+sent p Up = p.sent_up
+sent p Down = p.sent_down
+
+abbrev pub with_sent : Relay → Direction → ℕ → Relay
+with_sent p Up n = record p { sent_up = n }
+with_sent p Down n = record p { sent_down = n }
+
+-- a report came: each call is worth a try again
+abbrev pub noted : Relay → Relay
+noted p = record p { client = ready; target = ready }
+
+-- what has become of the connection: it failed once a call failed, it is done once both ends of input
+-- were passed on, and else it is live
+abbrev pub verdict_of : Option Fault → Bool → Verdict
+verdict_of (Some fault) both_shut = Failed fault
+verdict_of None true = Done
+verdict_of None false = Live
+
+abbrev pub verdict : Relay → Verdict
+verdict p = verdict_of p.failure (p.up.shut && p.down.shut)
+
+abbrev pub is_live : Verdict → Bool
+is_live Live = true
+is_live Done = false
+is_live (Failed fault) = false

@@ -1,0 +1,67 @@
+-- What a socket may answer to a call, and what each answer does to the pair.
+use Rattle.std.specs.Prelude.{ℕ, ◌+◌, ◌-◌, ◌^◌, Bool, true, false, ◌&&◌, nat_le, min, List, length, Some}
+use Rattle.token.specs.declared.kind.Kind.{Kind}
+use Rattle.token.specs.declared.direction.Direction.{Direction}
+use Rattle.token.specs.Sides.{opposite}
+use Rattle.flow.specs.Stream.{Stream, taken_in, dropped, ended, closed}
+use Rattle.relay_core.specs.declared.call.Call.{Call}
+use Rattle.relay_core.specs.declared.call.Call.TheVariants as call
+use Rattle.relay_core.specs.Calls.{side_of, kind_of, direction_of}
+use Rattle.relay_core.specs.Pairs.{Flags, Relay, stream_of, with_stream, flags_of, with_flags, mark_joined, sent, with_sent}
+use Rattle.relay_core.specs.Order.{offer}
+
+-- read(2) gave bytes, or the end of input; write(2) took the first n bytes of the offer; the socket is
+-- connected; shutdown(2) passed the end on; the call would have to wait; a signal interrupted it; or it
+-- failed
+pub data Reply : Type 0 where
+  Bytes : List ℕ → Reply
+  End : Reply
+  Wrote : ℕ → Reply
+  Joined : Reply
+  Shut : Reply
+  Blocked : Reply
+  Interrupted : Reply
+  Failed : Kind → Reply
+
+-- the answers that a call may get: a read gives 1 byte to as many as it asks for, a write takes 1 byte
+-- to all that it offers, and a shutdown never has to wait
+abbrev pub fits : Relay → Call → Reply → Bool
+fits p (call.Read side most) (Bytes bytes) = nat_le 1 (length bytes) && nat_le (length bytes) most
+fits p (call.Read side most) End = true
+fits p (call.Read side most) Blocked = true
+fits p (call.Write side) (Wrote n) = nat_le 1 n && nat_le n (length (offer p side))
+fits p (call.Write side) Blocked = true
+fits p (call.Join side) Joined = true
+fits p (call.Join side) Blocked = true
+fits p (call.Shut side) Shut = true
+fits p call Interrupted = true
+fits p call (Failed kind) = true
+fits p call reply = false
+
+-- the stream that a call serves, changed
+abbrev pub change_stream : Relay → Call → (Stream → Stream) → Relay
+change_stream p call change = with_stream p (direction_of call) (change (stream_of p (direction_of call)))
+
+-- a call that had to wait: no other is worth a try until a report comes
+abbrev pub without_flag : Call → Flags → Flags
+without_flag (call.Read side most) flags = record flags { read = false }
+without_flag call flags = record flags { write = false }
+
+-- a write took n bytes more; the count stays at the largest that it can show
+abbrev pub count_more : Relay → Direction → ℕ → Relay
+count_more p d n = with_sent p d (min (sent p d + n) (2 ^ 64 - 1))
+
+-- what an answer does, but for the turn. A socket that moved bytes or an end is connected.
+abbrev pub effect : Relay → Call → Reply → Relay
+effect p call (Bytes bytes) = mark_joined (change_stream p call (λ stream. taken_in stream bytes)) (side_of call)
+effect p call End = mark_joined (change_stream p call ended) (side_of call)
+effect p call (Wrote n) = count_more (mark_joined (change_stream p call (λ stream. dropped stream n)) (side_of call)) (direction_of call) n
+effect p call Joined = mark_joined p (side_of call)
+effect p call Shut = change_stream p call closed
+effect p call Blocked = with_flags p (side_of call) (without_flag call (flags_of p (side_of call)))
+effect p call Interrupted = p
+effect p call (Failed kind) = record p { failure = Some (record { side = side_of call; call = kind_of call; kind = kind }) }
+
+-- the pair after an answered call: the turn goes to the direction that the call did not serve
+abbrev pub after : Relay → Call → Reply → Relay
+after p call reply = record (effect p call reply) { turn = opposite (direction_of call) }

@@ -1,0 +1,22 @@
+use token::Kind;
+
+/// What a socket answered to a call.
+#[derive(Clone, Copy, Debug, PartialEq, Eq)]
+pub enum Answer<'a> {
+    /// A read gave these bytes, at least one.
+    Bytes(&'a [u8]),
+    /// A read met the end of input.
+    End,
+    /// A write took so many of the bytes that it was offered, at least one.
+    Wrote(usize),
+    /// The socket is connected.
+    Joined,
+    /// The end of input was passed on.
+    Shut,
+    /// The call would have had to wait (EAGAIN).
+    Blocked,
+    /// A signal interrupted the call, and nothing moved (EINTR).
+    Interrupted,
+    /// The call failed.
+    Failed(Kind),
+}

@@ -1,0 +1,35 @@
+//! The core of the relay as a pure value: which call comes next on which of a connection's two
+//! sockets, and what each answer does.
+//!
+//! A [`Pair`] is one connection. It makes no call itself. Its owner asks for the [`Pair::next`] call,
+//! makes it, and hands the [`Answer`] back:
+//!
+//! - a write offers all bytes that are bound for a side ([`Pair::offer`]);
+//! - once a source has ended and every byte has left, the destination's socket is asked whether it is
+//!   connected, and then its end is shut, so a half-closed connection goes on in the other direction;
+//! - a read asks for at most what the ring has room for.
+//!
+//! On edge triggering a socket is reported once for each change. So a call is tried until it is
+//! answered "would block", and only that answer, never a short count, stops it from being tried again
+//! before the next report ([`Pair::note`], epoll(7)). When nothing is left to try, `next` is none.
+//!
+//! The definitions stand in `specs/`: the pair and its verdict in `Pairs.antt`, the order of work in
+//! `Order.antt`, what each answer does in `Replies.antt`, lists of answers in `Runs.antt`, the bytes
+//! that they move in `Moved.antt`, and what all that comes to in `Laws.antt`.
+#![tactic(auto)]
+
+mod answer;
+mod call;
+mod flags;
+pub mod laws;
+mod pair;
+#[cfg(test)]
+mod tests;
+mod verdict;
+
+pub use answer::Answer;
+pub use call::{Call, CallKind};
+pub use flags::Flags;
+pub use pair::{Pair, READ_MOST};
+pub use token::{Direction, Kind, Side};
+pub use verdict::{Fault, Verdict};

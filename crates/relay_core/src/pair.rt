@@ -1,0 +1,392 @@
+ghost use Rattle.std.specs.Prelude.{◌≡◌, ◌≤◌, ◌<◌, ◌&&◌, true, false, Some, [], length, slice_index, ◌↔◌, IfOk, IfSome, OnSome};
+ghost use Rattle.token.specs.Sides.{destination};
+ghost use Rattle.flow.specs.Stream.{taken_in, dropped, ended, closed, free_room};
+ghost use Rattle.relay_core.specs.Calls.{side_of};
+ghost use Rattle.relay_core.specs.Pairs.{fresh, stream_of, with_stream, flags_of, with_flags, is_joined, mark_joined, noted, verdict, is_live};
+ghost use Rattle.relay_core.specs.Order.{is_waiting, call_for, next_call, offer};
+ghost use Rattle.relay_core.specs.Replies.{Interrupted, fits, after, count_more, without_flag};
+ghost use Rattle.relay_core.specs.Answers.{reply_of};
+ghost use Rattle.relay_core.specs.Laws.{IsPossible, KeepsOrder, PassesEndLast, TellsOf};
+ghost use Rattle.token.specs.declared.direction.Direction.{Direction};
+ghost use Rattle.relay_core.specs.declared.verdict.Fault.{Fault};
+
+use crate::answer::Answer;
+use crate::call::Call;
+use crate::flags::Flags;
+use crate::verdict::{Fault, Verdict};
+use flow::Flow;
+use std::alloc::{AllocError, Global};
+use std::marker::Model;
+use token::{Direction, Side};
+
+/// The most bytes that one read asks for.
+pub const READ_MOST: usize = 16_384;
+
+/// One connection: both directions of bytes, and what the relay believes of both sockets.
+#[derive(Drop)]
+pub struct Pair {
+    slot: usize,
+    generation: u64,
+    up: Flow,
+    down: Flow,
+    client: Flags,
+    target: Flags,
+    joined: bool,
+    turn: Direction,
+    failure: Option<Fault>,
+    sent_up: u64,
+    sent_down: u64,
+}
+
+impl Model for Pair {
+    ghost use Rattle.relay_core.specs.Pairs.{Relay};
+
+    ghost Value = { Relay };
+
+    ghost view = { λ p. record { slot = p.slot; generation = p.generation; up = p.up; down = p.down; client = p.client; target = p.target; joined = p.joined; turn = p.turn; failure = p.failure; sent_up = p.sent_up; sent_down = p.sent_down } };
+}
+
+impl Pair {
+    /// A connection that was just made, in a slot that has been opened `generation` times, with a ring
+    /// of `capacity` bytes, 1 to 65,536, for each direction. This takes all the memory that the pair
+    /// will ever use.
+    pub fn new(
+        alloc: Global,
+        slot: usize,
+        generation: u64,
+        capacity: usize,
+    ) -> Result<Pair, AllocError>
+        requires least { 1 ≤ capacity }
+        requires most { capacity ≤ 65536 }
+        ensures { IfOk result (λ pair. pair ≡ fresh slot generation capacity) }
+    {
+        Ok(Pair {
+            slot,
+            generation,
+            up: Flow::new(alloc, capacity)?,
+            down: Flow::new(alloc, capacity)?,
+            client: Flags::READY,
+            target: Flags::READY,
+            joined: false,
+            turn: Direction::Up,
+            failure: None,
+            sent_up: 0,
+            sent_down: 0,
+        })
+    }
+
+    /// The call to make next, or none: then nothing can be done before the next report ([`Pair::note`]),
+    /// or the pair is done or failed ([`Pair::verdict`]).
+    pub fn next(&self) -> Option<Call>
+        ensures value { result ≡ next_call self.now }
+        ensures possible { IfSome result (IsPossible self.now) }
+        ensures live { OnSome result (verdict self.now ≡ Verdict.Live) }
+    {
+        if !self.is_live() {
+            return None;
+        }
+        match self.call_for(self.turn) {
+            Some(call) => Some(call),
+            None => self.call_for(self.turn.other()),
+        }
+    }
+
+    /// The bytes that are bound for a side: what a write to it offers.
+    pub fn offer(&self, side: Side) -> &[u8]
+        ensures { result.now ≡ offer self.now side }
+    {
+        match side {
+            Side::Client => self.down.front(),
+            Side::Target => self.up.front(),
+        }
+    }
+
+    /// Whether a call may get an answer: the answer is one for this call, and its number of bytes is in
+    /// range.
+    pub fn fits(&self, call: Call, answer: Answer<'_>) -> bool
+        ensures { result ≡ fits self.now call (reply_of answer.entry) }
+    {
+        match (call, answer) {
+            (_, Answer::Interrupted | Answer::Failed(_)) => true,
+            (Call::Read(_, most), Answer::Bytes(bytes)) => !bytes.is_empty() && bytes.len() <= most,
+            (Call::Write(side), Answer::Wrote(n)) => n > 0 && n <= self.offer(side).len(),
+            (Call::Read(_, _), Answer::End | Answer::Blocked)
+            | (Call::Write(_), Answer::Blocked)
+            | (Call::Join(_), Answer::Joined | Answer::Blocked)
+            | (Call::Shut(_), Answer::Shut) => true,
+            _ => false,
+        }
+    }
+
+    /// Takes in the answer to the call that comes next.
+    pub fn answer(&mut self, call: Call, answer: Answer<'_>)
+        requires next { next_call self.old ≡ Some call }
+        requires fits { fits self.old call (reply_of answer) ≡ true }
+        ensures value { self.new ≡ after self.old call (reply_of answer.entry) }
+
+        // What that comes to:
+        ensures order { KeepsOrder self.old call (reply_of answer.entry) self.new }
+        ensures end_last { (d : Direction) → PassesEndLast (stream_of self.old d) (stream_of self.new d) }
+        ensures interrupted { reply_of answer.entry ≡ Interrupted → self.new ≡ record self.old { turn = self.new.turn } }
+        ensures failed { (fault : Fault) → (verdict self.new ≡ Verdict.Failed fault) ↔ TellsOf call (reply_of answer.entry) fault }
+    {
+        self.take_answer(call, answer);
+    }
+
+    /// A report came for one of the sockets, of whatever kind: every call is worth a try again.
+    pub fn note(&mut self)
+        ensures value { self.new ≡ noted self.old }
+        ensures verdict_stays { verdict self.new ≡ verdict self.old }
+    {
+        self.client = Flags::READY;
+        self.target = Flags::READY;
+    }
+
+    /// What has become of the connection.
+    pub fn verdict(&self) -> Verdict
+        ensures { result ≡ verdict self.now }
+    {
+        match self.failure {
+            Some(fault) => Verdict::Failed(fault),
+            None if self.up.is_shut() && self.down.is_shut() => Verdict::Done,
+            None => Verdict::Live,
+        }
+    }
+
+    /// How many bytes writes took, up and down; each count stays at the largest `u64`.
+    pub fn counts(&self) -> (u64, u64)
+        ensures up { result.0 ≡ self.now.sent_up }
+        ensures down { result.1 ≡ self.now.sent_down }
+    {
+        (self.sent_up, self.sent_down)
+    }
+
+    /// The slot in which the connection lies.
+    pub fn slot(&self) -> usize
+        ensures { result ≡ self.now.slot }
+    {
+        self.slot
+    }
+
+    /// How often the slot had been opened when the connection began.
+    pub fn generation(&self) -> u64
+        ensures { result ≡ self.now.generation }
+    {
+        self.generation
+    }
+
+    /// Whether a side's socket is known to be connected; the client's always is.
+    pub fn joined(&self, side: Side) -> bool
+        ensures { result ≡ is_joined self.now side }
+    {
+        match side {
+            Side::Client => true,
+            Side::Target => self.joined,
+        }
+    }
+
+    /// How many bytes wait in one direction.
+    pub fn ring_len(&self, direction: Direction) -> usize
+        ensures { result ≡ length (stream_of self.now direction).ring }
+    {
+        self.flow(direction).len()
+    }
+
+    /// The byte that `i` others stand before in one direction.
+    pub fn ring_byte(&self, direction: Direction, i: usize) -> u8
+        requires { i < length (stream_of self.now direction).ring }
+        ensures { result ≡ slice_index (stream_of self.now direction).ring i }
+    {
+        self.flow(direction).byte(i)
+    }
+
+    /// Whether the end of input was seen at the source of one direction.
+    pub fn end_seen(&self, direction: Direction) -> bool
+        ensures { result ≡ (stream_of self.now direction).end_seen }
+    {
+        self.flow(direction).end_seen()
+    }
+
+    /// Whether the end of input was passed on to the destination of one direction.
+    pub fn is_shut(&self, direction: Direction) -> bool
+        ensures { result ≡ (stream_of self.now direction).shut }
+    {
+        self.flow(direction).is_shut()
+    }
+
+    /// What `answer` does. That the calls below have room, and an end to pass on, follows from the
+    /// order of work.
+    #[tactic(auto, using(crate::proofs::Possible::bytes_fit, crate::proofs::Possible::shut_fits))]
+    fn take_answer(&mut self, call: Call, answer: Answer<'_>)
+        requires next { next_call self.old ≡ Some call }
+        requires fits { fits self.old call (reply_of answer) ≡ true }
+        ensures { self.new ≡ after self.old call (reply_of answer.entry) }
+    {
+        let direction = call.direction();
+        match answer {
+            Answer::Bytes(bytes) => {
+                self.take_in(direction, bytes);
+                self.mark_joined(call.side());
+            }
+            Answer::End => {
+                self.mark_end(direction);
+                self.mark_joined(call.side());
+            }
+            Answer::Wrote(n) => {
+                self.drop_front(direction, n);
+                self.mark_joined(call.side());
+                self.count(direction, n);
+            }
+            Answer::Joined => self.mark_joined(call.side()),
+            Answer::Shut => self.mark_shut(direction),
+            Answer::Blocked => self.clear_flag(call),
+            Answer::Interrupted => {}
+            Answer::Failed(kind) => {
+                self.failure = Some(Fault {
+                    side: call.side(),
+                    call: call.kind(),
+                    kind,
+                });
+            }
+        }
+        self.turn = direction.other();
+    }
+
+    /// Whether the verdict is Live.
+    fn is_live(&self) -> bool
+        ensures { result ≡ is_live (verdict self.now) }
+    {
+        self.failure.is_none() && !(self.up.is_shut() && self.down.is_shut())
+    }
+
+    fn flow(&self, direction: Direction) -> &Flow
+        ensures { result.now ≡ stream_of self.now direction }
+    {
+        match direction {
+            Direction::Up => &self.up,
+            Direction::Down => &self.down,
+        }
+    }
+
+    fn flags(&self, side: Side) -> Flags
+        ensures { result ≡ flags_of self.now side }
+    {
+        match side {
+            Side::Client => self.client,
+            Side::Target => self.target,
+        }
+    }
+
+    /// The first possible call that serves one direction.
+    fn call_for(&self, direction: Direction) -> Option<Call>
+        ensures { result ≡ call_for self.now direction }
+    {
+        let flow = self.flow(direction);
+        let source = direction.source();
+        let destination = direction.destination();
+        if !flow.is_empty() && self.flags(destination).write {
+            Some(Call::Write(destination))
+        } else if flow.end_seen() {
+            self.call_at_end(direction)
+        } else if flow.free() > 0 && self.flags(source).read {
+            Some(Call::Read(source, flow.free().min(READ_MOST)))
+        } else {
+            None
+        }
+    }
+
+    /// The same once the source has ended: the end is passed on after every byte, and not before the
+    /// destination's connect has ended.
+    fn call_at_end(&self, direction: Direction) -> Option<Call>
+        requires ended { (stream_of self.now direction).end_seen ≡ true }
+        requires stuck { (is_waiting (stream_of self.now direction) && (flags_of self.now (destination direction)).write) ≡ false }
+        ensures { result ≡ call_for self.now direction }
+    {
+        let flow = self.flow(direction);
+        let destination = direction.destination();
+        if !flow.is_empty() || flow.is_shut() {
+            None
+        } else if self.joined(destination) {
+            Some(Call::Shut(destination))
+        } else if self.flags(destination).write {
+            Some(Call::Join(destination))
+        } else {
+            None
+        }
+    }
+
+    fn take_in(&mut self, direction: Direction, bytes: &[u8])
+        requires fits { length bytes.now ≤ free_room (stream_of self.old direction) }
+        requires open { (stream_of self.old direction).end_seen ≡ false }
+        ensures { self.new ≡ with_stream self.old direction (taken_in (stream_of self.old direction) bytes.now) }
+    {
+        match direction {
+            Direction::Up => self.up.take_in(bytes),
+            Direction::Down => self.down.take_in(bytes),
+        }
+    }
+
+    fn mark_end(&mut self, direction: Direction)
+        ensures { self.new ≡ with_stream self.old direction (ended (stream_of self.old direction)) }
+    {
+        match direction {
+            Direction::Up => self.up.mark_end(),
+            Direction::Down => self.down.mark_end(),
+        }
+    }
+
+    fn drop_front(&mut self, direction: Direction, n: usize)
+        requires { n ≤ length (stream_of self.old direction).ring }
+        ensures { self.new ≡ with_stream self.old direction (dropped (stream_of self.old direction) n) }
+    {
+        match direction {
+            Direction::Up => self.up.drop_front(n),
+            Direction::Down => self.down.drop_front(n),
+        }
+    }
+
+    fn mark_shut(&mut self, direction: Direction)
+        requires after_end { (stream_of self.old direction).end_seen ≡ true }
+        requires after_bytes { (stream_of self.old direction).ring ≡ [] }
+        ensures { self.new ≡ with_stream self.old direction (closed (stream_of self.old direction)) }
+    {
+        match direction {
+            Direction::Up => self.up.mark_shut(),
+            Direction::Down => self.down.mark_shut(),
+        }
+    }
+
+    fn mark_joined(&mut self, side: Side)
+        ensures { self.new ≡ mark_joined self.old side }
+    {
+        match side {
+            Side::Client => {}
+            Side::Target => self.joined = true,
+        }
+    }
+
+    fn count(&mut self, direction: Direction, n: usize)
+        ensures { self.new ≡ count_more self.old direction n }
+    {
+        match direction {
+            Direction::Up => self.sent_up = self.sent_up.saturating_add(n as u64),
+            Direction::Down => self.sent_down = self.sent_down.saturating_add(n as u64),
+        }
+    }
+
+    /// Notes that a call had to wait.
+    fn clear_flag(&mut self, call: Call)
+        ensures { self.new ≡ with_flags self.old (side_of call) (without_flag call (flags_of self.old (side_of call))) }
+    {
+        match call {
+            Call::Read(Side::Client, _) => self.client.read = false,
+            Call::Read(Side::Target, _) => self.target.read = false,
+            Call::Write(Side::Client) | Call::Join(Side::Client) | Call::Shut(Side::Client) => {
+                self.client.write = false
+            }
+            Call::Write(Side::Target) | Call::Join(Side::Target) | Call::Shut(Side::Target) => {
+                self.target.write = false
+            }
+        }
+    }
+}
