@@ -1,0 +1,30 @@
+-- The exact bytes of the log messages.
+use Rattle.std.specs.Prelude.{ℕ, List, ◌++◌, codes}
+use Rattle.std.specs.Fmt.{decimal}
+use Rattle.token.specs.Sides.{side_name}
+use Rattle.token.specs.Kinds.{kind_name}
+use Rattle.relay_core.specs.Calls.{call_name}
+use Rattle.relay_core.specs.declared.verdict.Fault.{Fault}
+use Rattle.relay_log.specs.declared.cause.Cause.{Cause}
+use Rattle.relay_log.specs.declared.cause.Cause.TheVariants.{Memory, Connect, Register}
+
+abbrev pub open_message : ℕ → ℕ → List ℕ
+open_message slot generation = codes "open s=" ++ (decimal slot ++ (codes " g=" ++ decimal generation))
+
+abbrev pub done_message : ℕ → ℕ → ℕ → ℕ → List ℕ
+done_message slot generation up down =
+    codes "done s=" ++ (decimal slot ++ (codes " g=" ++ (decimal generation
+    ++ (codes " up=" ++ (decimal up ++ (codes " down=" ++ decimal down))))))
+
+abbrev pub fail_message : ℕ → ℕ → Fault → List ℕ
+fail_message slot generation fault =
+    codes "fail s=" ++ (decimal slot ++ (codes " g=" ++ (decimal generation
+    ++ (codes " side=" ++ (side_name fault.side ++ (codes " call=" ++ (call_name fault.call ++ (codes " kind=" ++ kind_name fault.kind))))))))
+
+abbrev pub cause_name : Cause → List ℕ
+cause_name Memory = codes "memory"
+cause_name Connect = codes "connect"
+cause_name Register = codes "register"
+
+abbrev pub drop_message : Cause → List ℕ
+drop_message cause = codes "drop kind=" ++ cause_name cause

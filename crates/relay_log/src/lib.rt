@@ -1,0 +1,21 @@
+//! The log messages of the relay, byte by byte, and the calls that hand them to a log.
+//!
+//! | message | level | when |
+//! |---|---|---|
+//! | `open s=3 g=1` | info | a connection was opened in slot 3, the first there |
+//! | `done s=3 g=1 up=120 down=400` | info | both its ends were passed on; bytes sent each way |
+//! | `fail s=3 g=1 side=target call=write kind=pipe` | warn | a call on one of its sockets failed |
+//! | `drop kind=memory` | warn | an accepted connection was closed at once: for want of memory, or because `connect` or `register` failed |
+//!
+//! A message that finds no memory is left out: the log is for people, and the relay goes on.
+#![tactic(auto)]
+
+mod calls;
+mod cause;
+#[cfg(test)]
+mod tests;
+mod texts;
+
+pub use calls::{log_done, log_drop, log_fail, log_open};
+pub use cause::Cause;
+pub use texts::{done_text, drop_text, fail_text, open_text};

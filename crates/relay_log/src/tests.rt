@@ -1,0 +1,70 @@
+use crate::{
+    Cause, done_text, drop_text, fail_text, log_done, log_drop, log_fail, log_open, open_text,
+};
+use log::sink::Memory;
+use log::{Level, Log, Logged};
+use relay_core::{CallKind, Fault, Kind, Side};
+use std::alloc::Global;
+use std::test::Fail;
+
+/// A write to the target that met a closed reading end.
+const PIPE: Fault = Fault {
+    side: Side::Target,
+    call: CallKind::Write,
+    kind: Kind::Pipe,
+};
+
+#[test]
+fn texts(rt: HostRuntime) -> Result<(), Fail> {
+    let alloc = rt.alloc();
+    assert_eq!(rt; open_text(alloc, 3, 1)?.as_str(), "open s=3 g=1");
+    assert_eq!(rt;
+        done_text(alloc, 3, 1, 120, 400)?.as_str(),
+        "done s=3 g=1 up=120 down=400"
+    );
+    let text = "fail s=3 g=1 side=target call=write kind=pipe";
+    assert_eq!(rt; fail_text(alloc, 3, 1, PIPE)?.as_str(), text);
+    for (cause, text) in [
+        (Cause::Memory, "drop kind=memory"),
+        (Cause::Connect, "drop kind=connect"),
+        (Cause::Register, "drop kind=register"),
+    ] {
+        assert_eq!(rt; drop_text(alloc, cause)?.as_str(), text);
+    }
+    let most = "done s=32767 g=140737488355327 up=18446744073709551615 down=0";
+    let text = done_text(alloc, 32_767, 140_737_488_355_327, u64::MAX, 0)?;
+    assert_eq!(rt; text.as_str(), most);
+    Ok(())
+}
+
+/// Logs one message of each kind.
+fn log_each(log: &impl Log, alloc: Global) {
+    log_open(log, alloc, 3, 1);
+    log_done(log, alloc, 3, 1, 120, 400);
+    log_fail(log, alloc, 3, 1, PIPE);
+    log_drop(log, alloc, Cause::Connect);
+}
+
+#[test]
+fn levels(rt: HostRuntime) -> Result<(), Fail> {
+    let all = [
+        "[INFO  relayd] open s=3 g=1",
+        "[INFO  relayd] done s=3 g=1 up=120 down=400",
+        "[WARN  relayd] fail s=3 g=1 side=target call=write kind=pipe",
+        "[WARN  relayd] drop kind=connect",
+    ];
+    for (level, first) in [(Level::Info, 0), (Level::Warn, 2), (Level::Error, 4)] {
+        let sink = Memory::new(rt.alloc());
+        log_each(&Logged::new(&rt, level, &sink), rt.alloc());
+        let lines = sink.into_lines();
+        let mut wanted = all.iter().skip(first);
+        for line in lines.as_slice() {
+            assert!(rt;
+                wanted.next().is_some_and(|text| line.as_str() == *text),
+                "{line:?} at {level:?}"
+            );
+        }
+        assert!(rt; wanted.next().is_none(), "a line is missing at {level:?}");
+    }
+    Ok(())
+}
