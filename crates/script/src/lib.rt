@@ -18,11 +18,10 @@ mod report;
 mod running;
 mod script;
 mod step;
+#[cfg(test)]
+mod tests;
 mod transfer;
 mod values;
-
-//#[cfg(test)]
-//mod tests;
 
 pub use fault::Fault;
 pub use parsing::parse;
