@@ -1,5 +1,5 @@
 -- One direction as a machine: a source, a ring and a destination, and what each step of a script does.
-use Rattle.std.specs.Prelude.{ℕ, min, not, ◌&&◌, if◌then◌else◌, ◌≡◌, List, [], ◌∷◌, take, Option, Some, None, option_map, Result, Ok, Err}
+use Rattle.std.specs.Prelude.{ℕ, min, Bool, true, false, not, ◌&&◌, if◌then◌else◌, ◌≡◌, List, [], ◌∷◌, take, Option, Some, None, option_map, Result, Ok, Err}
 use Rattle.token.specs.declared.side.Side.TheVariants.{Client, Target}
 use Rattle.flow.specs.Stream.{Stream, empty_stream, free_room, taken_in, dropped, ended, closed}
 use Rattle.kernel_model.specs.Ends.{opened, is_nonempty, arrival, finish, new_room}
@@ -46,6 +46,12 @@ stepped t Shut =
 abbrev pub or_not_allowed : NumberedStep → Option Transfer → Result Transfer Fault
 or_not_allowed s (Some t) = Ok t
 or_not_allowed s None = Err (NotAllowed s.line (word_of s.step))
+
+-- the steps that a list grows by: bytes come, or are taken
+abbrev pub takes_memory : Step → Bool
+takes_memory (Arrive bytes) = true
+takes_memory (Wrote n full) = true
+takes_memory _ = false
 
 -- the step of a line was made, or the fault is that of the line and nothing changed; or memory ran out
 abbrev pub Carries : Transfer → NumberedStep → Result (Unit {0}) Fault → Transfer → Type 0

@@ -1,7 +1,6 @@
-ghost use Rattle.std.specs.Prelude.{◌≡◌, ◌≤◌, Ok, Err, IfOk};
-ghost use Rattle.kernel_model.specs.Outcome.{Meets};
-ghost use Rattle.script.specs.Transfers.{opening, stepped, read_size, Carries};
-ghost use Rattle.script.specs.Reports.{report, shown_bytes, yes_or_no};
+ghost use Rattle.std.specs.Prelude.{◌≡◌, ◌≤◌, IfOk, IsErrOf, IsTrue};
+ghost use Rattle.kernel_model.specs.Outcome.{Meets, MeetsAlways};
+ghost use Rattle.script.specs.Transfers.{opening, stepped, takes_memory, read_size, Carries};
 
 use crate::{Fault, NumberedStep, Step};
 use flow::Flow;
@@ -36,7 +35,8 @@ impl Transfer {
 
     /// Makes one step, or refuses it and changes nothing.
     pub fn step(&mut self, step: &Step) -> Result<(), Refusal>
-        ensures { Meets (stepped self.old step.now) self.old self.new result }
+        ensures outcome { Meets (stepped self.old step.now) self.old self.new result }
+        ensures memory { IsErrOf result Refusal.NoMemory → IsTrue (takes_memory step.now) }
     {
         match step {
             Step::Arrive(bytes) => {
@@ -80,7 +80,7 @@ impl Transfer {
 
     /// The source's read gives bytes, which go into the ring.
     fn read(&mut self, count: usize) -> Result<(), Refusal>
-        ensures { Meets (stepped self.old (Step.Read count)) self.old self.new result }
+        ensures { MeetsAlways (stepped self.old (Step.Read count)) self.old self.new result }
     {
         let most = self.read_size();
         if self.flow.end_seen() {
@@ -95,7 +95,7 @@ impl Transfer {
 
     /// The source's read gives the end of input.
     fn end(&mut self) -> Result<(), Refusal>
-        ensures { Meets (stepped self.old Step.End) self.old self.new result }
+        ensures { MeetsAlways (stepped self.old Step.End) self.old self.new result }
     {
         let most = self.read_size();
         if self.flow.end_seen() {
@@ -108,7 +108,7 @@ impl Transfer {
 
     /// The end is passed on to the destination.
     fn shut(&mut self) -> Result<(), Refusal>
-        ensures { Meets (stepped self.old Step.Shut) self.old self.new result }
+        ensures { MeetsAlways (stepped self.old Step.Shut) self.old self.new result }
     {
         if !self.flow.end_seen() || !self.flow.is_empty() || self.flow.is_shut() {
             return Err(Refusal::NotAllowed);
