@@ -1,4 +1,5 @@
 //! The settings file.
+ghost use Rattle.std.specs.Prelude.{◌≤◌, IfOk, vec_len};
 
 use crate::faults::ProgramFault;
 use settings::Settings;
@@ -20,7 +21,9 @@ pub fn load<R: AllocGlobal + Files>(rt: &R, path: &str) -> Result<Settings, Prog
 }
 
 /// All bytes of a file, which is read to its end or one byte past the most that it may have.
-fn read(alloc: Global, file: impl Read + Drop) -> Result<Vec<u8>, ProgramFault> {
+fn read(alloc: Global, file: impl Read + Drop) -> Result<Vec<u8>, ProgramFault>
+    ensures { IfOk result (λ text. vec_len text ≤ 65536) }
+{
     let mut text = Vec::new(alloc);
     match file.take(MOST_BYTES as u64 + 1).read_to_end(&mut text) {
         Ok(_) if text.len() > MOST_BYTES => Err(ProgramFault::ConfigLong),

@@ -1,4 +1,6 @@
 //! What the program does, from its words to its status.
+ghost use Rattle.std.specs.Prelude.{◌≡◌, IfSome, Ok};
+ghost use Rattle.script.specs.Runs.{WritesReport, WritesFault};
 
 use crate::command_line::{Asked, read_words};
 use crate::config;
@@ -54,12 +56,15 @@ fn texts(alloc: Global, words: &[String]) -> Result<Vec<&str>, AllocError> {
     words.iter().map(|word| word.as_str()).collect(alloc)
 }
 
-/// Runs a script.
+/// Runs a script: 0 where its report was written, and 1 where the line of its fault was.
 fn simulate<I: Read, O: Write>(
     alloc: Global,
     reader: &mut I,
     writer: &mut O,
-) -> Result<u8, ProgramFault> {
+) -> Result<u8, ProgramFault>
+    ensures report { result ≡ Ok 0 → IfSome (I.remaining reader.old) (λ text. WritesReport text (O.contents writer.old) (O.contents writer.new)) }
+    ensures refused { result ≡ Ok 1 → IfSome (I.remaining reader.old) (λ text. WritesFault text (O.contents writer.old) (O.contents writer.new)) }
+{
     match script::run(alloc, reader, writer) {
         Ok(Outcome::Report) => Ok(DONE),
         Ok(Outcome::Refused) => Ok(FAULT),
