@@ -1,0 +1,42 @@
+-- What the errors of read(2), write(2), connect(2) and shutdown(2) mean to the relay.
+use Rattle.std.specs.Prelude.{Bool, true, false, not, ◌&&◌, if◌then◌else◌}
+use Rattle.std.specs.declared.io.ErrorKind.{ErrorKind}
+use Rattle.std.specs.declared.io.ErrorKind.TheVariants.{ConnectionReset, BrokenPipe, ConnectionAborted, ConnectionRefused, NotConnected, TimedOut, WouldBlock, Interrupted}
+use Rattle.relay_core.specs.declared.Kind.{Kind}
+use Rattle.relay_core.specs.declared.Kind.TheVariants as kind
+use Rattle.relay_core.specs.declared.call.Call.{Call}
+use Rattle.relay_core.specs.declared.call.Call.TheVariants as call
+use Rattle.engine.specs.declared.class.Class.{Class}
+use Rattle.engine.specs.declared.class.Class.TheVariants as class
+
+-- how a call failed
+abbrev pub kind_of_error : ErrorKind → Kind
+kind_of_error ConnectionReset = kind.Reset
+kind_of_error BrokenPipe = kind.Pipe
+kind_of_error ConnectionAborted = kind.Aborted
+kind_of_error ConnectionRefused = kind.Refused
+kind_of_error NotConnected = kind.NotConnected
+kind_of_error TimedOut = kind.TimedOut
+kind_of_error error = kind.Other
+
+abbrev pub is_interrupted : ErrorKind → Bool
+is_interrupted Interrupted = true
+is_interrupted error = false
+
+-- the error says that the call would have to wait: EAGAIN, or on a socket that is not known to be
+-- connected, that it is not connected yet
+abbrev pub would_wait : Bool → ErrorKind → Bool
+would_wait joined WouldBlock = true
+would_wait joined NotConnected = not joined
+would_wait joined error = false
+
+-- every call but a shutdown may have to wait
+abbrev pub may_wait : Call → Bool
+may_wait (call.Shut side) = false
+may_wait call = true
+
+abbrev pub class_of : Call → Bool → ErrorKind → Class
+class_of call joined error =
+    if is_interrupted error then class.Interrupted
+    else if may_wait call && would_wait joined error then class.Blocked
+    else class.Failed (kind_of_error error)

@@ -1,0 +1,47 @@
+ghost use Rattle.std.specs.Prelude.{◌≡◌, true};
+ghost use Rattle.relay_core.specs.Calls.{side_of};
+ghost use Rattle.engine.specs.Classes.{class_of, kind_of_error};
+
+use relay_core::{Call, Kind, Side};
+use std::io::ErrorKind;
+
+/// What an error of a call means.
+#[derive(Clone, Copy, Debug, PartialEq, Eq)]
+pub enum Class {
+    /// A signal interrupted the call, and nothing moved (EINTR).
+    Interrupted,
+    /// The call would have had to wait (EAGAIN).
+    Blocked,
+    /// The call failed.
+    Failed(Kind),
+}
+
+/// The class of an error by its kind. `joined` tells whether the socket is known to be connected, as the
+/// client's always is: a call on a target that is still connecting would have to wait.
+pub fn class_of(call: &Call, kind: ErrorKind, joined: bool) -> Class
+    requires client { side_of call.now ≡ Side.Client → joined ≡ true }
+    ensures { result ≡ class_of call.now joined kind }
+{
+    let may_wait = !matches!(call, Call::Shut(_));
+    match kind {
+        ErrorKind::Interrupted => Class::Interrupted,
+        ErrorKind::WouldBlock if may_wait => Class::Blocked,
+        ErrorKind::NotConnected if may_wait && !joined => Class::Blocked,
+        _ => Class::Failed(kind_of(kind)),
+    }
+}
+
+/// How a call failed, by its error's kind.
+pub(crate) fn kind_of(kind: ErrorKind) -> Kind
+    ensures { result ≡ kind_of_error kind }
+{
+    match kind {
+        ErrorKind::ConnectionReset => Kind::Reset,
+        ErrorKind::BrokenPipe => Kind::Pipe,
+        ErrorKind::ConnectionAborted => Kind::Aborted,
+        ErrorKind::ConnectionRefused => Kind::Refused,
+        ErrorKind::NotConnected => Kind::NotConnected,
+        ErrorKind::TimedOut => Kind::TimedOut,
+        _ => Kind::Other,
+    }
+}

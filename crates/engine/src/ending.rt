@@ -1,0 +1,12 @@
+/// How a turn ended.
+#[derive(Clone, Copy, Debug, PartialEq, Eq)]
+pub enum Turn {
+    /// The budget is spent, and there is a next call.
+    Again,
+    /// The connection is live, and no call is worth a try before the next report.
+    Quiet,
+    /// Both ends of input were passed on.
+    Done,
+    /// A call failed.
+    Failed,
+}

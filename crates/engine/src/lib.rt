@@ -1,0 +1,29 @@
+//! One turn of a connection over real calls: a [`Pair`](relay_core::Pair) is asked for its next call,
+//! the call is made on one of two [`Wire`]s, and the pair has the answer, up to a budget of calls.
+//!
+//! A wire is a socket that never waits, or anything that answers as one. It counts its own faults and
+//! its own answers "would block", and [`turn`] reads those counts to tell an error from the other.
+//! [`class_of`] is the rule by which wires count. [`ScriptWire`] is a wire over memory that plays a list
+//! of answers.
+//!
+//! The definitions stand in `specs/`: what a wire's calls do in `Wires.antt`, the classes of errors in
+//! `Classes.antt`, and what a turn comes to in `Turns.antt`.
+#![tactic(auto)]
+
+mod class;
+mod ending;
+mod play;
+mod plays;
+mod script_wire;
+mod step;
+#[cfg(test)]
+mod tests;
+mod turning;
+mod wire;
+
+pub use class::{Class, class_of};
+pub use ending::Turn;
+pub use play::Play;
+pub use script_wire::ScriptWire;
+pub use turning::turn;
+pub use wire::Wire;

@@ -1,0 +1,50 @@
+use relay_core::Kind;
+use std::io::ErrorKind;
+
+/// One answer that a [`ScriptWire`](crate::ScriptWire) gives.
+#[derive(Debug, Drop)]
+pub enum Play {
+    /// A read gives these bytes, or as many of the first as its buffer holds; what is left is given next.
+    Bytes(Vec<u8>),
+    /// A read meets the end of input.
+    End,
+    /// A write takes so many bytes, or its whole offer where that is shorter.
+    Take(usize),
+    /// A write takes none.
+    Zero,
+    /// The socket is connected.
+    Joined,
+    /// The end of input is passed on.
+    Shut,
+    /// A signal interrupts the call (EINTR).
+    Interrupted,
+    /// The call would have had to wait (EAGAIN).
+    Blocked,
+    /// The call fails.
+    Fault(Kind),
+}
+
+impl Play {
+    /// The error by which a call answers where this play is one, or does not fit the call.
+    pub(crate) fn error(&self) -> ErrorKind {
+        match self {
+            Play::Interrupted => ErrorKind::Interrupted,
+            Play::Blocked => ErrorKind::WouldBlock,
+            Play::Fault(kind) => error_of(*kind),
+            _ => ErrorKind::Other,
+        }
+    }
+}
+
+fn error_of(kind: Kind) -> ErrorKind {
+    match kind {
+        Kind::Reset => ErrorKind::ConnectionReset,
+        Kind::Pipe => ErrorKind::BrokenPipe,
+        Kind::Aborted => ErrorKind::ConnectionAborted,
+        Kind::Refused => ErrorKind::ConnectionRefused,
+        Kind::NotConnected => ErrorKind::NotConnected,
+        Kind::TimedOut => ErrorKind::TimedOut,
+        Kind::Zero => ErrorKind::WriteZero,
+        Kind::Other => ErrorKind::Other,
+    }
+}

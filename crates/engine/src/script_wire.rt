@@ -1,0 +1,235 @@
+ghost use Rattle.std.specs.Prelude.{◌≡◌, ℕ, ◌+◌, ◌-◌, ◌^◌, ◌≤◌, min, Some, [], length, take, sum_by, IfOk, IfSome};
+ghost use Rattle.std.specs.IoError.{error_kind};
+ghost use Rattle.relay_core.specs.Calls.{side_of};
+ghost use Rattle.engine.specs.Classes.{class_of};
+ghost use Rattle.engine.specs.Scripts.{bytes_of, most_taken, counted};
+
+use crate::class::{Class, class_of};
+use crate::play::Play;
+use crate::plays::Plays;
+use crate::wire::Wire;
+use relay_core::{Call, Side};
+use std::alloc::{AllocError, Global};
+use std::io;
+use std::io::ErrorKind;
+use std::marker::Model;
+
+/// A wire over memory that plays lists of answers: one for reads, one for writes, and one for
+/// [`Wire::joined`] and [`Wire::shut_write`].
+///
+/// A play that does not fit its call is a fault of kind `other`, and is used. An empty list answers
+/// "would block", and a shutdown that it is done. The wire is joined from its first Bytes, End, Take or
+/// Joined on; until then the error that it is not connected counts as "would block" for all calls but a
+/// shutdown.
+#[derive(Drop)]
+pub struct ScriptWire {
+    reads: Plays,
+    given: usize,
+    writes: Plays,
+    closings: Plays,
+    taken: Vec<u8>,
+    joined: bool,
+    faults: u64,
+    blocks: u64,
+}
+
+impl Model for ScriptWire {
+    ghost use Rattle.std.specs.Prelude.{◌+◌, ◌≤◌, length, drop, sum_by, vec_len, vec_capacity};
+    ghost use Rattle.engine.specs.Scripts.{Script, bytes_of, first_bytes, most_taken};
+
+    ghost Value = { Script };
+
+    ghost view = { λ w. record { remaining = drop w.given (bytes_of w.reads); written = w.taken.items; left = length w.reads + length w.writes + length w.closings; joined = w.joined; faults = w.faults; blocks = w.blocks } };
+
+    ghost invariant = { λ w. (w.given ≤ length (first_bytes w.reads)) × (vec_len w.taken + sum_by most_taken w.writes ≤ vec_capacity w.taken) };
+}
+
+impl ScriptWire {
+    /// A wire with these answers, on a socket that is known to be connected or not. This takes the memory
+    /// for the bytes of every Take, and nothing later takes any.
+    pub fn new(
+        alloc: Global,
+        joined: bool,
+        reads: Vec<Play>,
+        writes: Vec<Play>,
+        closings: Vec<Play>,
+    ) -> Result<ScriptWire, AllocError>
+        ensures { IfOk result (λ wire. wire ≡ record { remaining = bytes_of reads.items; written = []; left = length reads.items + length writes.items + length closings.items; joined = joined; faults = 0; blocks = 0 }) }
+    {
+        let Some(room) = room_for(writes.as_slice()) else {
+            return Err(AllocError);
+        };
+        let taken = Vec::with_capacity(alloc, room)?;
+        Ok(ScriptWire {
+            reads: Plays::new(reads),
+            given: 0,
+            writes: Plays::new(writes),
+            closings: Plays::new(closings),
+            taken,
+            joined,
+            faults: 0,
+            blocks: 0,
+        })
+    }
+
+    /// The bytes that writes took.
+    pub fn written(&self) -> &[u8]
+        ensures { result.now ≡ self.now.written }
+    {
+        self.taken.as_slice()
+    }
+
+    /// How many plays were not used, up to the largest `usize`.
+    pub fn left(&self) -> usize
+        ensures { result ≡ min self.now.left (2 ^ 64 - 1) }
+    {
+        self.reads
+            .len()
+            .saturating_add(self.writes.len())
+            .saturating_add(self.closings.len())
+    }
+
+    /// An error of a call, which is counted.
+    fn refuse(&mut self, call: Call, kind: ErrorKind) -> io::Error
+        requires { side_of call ≡ Side.Target }
+        ensures kind { error_kind result ≡ kind }
+        ensures counted { self.new ≡ counted (class_of call self.old.joined kind) self.old }
+    {
+        match class_of(&call, kind, self.joined) {
+            Class::Interrupted => {}
+            Class::Blocked => self.blocks = self.blocks.wrapping_add(1),
+            Class::Failed(_) => self.faults = self.faults.wrapping_add(1),
+        }
+        io::Error::from(kind)
+    }
+}
+
+/// The room for the bytes of every Take, or none where no memory is so large.
+fn room_for(plays: &[Play]) -> Option<usize>
+    ensures { IfSome result (λ room. room ≡ sum_by most_taken plays.now) }
+{
+    let mut room = 0usize;
+    for play in plays {
+        if let Play::Take(most) = play {
+            room = room.checked_add(*most)?;
+        }
+    }
+    Some(room)
+}
+
+/// Copies the first bytes of one slice to the front of another, as many as both hold.
+fn copy_front(from: &[u8], to: &mut [u8]) -> usize
+    ensures count { result ≡ min (length from.now) (length to.old) }
+    ensures bytes { take result to.new ≡ take result from.now }
+{
+    let count = from.len().min(to.len());
+    to[..count].copy_from_slice(&from[..count]);
+    count
+}
+
+impl Wire for ScriptWire {
+    ghost remaining = { λ w. Some w.remaining };
+
+    ghost written = { λ w. Some w.written };
+
+    ghost fault_count = { λ w. w.faults };
+
+    ghost block_count = { λ w. w.blocks };
+
+    fn read(&mut self, buffer: &mut [u8]) -> io::Result<usize> {
+        let call = Call::Read(Side::Target, buffer.len());
+        match self.reads.first() {
+            None => Err(self.refuse(call, ErrorKind::WouldBlock)),
+            Some(Play::Bytes(bytes)) => {
+                let count = copy_front(&bytes[self.given..], buffer);
+                self.joined = true;
+                if self.given + count == bytes.len() {
+                    self.reads.pass();
+                    self.given = 0;
+                } else {
+                    self.given += count;
+                }
+                Ok(count)
+            }
+            Some(Play::End) => {
+                self.reads.pass();
+                self.joined = true;
+                Ok(0)
+            }
+            Some(play) => {
+                let kind = play.error();
+                self.reads.pass();
+                Err(self.refuse(call, kind))
+            }
+        }
+    }
+
+    fn write(&mut self, offer: &[u8]) -> io::Result<usize> {
+        let call = Call::Write(Side::Target);
+        match self.writes.first() {
+            None => Err(self.refuse(call, ErrorKind::WouldBlock)),
+            Some(Play::Take(most)) => {
+                let count = offer.len().min(*most);
+                self.joined = true;
+                self.taken.extend_from_slice(&offer[..count]).unwrap();
+                self.writes.pass();
+                if count == 0 && !offer.is_empty() {
+                    self.faults = self.faults.wrapping_add(1);
+                }
+                Ok(count)
+            }
+            Some(Play::Zero) => {
+                self.writes.pass();
+                if !offer.is_empty() {
+                    self.faults = self.faults.wrapping_add(1);
+                }
+                Ok(0)
+            }
+            Some(play) => {
+                let kind = play.error();
+                self.writes.pass();
+                Err(self.refuse(call, kind))
+            }
+        }
+    }
+
+    fn shut_write(&mut self) -> io::Result<()> {
+        match self.closings.first() {
+            None => Ok(()),
+            Some(Play::Shut) => {
+                self.closings.pass();
+                Ok(())
+            }
+            Some(play) => {
+                let kind = play.error();
+                self.closings.pass();
+                Err(self.refuse(Call::Shut(Side::Target), kind))
+            }
+        }
+    }
+
+    fn joined(&mut self) -> io::Result<()> {
+        let call = Call::Join(Side::Target);
+        match self.closings.first() {
+            None => Err(self.refuse(call, ErrorKind::WouldBlock)),
+            Some(Play::Joined) => {
+                self.closings.pass();
+                self.joined = true;
+                Ok(())
+            }
+            Some(play) => {
+                let kind = play.error();
+                self.closings.pass();
+                Err(self.refuse(call, kind))
+            }
+        }
+    }
+
+    fn faults(&self) -> u64 {
+        self.faults
+    }
+
+    fn blocks(&self) -> u64 {
+        self.blocks
+    }
+}

@@ -1,0 +1,109 @@
+ghost use Rattle.std.specs.Prelude.{◌≡◌, ◌≤◌, ℕ, Some, length};
+ghost use Rattle.relay_core.specs.declared.call.Call.TheVariants as call;
+ghost use Rattle.relay_core.specs.Order.{next_call, offer};
+ghost use Rattle.relay_core.specs.Answers.{reply_of};
+ghost use Rattle.relay_core.specs.Laws.{IsPossible};
+ghost use Rattle.std.specs.IoError.{error_kind};
+ghost use Rattle.engine.specs.Classes.{kind_of_error};
+ghost use Rattle.engine.specs.Wires.{CountsError};
+ghost use Rattle.engine.specs.Turns.{told};
+ghost use Rattle.engine.specs.Steps.{IsStep, IsError};
+
+use crate::class::kind_of;
+use crate::wire::Wire;
+use relay_core::{Answer, Call, Kind, Pair, READ_MOST, Side};
+use std::io;
+
+/// Makes the call that comes next, and hands the pair the answer.
+pub(crate) fn step<W: Wire>(pair: &mut Pair, call: Call, wire: &mut W, buffer: &mut [u8; READ_MOST])
+    requires next { next_call pair.old ≡ Some call }
+    requires possible { IsPossible pair.old call }
+    ensures { IsStep call pair.old pair.new (told (W.remaining wire.old) (W.written wire.old) (W.fault_count wire.old) (W.block_count wire.old)) (told (W.remaining wire.new) (W.written wire.new) (W.fault_count wire.new) (W.block_count wire.new)) }
+{
+    match call {
+        Call::Write(side) => write(pair, side, wire),
+        Call::Join(side) => join(pair, side, wire),
+        Call::Shut(side) => shut(pair, side, wire),
+        Call::Read(side, most) => read(pair, side, most, wire, buffer),
+    }
+}
+
+fn read<W: Wire>(
+    pair: &mut Pair,
+    side: Side,
+    most: usize,
+    wire: &mut W,
+    buffer: &mut [u8; READ_MOST],
+)
+    requires next { next_call pair.old ≡ Some (call.Read side most) }
+    requires possible { IsPossible pair.old (call.Read side most) }
+    ensures { IsStep (call.Read side most) pair.old pair.new (told (W.remaining wire.old) (W.written wire.old) (W.fault_count wire.old) (W.block_count wire.old)) (told (W.remaining wire.new) (W.written wire.new) (W.fault_count wire.new) (W.block_count wire.new)) }
+{
+    let faults = wire.faults();
+    let blocks = wire.blocks();
+    match wire.read(&mut buffer[..most]) {
+        Ok(0) => pair.answer(Call::Read(side, most), Answer::End),
+        Ok(count) => pair.answer(Call::Read(side, most), Answer::Bytes(&buffer[..count])),
+        Err(error) => pair.answer(
+            Call::Read(side, most),
+            error_answer(wire, faults, blocks, &error),
+        ),
+    }
+}
+
+fn write<W: Wire>(pair: &mut Pair, side: Side, wire: &mut W)
+    requires next { next_call pair.old ≡ Some (call.Write side) }
+    requires possible { IsPossible pair.old (call.Write side) }
+    ensures { IsStep (call.Write side) pair.old pair.new (told (W.remaining wire.old) (W.written wire.old) (W.fault_count wire.old) (W.block_count wire.old)) (told (W.remaining wire.new) (W.written wire.new) (W.fault_count wire.new) (W.block_count wire.new)) }
+{
+    let faults = wire.faults();
+    let blocks = wire.blocks();
+    match wire.write(pair.offer(side)) {
+        Ok(0) => pair.answer(Call::Write(side), Answer::Failed(Kind::Zero)),
+        Ok(count) => pair.answer(Call::Write(side), Answer::Wrote(count)),
+        Err(error) => pair.answer(
+            Call::Write(side),
+            error_answer(wire, faults, blocks, &error),
+        ),
+    }
+}
+
+fn join<W: Wire>(pair: &mut Pair, side: Side, wire: &mut W)
+    requires next { next_call pair.old ≡ Some (call.Join side) }
+    ensures { IsStep (call.Join side) pair.old pair.new (told (W.remaining wire.old) (W.written wire.old) (W.fault_count wire.old) (W.block_count wire.old)) (told (W.remaining wire.new) (W.written wire.new) (W.fault_count wire.new) (W.block_count wire.new)) }
+{
+    let faults = wire.faults();
+    let blocks = wire.blocks();
+    match wire.joined() {
+        Ok(()) => pair.answer(Call::Join(side), Answer::Joined),
+        Err(error) => pair.answer(Call::Join(side), error_answer(wire, faults, blocks, &error)),
+    }
+}
+
+fn shut<W: Wire>(pair: &mut Pair, side: Side, wire: &mut W)
+    requires next { next_call pair.old ≡ Some (call.Shut side) }
+    ensures { IsStep (call.Shut side) pair.old pair.new (told (W.remaining wire.old) (W.written wire.old) (W.fault_count wire.old) (W.block_count wire.old)) (told (W.remaining wire.new) (W.written wire.new) (W.fault_count wire.new) (W.block_count wire.new)) }
+{
+    let faults = wire.faults();
+    match wire.shut_write() {
+        Ok(()) => pair.answer(Call::Shut(side), Answer::Shut),
+        Err(error) if wire.faults() != faults => {
+            pair.answer(Call::Shut(side), Answer::Failed(kind_of(error.kind())))
+        }
+        Err(_) => pair.answer(Call::Shut(side), Answer::Interrupted),
+    }
+}
+
+/// What an error was, by what the wire has counted since the call began.
+fn error_answer<W: Wire>(wire: &W, faults: u64, blocks: u64, error: &io::Error) -> Answer<'static>
+    requires { CountsError faults (W.fault_count wire.now) blocks (W.block_count wire.now) }
+    ensures { IsError (kind_of_error (error_kind error.now)) (reply_of result) faults (W.fault_count wire.now) blocks (W.block_count wire.now) }
+{
+    if wire.faults() != faults {
+        Answer::Failed(kind_of(error.kind()))
+    } else if wire.blocks() != blocks {
+        Answer::Blocked
+    } else {
+        Answer::Interrupted
+    }
+}

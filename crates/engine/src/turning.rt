@@ -1,0 +1,71 @@
+ghost use Rattle.std.specs.Prelude.{◌≡◌, ◌≤◌, Some};
+ghost use Rattle.relay_core.specs.Order.{next_call};
+ghost use Rattle.relay_core.specs.Laws.{IsPossible};
+ghost use Rattle.engine.specs.Steps.{IsMove};
+ghost use Rattle.engine.specs.Turns.{told, ending_of, IsTurn};
+
+use crate::ending::Turn;
+use crate::step::step;
+use crate::wire::Wire;
+use relay_core::{Call, Pair, READ_MOST, Side, Verdict};
+
+/// Makes the calls that a pair asks for, at most `budget` of them (1 to 1,024), each on the wire of its
+/// side, and hands the pair their answers. It takes no memory.
+pub fn turn<A: Wire, B: Wire>(
+    pair: &mut Pair,
+    client: &mut A,
+    target: &mut B,
+    budget: usize,
+) -> Turn
+    requires least { 1 ≤ budget }
+    requires most { budget ≤ 1024 }
+    ensures ending { result ≡ ending_of pair.new }
+    ensures run { IsTurn budget pair.old pair.new
+        (told (A.remaining client.old) (A.written client.old) (A.fault_count client.old) (A.block_count client.old))
+        (told (A.remaining client.new) (A.written client.new) (A.fault_count client.new) (A.block_count client.new))
+        (told (B.remaining target.old) (B.written target.old) (B.fault_count target.old) (B.block_count target.old))
+        (told (B.remaining target.new) (B.written target.new) (B.fault_count target.new) (B.block_count target.new)) }
+{
+    let mut buffer = [0; READ_MOST];
+    for _calls in 0..budget {
+        let Some(call) = pair.next() else {
+            return ending(pair);
+        };
+        advance(pair, call, client, target, &mut buffer);
+    }
+    ending(pair)
+}
+
+/// Makes the call that comes next on the wire of its side.
+fn advance<A: Wire, B: Wire>(
+    pair: &mut Pair,
+    call: Call,
+    client: &mut A,
+    target: &mut B,
+    buffer: &mut [u8; READ_MOST],
+)
+    requires next { next_call pair.old ≡ Some call }
+    requires possible { IsPossible pair.old call }
+    ensures { IsMove pair.old pair.new
+        (told (A.remaining client.old) (A.written client.old) (A.fault_count client.old) (A.block_count client.old))
+        (told (A.remaining client.new) (A.written client.new) (A.fault_count client.new) (A.block_count client.new))
+        (told (B.remaining target.old) (B.written target.old) (B.fault_count target.old) (B.block_count target.old))
+        (told (B.remaining target.new) (B.written target.new) (B.fault_count target.new) (B.block_count target.new)) }
+{
+    match call.side() {
+        Side::Client => step(pair, call, client, buffer),
+        Side::Target => step(pair, call, target, buffer),
+    }
+}
+
+/// How a turn ends that leaves a pair so.
+fn ending(pair: &Pair) -> Turn
+    ensures { result ≡ ending_of pair.now }
+{
+    match pair.verdict() {
+        Verdict::Done => Turn::Done,
+        Verdict::Failed(_) => Turn::Failed,
+        Verdict::Live if pair.next().is_some() => Turn::Again,
+        Verdict::Live => Turn::Quiet,
+    }
+}
