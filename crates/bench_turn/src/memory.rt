@@ -1,0 +1,73 @@
+//! A wire over memory, as cheap as one can be: it copies each byte once.
+
+use engine::Wire;
+use std::io;
+
+/// How many bytes one copy moves at most.
+const CHUNK: usize = 16_384;
+
+/// A wire that has so many bytes to read, and takes all that is written. Its calls are not inlined, as a
+/// system call isn't, and it counts what it took, so that no copy can be left out.
+#[derive(Drop)]
+pub struct MemoryWire {
+    left: u64,
+    taken: u64,
+    source: [u8; CHUNK],
+    sink: [u8; CHUNK],
+}
+
+impl MemoryWire {
+    /// A wire with so many bytes to read.
+    pub fn new(bytes: u64) -> MemoryWire {
+        MemoryWire {
+            left: bytes,
+            taken: 0,
+            source: [7; CHUNK],
+            sink: [0; CHUNK],
+        }
+    }
+
+    /// The bytes that were written, and the last of them.
+    pub fn taken(&self) -> (u64, u8) {
+        (self.taken, self.sink[0])
+    }
+}
+
+impl Wire for MemoryWire {
+    ghost fault_count = { λ _. 0 };
+
+    ghost block_count = { λ _. 0 };
+
+    #[inline(never)]
+    fn read(&mut self, buffer: &mut [u8]) -> io::Result<usize> {
+        let most = usize::try_from(self.left).unwrap_or(usize::MAX);
+        let count = buffer.len().min(CHUNK).min(most);
+        buffer[..count].copy_from_slice(&self.source[..count]);
+        self.left = self.left.saturating_sub(count as u64);
+        Ok(count)
+    }
+
+    #[inline(never)]
+    fn write(&mut self, offer: &[u8]) -> io::Result<usize> {
+        let count = offer.len().min(CHUNK);
+        self.sink[..count].copy_from_slice(&offer[..count]);
+        self.taken = self.taken.wrapping_add(count as u64);
+        Ok(count)
+    }
+
+    fn shut_write(&mut self) -> io::Result<()> {
+        Ok(())
+    }
+
+    fn joined(&mut self) -> io::Result<()> {
+        Ok(())
+    }
+
+    fn faults(&self) -> u64 {
+        0
+    }
+
+    fn blocks(&self) -> u64 {
+        0
+    }
+}
