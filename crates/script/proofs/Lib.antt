@@ -1,5 +1,4 @@
 pub mod Cuts
 pub mod Digits
 pub mod Keeping
-pub mod Reading
 pub mod Telling

@@ -1,7 +1,9 @@
 -- From what was computed of the text that was read, and what was written of it, to the whole input.
-use Rattle.std.proofs.Common.{◌≡◌, ℕ, List, Option, Some, None, Result, Ok, Err, inl, inr, subst}
+use Rattle.std.proofs.Common.{◌≡◌, ◌⊎◌, ℕ, ◌+◌, ◌<◌, ◌≤◌, List, length, take, Option, Some, None, Result, Ok, Err, inl, inr, refl, ap, ◌∙◌, subst, arith}
 use Rattle.std.specs.Prelude.{IfSome, IfOk}
 use Rattle.std.proofs.lemmas.Result.{IfOk-at_ok}
+use Rattle.std.proofs.lemmas.List.{take_all, length-take-le}
+use Rattle.std.proofs.lemmas.Bool.{cases_lt, lt-ltb}
 use Rattle.std.specs.Io.KnownBytes.{Appends}
 use Rattle.script.specs.declared.fault.Fault.{Fault}
 use Rattle.script.specs.declared.fault.Fault.TheVariants.{TooLong, NoWorld, Malformed, NotAllowed, NoMemory}
@@ -10,16 +12,32 @@ use Rattle.script.specs.declared.running.Outcome.TheVariants.{Refused}
 use Rattle.script.specs.declared.running.ScriptFault.{ScriptFault}
 use Rattle.script.specs.declared.transfer.Transfer.{Transfer}
 use Rattle.script.specs.Faults.{Gives}
+use Rattle.script.specs.Scripts.{most_bytes}
 use Rattle.script.specs.Reports.{fault_line, outcome_of}
-use Rattle.script.specs.Runs.{ReadsUp, Tells, WritesFault, EveryByte, EveryEnd}
-use Rattle.script.proofs.Reading.{same_outcome}
+use Rattle.script.specs.Runs.{Tells, WritesFault, EveryByte, EveryEnd}
 use Rattle.script.proofs.Keeping.{keeps_bytes, keeps_end}
 
+-- a front that is one byte longer than a script may be has the outcome of the whole input
+short_outcome : (input : List ℕ) → length input ≤ most_bytes → outcome_of (take (most_bytes + 1) input) ≡ outcome_of input
+short_outcome input short = ap outcome_of (take_all (most_bytes + 1) input (omega (arith, short)))
+
+long_outcome : (input : List ℕ) → most_bytes < length input → outcome_of (take (most_bytes + 1) input) ≡ outcome_of input
+long_outcome input long =
+    let longer : most_bytes < length (take (most_bytes + 1) input) = omega (arith, length-take-le (most_bytes + 1) input (omega (arith, long))) in
+    rw (lt-ltb most_bytes (length (take (most_bytes + 1) input)) longer, lt-ltb most_bytes (length input) long) refl
+
+same_outcome : (input : List ℕ) → outcome_of (take (most_bytes + 1) input) ≡ outcome_of input
+same_outcome input = by_length (cases_lt most_bytes (length input))
+  where
+    by_length : (most_bytes < length input) ⊎ (length input ≤ most_bytes) → outcome_of (take (most_bytes + 1) input) ≡ outcome_of input
+    by_length (inl long) = long_outcome input long
+    by_length (inr short) = short_outcome input short
+
 -- what was computed of the front that was read holds of the whole input
-pub of_input : (a : Option (List ℕ)) (text : List ℕ) (o : Result Transfer Fault) → IfSome a (λ input. ReadsUp input text) → Gives (outcome_of text) o
+pub of_input : (a : Option (List ℕ)) (text : List ℕ) (o : Result Transfer Fault) → IfSome a (λ input. text ≡ take (most_bytes + 1) input) → Gives (outcome_of text) o
     → IfSome a (λ input. Gives (outcome_of input) o)
-of_input None text o up given = tt
-of_input (Some input) text o up given = subst (λ (d : Result Transfer Fault). Gives d o) (same_outcome input text up) given
+of_input None text o front given = tt
+of_input (Some input) text o front given = subst (λ (d : Result Transfer Fault). Gives d o) (ap outcome_of front ∙ same_outcome input) given
 
 -- memory ran out before the line of a fault was made
 pub no_memory_told : (o : Result Transfer Fault) (fault : Fault) (r : Result Outcome ScriptFault) (old new : Option (List ℕ)) → o ≡ Err fault

@@ -1,12 +1,12 @@
 -- What a run leaves at its writer, by what its reader had.
-use Rattle.std.specs.Prelude.{◌≡◌, ◌⊎◌, ℕ, ◌<◌, ◌≤◌, List, [], ◌++◌, length, Option, Result, Ok, Err}
-use Rattle.std.specs.Io.KnownBytes.{Appends, Consumes, IsAtEnd}
+use Rattle.std.specs.Prelude.{◌≡◌, ◌⊎◌, ℕ, List, Option, Result, Ok, Err}
+use Rattle.std.specs.Io.KnownBytes.{Appends}
 use Rattle.script.specs.declared.fault.Fault.{Fault}
 use Rattle.script.specs.declared.fault.Fault.TheVariants.{NoMemory}
 use Rattle.script.specs.declared.running.Outcome.{Outcome}
 use Rattle.script.specs.declared.running.Outcome.TheVariants.{Report, Refused}
 use Rattle.script.specs.declared.transfer.Transfer.{Transfer}
-use Rattle.script.specs.Scripts.{Plan, most_bytes, parsed}
+use Rattle.script.specs.Scripts.{Plan, parsed}
 use Rattle.script.specs.Reports.{report, fault_line, outcome_of}
 use Rattle.script.specs.Laws.{KeepsBytes, KeepsEnd}
 
@@ -17,20 +17,6 @@ WritesReport text old new = (t : Transfer) × ((outcome_of text ≡ Ok t) × App
 -- the line of the script's first fault, or that memory ran out, and nothing else
 abbrev pub WritesFault : List ℕ → Option (List ℕ) → Option (List ℕ) → Type 0
 WritesFault text old new = ((fault : Fault) × ((outcome_of text ≡ Err fault) × Appends old new (fault_line fault))) ⊎ Appends old new (fault_line NoMemory)
-
--- More bytes were read: n of them, and 0 only at the end where there was room for one.
-pub record ReadsOn (before after : Option (List ℕ)) (old new : List ℕ) (n : ℕ) : Type 0 where
-  pub bytes : List ℕ
-  pub consumed : Consumes before after bytes
-  pub appended : new ≡ old ++ bytes
-  pub count : length bytes ≡ n
-  pub at_end : n ≡ 0 → length old ≤ most_bytes → IsAtEnd after
-
--- the whole input, or a front of it that is longer than a script may be
-pub record ReadsUp (input text : List ℕ) : Type 0 where
-  pub rest : List ℕ
-  pub front : input ≡ text ++ rest
-  pub enough : (rest ≡ []) ⊎ (most_bytes < length text)
 
 -- what was written of an outcome: its line, or that memory ran out
 abbrev pub Tells : Result Transfer Fault → Outcome → Option (List ℕ) → Option (List ℕ) → Type 0

@@ -64,7 +64,7 @@ number_of text =
 abbrev pub is_lower_hex : ℕ → Bool
 is_lower_hex byte = is_digit byte || (nat_le 97 byte && nat_le byte 102)
 
--- two to 2,048 digits of lower-case hexadecimal, but for an odd number of them
+-- one to 2,048 digits of lower-case hexadecimal; an odd number of them says no bytes, below
 abbrev pub is_hex_text : List ℕ → Bool
 is_hex_text text = nat_lt 0 (length text) && (nat_le (length text) 2048 && list_all is_lower_hex text)
 

@@ -7,13 +7,14 @@ ghost use Rattle.script.specs.Scripts.{parsed, ring_of_words, steps_of};
 use crate::lines::{Lines, Pieces};
 use crate::values::{bytes, number};
 use crate::{Fault, NumberedStep, Script, Step};
+use flow::Flow;
 use std::alloc::{AllocError, Global};
 
 /// The most bytes of a script.
 pub(crate) const MOST_BYTES: usize = 1_048_576;
 
 /// The script that a text is, or its first fault: too long before all else, then no line that says
-/// anything, then the first malformed line of the whole text.
+/// anything, then the first malformed line of the whole text. Or memory ran out.
 pub fn parse(alloc: Global, text: &[u8]) -> Result<Script, Fault>
     ensures { Gives (parsed text.now) result }
 {
@@ -47,7 +48,7 @@ fn steps(alloc: Global, mut lines: Lines) -> Result<Vec<NumberedStep>, Fault>
     Ok(steps)
 }
 
-/// The ring's size in the header `flow ring=R`, 1 to 65,536.
+/// The ring's size in bytes in the header `flow ring=R`, 1 to 65,536.
 fn ring(line: &[u8]) -> Option<usize>
     ensures { result ≡ ring_of_words (words_of line.now) }
 {
@@ -57,7 +58,7 @@ fn ring(line: &[u8]) -> Option<usize>
         return None;
     }
     let size = number(ring.strip_prefix(b"ring=".as_slice())?)?;
-    if 1 <= size && size <= 65_536 {
+    if 1 <= size && size <= Flow::MOST {
         Some(size)
     } else {
         None

@@ -5,7 +5,7 @@ use crate::{Fault, Transfer};
 use std::alloc::{AllocError, Global};
 
 /// The report of a state, one line: `up sent=H ring=H unread=H end=yes|no shut=yes|no`. Bytes are shown
-/// in lower-case hexadecimal, `-` for none; sent is what the destination took.
+/// in lower-case hexadecimal, `-` for none; sent is what the destination took. Or memory for it ran out.
 pub fn print(alloc: Global, transfer: &Transfer) -> Result<String, AllocError>
     ensures { IfOk result (λ text. string_bytes text ≡ report transfer.now) }
 {
@@ -17,7 +17,7 @@ pub fn print(alloc: Global, transfer: &Transfer) -> Result<String, AllocError>
     format!(in alloc; "up sent={sent} ring={ring} unread={unread} end={end} shut={shut}\n")
 }
 
-/// The line of a fault.
+/// The line of a fault, or memory for it ran out.
 pub fn fault_line(alloc: Global, fault: Fault) -> Result<String, AllocError>
     ensures { IfOk result (λ text. string_bytes text ≡ fault_line fault) }
 {

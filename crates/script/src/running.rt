@@ -1,12 +1,15 @@
-ghost use Rattle.std.specs.Prelude.{◌≡◌, ◌≤◌, IfOk, IfErr, IfSome, Ok, Err, vec_len};
+ghost use Rattle.std.specs.Prelude.{◌≡◌, ◌+◌, IfOk, IfErr, IfSome, Ok, Err};
 ghost use Rattle.std.specs.Io.KnownBytes.{Appends};
 ghost use Rattle.script.specs.Faults.{Gives};
+ghost use Rattle.script.specs.Scripts.{most_bytes};
 ghost use Rattle.script.specs.Reports.{outcome_of};
-ghost use Rattle.script.specs.Runs.{ReadsOn, ReadsUp, Tells, WritesReport, WritesFault, EveryByte, EveryEnd};
+ghost use Rattle.input.specs.Fronts.{TakesAtMost};
+ghost use Rattle.script.specs.Runs.{Tells, WritesReport, WritesFault, EveryByte, EveryEnd};
 
 use crate::parsing::MOST_BYTES;
 use crate::report::{fault_line, print};
 use crate::{Fault, Transfer, parse};
+use input::InputFault;
 use std::alloc::Global;
 use std::io::{Read, Write};
 use thiserror::Error;
@@ -49,6 +52,9 @@ pub fn run<R: Read, W: Write>(
     // Where the script could not be read, nothing is written.
     ensures unread { result ≡ Err ScriptFault.Read → writer.new ≡ writer.old }
 
+    // At most one byte past the most that a script may have is taken from the reader.
+    ensures taken { TakesAtMost (most_bytes + 1) (R.remaining reader.old) (R.remaining reader.new) }
+
     // In every script, the bytes that arrived are the sent bytes, then the ring, then the unread bytes;
     // and the end is passed on only after every byte.
     ensures every_byte { IfSome (R.remaining reader.old) EveryByte }
@@ -61,54 +67,13 @@ pub fn run<R: Read, W: Write>(
 /// Reads a script, and computes the state after it or its fault. An `Err` is that it was not read.
 fn play<R: Read>(alloc: Global, reader: &mut R) -> Result<Result<Transfer, Fault>, ScriptFault>
     ensures ok { IfOk result (λ outcome. IfSome (R.remaining reader.old) (λ text. Gives (outcome_of text) outcome)) }
+    ensures taken { TakesAtMost (most_bytes + 1) (R.remaining reader.old) (R.remaining reader.new) }
     ensures err { IfErr result (λ fault. fault ≡ ScriptFault.Read) }
 {
-    match read(alloc, reader) {
+    match input::read_front(alloc, reader, MOST_BYTES + 1) {
         Ok(text) => Ok(compute(alloc, text.as_slice())),
         Err(InputFault::NoMemory) => Ok(Err(Fault::NoMemory)),
         Err(InputFault::Unreadable) => Err(ScriptFault::Read),
-    }
-}
-
-/// Why a script was not read.
-#[derive(Clone, Copy, Debug, PartialEq, Eq)]
-enum InputFault {
-    Unreadable,
-    NoMemory,
-}
-
-/// Reads to the end, or one byte past the most that a script may have. Each read but the last gives a
-/// byte, so there are at most as many as that.
-fn read<R: Read>(alloc: Global, reader: &mut R) -> Result<Vec<u8>, InputFault>
-    ensures { IfOk result (λ text. IfSome (R.remaining reader.old) (λ input. ReadsUp input text.items)) }
-{
-    let mut text = Vec::new(alloc);
-    for _reads in 0..MOST_BYTES + 1 {
-        let count = read_on(reader, &mut text)?;
-        if count == 0 {
-            return Ok(text);
-        }
-        if text.len() > MOST_BYTES {
-            return Ok(text);
-        }
-    }
-    unreachable!()
-}
-
-/// One read, to the end of the text.
-fn read_on<R: Read>(reader: &mut R, text: &mut Vec<u8>) -> Result<usize, InputFault>
-    requires { vec_len text.old ≤ 1048577 }
-    ensures reads { IfOk result (λ count. ReadsOn (R.remaining reader.old) (R.remaining reader.new) text.old.items text.new.items count) }
-    ensures most { vec_len text.new ≤ 1048577 }
-{
-    let mut buffer = [0u8; 4096];
-    let most = buffer.len().min(MOST_BYTES + 1 - text.len());
-    match reader.read(&mut buffer[..most]) {
-        Ok(count) => match text.extend_from_slice(&buffer[..count]) {
-            Ok(()) => Ok(count),
-            Err(_) => Err(InputFault::NoMemory),
-        },
-        Err(_) => Err(InputFault::Unreadable),
     }
 }
 

@@ -48,7 +48,7 @@ impl Script {
         self.steps.as_slice()
     }
 
-    /// The state after all steps, or the fault of the first that is not allowed.
+    /// The state after all steps, or the fault of the first that is not allowed, or that memory ran out.
     pub fn carry_out(&self, alloc: Global) -> Result<Transfer, Fault>
         ensures { Gives (run_of self.now) result }
     {

@@ -57,19 +57,28 @@ pub enum Step {
 /// A step, and the number of its line in the text, from 1 on.
 #[derive(Debug, Drop)]
 pub struct NumberedStep {
+    /// The number of the line, skipped lines counted.
     pub line: u64,
+    /// What the line says.
     pub step: Step,
 }
 
 /// The first word of a step, by which a fault names it.
 #[derive(Clone, Copy, Debug, PartialEq, Eq)]
 pub enum Word {
+    /// `arrive`.
     Arrive,
+    /// `fin`.
     Fin,
+    /// `room`.
     Room,
+    /// `read`.
     Read,
+    /// `end`.
     End,
+    /// `wrote`, with `full` or without.
     Wrote,
+    /// `shut`.
     Shut,
 }
 

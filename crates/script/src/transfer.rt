@@ -14,13 +14,17 @@ const READ_MOST: usize = 16_384;
 /// One direction: a source, a ring, and a destination that is connected.
 #[derive(Drop)]
 pub struct Transfer {
+    /// The socket that the relay reads.
     pub source: End,
+    /// What was read and not yet written.
     pub flow: Flow,
+    /// The socket that the relay writes to.
     pub destination: End,
 }
 
 impl Transfer {
-    /// One direction to which nothing has come, with a ring of at most `ring` bytes.
+    /// One direction to which nothing has come, with a ring of at most `ring` bytes; or memory for the
+    /// ring was refused.
     pub fn new(alloc: Global, ring: usize) -> Result<Transfer, AllocError>
         requires least { 1 ≤ ring }
         requires most { ring ≤ 65536 }

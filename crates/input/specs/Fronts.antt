@@ -1,0 +1,21 @@
+-- What reads take from a reader, where it tells its bytes.
+use Rattle.std.specs.Prelude.{◌≡◌, ℕ, ◌+◌, ◌<◌, ◌≤◌, List, ◌++◌, length, Option}
+use Rattle.std.specs.Io.KnownBytes.{Consumes, IsAtEnd}
+
+-- at most so many bytes
+abbrev pub TakesAtMost : ℕ → Option (List ℕ) → Option (List ℕ) → Type 0
+TakesAtMost most old new = (bytes : List ℕ) × (Consumes old new bytes × (length bytes ≤ most))
+
+-- one read put n bytes behind a text, and none only at the end or where the text was full
+pub record ReadsOn (most : ℕ) (before after : Option (List ℕ)) (old new : List ℕ) (n : ℕ) : Type 0 where
+  pub bytes : List ℕ
+  pub consumed : Consumes before after bytes
+  pub appended : new ≡ old ++ bytes
+  pub count : length bytes ≡ n
+  pub at_end : n ≡ 0 → length old < most → IsAtEnd after
+
+-- one read took bytes for which there was room behind a text, and they are gone
+pub record Stops (most : ℕ) (before after : Option (List ℕ)) (old : List ℕ) : Type 0 where
+  pub bytes : List ℕ
+  pub consumed : Consumes before after bytes
+  pub few : length old + length bytes ≤ most

@@ -1,0 +1,63 @@
+ghost use Rattle.std.specs.Prelude.{◌≡◌, ◌≤◌, IfOk, IfErr, IfSome, take, vec_len};
+ghost use Rattle.input.specs.Fronts.{TakesAtMost, ReadsOn, Stops};
+
+use std::alloc::Global;
+use std::io::Read;
+use thiserror::Error;
+
+/// Why an input was not read.
+#[derive(Clone, Copy, Debug, PartialEq, Eq, Error)]
+pub enum InputFault {
+    /// The reader answered an error.
+    #[error("cannot be read")]
+    Unreadable,
+    /// Memory ran out.
+    #[error("out of memory")]
+    NoMemory,
+}
+
+/// Reads to the end of the input, or `most` bytes of it where it has more. One who asks for one byte more
+/// than may be there sees by it that there were too many.
+///
+/// It makes at most `most` reads. Any error of the reader, a signal too, is [`InputFault::Unreadable`] at
+/// once; what was read until then is gone, and so it is where memory runs out.
+pub fn read_front<R: Read>(
+    alloc: Global,
+    reader: &mut R,
+    most: usize,
+) -> Result<Vec<u8>, InputFault>
+    ensures text { IfOk result (λ text. IfSome (R.remaining reader.old) (λ input. text.items ≡ take most input)) }
+    ensures length { IfOk result (λ text. vec_len text ≤ most) }
+    ensures taken { TakesAtMost most (R.remaining reader.old) (R.remaining reader.new) }
+{
+    let mut text = Vec::new(alloc);
+    // Each read but the last gives a byte, so there are at most as many as that.
+    for _reads in 0..most {
+        if text.len() == most {
+            return Ok(text);
+        }
+        let count = read_on(reader, &mut text, most)?;
+        if count == 0 {
+            return Ok(text);
+        }
+    }
+    Ok(text)
+}
+
+/// One read, to the end of the text.
+fn read_on<R: Read>(reader: &mut R, text: &mut Vec<u8>, most: usize) -> Result<usize, InputFault>
+    requires { vec_len text.old ≤ most }
+    ensures reads { IfOk result (λ count. ReadsOn most (R.remaining reader.old) (R.remaining reader.new) text.old.items text.new.items count) }
+    ensures stops { IfErr result (λ fault. Stops most (R.remaining reader.old) (R.remaining reader.new) text.old.items) }
+    ensures most { vec_len text.new ≤ most }
+{
+    let mut buffer = [0u8; 4096];
+    let room = buffer.len().min(most - text.len());
+    match reader.read(&mut buffer[..room]) {
+        Ok(count) => match text.extend_from_slice(&buffer[..count]) {
+            Ok(()) => Ok(count),
+            Err(_) => Err(InputFault::NoMemory),
+        },
+        Err(_) => Err(InputFault::Unreadable),
+    }
+}
