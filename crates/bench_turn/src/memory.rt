@@ -27,7 +27,7 @@ impl MemoryWire {
         }
     }
 
-    /// The bytes that were written, and the last of them.
+    /// How many bytes were written, and the first of the last piece, so that no copy can be left out.
     pub fn taken(&self) -> (u64, u8) {
         (self.taken, self.sink[0])
     }

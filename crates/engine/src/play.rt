@@ -20,7 +20,8 @@ pub enum Play {
     Interrupted,
     /// The call would have had to wait (EAGAIN).
     Blocked,
-    /// The call fails.
+    /// The call fails. [`Kind::Zero`] comes out as [`Kind::Other`]: the kind `zero` is of a write that
+    /// answers 0, which is [`Play::Zero`].
     Fault(Kind),
 }
 

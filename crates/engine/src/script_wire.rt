@@ -46,7 +46,8 @@ impl Model for ScriptWire {
 
 impl ScriptWire {
     /// A wire with these answers, on a socket that is known to be connected or not. This takes the memory
-    /// for the bytes of every Take, and nothing later takes any.
+    /// for the bytes of every Take, and nothing later takes any. [`AllocError`] where there is not so much
+    /// memory, also where no number of bytes is so large; the plays are dropped then.
     pub fn new(
         alloc: Global,
         joined: bool,

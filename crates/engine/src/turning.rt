@@ -10,7 +10,11 @@ use crate::wire::Wire;
 use relay_core::{Call, Pair, READ_MOST, Side, Verdict};
 
 /// Makes the calls that a pair asks for, at most `budget` of them (1 to 1,024), each on the wire of its
-/// side, and hands the pair their answers. It takes no memory.
+/// side, and hands the pair their answers. A pair that is done or has failed asks for none. It takes no
+/// memory.
+///
+/// An error is a failure where the wire counted a fault, "would block" where it counted that, and an
+/// interruption where it counted neither. A write that took no byte is a failure.
 pub fn turn<A: Wire, B: Wire>(
     pair: &mut Pair,
     client: &mut A,

@@ -9,8 +9,13 @@ use std::io;
 /// A connection's socket, or what stands for one: none of its calls waits.
 ///
 /// A wire may tell two lists: the bytes that it has left to read, `remaining`, and those that were
-/// written to it, `written`. It counts its answers that are faults and those that are "would block" by
-/// [`class_of`](crate::class_of).
+/// written to it, `written`.
+///
+/// It counts its answers that are faults and those that are "would block", by
+/// [`class_of`](crate::class_of), and [`turn`](crate::turn) tells an error's class by which of the two
+/// rose. An answer without error leaves both, but a write of 0 bytes to an offer that isn't empty is a
+/// fault. An error raises one of the two by one, or neither where it is an interruption. A shutdown never
+/// raises the second. Both go round at 2^64.
 pub trait Wire {
     // The bytes that reads will give from here on, where the wire tells them.
     ghost remaining: { Self → Option (List ℕ) } = { λ _. None };
