@@ -1,6 +1,6 @@
 -- One end of a connection: a non-blocking stream socket as the kernel keeps it, and what the network
 -- does to it (epoll(7), read(2), write(2), shutdown(2)).
-use Rattle.std.specs.Prelude.{ℕ, Bool, true, false, not, ◌&&◌, ◌||◌, nat_lt, List, [], ◌++◌, length, Option}
+use Rattle.std.specs.Prelude.{◌≡◌, ℕ, Bool, true, false, not, ◌&&◌, ◌||◌, nat_lt, List, [], ◌++◌, length, Option}
 use Rattle.token.specs.declared.side.Side.{Side}
 use Rattle.token.specs.declared.side.Side.TheVariants.{Client, Target}
 use Rattle.kernel_model.specs.Outcome.{guard, Told}
@@ -19,6 +19,10 @@ pub record Endpoint : Type 0 where
   -- the next report of this kind is due, since a call of the kind answered blocked
   pub read_armed : Bool
   pub write_armed : Bool
+
+-- these bytes end in those
+abbrev pub IsTailOf : List ℕ → List ℕ → Type 0
+IsTailOf bytes tail = (front : List ℕ) × (bytes ≡ front ++ tail)
 
 abbrev pub is_nonempty : List ℕ → Bool
 is_nonempty xs = nat_lt 0 (length xs)

@@ -1,7 +1,7 @@
 ghost use Rattle.std.specs.Prelude.{◌≡◌, Ok, Err, IsErrOf, IsTrue, false, if◌then◌else◌};
 ghost use Rattle.std.specs.Option.{option_copied};
 ghost use Rattle.kernel_model.specs.Outcome.{guard, Meets, MeetsAlways, Tells, TellsAlways};
-ghost use Rattle.kernel_model.specs.Ends.{opened, is_readable, is_writable, arrival, finish, failure, new_room};
+ghost use Rattle.kernel_model.specs.Ends.{IsTailOf, opened, is_readable, is_writable, arrival, finish, failure, new_room};
 ghost use Rattle.kernel_model.specs.Replies.{bytes_read, failed, blocked_write, wrote, after_read, after_write, needs_memory, after_join, after_shut};
 
 use crate::{Refusal, Reply};
@@ -72,9 +72,10 @@ impl End {
         self.arrived.as_slice()
     }
 
-    /// The bytes that were not read yet.
+    /// The bytes that were not read yet: the last of those that came.
     pub fn unread(&self) -> &[u8]
-        ensures { result.now ≡ self.now.unread }
+        ensures value { result.now ≡ self.now.unread }
+        ensures last { IsTailOf self.now.arrived result.now }
     {
         &self.arrived[self.read..]
     }
@@ -142,8 +143,10 @@ impl End {
         self.room || self.err
     }
 
-    /// Bytes come from the peer, at least one. Tells whether that is to be reported. Not allowed
-    /// behind the end of input or an error.
+    /// Bytes come from the peer. Tells whether that is to be reported.
+    ///
+    /// Refuses with `NotAllowed` where there are none, or behind the end of input or an error, and with
+    /// `NoMemory` where the list of what came can't grow. A refusal changes nothing.
     pub fn arrive(&mut self, bytes: &[u8]) -> Result<bool, Refusal>
         ensures { Tells (arrival self.old bytes.now) self.old self.new result }
     {
@@ -154,8 +157,10 @@ impl End {
         Ok(self.report_read())
     }
 
-    /// The peer's end of input comes. Tells whether that is to be reported. Not allowed twice, nor
-    /// behind an error. Takes no memory.
+    /// The peer's end of input comes. Tells whether that is to be reported.
+    ///
+    /// Refuses with `NotAllowed`, and changes nothing, where it has come before, or behind an error.
+    /// Takes no memory.
     pub fn fin(&mut self) -> Result<bool, Refusal>
         ensures { TellsAlways (finish self.old) self.old self.new result }
     {
@@ -166,8 +171,9 @@ impl End {
         Ok(self.report_read())
     }
 
-    /// An error comes, as a reset by the peer. Tells whether that is to be reported. Not allowed
-    /// twice. Takes no memory.
+    /// An error comes, as a reset by the peer. Tells whether that is to be reported.
+    ///
+    /// Refuses with `NotAllowed`, and changes nothing, where one has come before. Takes no memory.
     pub fn reset(&mut self) -> Result<bool, Refusal>
         ensures { TellsAlways (failure self.old) self.old self.new result }
     {
@@ -180,8 +186,10 @@ impl End {
         Ok(read || write)
     }
 
-    /// Room for writes comes. Tells whether that is to be reported. Not allowed where there is room,
-    /// nor behind an error. Takes no memory.
+    /// Room for writes comes. Tells whether that is to be reported.
+    ///
+    /// Refuses with `NotAllowed`, and changes nothing, where there is room, or behind an error. Takes no
+    /// memory.
     pub fn room(&mut self) -> Result<bool, Refusal>
         ensures { TellsAlways (new_room self.old) self.old self.new result }
     {
@@ -193,7 +201,8 @@ impl End {
     }
 
     /// The bytes that a read of at most `most` hands over where it answers with `count` of them: the
-    /// first that are unread. None where it may not answer so.
+    /// first that are unread. None where it may not answer so: where `count` is 0, or more than `most`
+    /// or than are unread.
     pub fn bytes_read(&self, most: usize, count: usize) -> Option<&[u8]>
         ensures { option_copied result ≡ bytes_read self.now most count }
     {
@@ -203,7 +212,12 @@ impl End {
         self.unread().get(..count)
     }
 
-    /// A read of at most `most` bytes gets this reply (read(2)). Takes no memory.
+    /// A read of at most `most` bytes gets this reply (read(2)).
+    ///
+    /// Refuses with `NotAllowed`, and changes nothing, where a read may not be answered so: by bytes
+    /// that are none, or more than `most` or than are unread; by the end of input before it has come or
+    /// while bytes are unread; by blocked where the end is readable; by a failure of the kind `Zero`; or
+    /// by a reply to another call. Takes no memory.
     pub fn read(&mut self, most: usize, reply: Reply) -> Result<(), Refusal>
         ensures { MeetsAlways (after_read self.old most reply) self.old self.new result }
     {
@@ -230,6 +244,11 @@ impl End {
     }
 
     /// A write of `offer` gets this reply (write(2)).
+    ///
+    /// Refuses with `NotAllowed` where a write may not be answered so: by a count without room, or one
+    /// that is 0 or more than were offered; by blocked where the end is writable; or by a reply to
+    /// another call. Refuses with `NoMemory` where the write takes bytes and their list can't grow; no
+    /// other reply needs memory. A refusal changes nothing.
     pub fn write(&mut self, offer: &[u8], reply: Reply) -> Result<(), Refusal>
         ensures outcome { Meets (after_write self.old offer.now reply) self.old self.new result }
         ensures memory { IsErrOf result Refusal.NoMemory → IsTrue (needs_memory reply) }
@@ -242,7 +261,11 @@ impl End {
         }
     }
 
-    /// The question whether the connect has ended gets this reply (connect(2)). Takes no memory.
+    /// The question whether the connect has ended gets this reply (connect(2)).
+    ///
+    /// Refuses with `NotAllowed`, and changes nothing, where it may not be answered so: by joined without
+    /// room; by blocked where the end is writable; by a failure of the kind `Zero`; or by a reply to
+    /// another call. Takes no memory.
     pub fn join(&mut self, reply: Reply) -> Result<(), Refusal>
         ensures { MeetsAlways (after_join self.old reply) self.old self.new result }
     {
@@ -257,7 +280,10 @@ impl End {
         }
     }
 
-    /// A shutdown of sending gets this reply (shutdown(2) with `SHUT_WR`). Takes no memory.
+    /// A shutdown of sending gets this reply (shutdown(2) with `SHUT_WR`).
+    ///
+    /// Refuses with `NotAllowed`, and changes nothing, where it may not be answered so: by blocked, by a
+    /// failure of the kind `Zero`, or by a reply to another call. Takes no memory.
     pub fn shut(&mut self, reply: Reply) -> Result<(), Refusal>
         ensures { MeetsAlways (after_shut self.old reply) self.old self.new result }
     {
