@@ -120,7 +120,7 @@ unused_ok slots held table v marks words is = subst (λ (u : View). SeatOk 0 hel
   sized = length-replicate slots blank ∙ sym words;
 })
 
--- after `open` every word is 3 and every view is zeros
+-- the rule holds of words that are all 3 and of views that are all zeros
 pub opens_lawful : (slots seats : ℕ) (table : TableId) (all : List SeatState) → table.words ≡ slots → all ≡ replicate seats (fresh table) → seats ≤ 32 → OpensLawful slots all
 opens_lawful slots seats table all words is few =
     let views : map (λ (s : SeatState). view_of s.accounts 0) all ≡ replicate seats (view_of (replicate slots blank) 0) =

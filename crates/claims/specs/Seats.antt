@@ -31,11 +31,6 @@ HoldsNot s slot = (account_at s slot).holds ≡ false
 abbrev pub fresh : TableId → SeatState
 fresh table = record { table = table; accounts = replicate table.words blank }
 
--- the seat is of these claim words and holds no slot
-pub record IsIdleSeatOf (claims : TableId) (s : SeatState) : Type 0 where
-  pub same : s.table ≡ claims
-  pub idle : (slot : ℕ) → HoldsNot s slot
-
 -- the account of this slot became `account`, and nothing else of the seat changed
 pub record Changed (slot : ℕ) (old new : SeatState) (account : Account) : Type 0 where
   pub table : new.table ≡ old.table

@@ -3,7 +3,7 @@
 //! A server has slots, one for each connection, and threads that work on them. A thread that learns of something to
 //! do at a slot posts a note there. A thread that has a ticket for the slot claims it, takes its notes, works, and
 //! releases it. This crate keeps one word a slot, `4 * notes + 2 * free + held`. Each call is one atomic exchange on
-//! one word, by the caller's own seat. No call tries again, waits or takes memory.
+//! one word, by the caller's own seat. No call tries again or waits, and none takes memory but [`Claims::open`].
 //!
 //! # The rule
 //!

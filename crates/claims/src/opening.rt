@@ -21,10 +21,13 @@ const MOST_SEATS: usize = 32;
 /// Why `Claims::open` made nothing.
 #[derive(Debug, Drop, Error)]
 pub enum OpenFault {
+    /// The number of slots is 0 or over 32,768. It is looked at first.
     #[error("the number of slots is not from 1 to 32768")]
     SlotRange,
+    /// The number of seats is 0 or over 32.
     #[error("the number of seats is not from 1 to 32")]
     SeatRange,
+    /// There was no memory for the words or for the seats.
     #[error("out of memory")]
     NoMemory,
 }
