@@ -47,7 +47,10 @@ impl Model for Token {
 }
 
 impl Token {
-    /// The token of an end. The slot is looked at first.
+    /// The token of an end.
+    ///
+    /// Refuses with `SlotRange` where the slot is over 32,767, which is looked at first, and with
+    /// `GenRange` where the generation is 0 or over 140,737,488,355,327, which is 2^47 - 1.
     pub fn pack(slot: usize, side: Side, generation: u64) -> Result<Token, TokenFault>
         ensures packed { IsSlot slot → IsGeneration generation → result ≡ Ok (record { slot = slot; side = side; generation = generation }) }
         ensures slot_range { IsErrOf result TokenFault.SlotRange ↔ (32767 < slot) }
@@ -99,6 +102,7 @@ impl Token {
 }
 
 /// The generation of a slot of generation `generation` once it is opened again: one more, or none after
+/// [`MAX_GEN`]. The caller may give 0, which is that of a slot that was never opened, and none over
 /// [`MAX_GEN`].
 pub fn next_gen(generation: u64) -> Option<u64>
     requires { generation ≤ 140737488355327 }
