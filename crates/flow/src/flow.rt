@@ -35,6 +35,8 @@ impl Flow {
 
     /// An empty ring for at most `capacity` bytes, 1 to 65,536. This reserves all the memory that the
     /// ring will ever use.
+    ///
+    /// Fails only where there is no such memory, and then no ring is made.
     pub fn new(alloc: Global, capacity: usize) -> Result<Flow, AllocError>
         requires least { 1 ≤ capacity }
         requires most { capacity ≤ 65536 }
