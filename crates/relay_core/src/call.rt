@@ -20,9 +20,13 @@ pub enum Call {
 /// Which of the four calls it is.
 #[derive(Clone, Copy, Debug, PartialEq, Eq)]
 pub enum CallKind {
+    /// write(2): bytes that wait go out.
     Write,
+    /// The question whether connect(2) has ended.
     Join,
+    /// shutdown(2) with `SHUT_WR`: the end of input is passed on.
     Shut,
+    /// read(2): bytes, or the end of input, come in.
     Read,
 }
 

@@ -50,6 +50,8 @@ impl Pair {
     /// A connection that was just made, in a slot that has been opened `generation` times, with a ring
     /// of `capacity` bytes, 1 to 65,536, for each direction. This takes all the memory that the pair
     /// will ever use.
+    ///
+    /// Fails only where there is no memory for one of the two rings, and then no pair is made.
     pub fn new(
         alloc: Global,
         slot: usize,

@@ -100,7 +100,8 @@ fn bytes_both_ways(rt: HostRuntime) -> Result<(), Fail> {
     Ok(())
 }
 
-// A join and a shutdown, each met from either direction's turn.
+// A join, met from either direction's turn, and a shutdown, met from the turn of the direction that it
+// does not serve.
 #[test]
 fn ends_both_ways(rt: HostRuntime) -> Result<(), Fail> {
     let mut pair = Pair::new(rt.alloc(), 0, 1, 4)?;
@@ -135,6 +136,21 @@ fn ends_both_ways(rt: HostRuntime) -> Result<(), Fail> {
     assert_eq!(rt; played(&mut pair, &last), last.len());
     assert_eq!(rt; (pair.next(), pair.verdict()), (None, Verdict::Done));
     assert_eq!(rt; pair.counts(), (0, 1));
+    Ok(())
+}
+
+// A shutdown of each side, met from the turn of the direction that it serves.
+#[test]
+fn both_ends_at_once(rt: HostRuntime) -> Result<(), Fail> {
+    let mut pair = Pair::new(rt.alloc(), 0, 1, 4)?;
+    let steps = [
+        (Call::Read(CLIENT, 4), Answer::End),
+        (Call::Read(TARGET, 4), Answer::End),
+        (Call::Shut(TARGET), Answer::Shut),
+        (Call::Shut(CLIENT), Answer::Shut),
+    ];
+    assert_eq!(rt; played(&mut pair, &steps), steps.len());
+    assert_eq!(rt; pair.verdict(), Verdict::Done);
     Ok(())
 }
 
