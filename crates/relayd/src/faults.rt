@@ -28,6 +28,17 @@ pub enum ProgramFault {
     NoMemory,
 }
 
+/// Why the words of the command line can't be had.
+#[derive(Clone, Copy, Debug, PartialEq, Eq, Error)]
+pub enum WordsFault {
+    /// Memory ran out.
+    #[error("out of memory")]
+    NoMemory,
+    /// A word is not UTF-8.
+    #[error("a word of the command line is not UTF-8")]
+    NotText,
+}
+
 impl From<AllocError> for ProgramFault {
     fn from(_error: AllocError) -> ProgramFault {
         ProgramFault::NoMemory

@@ -4,11 +4,12 @@ ghost use Rattle.script.specs.Runs.{WritesReport, WritesFault};
 
 use crate::command_line::{Asked, read_words};
 use crate::config;
-use crate::faults::ProgramFault;
+use crate::faults::{ProgramFault, WordsFault};
 use clap::error::ErrorKind;
 use script::Outcome;
 use std::alloc::{AllocError, Global};
-use std::io::{Read, Write};
+use std::env::{self, Env};
+use std::io::{self, Read, Write};
 use std::rt::Files;
 
 /// The status of a program that did what it was asked for.
@@ -19,6 +20,31 @@ const FAULT: u8 = 1;
 
 /// The status of a program whose command line was refused.
 const USAGE: u8 = 2;
+
+/// The words of the command line, the program's own name first.
+pub fn words<R: AllocGlobal + Env>(rt: &R) -> Result<Vec<String>, WordsFault> {
+    match env::args(rt) {
+        Ok(words) => match words.collect(rt.alloc()) {
+            Ok(words) => Ok(words),
+            Err(_) => Err(WordsFault::NoMemory),
+        },
+        Err(error) if error.kind() == io::ErrorKind::OutOfMemory => Err(WordsFault::NoMemory),
+        Err(_) => Err(WordsFault::NotText),
+    }
+}
+
+/// Tells to `errors` why there are no words, and answers the exit status: 1 where memory ran out, and
+/// 2 where a word is not UTF-8, which refuses the command line.
+pub fn refuse<E: Write>(errors: &mut E, fault: WordsFault) -> u8 {
+    match fault {
+        WordsFault::NoMemory => told(errors, ProgramFault::NoMemory),
+        WordsFault::NotText => {
+            // Where not even this can be written, the status is all that is left to tell.
+            let _ = writeln!(errors, "error: {fault}");
+            USAGE
+        }
+    }
+}
 
 /// Runs the program. `words` is the command line, the program's own name first.
 ///
