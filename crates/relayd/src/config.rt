@@ -1,11 +1,12 @@
 //! The settings file.
-ghost use Rattle.std.specs.Prelude.{◌≤◌, IfOk, vec_len};
+ghost use Rattle.std.specs.Prelude.{◌≡◌, ◌≤◌, IfOk, IfSome, vec_len};
 
 use crate::faults::ProgramFault;
+use input::{InputFault, read_front};
 use settings::Settings;
 use std::alloc::Global;
 use std::fs::File;
-use std::io::{ErrorKind, Read};
+use std::io::Read;
 use std::rt::Files;
 
 /// The most bytes of a settings file.
@@ -13,22 +14,22 @@ const MOST_BYTES: usize = 65_536;
 
 /// The settings of a file.
 pub fn load<R: AllocGlobal + Files>(rt: &R, path: &str) -> Result<Settings, ProgramFault> {
-    let Ok(file) = File::open(rt, path) else {
+    let Ok(mut file) = File::open(rt, path) else {
         return Err(ProgramFault::ConfigRead);
     };
-    let text = read(rt.alloc(), file)?;
+    let text = read(rt.alloc(), &mut file)?;
     settings::parse(rt.alloc(), text.as_slice()).map_err(ProgramFault::Settings)
 }
 
 /// All bytes of a file, which is read to its end or one byte past the most that it may have.
-fn read(alloc: Global, file: impl Read + Drop) -> Result<Vec<u8>, ProgramFault>
-    ensures { IfOk result (λ text. vec_len text ≤ 65536) }
+fn read<F: Read>(alloc: Global, file: &mut F) -> Result<Vec<u8>, ProgramFault>
+    ensures most { IfOk result (λ text. vec_len text ≤ 65536) }
+    ensures whole { IfOk result (λ text. IfSome (F.remaining file.old) (λ bytes. text.items ≡ bytes)) }
 {
-    let mut text = Vec::new(alloc);
-    match file.take(MOST_BYTES as u64 + 1).read_to_end(&mut text) {
-        Ok(_) if text.len() > MOST_BYTES => Err(ProgramFault::ConfigLong),
-        Ok(_) => Ok(text),
-        Err(error) if error.kind() == ErrorKind::OutOfMemory => Err(ProgramFault::NoMemory),
-        Err(_) => Err(ProgramFault::ConfigRead),
+    match read_front(alloc, file, MOST_BYTES + 1) {
+        Ok(text) if text.len() > MOST_BYTES => Err(ProgramFault::ConfigLong),
+        Ok(text) => Ok(text),
+        Err(InputFault::Unreadable) => Err(ProgramFault::ConfigRead),
+        Err(InputFault::NoMemory) => Err(ProgramFault::NoMemory),
     }
 }
