@@ -44,7 +44,7 @@ fn simulate<'a>(alloc: Global) -> Command<'a> {
     Command::new(alloc, "sim")
         .about("Runs the script on standard input and prints its report")
         .after_help(
-            "A script is a header and steps, one a line: what comes from the network, and what the\nsockets reply to the relay. The report says where every byte is after the last step. A\nscript with a fault gives one line that tells the fault, and the status 1.\n\nExample:\n  relayd sim < examples/one-direction.flow",
+            "A script is a header and steps, one a line: what comes from the network, and what the\nsockets reply to the relay. The report says where every byte is after the last step. A\nscript with a fault gives one line that tells the fault, and the status 1.\n\nExample:\n  relayd sim < examples/one-direction.flow\n\nrelayd(1) lists the steps, and relayd.toml(5) describes the settings.",
         )
 }
 
@@ -54,7 +54,7 @@ fn check<'a>(alloc: Global) -> Result<Command<'a>, AllocError> {
         Command::new(alloc, "check")
             .about("Reads a settings file and prints every setting, or what is wrong")
             .after_help(
-                "Prints a line KEY=VALUE for each setting, defaults included. Where the file is not as it\nshould be, it says which key is at fault and why, and ends with the status 1.\n\nExample:\n  relayd check --config examples/relayd.toml\n\nrelayd.toml(5) describes the settings.",
+                "Prints a line KEY=VALUE for each setting, defaults included. Where the file is not as it\nshould be, the first fault is told, with its key where it has one, and the status is 1.\n\nExample:\n  relayd check --config examples/relayd.toml\n\nrelayd.toml(5) describes the settings.",
             )
             .arg(
                 Arg::new(alloc, "config")

@@ -3,11 +3,17 @@
 
 mod checks;
 mod ends;
+mod growths;
+mod helps;
 
 use crate::program::act;
 use ends::{Sink, Source};
 use std::alloc::{AllocError, Global};
+use std::io::ErrorKind;
 use std::test::Fail;
+
+/// The room for what a run writes, which a test takes before the run.
+const ROOM: usize = 4096;
 
 /// What a run wrote, and its status.
 #[derive(Drop)]
@@ -17,17 +23,41 @@ struct Told {
     errors: Vec<u8>,
 }
 
-/// Runs the program on a script.
-fn play(rt: &HostRuntime, script: &[u8]) -> Told {
-    let mut source = Source::whole(script);
-    let mut output = Vec::new(rt.alloc());
-    let mut errors = Vec::new(rt.alloc());
-    let status = act(rt, &[], &mut source, &mut output, &mut errors);
-    Told {
-        status,
-        output,
-        errors,
+impl Told {
+    /// Whether memory ran out, however much the writer took of the line that tells it.
+    fn is_want_of_memory(&self) -> bool {
+        let output = self.output.as_slice();
+        !output.is_empty() && b"out of memory\n".as_slice().starts_with(output)
+            || self.errors.as_slice() == b"relayd: out of memory\n".as_slice()
     }
+}
+
+/// Runs the program with these words on a reader, and on a writer that fails after so many bytes. Where
+/// memory runs out, the test fails by that, and not by a text that it didn't want.
+fn play(
+    rt: &HostRuntime,
+    words: &[String],
+    source: &mut Source<'_>,
+    room: usize,
+) -> Result<Told, Fail> {
+    let mut sink = Sink::failing_after(rt.alloc(), room)?;
+    let mut errors = Vec::with_capacity(rt.alloc(), ROOM)?;
+    let status = act(rt, words, source, &mut sink, &mut errors);
+    let told = Told {
+        status,
+        output: sink.into_taken(),
+        errors,
+    };
+    if told.is_want_of_memory() {
+        Err(Fail::from(AllocError))
+    } else {
+        Ok(told)
+    }
+}
+
+/// Runs the program on a script.
+fn play_script(rt: &HostRuntime, script: &[u8]) -> Result<Told, Fail> {
+    play(rt, &[], &mut Source::whole(script), ROOM)
 }
 
 /// A script by its steps, which stand on lines of their own.
@@ -88,7 +118,7 @@ fn rows(rt: HostRuntime) -> Result<(), Fail> {
         ),
     ] {
         let script = lines(rt.alloc(), steps)?;
-        let run = play(&rt, script.as_slice());
+        let run = play_script(&rt, script.as_slice())?;
         assert_eq!(rt; run.status, status, "{steps}");
         assert_eq!(rt; run.output.as_slice(), output.as_bytes(), "{steps}");
         assert!(rt; run.errors.is_empty(), "{steps}");
@@ -125,7 +155,7 @@ fn malformed_lines(rt: HostRuntime) -> Result<(), Fail> {
         "vanish",
     ] {
         let script = format!(in rt.alloc(); "flow ring=1\n{step}\n")?;
-        let run = play(&rt, script.as_bytes());
+        let run = play_script(&rt, script.as_bytes())?;
         assert_eq!(rt;
             run.output.as_slice(),
             b"line 2: malformed\n".as_slice(),
@@ -143,7 +173,7 @@ fn malformed_lines(rt: HostRuntime) -> Result<(), Fail> {
         "flow ring=1 x",
         "flow  ring=1",
     ] {
-        let run = play(&rt, header.as_bytes());
+        let run = play_script(&rt, header.as_bytes())?;
         assert_eq!(rt;
             run.output.as_slice(),
             b"line 1: malformed\n".as_slice(),
@@ -151,11 +181,11 @@ fn malformed_lines(rt: HostRuntime) -> Result<(), Fail> {
         );
     }
     for header in ["flow ring=1", "flow ring=65536"] {
-        let run = play(&rt, header.as_bytes());
+        let run = play_script(&rt, header.as_bytes())?;
         assert_eq!(rt; run.status, 0, "{header:?}");
     }
     // A number may be as large as any that a machine word holds.
-    let run = play(&rt, b"flow ring=1\nread 18446744073709551615");
+    let run = play_script(&rt, b"flow ring=1\nread 18446744073709551615")?;
     assert_eq!(rt;
         run.output.as_slice(),
         b"line 2: not allowed: read\n".as_slice()
@@ -170,8 +200,10 @@ fn longest_arrival(rt: HostRuntime) -> Result<(), Fail> {
         for _ in 0..bytes {
             script.extend_from_slice(b"ff")?;
         }
-        let run = play(&rt, script.as_slice());
+        let run = play_script(&rt, script.as_slice())?;
         assert_eq!(rt; run.status, status, "{bytes} bytes");
+        let is_refused = run.output.as_slice() == b"line 2: malformed\n".as_slice();
+        assert_eq!(rt; is_refused, bytes > 1024, "{bytes} bytes");
     }
     Ok(())
 }
@@ -180,7 +212,7 @@ fn longest_arrival(rt: HostRuntime) -> Result<(), Fail> {
 fn longest_script(rt: HostRuntime) -> Result<(), Fail> {
     for (bytes, output) in [(1_048_576, "no world\n"), (1_048_577, "script too long\n")] {
         let script = vec![in rt.alloc(); b'#'; bytes]?;
-        let run = play(&rt, script.as_slice());
+        let run = play_script(&rt, script.as_slice())?;
         assert_eq!(rt; run.output.as_slice(), output.as_bytes(), "{bytes} bytes");
         assert_eq!(rt; run.status, 1, "{bytes} bytes");
     }
@@ -199,7 +231,7 @@ fn cut_after_each_byte(rt: HostRuntime) -> Result<(), Fail> {
     let script = lines(rt.alloc(), WHOLE)?;
     for length in 0..script.len() + 1 {
         if let Some(front) = script.get(..length) {
-            let run = play(&rt, front);
+            let run = play_script(&rt, front)?;
             assert!(rt; is_cut(run.output.as_slice()), "after {length} bytes");
         }
     }
@@ -210,50 +242,64 @@ fn cut_after_each_byte(rt: HostRuntime) -> Result<(), Fail> {
 fn reads_in_small_pieces(rt: HostRuntime) -> Result<(), Fail> {
     let script = lines(rt.alloc(), WHOLE)?;
     let mut source = Source::in_pieces(script.as_slice(), 1);
-    let mut output = Vec::new(rt.alloc());
-    let mut errors = Vec::new(rt.alloc());
-    assert_eq!(rt; act(&rt, &[], &mut source, &mut output, &mut errors), 0);
+    let run = play(&rt, &[], &mut source, ROOM)?;
+    assert_eq!(rt; run.status, 0);
     assert_eq!(rt;
-        output.as_slice(),
+        run.output.as_slice(),
         b"up sent=616263 ring=- unread=- end=yes shut=yes\n".as_slice()
     );
     assert_eq!(rt; source.reads(), script.len() + 1);
     Ok(())
 }
 
+// Each error is told at once, a signal's and one that leaves the rest to be read too.
 #[test]
 fn a_reader_that_fails(rt: HostRuntime) -> Result<(), Fail> {
     let script = lines(rt.alloc(), WHOLE)?;
-    for length in 0..script.len() {
-        let mut source = Source::failing_after(script.as_slice(), length);
-        let mut output = Vec::new(rt.alloc());
-        let mut errors = Vec::new(rt.alloc());
-        let status = act(&rt, &[], &mut source, &mut output, &mut errors);
-        assert_eq!(rt; status, 1, "after {length} bytes");
-        assert!(rt; output.is_empty(), "after {length} bytes");
-        assert_eq!(rt;
-            errors.as_slice(),
-            b"relayd: input: cannot be read\n".as_slice()
-        );
+    for kind in [
+        ErrorKind::Interrupted,
+        ErrorKind::OutOfMemory,
+        ErrorKind::Other,
+    ] {
+        for length in 0..script.len() + 1 {
+            let mut source = Source::failing_once(script.as_slice(), length, kind);
+            let run = play(&rt, &[], &mut source, ROOM)?;
+            assert_eq!(rt; run.status, 1, "{kind:?} after {length} bytes");
+            assert!(rt; run.output.is_empty(), "{kind:?} after {length} bytes");
+            assert_eq!(rt;
+                run.errors.as_slice(),
+                b"relayd: input: cannot be read\n".as_slice()
+            );
+            // A byte a read, and none after the one that failed.
+            assert_eq!(rt; source.reads(), length + 1, "{kind:?}");
+        }
     }
     Ok(())
+}
+
+/// Lets a writer fail after each front of this text: the number of bytes, if any, after which it has
+/// anything but that front, or the failure isn't told.
+fn first_untold(
+    rt: &HostRuntime,
+    words: &[String],
+    script: &[u8],
+    text: &[u8],
+) -> Result<Option<usize>, Fail> {
+    for length in 0..text.len() {
+        let run = play(rt, words, &mut Source::whole(script), length)?;
+        let is_told = run.errors.as_slice() == b"relayd: output: cannot be written\n".as_slice();
+        let is_front = Some(run.output.as_slice()) == text.get(..length);
+        if run.status != 1 || !is_told || !is_front {
+            return Ok(Some(length));
+        }
+    }
+    Ok(None)
 }
 
 #[test]
 fn a_writer_that_fails(rt: HostRuntime) -> Result<(), Fail> {
     let script = lines(rt.alloc(), WHOLE)?;
-    let report = play(&rt, script.as_slice()).output;
-    for length in 0..report.len() {
-        let mut source = Source::whole(script.as_slice());
-        let mut sink = Sink::failing_after(rt.alloc(), length);
-        let mut errors = Vec::new(rt.alloc());
-        let status = act(&rt, &[], &mut source, &mut sink, &mut errors);
-        assert_eq!(rt; status, 1, "after {length} bytes");
-        assert!(rt; report.starts_with(sink.taken()), "after {length} bytes");
-        assert_eq!(rt;
-            errors.as_slice(),
-            b"relayd: output: cannot be written\n".as_slice()
-        );
-    }
+    let report = b"up sent=616263 ring=- unread=- end=yes shut=yes\n";
+    assert_eq!(rt; first_untold(&rt, &[], script.as_slice(), report)?, None);
     Ok(())
 }

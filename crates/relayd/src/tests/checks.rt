@@ -1,27 +1,18 @@
 //! The command line, and the check of a settings file.
 
-use super::Told;
 use super::ends::Source;
-use crate::program::act;
+use super::{ROOM, Told, first_untold, play};
 use std::alloc::{AllocError, Global};
 use std::test::Fail;
 use std::{env, fs, process};
 
 /// Runs the program with these words, and an empty input.
-fn play_words(rt: &HostRuntime, words: &[String]) -> Told {
-    let mut source = Source::whole(b"");
-    let mut output = Vec::new(rt.alloc());
-    let mut errors = Vec::new(rt.alloc());
-    let status = act(rt, words, &mut source, &mut output, &mut errors);
-    Told {
-        status,
-        output,
-        errors,
-    }
+pub(super) fn play_words(rt: &HostRuntime, words: &[String]) -> Result<Told, Fail> {
+    play(rt, words, &mut Source::whole(b""), ROOM)
 }
 
 /// The words of a command line, which single spaces part.
-fn words(alloc: Global, line: &str) -> Result<Vec<String>, AllocError> {
+pub(super) fn words(alloc: Global, line: &str) -> Result<Vec<String>, AllocError> {
     let mut words = Vec::new(alloc);
     for word in line.split(' ') {
         words.push(String::from_str(alloc, word)?)?;
@@ -30,32 +21,39 @@ fn words(alloc: Global, line: &str) -> Result<Vec<String>, AllocError> {
 }
 
 /// The words of a check of this file.
-fn check_words(alloc: Global, path: &str) -> Result<Vec<String>, AllocError> {
+pub(super) fn check_words(alloc: Global, path: &str) -> Result<Vec<String>, AllocError> {
     let mut words = words(alloc, "relayd check --config")?;
     words.push(String::from_str(alloc, path)?)?;
     Ok(words)
 }
 
-/// Checks a settings file of these bytes.
-fn play_check(rt: &HostRuntime, name: &str, text: &[u8]) -> Result<Told, Fail> {
+/// The name of a settings file of a test.
+pub(super) fn path(rt: &HostRuntime, name: &str) -> Result<String, Fail> {
     let number = process::id(rt.process());
     let path = env::temp_dir(rt)?;
     let path = path
         .to_str()
         .ok_or("a temporary folder whose name is no text")?;
-    let path = format!(in rt.alloc(); "{path}/relayd-{number}-{name}.toml")?;
-    fs::write(rt, path.as_str(), text)?;
+    Ok(format!(in rt.alloc(); "{path}/relayd-{number}-{name}.toml")?)
+}
+
+/// Checks a settings file of these bytes.
+fn play_check(rt: &HostRuntime, name: &str, text: &[u8]) -> Result<Told, Fail> {
+    let path = path(rt, name)?;
     let words = check_words(rt.alloc(), path.as_str())?;
+    fs::write(rt, path.as_str(), text)?;
     let told = play_words(rt, words.as_slice());
-    fs::remove_file(rt, path.as_str())?;
+    let removed = fs::remove_file(rt, path.as_str());
+    let told = told?;
+    removed?;
     Ok(told)
 }
 
 /// The two lines that a settings file needs.
-const NEEDED: &str = "listen = \"127.0.0.1:7000\"\ntarget = \"127.0.0.1:7001\"\n";
+pub(super) const NEEDED: &str = "listen = \"127.0.0.1:7000\"\ntarget = \"127.0.0.1:7001\"\n";
 
 /// What the check prints of them.
-const DEFAULTS: &str =
+pub(super) const DEFAULTS: &str =
     "listen=127.0.0.1:7000\ntarget=127.0.0.1:7001\nring=16384\nbudget=64\nworkers=4\nslots=1024\nstop_after=0\nlog=info\n";
 
 #[test]
@@ -64,6 +62,18 @@ fn prints_every_setting(rt: HostRuntime) -> Result<(), Fail> {
     assert_eq!(rt; told.output.as_slice(), DEFAULTS.as_bytes());
     assert!(rt; told.errors.is_empty());
     assert_eq!(rt; told.status, 0);
+    Ok(())
+}
+
+#[test]
+fn a_writer_that_fails(rt: HostRuntime) -> Result<(), Fail> {
+    let path = path(&rt, "writer")?;
+    let words = check_words(rt.alloc(), path.as_str())?;
+    fs::write(&rt, path.as_str(), NEEDED.as_bytes())?;
+    let untold = first_untold(&rt, words.as_slice(), b"", DEFAULTS.as_bytes());
+    let removed = fs::remove_file(&rt, path.as_str());
+    assert_eq!(rt; untold?, None);
+    removed?;
     Ok(())
 }
 
@@ -131,7 +141,7 @@ fn longest_file(rt: HostRuntime) -> Result<(), Fail> {
 fn no_file(rt: HostRuntime) -> Result<(), Fail> {
     for path in ["", "no/such/file.toml", "."] {
         let words = check_words(rt.alloc(), path)?;
-        let told = play_words(&rt, words.as_slice());
+        let told = play_words(&rt, words.as_slice())?;
         assert_eq!(rt;
             told.errors.as_slice(),
             b"relayd: config: cannot be read\n".as_slice(),
@@ -147,46 +157,9 @@ fn runs_the_simulator(rt: HostRuntime) -> Result<(), Fail> {
     // An empty script is a fault of its own.
     for line in ["relayd", "relayd sim"] {
         let words = words(rt.alloc(), line)?;
-        let told = play_words(&rt, words.as_slice());
+        let told = play_words(&rt, words.as_slice())?;
         assert_eq!(rt; told.output.as_slice(), b"no world\n".as_slice(), "{line}");
         assert_eq!(rt; told.status, 1, "{line}");
-    }
-    Ok(())
-}
-
-#[test]
-fn tells_how_it_is_used(rt: HostRuntime) -> Result<(), Fail> {
-    for line in [
-        "relayd --help",
-        "relayd -h",
-        "relayd help check",
-        "relayd sim -h",
-        "relayd check --help",
-    ] {
-        let words = words(rt.alloc(), line)?;
-        let told = play_words(&rt, words.as_slice());
-        assert!(rt; told.output.ends_with(b"\n".as_slice()), "{line}");
-        assert!(rt; told.errors.is_empty(), "{line}");
-        assert_eq!(rt; told.status, 0, "{line}");
-    }
-    Ok(())
-}
-
-#[test]
-fn refuses_other_command_lines(rt: HostRuntime) -> Result<(), Fail> {
-    for line in [
-        "relayd run",
-        "relayd run --config x",
-        "relayd check",
-        "relayd check --config",
-        "relayd --config x",
-        "relayd sim x",
-    ] {
-        let words = words(rt.alloc(), line)?;
-        let told = play_words(&rt, words.as_slice());
-        assert!(rt; told.errors.starts_with(b"error: ".as_slice()), "{line}");
-        assert!(rt; told.output.is_empty(), "{line}");
-        assert_eq!(rt; told.status, 2, "{line}");
     }
     Ok(())
 }

@@ -1,15 +1,16 @@
 //! A reader and a writer over memory that fail where a test wants it.
 
-use std::alloc::Global;
+use std::alloc::{AllocError, Global};
 use std::io::{self, ErrorKind, Read, Write};
 
-/// A reader over bytes: it hands them over in pieces of at most so many, and fails in the end's place
-/// if it is to fail.
+/// A reader over bytes: it hands them over in pieces of at most so many. In one place it may fail, and
+/// goes on with the rest if it is read again.
 #[derive(Drop)]
 pub(super) struct Source<'a> {
     rest: &'a [u8],
     most: usize,
-    fails: bool,
+    // The bytes before the read that fails, and its error.
+    fault: Option<(usize, ErrorKind)>,
     reads: usize,
 }
 
@@ -24,22 +25,22 @@ impl<'a> Source<'a> {
         Source {
             rest: bytes,
             most,
-            fails: false,
+            fault: None,
             reads: 0,
         }
     }
 
-    /// The first bytes, so many, and then an error.
-    pub(super) fn failing_after(bytes: &'a [u8], length: usize) -> Source<'a> {
+    /// The first bytes, so many, a byte a read; then one error; and then the rest.
+    pub(super) fn failing_once(bytes: &'a [u8], length: usize, kind: ErrorKind) -> Source<'a> {
         Source {
-            rest: bytes.get(..length).unwrap_or(bytes),
-            most: 7,
-            fails: true,
+            rest: bytes,
+            most: 1,
+            fault: Some((length, kind)),
             reads: 0,
         }
     }
 
-    /// How many reads were made.
+    /// How many reads were made, the one that failed too.
     pub(super) fn reads(&self) -> usize {
         self.reads
     }
@@ -48,19 +49,26 @@ impl<'a> Source<'a> {
 impl Read for Source<'_> {
     fn read(&mut self, buffer: &mut [u8]) -> io::Result<usize> {
         self.reads = self.reads.wrapping_add(1);
-        if self.rest.is_empty() && self.fails {
-            // A signal is an error as any other: the program tells it at once.
-            return Err(io::Error::from(ErrorKind::Interrupted));
+        let mut most = self.most;
+        if let Some((before, kind)) = self.fault {
+            if before == 0 {
+                self.fault = None;
+                return Err(io::Error::from(kind));
+            }
+            most = most.min(before);
         }
-        let count = self.rest.len().min(self.most).min(buffer.len());
+        let count = self.rest.len().min(most).min(buffer.len());
         let (piece, rest) = self.rest.split_at(count);
         buffer[..count].copy_from_slice(piece);
         self.rest = rest;
+        if let Some((before, kind)) = self.fault {
+            self.fault = Some((before.saturating_sub(count), kind));
+        }
         Ok(count)
     }
 }
 
-/// A writer into memory that fails after so many bytes.
+/// A writer into memory that fails after so many bytes. It has the memory for them from the start.
 #[derive(Drop)]
 pub(super) struct Sink {
     taken: Vec<u8>,
@@ -69,16 +77,16 @@ pub(super) struct Sink {
 
 impl Sink {
     /// Takes so many bytes, and then fails.
-    pub(super) fn failing_after(alloc: Global, length: usize) -> Sink {
-        Sink {
-            taken: Vec::new(alloc),
+    pub(super) fn failing_after(alloc: Global, length: usize) -> Result<Sink, AllocError> {
+        Ok(Sink {
+            taken: Vec::with_capacity(alloc, length)?,
             left: length,
-        }
+        })
     }
 
     /// The bytes that were taken.
-    pub(super) fn taken(&self) -> &[u8] {
-        self.taken.as_slice()
+    pub(super) fn into_taken(self) -> Vec<u8> {
+        self.taken
     }
 }
 
