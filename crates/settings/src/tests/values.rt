@@ -6,7 +6,8 @@ use std::test::Fail;
 const DEFAULTS: &str =
     "listen=127.0.0.1:7000\ntarget=127.0.0.1:7001\nring=16384\nbudget=64\nworkers=4\nslots=1024\nstop_after=0\nlog=info\n";
 
-/// The text of `examples/relayd.toml`, which has every key at its default.
+// The same text as examples/relayd.toml; keep them alike.
+/// The example file, which has every key at its default.
 const EXAMPLE: &str = r#"# Settings of relayd, with every key at its default.
 #
 #   relayd check --config examples/relayd.toml
@@ -57,10 +58,7 @@ fn fills_in_defaults(rt: HostRuntime) -> Result<(), Fail> {
 fn gives_each_field(rt: HostRuntime) -> Result<(), Fail> {
     let text =
         "listen = \"1.2.3.4:5\"\ntarget = \"6.7.8.9:10\"\nring = 11\nbudget = 12\nworkers = 13\nslots = 14\nstop_after = 15\nlog = \"trace\"\n";
-    let settings = match parse(rt.alloc(), text.as_bytes()) {
-        Ok(settings) => settings,
-        Err(_) => return Err(Fail::from("refused")),
-    };
+    let settings = parse(rt.alloc(), text.as_bytes())?;
     let ([a, b, c, d], port) = settings.listen;
     assert!(rt; a == 1 && b == 2 && c == 3 && d == 4 && port == 5);
     let ([a, b, c, d], port) = settings.target;
