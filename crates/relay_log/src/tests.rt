@@ -37,34 +37,40 @@ fn texts(rt: HostRuntime) -> Result<(), Fail> {
     Ok(())
 }
 
-/// Logs one message of each kind.
-fn log_each(log: &impl Log, alloc: Global) {
-    log_open(log, alloc, 3, 1);
-    log_done(log, alloc, 3, 1, 120, 400);
-    log_fail(log, alloc, 3, 1, PIPE);
-    log_drop(log, alloc, Cause::Connect);
+/// Logs one message of each kind, and each of them twice.
+fn log_each_twice(log: &impl Log, alloc: Global) {
+    for _ in 0..2 {
+        log_open(log, alloc, 3, 1);
+        log_done(log, alloc, 3, 1, 120, 400);
+        log_fail(log, alloc, 3, 1, PIPE);
+        log_drop(log, alloc, Cause::Connect);
+    }
 }
 
+// A message is handed over whole, or left out where a growth is refused. At most one growth is, under
+// `rt try --test --fail-alloc N`, and none otherwise: so of all messages at most one is missing.
 #[test]
-fn levels(rt: HostRuntime) -> Result<(), Fail> {
+fn levels(rt: HostRuntime) {
     let all = [
         "[INFO  relayd] open s=3 g=1",
         "[INFO  relayd] done s=3 g=1 up=120 down=400",
         "[WARN  relayd] fail s=3 g=1 side=target call=write kind=pipe",
         "[WARN  relayd] drop kind=connect",
     ];
+    let mut missing = 0usize;
     for (level, first) in [(Level::Info, 0), (Level::Warn, 2), (Level::Error, 4)] {
         let sink = Memory::new(rt.alloc());
-        log_each(&Logged::new(&rt, level, &sink), rt.alloc());
+        log_each_twice(&Logged::new(&rt, level, &sink), rt.alloc());
         let lines = sink.into_lines();
-        let mut wanted = all.iter().skip(first);
-        for line in lines.as_slice() {
-            assert!(rt;
-                wanted.next().is_some_and(|text| line.as_str() == *text),
-                "{line:?} at {level:?}"
-            );
+        let mut lines = lines.as_slice().iter().peekable();
+        for _ in 0..2 {
+            for text in all.iter().skip(first) {
+                if lines.next_if(|line| line.as_str() == *text).is_none() {
+                    missing = missing.saturating_add(1);
+                }
+            }
         }
-        assert!(rt; wanted.next().is_none(), "a line is missing at {level:?}");
+        assert!(rt; lines.next().is_none(), "another line at {level:?}");
     }
-    Ok(())
+    assert!(rt; missing <= 1, "{missing} messages are missing");
 }
