@@ -29,13 +29,11 @@ pub enum ProgramFault {
 }
 
 /// Why the words of the command line can't be had.
-#[derive(Clone, Copy, Debug, PartialEq, Eq, Error)]
+#[derive(Clone, Copy, Debug)]
 pub enum WordsFault {
     /// Memory ran out.
-    #[error("out of memory")]
     NoMemory,
     /// A word is not UTF-8.
-    #[error("a word of the command line is not UTF-8")]
     NotText,
 }
 

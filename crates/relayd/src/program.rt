@@ -40,7 +40,7 @@ pub fn refuse<E: Write>(errors: &mut E, fault: WordsFault) -> u8 {
         WordsFault::NoMemory => told(errors, ProgramFault::NoMemory),
         WordsFault::NotText => {
             // Where not even this can be written, the status is all that is left to tell.
-            let _ = writeln!(errors, "error: {fault}");
+            let _ = writeln!(errors, "error: a word of the command line is not UTF-8");
             USAGE
         }
     }

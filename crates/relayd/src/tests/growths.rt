@@ -9,7 +9,7 @@ use crate::program::act;
 use std::fs;
 use std::test::Fail;
 
-/// What of the two lines of want of memory the program told, if it told what it may.
+/// How a run ended, by its status and what it wrote.
 #[derive(Clone, Copy, Debug, PartialEq, Eq)]
 enum Ending {
     /// The whole output, no error, and the status 0.
