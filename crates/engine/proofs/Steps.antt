@@ -1,5 +1,5 @@
 -- What one call's answer does to a wire, from what the wire's call says of it.
-use Rattle.std.proofs.Common.{◌≡◌, ◌⊎◌, inl, inr, ℕ, ◌+◌, ◌%◌, ◌^◌, ◌≤◌, ◌&&◌, Bool, true, false, List, [], ◌++◌, length, take, Option, Some, None, refl, sym, ◌∙◌, ap, append-nil, add-zero, arith}
+use Rattle.std.proofs.Common.{◌≡◌, ◌⊎◌, inl, inr, ℕ, ◌%◌, ◌^◌, ◌≤◌, ◌&&◌, true, false, List, [], ◌++◌, length, take, Option, Some, None, refl, sym, ◌∙◌, ap, append-nil, add-zero}
 use Rattle.std.specs.Prelude.{nat_le}
 use Rattle.std.proofs.lemmas.Bool.{le-leb}
 use Rattle.std.proofs.lemmas.List.{length-take-le, take-append-le}
@@ -8,15 +8,15 @@ use Rattle.relay_core.specs.declared.Side.{Side}
 use Rattle.relay_core.specs.declared.Side.TheVariants.{Client, Target}
 use Rattle.relay_core.specs.declared.Kind.{Kind}
 use Rattle.relay_core.specs.declared.call.Call.{Call}
-use Rattle.relay_core.specs.declared.call.Call.TheVariants.{Write, Join, Shut, Read}
+use Rattle.relay_core.specs.declared.call.Call.TheVariants.{Write, Read}
 use Rattle.relay_core.specs.Calls.{side_of}
 use Rattle.relay_core.specs.Pairs.{Relay}
 use Rattle.relay_core.specs.Order.{offer}
 use Rattle.relay_core.specs.Replies.{Reply, Bytes, Wrote, Failed, fits, after}
 use Rattle.relay_core.specs.Moved.{brought, carried}
-use Rattle.engine.specs.Wires.{Rises, CountsTaken}
+use Rattle.engine.specs.Wires.{Rises}
 use Rattle.engine.specs.Turns.{Told, is_failed, is_blocked, way_from, way_to}
-use Rattle.engine.specs.Steps.{IsAnswered, IsStep}
+use Rattle.engine.specs.Steps.{IsStep}
 
 -- nothing moved, and no count changed
 pub record Stays (old new : Told) : Type 0 where

@@ -1,16 +1,18 @@
 -- A wire over memory that plays answers, as its callers see it.
-use Rattle.std.specs.Prelude.{ℕ, ◌+◌, ◌%◌, ◌^◌, Bool, List, [], ◌∷◌, ◌++◌}
+use Rattle.std.specs.Prelude.{ℕ, ◌+◌, ◌%◌, ◌^◌, Bool, List, [], ◌∷◌, ◌++◌, length, drop}
 use Rattle.engine.specs.declared.class.Class.{Class}
 use Rattle.engine.specs.declared.class.Class.TheVariants.{Interrupted, Blocked, Failed}
 use Rattle.engine.specs.declared.play.Play.{Play}
 use Rattle.engine.specs.declared.play.Play.TheVariants.{Bytes, Take}
 
--- the bytes that its reads have left, those that its writes took, the number of plays not used, whether
--- the socket that it stands for is connected, and its counts
+-- the plays that each kind of call has left, how many bytes of the first of its reads were given, the bytes
+-- that its writes took, whether the socket that it stands for is connected, and its counts
 pub record Script : Type 0 where
-  pub remaining : List ℕ
+  pub reads : List Play
+  pub given : ℕ
+  pub writes : List Play
+  pub closings : List Play
   pub written : List ℕ
-  pub left : ℕ
   pub joined : Bool
   pub faults : ℕ
   pub blocks : ℕ
@@ -28,6 +30,14 @@ bytes_of (play ∷ plays) = bytes_in play ++ bytes_of plays
 abbrev pub first_bytes : List Play → List ℕ
 first_bytes [] = []
 first_bytes (play ∷ plays) = bytes_in play
+
+-- the bytes that its reads have left to give
+abbrev pub bytes_left : Script → List ℕ
+bytes_left s = drop s.given (bytes_of s.reads)
+
+-- the plays that were not used
+abbrev pub plays_left : Script → ℕ
+plays_left s = length s.reads + length s.writes + length s.closings
 
 -- the most bytes that a play takes
 abbrev pub most_taken : Play → ℕ

@@ -1,5 +1,5 @@
 -- What one call comes to: the steps of a turn.
-use Rattle.std.specs.Prelude.{◌≡◌, ℕ, Bool, true, if◌then◌else◌, List, [], ◌∷◌}
+use Rattle.std.specs.Prelude.{◌≡◌, ℕ, true, if◌then◌else◌, [], ◌∷◌}
 use Rattle.std.specs.Prelude.{Some}
 use Rattle.std.specs.Io.KnownBytes.{Consumes, Appends}
 use Rattle.relay_core.specs.declared.Side.TheVariants.{Client, Target}

@@ -1,8 +1,8 @@
-ghost use Rattle.std.specs.Prelude.{◌≡◌, ℕ, ◌+◌, ◌-◌, ◌^◌, ◌≤◌, min, Some, [], length, take, sum_by, IfOk, IfSome};
+ghost use Rattle.std.specs.Prelude.{◌≡◌, ℕ, ◌-◌, ◌^◌, ◌≤◌, min, Some, [], length, take, sum_by, IfOk, IfSome};
 ghost use Rattle.std.specs.IoError.{error_kind};
 ghost use Rattle.relay_core.specs.Calls.{side_of};
 ghost use Rattle.engine.specs.Classes.{class_of};
-ghost use Rattle.engine.specs.Scripts.{bytes_of, most_taken, counted};
+ghost use Rattle.engine.specs.Scripts.{bytes_left, plays_left, most_taken, counted};
 
 use crate::class::{Class, class_of};
 use crate::play::Play;
@@ -34,12 +34,12 @@ pub struct ScriptWire {
 }
 
 impl Model for ScriptWire {
-    ghost use Rattle.std.specs.Prelude.{◌+◌, ◌≤◌, length, drop, sum_by, vec_len, vec_capacity};
-    ghost use Rattle.engine.specs.Scripts.{Script, bytes_of, first_bytes, most_taken};
+    ghost use Rattle.std.specs.Prelude.{◌+◌, ◌≤◌, length, sum_by, vec_len, vec_capacity};
+    ghost use Rattle.engine.specs.Scripts.{Script, first_bytes, most_taken};
 
     ghost Value = { Script };
 
-    ghost view = { λ w. record { remaining = drop w.given (bytes_of w.reads); written = w.taken.items; left = length w.reads + length w.writes + length w.closings; joined = w.joined; faults = w.faults; blocks = w.blocks } };
+    ghost view = { λ w. record { reads = w.reads; given = w.given; writes = w.writes; closings = w.closings; written = w.taken.items; joined = w.joined; faults = w.faults; blocks = w.blocks } };
 
     ghost invariant = { λ w. (w.given ≤ length (first_bytes w.reads)) × (vec_len w.taken + sum_by most_taken w.writes ≤ vec_capacity w.taken) };
 }
@@ -55,7 +55,7 @@ impl ScriptWire {
         writes: Vec<Play>,
         closings: Vec<Play>,
     ) -> Result<ScriptWire, AllocError>
-        ensures { IfOk result (λ wire. wire ≡ record { remaining = bytes_of reads.items; written = []; left = length reads.items + length writes.items + length closings.items; joined = joined; faults = 0; blocks = 0 }) }
+        ensures { IfOk result (λ wire. wire ≡ record { reads = reads.items; given = 0; writes = writes.items; closings = closings.items; written = []; joined = joined; faults = 0; blocks = 0 }) }
     {
         let Some(room) = room_for(writes.as_slice()) else {
             return Err(AllocError);
@@ -82,7 +82,7 @@ impl ScriptWire {
 
     /// How many plays were not used, up to the largest `usize`.
     pub fn left(&self) -> usize
-        ensures { result ≡ min self.now.left (2 ^ 64 - 1) }
+        ensures { result ≡ min (plays_left self.now) (2 ^ 64 - 1) }
     {
         self.reads
             .len()
@@ -129,7 +129,7 @@ fn copy_front(from: &[u8], to: &mut [u8]) -> usize
 }
 
 impl Wire for ScriptWire {
-    ghost remaining = { λ w. Some w.remaining };
+    ghost remaining = { λ w. Some (bytes_left w) };
 
     ghost written = { λ w. Some w.written };
 

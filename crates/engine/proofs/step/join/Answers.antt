@@ -1,6 +1,6 @@
 use Rattle.std.proofs.Common.{refl}
 use Rattle.relay_core.specs.Replies.{Joined}
-use Rattle.engine.proofs.Steps.{still, Stays}
+use Rattle.engine.proofs.Steps.{still}
 use Rattle.engine.proofs.step.join.Goals as goal
 
 pub returns-in-Ok : goal.returns-in-Ok

@@ -1,8 +1,7 @@
 use Rattle.std.proofs.Common.{ℕ, refl, arith}
 use Rattle.std.proofs.lemmas.List.{length-take}
-use Rattle.std.proofs.lemmas.Grind.{common_steps}
 use Rattle.relay_core.specs.Replies.{End}
-use Rattle.engine.proofs.Steps.{still, bytes_in, none_read, Stays}
+use Rattle.engine.proofs.Steps.{still, bytes_in, none_read}
 use Rattle.engine.proofs.step.read.Goals as goal
 
 pub returns-in-Ok-eq0 : goal.returns-in-Ok-eq0

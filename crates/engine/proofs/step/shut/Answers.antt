@@ -1,6 +1,6 @@
 use Rattle.std.proofs.Common.{refl}
 use Rattle.relay_core.specs.Replies.{Shut, Interrupted}
-use Rattle.engine.proofs.Steps.{still, failed, raised, Stays}
+use Rattle.engine.proofs.Steps.{still, failed, raised}
 use Rattle.engine.proofs.step.shut.Goals as goal
 
 pub returns-in-Ok : goal.returns-in-Ok

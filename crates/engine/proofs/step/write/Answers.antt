@@ -1,5 +1,5 @@
 use Rattle.std.proofs.Common.{refl, arith}
-use Rattle.engine.proofs.Steps.{failed, bytes_out, none_written, Stays}
+use Rattle.engine.proofs.Steps.{failed, bytes_out, none_written}
 use Rattle.engine.proofs.step.write.Goals as goal
 
 pub returns-in-Ok-eq0 : goal.returns-in-Ok-eq0

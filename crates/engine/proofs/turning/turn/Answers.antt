@@ -1,5 +1,4 @@
-use Rattle.std.proofs.Common.{◌≡◌, None, arith, rules}
-use Rattle.std.proofs.lemmas.Grind.{common_steps}
+use Rattle.std.proofs.Common.{◌≡◌, None, arith}
 use Rattle.relay_core.specs.Order.{next_call}
 use Rattle.engine.proofs.Runs.{starts, goes_on, spent, stopped}
 use Rattle.engine.proofs.turning.turn.Goals as goal
