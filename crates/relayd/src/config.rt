@@ -1,5 +1,5 @@
 //! The settings file.
-ghost use Rattle.std.specs.Prelude.{◌≡◌, ◌≤◌, IfOk, IfSome, vec_len};
+ghost use Rattle.std.specs.Prelude.{◌≡◌, ◌<◌, ◌≤◌, Err, IfOk, IfSome, length, vec_len};
 
 use crate::faults::ProgramFault;
 use input::{InputFault, read_front};
@@ -21,10 +21,12 @@ pub fn load<R: AllocGlobal + Files>(rt: &R, path: &str) -> Result<Settings, Prog
     settings::parse(rt.alloc(), text.as_slice()).map_err(ProgramFault::Settings)
 }
 
-/// All bytes of a file, which is read to its end or one byte past the most that it may have.
+/// All bytes of a file, which is read to its end or one byte past the most that it may have: with that
+/// byte it is too long.
 fn read<F: Read>(alloc: Global, file: &mut F) -> Result<Vec<u8>, ProgramFault>
     ensures most { IfOk result (λ text. vec_len text ≤ 65536) }
     ensures whole { IfOk result (λ text. IfSome (F.remaining file.old) (λ bytes. text.items ≡ bytes)) }
+    ensures long { result ≡ Err ProgramFault.ConfigLong → IfSome (F.remaining file.old) (λ bytes. 65536 < length bytes) }
 {
     match read_front(alloc, file, MOST_BYTES + 1) {
         Ok(text) if text.len() > MOST_BYTES => Err(ProgramFault::ConfigLong),
