@@ -69,7 +69,7 @@ fn reads_to_the_end_or_the_most(rt: HostRuntime) -> Result<(), Fail> {
 
 // A reader's error is told at once, also one that a second read would not meet.
 #[test]
-fn tells_an_error_at_once(rt: HostRuntime) {
+fn tells_an_error_at_once(rt: HostRuntime) -> Result<(), Fail> {
     for kind in [
         ErrorKind::Interrupted,
         ErrorKind::WouldBlock,
@@ -79,6 +79,9 @@ fn tells_an_error_at_once(rt: HostRuntime) {
             let mut reader = reader_of(4, 1);
             reader.fault = Some((at, kind));
             let answer = read_front(rt.alloc(), &mut reader, 9);
+            if matches!(answer, Err(InputFault::NoMemory)) {
+                return Err(Fail::from(InputFault::NoMemory));
+            }
             assert!(rt;
                 matches!(answer, Err(InputFault::Unreadable)),
                 "at read {at}"
@@ -86,4 +89,5 @@ fn tells_an_error_at_once(rt: HostRuntime) {
             assert_eq!(rt; reader.reads, at + 1, "at read {at}");
         }
     }
+    Ok(())
 }
