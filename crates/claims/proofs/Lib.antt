@@ -6,3 +6,4 @@ pub mod Moves
 pub mod Tells
 pub mod Cases
 pub mod Opens
+pub mod Seats

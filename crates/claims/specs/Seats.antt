@@ -31,6 +31,15 @@ HoldsNot s slot = (account_at s slot).holds ≡ false
 abbrev pub fresh : TableId → SeatState
 fresh table = record { table = table; accounts = replicate table.words blank }
 
+-- the seat holds no slot
+pub record HoldsNothing (s : SeatState) : Type 0 where
+  pub nowhere : (slot : ℕ) → HoldsNot s slot
+
+-- at every other slot the seat's account is what it was
+pub record OnlyAt (slot : ℕ) (old new : SeatState) : Type 0 where
+  pub table : new.table ≡ old.table
+  pub others : (other : ℕ) → other ≢ slot → account_at new other ≡ account_at old other
+
 -- the account of this slot became `account`, and nothing else of the seat changed
 pub record Changed (slot : ℕ) (old new : SeatState) (account : Account) : Type 0 where
   pub table : new.table ≡ old.table
