@@ -12,7 +12,7 @@ use Rattle.claims.specs.declared.answers.Released.TheVariants.{Wake as ReleaseWa
 use Rattle.claims.specs.declared.answers.Adopted.{Adopted as AdoptAnswer}
 use Rattle.claims.specs.declared.answers.Adopted.TheVariants.{Adopted, NotFree}
 use Rattle.claims.specs.Views.{blank}
-use Rattle.claims.specs.Seats.{TableId, SeatState, account_at, HoldsNot, HoldsNothing, OnlyAt, Changed, fresh}
+use Rattle.claims.specs.Seats.{TableId, SeatState, account_at, HoldsNot, HoldsNothing, OnlyAt, one_step_later, Changed, fresh}
 use Rattle.claims.specs.Calls.{PostChange, ClaimChange, ReleaseChange, AdoptChange}
 
 blank_at : (n slot : ℕ) → get_or (replicate n blank) slot blank ≡ blank
@@ -27,6 +27,10 @@ fresh_holds_nothing table = record { nowhere = λ slot. ap (λ (a : Account). a.
 module _ {slot : ℕ} where
   pub only_at_none : {old new : SeatState} → new ≡ old → OnlyAt slot old new
   only_at_none is = record { table = ap (λ (s : SeatState). s.table) is; others = λ other ne. ap (λ (s : SeatState). account_at s other) is }
+
+  -- Busy and NotFree
+  pub only_at_step : {old new : SeatState} → new ≡ one_step_later old → OnlyAt slot old new
+  only_at_step is = record { table = ap (λ (s : SeatState). s.table) is; others = λ other ne. ap (λ (s : SeatState). account_at s other) is }
 
   pub only_at_changed : {old new : SeatState} {account : Account} → Changed slot old new account → OnlyAt slot old new
   only_at_changed changed = record { table = changed.table; others = changed.others }
@@ -52,7 +56,7 @@ module _ (slot : ℕ) (old new : SeatState) where
 
   pub only_at_claim : (r : Claimed) → ClaimChange slot old r new → OnlyAt slot old new
   only_at_claim Held change = only_at_changed change.1
-  only_at_claim Busy change = only_at_none change
+  only_at_claim Busy change = only_at_step change
 
   pub only_at_release : (r : Released) → ReleaseChange slot old r new → OnlyAt slot old new
   only_at_release ReleaseWakes change = only_at_changed change
@@ -60,4 +64,4 @@ module _ (slot : ℕ) (old new : SeatState) where
 
   pub only_at_adopt : (r : AdoptAnswer) → AdoptChange slot old r new → OnlyAt slot old new
   only_at_adopt Adopted change = only_at_changed change.1
-  only_at_adopt NotFree change = only_at_none change
+  only_at_adopt NotFree change = only_at_step change
