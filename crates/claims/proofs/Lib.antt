@@ -7,3 +7,4 @@ pub mod Tells
 pub mod Cases
 pub mod Opens
 pub mod Seats
+pub mod States

@@ -46,6 +46,7 @@
 
 mod answers;
 mod calls;
+pub mod laws;
 mod opening;
 mod plays;
 mod rule;
