@@ -1,5 +1,5 @@
 -- For callers: where a seat has changed, and that it holds nothing.
-use Rattle.std.proofs.Common.{◌≡◌, ◌≢◌, ℕ, zero, suc, replicate, get_or, refl, sym, subst, ap, ◌∙◌}
+use Rattle.std.proofs.Common.{◌≡◌, ℕ, zero, suc, replicate, get_or, refl, sym, subst, ap, ◌∙◌}
 use mathlib.Core.Logic.{dite}
 use native.Mathlib.Decide.{ℕ_discrete}
 use Rattle.claims.specs.declared.view.Account.{Account}
@@ -21,8 +21,9 @@ blank_at (suc n) zero = refl
 blank_at (suc n) (suc slot) = blank_at n slot
 
 -- a seat that has done nothing
-pub fresh_holds_nothing : (table : TableId) → HoldsNothing (fresh table)
-fresh_holds_nothing table = record { nowhere = λ slot. ap (λ (a : Account). a.holds) (blank_at table.words slot) }
+pub fresh_holds_nothing : (table : TableId) (s : SeatState) → s ≡ fresh table → HoldsNothing s
+fresh_holds_nothing table s is =
+    subst HoldsNothing (sym is) (record { nowhere = λ slot. ap (λ (a : Account). a.holds) (blank_at table.words slot) })
 
 module _ {slot : ℕ} where
   pub only_at_none : {old new : SeatState} → new ≡ old → OnlyAt slot old new

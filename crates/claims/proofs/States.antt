@@ -1,16 +1,14 @@
 -- The laws of every state that meets the rule.
-use Rattle.std.proofs.Common.{◌≡◌, ◌≢◌, ℕ, zero, suc, ◌+◌, ◌<◌, ◌≤◌, Bool, true, false, if◌then◌else◌, List, [], ◌∷◌, length, get_or, set, refl, sym, subst, ap, ◌∙◌, arith, get_or-set_other, length-set}
+use Rattle.std.proofs.Common.{◌≡◌, ◌≢◌, ℕ, zero, suc, ◌<◌, ◌≤◌, Bool, true, false, if◌then◌else◌, List, [], ◌∷◌, length, get_or, set, refl, sym, subst, ap, ◌∙◌, arith, get_or-set_other, length-set}
 use Rattle.std.specs.List.{sum_by}
-use Rattle.std.proofs.lemmas.List.{get_or_past}
 use Rattle.std.proofs.lemmas.List.Sums.{sum_by-set, get_or-le-sum_by}
 use mathlib.Core.Logic.{dite}
 use native.Mathlib.Decide.{ℕ_discrete}
 use Rattle.claims.specs.declared.view.Account.{Account}
-use Rattle.claims.specs.declared.view.View.{View}
 use Rattle.claims.specs.Words.{one, some_wait, word_of, WordState}
 use Rattle.claims.specs.Views.{blank, holding_of, column}
-use Rattle.claims.specs.Rule.{due, SlotRule, ClaimRule}
-use Rattle.claims.specs.Laws.{IsHolder, OneHolderEach, NotesAreKept, TicketsAreNeeded}
+use Rattle.claims.specs.Rule.{due}
+use Rattle.claims.specs.Laws.{OneHolderEach, NotesAreKept, TicketsAreNeeded}
 use Rattle.claims.proofs.OneSlot.{one_le}
 
 -- an entry of the list holds only where there is one
