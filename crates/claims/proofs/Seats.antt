@@ -1,5 +1,8 @@
 -- For callers: where a seat has changed, and that it holds nothing.
-use Rattle.std.proofs.Common.{◌≡◌, ℕ, zero, suc, replicate, get_or, refl, sym, subst, ap, ◌∙◌}
+-- A function that names `claims::proofs::Seats::at_one_slot` in its `using` mostly needs no answers.
+use Rattle.std.proofs.Common.{◌≡◌, ℕ, zero, suc, List, replicate, get_or, refl, sym, subst, ap, ◌∙◌}
+use Rattle.std.specs.List.{All}
+use Rattle.std.proofs.lemmas.List.Elements.{All-replicate}
 use mathlib.Core.Logic.{dite}
 use native.Mathlib.Decide.{ℕ_discrete}
 use Rattle.claims.specs.declared.view.Account.{Account}
@@ -25,6 +28,11 @@ pub fresh_holds_nothing : (table : TableId) (s : SeatState) → s ≡ fresh tabl
 fresh_holds_nothing table s is =
     subst HoldsNothing (sym is) (record { nowhere = λ slot. ap (λ (a : Account). a.holds) (blank_at table.words slot) })
 
+-- all seats of an `open`
+pub fresh_seats_hold_nothing : (count : ℕ) (table : TableId) (seats : List SeatState) → seats ≡ replicate count (fresh table) → All HoldsNothing seats
+fresh_seats_hold_nothing count table seats is =
+    subst (λ (l : List SeatState). All HoldsNothing l) (sym is) (All-replicate HoldsNothing count (fresh table) (fresh_holds_nothing table (fresh table) refl))
+
 module _ {slot : ℕ} where
   pub only_at_none : {old new : SeatState} → new ≡ old → OnlyAt slot old new
   only_at_none is = record { table = ap (λ (s : SeatState). s.table) is; others = λ other ne. ap (λ (s : SeatState). account_at s other) is }
@@ -47,6 +55,8 @@ module _ {slot : ℕ} where
         (λ same. subst (λ (i : ℕ). HoldsNot new i) (sym same) here)
         (λ ne. ap (λ (a : Account). a.holds) (only.others other ne) ∙ nothing.nowhere other);
   }
+
+pub ruleset at_one_slot = (only_at_none, only_at_step, only_at_changed, only_at_twice, holds_nothing_again)
 
 -- each call, whatever it answers
 module _ (slot : ℕ) (old new : SeatState) where
