@@ -6,3 +6,4 @@ pub mod Answers
 pub mod Runs
 pub mod Moved
 pub mod Laws
+pub mod Lending

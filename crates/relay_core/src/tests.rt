@@ -46,7 +46,7 @@ fn the_first_calls(rt: HostRuntime) -> Result<(), Fail> {
     assert!(rt; answered(&mut pair, Call::Read(CLIENT, 4), Answer::Bytes(b"abc")));
     assert!(rt; answered(&mut pair, Call::Read(TARGET, 4), Answer::Blocked));
     assert_eq!(rt; pair.next(), Some(Call::Write(TARGET)));
-    assert_eq!(rt; pair.offer(TARGET), b"abc".as_slice());
+    assert_eq!(rt; &*pair.offer(TARGET), b"abc".as_slice());
     assert!(rt; answered(&mut pair, Call::Write(TARGET), Answer::Blocked));
     assert!(rt; answered(&mut pair, Call::Read(CLIENT, 1), Answer::End));
     assert_eq!(rt; pair.next(), None);
@@ -82,7 +82,7 @@ fn bytes_both_ways(rt: HostRuntime) -> Result<(), Fail> {
         waiting(rt.alloc(), &pair, Direction::Down)?.as_slice(),
         b"z".as_slice()
     );
-    assert_eq!(rt; pair.offer(CLIENT), b"z".as_slice());
+    assert_eq!(rt; &*pair.offer(CLIENT), b"z".as_slice());
     assert_eq!(rt; pair.counts(), (2, 3));
     assert_eq!(rt; (pair.slot(), pair.generation()), (7, 3));
     assert!(rt; pair.joined(CLIENT) && pair.joined(TARGET));
