@@ -80,6 +80,13 @@ impl Flow {
         self.bytes.make_contiguous()
     }
 
+    /// A copy of all bytes that wait, oldest first; or memory for it was refused.
+    pub fn to_vec(&self, alloc: Global) -> Result<Vec<u8>, AllocError>
+        ensures { IfOk result (λ bytes. bytes.items ≡ self.now.ring) }
+    {
+        self.bytes.to_vec(alloc)
+    }
+
     /// The byte that `i` others stand before.
     pub fn byte(&self, i: usize) -> u8
         requires { i < length self.now.ring }

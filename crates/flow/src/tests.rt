@@ -74,6 +74,7 @@ fn ends_and_then_shuts(rt: HostRuntime) -> Result<(), Fail> {
     assert_eq!(rt; &*flow.front(), b"abc".as_slice());
     flow.drop_front(1);
     assert_eq!(rt; &*flow.front(), b"bc".as_slice());
+    assert_eq!(rt; flow.to_vec(rt.alloc())?.as_slice(), b"bc".as_slice());
     flow.drop_front(2);
     assert!(rt; flow.is_empty() && flow.end_seen() && !flow.is_shut());
     flow.mark_shut();
