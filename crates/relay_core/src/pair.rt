@@ -193,6 +193,23 @@ impl Pair {
         }
     }
 
+    /// What the pair believes of the readiness of one side's socket.
+    pub fn flags(&self, side: Side) -> Flags
+        ensures { result ≡ flags_of self.now side }
+    {
+        match side {
+            Side::Client => self.client,
+            Side::Target => self.target,
+        }
+    }
+
+    /// The direction whose calls are looked at first: the one that the last answered call did not serve.
+    pub fn turn(&self) -> Direction
+        ensures { result ≡ self.now.turn }
+    {
+        self.turn
+    }
+
     /// How many bytes wait in one direction.
     pub fn ring_len(&self, direction: Direction) -> usize
         ensures { result ≡ length (stream_of self.now direction).ring }
@@ -283,15 +300,6 @@ impl Pair {
         match side {
             Side::Client => &self.down,
             Side::Target => &self.up,
-        }
-    }
-
-    fn flags(&self, side: Side) -> Flags
-        ensures { result ≡ flags_of self.now side }
-    {
-        match side {
-            Side::Client => self.client,
-            Side::Target => self.target,
         }
     }
 

@@ -275,6 +275,18 @@ fn parts_of_calls(rt: HostRuntime) {
 
 #[test]
 fn laws_do_nothing(_rt: HostRuntime) {
-    laws::bytes_keep_their_order();
-    laws::ends_come_last();
+    laws::answers_keep_order();
+    laws::answers_pass_end_last();
+    laws::only_ends_are_seen();
+    laws::answers_keep_place();
+    laws::failures_are_told();
+    laws::answers_are_to_next_calls();
+    laws::calls_come_while_live();
+    laws::live_pairs_rest();
+    laws::reports_change_flags_alone();
+    laws::runs_keep_order();
+    laws::runs_pass_end_last();
+    laws::fresh_pairs_keep_end_last();
+    laws::runs_keep_place();
+    laws::answers_are_events();
 }
