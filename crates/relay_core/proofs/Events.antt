@@ -1,5 +1,5 @@
 -- What any list of answers and reports leaves true.
-use Rattle.std.proofs.Common.{◌≡◌, ◌↔◌, ℕ, Bool, true, false, List, [], ◌∷◌, ◌++◌, map, Option, Some, None, refl, ap, ◌∙◌, sym, append-nil, append_assoc, option_and_then, inl, inr, ◌⊎◌}
+use Rattle.std.proofs.Common.{◌≡◌, ℕ, Bool, true, false, List, [], ◌∷◌, ◌++◌, map, Option, Some, None, refl, ap, ◌∙◌, sym, append-nil, option_and_then, inl, inr, ◌⊎◌}
 use Rattle.std.specs.Prelude.{if◌then◌else◌, option_map}
 use Rattle.token.specs.declared.side.Side.{Side}
 use Rattle.token.specs.declared.side.Side.TheVariants.{Client, Target}
@@ -8,13 +8,12 @@ use Rattle.token.specs.declared.direction.Direction.TheVariants.{Up, Down}
 use Rattle.flow.specs.Stream.{Stream}
 use Rattle.relay_core.specs.declared.call.Call.{Call}
 use Rattle.relay_core.specs.Calls.{side_of, direction_of}
-use Rattle.relay_core.specs.Pairs.{Flags, Relay, fresh, stream_of, with_stream, flags_of, with_flags, mark_joined, with_sent, noted}
-use Rattle.relay_core.specs.Order.{next_call}
-use Rattle.relay_core.specs.Replies.{Reply, Bytes, End, Wrote, Joined, Shut, Blocked, Interrupted, Failed, without_flag, after}
+use Rattle.relay_core.specs.Pairs.{Flags, Relay, stream_of, with_stream, with_flags, mark_joined, with_sent, noted}
+use Rattle.relay_core.specs.Replies.{Reply, Bytes, End, Wrote, Joined, Shut, Blocked, Interrupted, Failed, after}
 use Rattle.relay_core.specs.Runs.{answered, over}
 use Rattle.relay_core.specs.Moved.{same_way, or_nothing, all_brought, all_carried}
 use Rattle.relay_core.specs.Events.{Event, Answered, Reported, happened, through, brought_by, carried_by, ever_brought, ever_carried}
-use Rattle.relay_core.specs.Laws.{IsClosedLast, KeepsEndLast, Place, place_of, AnswersNext, IsAnswerOf, OnlyEndsAreSeen, AnswersKeepPlace, AnswersPassEndLast, FailuresAreTold, CallsComeWhileLive, AnswersAreToNextCalls, RunsKeepOrder, RunPassesEndLast, RunsPassEndLast, FreshPairsKeepEndLast, RunsKeepPlace, IsRunOf, AnswersAreEvents, AnswersKeepOrder}
+use Rattle.relay_core.specs.Laws.{KeepsEndLast, place_of, OnlyEndsAreSeen, AnswersKeepPlace, AnswersPassEndLast, FailuresAreTold, CallsComeWhileLive, AnswersAreToNextCalls, RunsKeepOrder, RunsPassEndLast, FreshPairsKeepEndLast, RunsKeepPlace, AnswersAreEvents, AnswersKeepOrder}
 use Rattle.relay_core.proofs.Streams.{served, stream_after, same_direction, order_kept, after_keeps_order, end_passed_last}
 use Rattle.relay_core.proofs.Faults.{asked_while_live, fails_by_call}
 use Rattle.relay_core.proofs.Over.{Step, step_of, seam, fresh_closed}

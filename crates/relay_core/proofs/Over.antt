@@ -1,5 +1,5 @@
 -- What a list of answers does to the bytes of each direction.
-use Rattle.std.proofs.Common.{◌≡◌, ℕ, Bool, true, false, List, [], ◌∷◌, ◌++◌, Option, Some, None, refl, ap, ◌∙◌, sym, append-nil, append_assoc, option_and_then}
+use Rattle.std.proofs.Common.{◌≡◌, ℕ, Bool, true, false, List, [], ◌∷◌, ◌++◌, Option, Some, None, refl, ap, ◌∙◌, sym, append_assoc, option_and_then}
 use Rattle.std.specs.Prelude.{if◌then◌else◌}
 use Rattle.token.specs.declared.direction.Direction.{Direction}
 use Rattle.token.specs.declared.direction.Direction.TheVariants.{Up, Down}
@@ -8,9 +8,7 @@ use Rattle.relay_core.specs.Pairs.{Relay, fresh, stream_of}
 use Rattle.relay_core.specs.Order.{next_call}
 use Rattle.relay_core.specs.Replies.{Reply, fits, after}
 use Rattle.relay_core.specs.Runs.{answered, over}
-use Rattle.relay_core.specs.Moved.{brought, carried, all_brought, all_carried}
-use Rattle.relay_core.specs.Laws.{IsClosedLast, RunsKeepOrder, RunsPassEndLast}
-use Rattle.relay_core.proofs.Streams.{order_kept, end_passed_last}
+use Rattle.relay_core.specs.Laws.{IsClosedLast}
 
 -- one answered call: the call that came next, which the answer fits
 pub record Step (p : Relay) (reply : Reply) (q : Relay) : Type 0 where

@@ -8,9 +8,8 @@ use Rattle.token.specs.declared.direction.Direction.TheVariants.{Up, Down}
 use Rattle.token.specs.Sides.{opposite, source, destination}
 use Rattle.flow.specs.Stream.{Stream, free_room}
 use Rattle.relay_core.specs.declared.call.Call.{Call}
-use Rattle.relay_core.specs.declared.verdict.Verdict.TheVariants as verdict
 use Rattle.relay_core.specs.Pairs.{Relay, stream_of, flags_of, is_joined, verdict, is_live}
-use Rattle.relay_core.specs.Order.{is_waiting, is_drained, is_open, call_for, next_call}
+use Rattle.relay_core.specs.Order.{is_waiting, is_drained, is_open, call_for}
 use Rattle.relay_core.specs.Laws.{IsDrained, IsAtRest, LivePairsRest}
 
 -- none of two calls
