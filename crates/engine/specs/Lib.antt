@@ -1,4 +1,5 @@
 pub mod Classes
+pub mod Tallies
 pub mod Wires
 pub mod Turns
 pub mod Steps

@@ -2,11 +2,12 @@ ghost use Rattle.std.specs.Prelude.{◌≡◌, ℕ, ◌-◌, ◌^◌, ◌≤◌,
 ghost use Rattle.std.specs.IoError.{error_kind};
 ghost use Rattle.relay_core.specs.Calls.{side_of};
 ghost use Rattle.engine.specs.Classes.{class_of};
-ghost use Rattle.engine.specs.Scripts.{bytes_left, plays_left, most_taken, counted};
+ghost use Rattle.engine.specs.Scripts.{bytes_left, plays_left, most_taken};
+ghost use Rattle.engine.specs.Tallies.{tally, counted};
 
-use crate::class::{Class, class_of};
 use crate::play::Play;
 use crate::plays::Plays;
+use crate::tally::Tally;
 use crate::wire::Wire;
 use relay_core::{Call, Side};
 use std::alloc::{AllocError, Global};
@@ -28,9 +29,7 @@ pub struct ScriptWire {
     writes: Plays,
     closings: Plays,
     taken: Vec<u8>,
-    joined: bool,
-    faults: u64,
-    blocks: u64,
+    tally: Tally,
 }
 
 impl Model for ScriptWire {
@@ -39,7 +38,7 @@ impl Model for ScriptWire {
 
     ghost Value = { Script };
 
-    ghost view = { λ w. record { reads = w.reads; given = w.given; writes = w.writes; closings = w.closings; written = w.taken.items; joined = w.joined; faults = w.faults; blocks = w.blocks } };
+    ghost view = { λ w. record { reads = w.reads; given = w.given; writes = w.writes; closings = w.closings; written = w.taken.items; tally = w.tally } };
 
     ghost invariant = { λ w. (w.given ≤ length (first_bytes w.reads)) × (vec_len w.taken + sum_by most_taken w.writes ≤ vec_capacity w.taken) };
 }
@@ -55,7 +54,7 @@ impl ScriptWire {
         writes: Vec<Play>,
         closings: Vec<Play>,
     ) -> Result<ScriptWire, AllocError>
-        ensures { IfOk result (λ wire. wire ≡ record { reads = reads.items; given = 0; writes = writes.items; closings = closings.items; written = []; joined = joined; faults = 0; blocks = 0 }) }
+        ensures { IfOk result (λ wire. wire ≡ record { reads = reads.items; given = 0; writes = writes.items; closings = closings.items; written = []; tally = tally joined 0 0 }) }
     {
         let Some(room) = room_for(writes.as_slice()) else {
             return Err(AllocError);
@@ -67,9 +66,7 @@ impl ScriptWire {
             writes: Plays::new(writes),
             closings: Plays::new(closings),
             taken,
-            joined,
-            faults: 0,
-            blocks: 0,
+            tally: Tally::new(joined),
         })
     }
 
@@ -94,13 +91,9 @@ impl ScriptWire {
     fn refuse(&mut self, call: Call, kind: ErrorKind) -> io::Error
         requires { side_of call ≡ Side.Target }
         ensures kind { error_kind result ≡ kind }
-        ensures counted { self.new ≡ counted (class_of call self.old.joined kind) self.old }
+        ensures counted { self.new ≡ record self.old { tally = counted (class_of call self.old.tally.joined kind) self.old.tally } }
     {
-        match class_of(&call, kind, self.joined) {
-            Class::Interrupted => {}
-            Class::Blocked => self.blocks = self.blocks.wrapping_add(1),
-            Class::Failed(_) => self.faults = self.faults.wrapping_add(1),
-        }
+        self.tally.refuse(call, kind);
         io::Error::from(kind)
     }
 }
@@ -133,9 +126,9 @@ impl Wire for ScriptWire {
 
     ghost written = { λ w. Some w.written };
 
-    ghost fault_count = { λ w. w.faults };
+    ghost fault_count = { λ w. w.tally.faults };
 
-    ghost block_count = { λ w. w.blocks };
+    ghost block_count = { λ w. w.tally.blocks };
 
     fn read(&mut self, buffer: &mut [u8]) -> io::Result<usize> {
         let call = Call::Read(Side::Target, buffer.len());
@@ -143,7 +136,7 @@ impl Wire for ScriptWire {
             None => Err(self.refuse(call, ErrorKind::WouldBlock)),
             Some(Play::Bytes(bytes)) => {
                 let count = copy_front(&bytes[self.given..], buffer);
-                self.joined = true;
+                self.tally.connect();
                 if self.given + count == bytes.len() {
                     self.reads.pass();
                     self.given = 0;
@@ -154,7 +147,7 @@ impl Wire for ScriptWire {
             }
             Some(Play::End) => {
                 self.reads.pass();
-                self.joined = true;
+                self.tally.connect();
                 Ok(0)
             }
             Some(play) => {
@@ -171,18 +164,18 @@ impl Wire for ScriptWire {
             None => Err(self.refuse(call, ErrorKind::WouldBlock)),
             Some(Play::Take(most)) => {
                 let count = offer.len().min(*most);
-                self.joined = true;
+                self.tally.connect();
                 self.taken.extend_from_slice(&offer[..count]).unwrap();
                 self.writes.pass();
                 if count == 0 && !offer.is_empty() {
-                    self.faults = self.faults.wrapping_add(1);
+                    self.tally.none_taken();
                 }
                 Ok(count)
             }
             Some(Play::Zero) => {
                 self.writes.pass();
                 if !offer.is_empty() {
-                    self.faults = self.faults.wrapping_add(1);
+                    self.tally.none_taken();
                 }
                 Ok(0)
             }
@@ -215,7 +208,7 @@ impl Wire for ScriptWire {
             None => Err(self.refuse(call, ErrorKind::WouldBlock)),
             Some(Play::Joined) => {
                 self.closings.pass();
-                self.joined = true;
+                self.tally.connect();
                 Ok(())
             }
             Some(play) => {
@@ -227,10 +220,10 @@ impl Wire for ScriptWire {
     }
 
     fn faults(&self) -> u64 {
-        self.faults
+        self.tally.faults()
     }
 
     fn blocks(&self) -> u64 {
-        self.blocks
+        self.tally.blocks()
     }
 }

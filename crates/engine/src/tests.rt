@@ -662,6 +662,20 @@ fn classes_errors(rt: HostRuntime) {
     expect_class(&rt, shut, false, ErrorKind::NotConnected, unconnected);
 }
 
+// A pending error is a failure of every call.
+#[test]
+fn tells_pending_errors(rt: HostRuntime) {
+    for (kind, told) in [
+        (ErrorKind::ConnectionRefused, ErrorKind::ConnectionRefused),
+        (ErrorKind::TimedOut, ErrorKind::TimedOut),
+        (ErrorKind::WouldBlock, ErrorKind::Other),
+        (ErrorKind::Interrupted, ErrorKind::Other),
+        (ErrorKind::NotConnected, ErrorKind::Other),
+    ] {
+        assert_eq!(rt; pending(kind), told);
+    }
+}
+
 // No memory holds the bytes of these.
 #[test]
 fn refuses_what_no_memory_holds(rt: HostRuntime) {
