@@ -122,13 +122,7 @@ fn copy_front(from: &[u8], to: &mut [u8]) -> usize
 }
 
 impl Wire for ScriptWire {
-    ghost remaining = { λ w. Some (bytes_left w) };
-
-    ghost written = { λ w. Some w.written };
-
-    ghost fault_count = { λ w. w.tally.faults };
-
-    ghost block_count = { λ w. w.tally.blocks };
+    ghost told = { λ w. record { remaining = Some (bytes_left w); written = Some w.written; faults = w.tally.faults; blocks = w.tally.blocks } };
 
     fn read(&mut self, buffer: &mut [u8]) -> io::Result<usize> {
         let call = Call::Read(Side::Target, buffer.len());
