@@ -4,4 +4,6 @@ pub mod Asked
 pub mod Wires
 pub mod Turns
 pub mod Steps
+pub mod Cues
 pub mod Scripts
+pub mod Playing

@@ -14,6 +14,7 @@ mod class;
 mod ending;
 mod play;
 mod plays;
+mod reads;
 mod script_wire;
 mod step;
 mod tally;
