@@ -6,8 +6,9 @@
 //! [`class_of`] is the rule by which wires count, and [`Tally`] counts by it. [`ScriptWire`] is a wire over
 //! memory that plays a list of answers.
 //!
-//! The definitions stand in `specs/`: what a wire's calls do in `Wires.antt`, the classes of errors in
-//! `Classes.antt`, and what a turn comes to in `Turns.antt`.
+//! The definitions stand in `specs/`: what is asked of a wire and what it gives in `Asked.antt`, what its
+//! calls do in `Wires.antt`, the classes of errors in `Classes.antt`, what a turn comes to in `Turns.antt`,
+//! and what a scripted wire plays in `Cues.antt` and `Scripts.antt`.
 #![tactic(auto)]
 
 mod class;

@@ -13,6 +13,10 @@ use relay_core::{Call, Pair, READ_MOST, Side, Verdict};
 /// side, and hands the pair their answers. A pair that is done or has failed asks for none. It takes no
 /// memory.
 ///
+/// What it asks of each wire are exactly the calls that come next along the answers, in order and each
+/// once: a read of as many bytes as the pair asks for, and a write of all bytes that are bound for that
+/// side. It makes no answer up, and a failure has the kind of the error that the call gave.
+///
 /// An error is a failure where the wire counted a fault, "would block" where it counted that, and an
 /// interruption where it counted neither. A write that took no byte is a failure.
 pub fn turn<A: Wire, B: Wire>(
