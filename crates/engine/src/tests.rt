@@ -728,6 +728,20 @@ fn classes_errors(rt: HostRuntime) {
     expect_class(&rt, shut, false, ErrorKind::NotConnected, unconnected);
 }
 
+// The same error waits before the socket is known to be connected, and fails after.
+#[test]
+fn tallies_by_class(rt: HostRuntime) {
+    let read = Call::Read(Side::Target, 1);
+    let mut tally = Tally::new(false);
+    tally.refuse(read, ErrorKind::NotConnected);
+    tally.connect();
+    tally.refuse(read, ErrorKind::NotConnected);
+    tally.refuse(read, ErrorKind::Interrupted);
+    tally.none_taken();
+    assert_eq!(rt; tally.joined(), true);
+    assert_eq!(rt; (tally.faults(), tally.blocks()), (2, 1));
+}
+
 // A pending error is a failure of every call.
 #[test]
 fn tells_pending_errors(rt: HostRuntime) {
