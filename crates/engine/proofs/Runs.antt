@@ -95,9 +95,9 @@ made_more side reply m (first ∷ replies) p h =
     made_next side reply replies m (unwrap_or (option_map (λ (call : Call). made_if side p call first) (next_call p)) []) (λ x e. made_more side reply m replies x e) (answered p first) h
 
 -- calls after calls
-pub made_then : {S : Type 0} (does : Asked → Given → S → S → Type 0) (calls more : List Made) (a b c : S) → AreMade does calls a b → AreMade does more b c → AreMade does (calls ++ more) a c
-made_then does [] more a b c first next = rw first at next
-made_then does (call ∷ calls) more a b c first next = (first.0, first.1, made_then does calls more first.0 b c first.2 next)
+pub made_then : {S : Type 0} (told : S → Told) (does : Asked → Given → S → S → Type 0) (calls more : List Made) (a b c : S) → AreMade told does calls a b → AreMade told does more b c → AreMade told does (calls ++ more) a c
+made_then told does [] more a b c first next = rw first at next
+made_then told does (call ∷ calls) more a b c first next = (first.0, first.1, made_then told does calls more first.0 b c first.2 next)
 
 -- what one answer alone comes to
 brought_once : (d : Direction) (p : Relay) (call : Call) (reply : Reply) (q : Relay) → Answers p call reply q → all_brought p d (reply ∷ []) ≡ brought d call reply
@@ -135,7 +135,7 @@ served_here told does p call reply q old new a s = record {
   written = rw (carried_once (way_to (side_of call)) p call reply q a) s.written;
   faults = rw (count_once is_failed (side_of call) p call reply q a, one_here is_failed call reply) s.faults;
   blocks = rw (count_once is_blocked (side_of call) p call reply q a, one_here is_blocked call reply) s.blocks;
-  made = rw (made_once (side_of call) p call reply q a, made_here p call reply) (new, s.made, refl);
+  made = rw (made_once (side_of call) p call reply q a, made_here p call reply) (new, record { called = s.made; faults = s.faults; blocks = s.blocks }, refl);
 }
 
 brought_other : (side : Side) (p : Relay) (call : Call) (bytes : List ℕ) → fits p call (Bytes bytes) ≡ true → same_side (side_of call) side ≡ false → brought (way_from side) call (Bytes bytes) ≡ []
@@ -227,7 +227,7 @@ served_more told does side p m reply replies a b c run s t = record {
   written = rw (carried_more (way_to side) reply m replies p run) (Appends-trans (told a).written (told b).written (told c).written _ _ s.written t.written);
   faults = rw (count_more is_failed side reply m replies p run) (rises_more (told a).faults (told b).faults (told c).faults _ _ s.faults t.faults);
   blocks = rw (count_more is_blocked side reply m replies p run) (rises_more (told a).blocks (told b).blocks (told c).blocks _ _ s.blocks t.blocks);
-  made = rw (made_more side reply m replies p run) (made_then does _ _ a b c s.made t.made);
+  made = rw (made_more side reply m replies p run) (made_then told does _ _ a b c s.made t.made);
 }
 
 -- so many answers have come

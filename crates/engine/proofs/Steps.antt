@@ -21,7 +21,7 @@ use Rattle.engine.specs.Classes.{kind_of_error}
 use Rattle.engine.specs.Asked as ask
 use Rattle.engine.specs.Asked.{Asked, Given, Brought, Took, Refused}
 use Rattle.engine.specs.Wires.{Told, Rises}
-use Rattle.engine.specs.Turns.{asked, made, is_failed, is_blocked, way_from, way_to, IsMade}
+use Rattle.engine.specs.Turns.{asked, made, is_failed, is_blocked, way_from, way_to, IsCalled}
 use Rattle.engine.specs.Steps.{IsErrorReply, IsError, IsStep}
 
 -- nothing moved, and no count changed
@@ -47,7 +47,7 @@ stays_at n m e = ap (λ (k : ℕ). k % 2 ^ 64) (e ∙ sym (add-zero n))
 -- an answer that moves nothing and that no wire counts
 pub still : {S : Type 0} (told : S → Told) (does : Asked → Given → S → S → Type 0) (call : Call) (p q : Relay) (reply : Reply) (old new : S) → fits p call reply ≡ true → q ≡ after p call reply →
     brought (way_from (side_of call)) call reply ≡ [] → carried p (way_to (side_of call)) call reply ≡ [] →
-    is_failed reply ≡ false → is_blocked reply ≡ false → Stays (told old) (told new) → IsMade does (made (asked p call) reply) old new → IsStep told does call p q old new
+    is_failed reply ≡ false → is_blocked reply ≡ false → Stays (told old) (told new) → IsCalled does (made (asked p call) reply) old new → IsStep told does call p q old new
 still told does call p q reply old new fit run brings carries sound free s m = record {
   reply = reply;
   fit = fit;
@@ -128,7 +128,7 @@ bytes_out told does side p q n offered old new some within same run taken s did 
 -- a call failed
 pub failed : {S : Type 0} (told : S → Told) (does : Asked → Given → S → S → Type 0) (call : Call) (p q : Relay) (kind : Kind) (old new : S) → fits p call (Failed kind) ≡ true → q ≡ after p call (Failed kind) →
     Keeps (told old).remaining (told new).remaining → Keeps (told old).written (told new).written → Rises (told old).faults (told new).faults 1 → (told new).blocks ≡ (told old).blocks →
-    IsMade does (made (asked p call) (Failed kind)) old new → IsStep told does call p q old new
+    IsCalled does (made (asked p call) (Failed kind)) old new → IsStep told does call p q old new
 failed told does call p q kind old new fit run left kept faults blocks m = record {
   reply = Failed kind;
   fit = fit;
@@ -144,12 +144,12 @@ failed told does call p q kind old new fit run left kept faults blocks m = recor
 
 -- a write took none of an offer
 pub none_taken : {S : Type 0} (does : Asked → Given → S → S → Type 0) (p : Relay) (side : Side) (n : ℕ) (offered : List ℕ) (old new : S) → n ≡ 0 → offered ≡ offer p side → does (ask.Write offered) (Took n) old new →
-    IsMade does (made (asked p (Write side)) (Failed Zero)) old new
+    IsCalled does (made (asked p (Write side)) (Failed Zero)) old new
 none_taken does p side n offered old new none same did = record { given = Took n; told = (none, refl); did = rw same at did }
 
 -- a read met the end of input
 pub end_met : {S : Type 0} (does : Asked → Given → S → S → Type 0) (p : Relay) (side : Side) (most n : ℕ) (room buffer : List ℕ) (old new : S) → n ≡ 0 → length room ≡ most → does (ask.Read (length room)) (Brought (take n buffer)) old new →
-    IsMade does (made (asked p (Read side most)) End) old new
+    IsCalled does (made (asked p (Read side most)) End) old new
 end_met does p side most n room buffer old new none all did = record { given = Brought (take n buffer); told = rw none refl; did = rw all at did }
 
 -- a read of as many bytes as there is room for
@@ -157,7 +157,7 @@ pub read_of : {S : Type 0} (does : Asked → Given → S → S → Type 0) (most
 read_of does most given room old new all did = rw all at did
 
 -- an error, told as what it is
-pub refused : {S : Type 0} (does : Asked → Given → S → S → Type 0) (call : Asked) (error : ErrorKind) (reply : Reply) (old new : S) → IsErrorReply (kind_of_error error) reply → does call (Refused error) old new → IsMade does (made call reply) old new
+pub refused : {S : Type 0} (does : Asked → Given → S → S → Type 0) (call : Asked) (error : ErrorKind) (reply : Reply) (old new : S) → IsErrorReply (kind_of_error error) reply → does call (Refused error) old new → IsCalled does (made call reply) old new
 refused does call error Blocked old new sort did = record { given = Refused error; told = (error, refl); did = did }
 refused does call error Interrupted old new sort did = record { given = Refused error; told = (error, refl); did = did }
 refused does call error (Failed kind) old new sort did = record { given = Refused error; told = sort; did = did }

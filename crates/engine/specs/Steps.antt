@@ -13,7 +13,7 @@ use Rattle.relay_core.specs.Runs.{answered}
 use Rattle.relay_core.specs.Moved.{brought, carried}
 use Rattle.engine.specs.Asked.{Asked, Given}
 use Rattle.engine.specs.Wires.{Told, Rises}
-use Rattle.engine.specs.Turns.{asked, made, is_failed, is_blocked, way_from, way_to, IsMade}
+use Rattle.engine.specs.Turns.{asked, made, is_failed, is_blocked, way_from, way_to, IsCalled}
 
 -- the answers that an error of this kind may be
 abbrev pub IsErrorReply : Kind → Reply → Type 0
@@ -28,7 +28,7 @@ pub record IsAnswered {S : Type 0} (told : S → Told) (does : Asked → Given �
   pub written : Appends (told old).written (told new).written (carried p (way_to (side_of call)) call reply)
   pub faults : Rises (told old).faults (told new).faults (if is_failed reply then 1 else 0)
   pub blocks : Rises (told old).blocks (told new).blocks (if is_blocked reply then 1 else 0)
-  pub made : IsMade does (made (asked p call) reply) old new
+  pub made : IsCalled does (made (asked p call) reply) old new
 
 -- a call was made, and the pair has its answer
 pub record IsStep {S : Type 0} (told : S → Told) (does : Asked → Given → S → S → Type 0) (call : Call) (old new : Relay) (wire wire_now : S) : Type 0 where

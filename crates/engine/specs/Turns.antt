@@ -114,15 +114,21 @@ IsToldBy given Interrupted = (error : ErrorKind) × (given ≡ Refused error)
 IsToldBy given (Failed kind) = IsFailure given kind
 
 -- one call was made on a wire, by what the wire tells of its calls
-pub record IsMade {S : Type 0} (does : Asked → Given → S → S → Type 0) (call : Made) (old new : S) : Type 0 where
+pub record IsCalled {S : Type 0} (does : Asked → Given → S → S → Type 0) (call : Made) (old new : S) : Type 0 where
   pub given : Given
   pub told : IsToldBy given call.reply
   pub did : does call.asked given old new
 
+-- and it counted the answer to this very call, where that is a fault or "would block"
+pub record IsMade {S : Type 0} (told : S → Told) (does : Asked → Given → S → S → Type 0) (call : Made) (old new : S) : Type 0 where
+  pub called : IsCalled does call old new
+  pub faults : Rises (told old).faults (told new).faults (if is_failed call.reply then 1 else 0)
+  pub blocks : Rises (told old).blocks (told new).blocks (if is_blocked call.reply then 1 else 0)
+
 -- these were made, in order, each once, and nothing else
-abbrev pub AreMade : {S : Type 0} → (Asked → Given → S → S → Type 0) → List Made → S → S → Type 0
-AreMade does [] old new = new ≡ old
-AreMade {S} does (call ∷ calls) old new = (between : S) × IsMade does call old between × AreMade does calls between new
+abbrev pub AreMade : {S : Type 0} → (S → Told) → (Asked → Given → S → S → Type 0) → List Made → S → S → Type 0
+AreMade told does [] old new = new ≡ old
+AreMade {S} told does (call ∷ calls) old new = (between : S) × IsMade told does call old between × AreMade told does calls between new
 
 -- what the answers of a list did to the wire on one side: the bytes that they brought were read from it,
 -- and those that they carried were written to it, in order and nothing else; it counted each answer that
@@ -132,7 +138,7 @@ pub record IsServed {S : Type 0} (told : S → Told) (does : Asked → Given →
   pub written : Appends (told old).written (told new).written (all_carried p (way_to side) replies)
   pub faults : Rises (told old).faults (told new).faults (count_on is_failed side p replies)
   pub blocks : Rises (told old).blocks (told new).blocks (count_on is_blocked side p replies)
-  pub made : AreMade does (made_on side p replies) old new
+  pub made : AreMade told does (made_on side p replies) old new
 
 -- a turn of at most `budget` calls: there is a list of answers over which the pair ran, and both wires
 -- gave them. Fewer came than the budget allows only where there is no next call, and a pair that was live
