@@ -3,9 +3,12 @@ ghost use Rattle.relay_core.specs.declared.call.Call.TheVariants as call;
 ghost use Rattle.relay_core.specs.Order.{next_call, offer};
 ghost use Rattle.relay_core.specs.Answers.{reply_of};
 ghost use Rattle.relay_core.specs.Laws.{IsPossible};
+ghost use Rattle.std.specs.Io.{WritesAtMost};
+ghost use Rattle.std.specs.Io.KnownBytes.{Keeps, WriteAppends};
 ghost use Rattle.std.specs.IoError.{error_kind};
+ghost use Rattle.engine.specs.Asked as ask;
 ghost use Rattle.engine.specs.Classes.{kind_of_error};
-ghost use Rattle.engine.specs.Wires.{CountsError};
+ghost use Rattle.engine.specs.Wires.{CountsError, CountsWrite, write_gave};
 ghost use Rattle.engine.specs.Steps.{IsStep, IsError};
 
 use crate::class::kind_of;
@@ -57,7 +60,7 @@ fn write<W: Wire>(pair: &mut Pair, side: Side, wire: &mut W)
 {
     let faults = wire.faults();
     let blocks = wire.blocks();
-    match wire.write(pair.offer(side)) {
+    match offer_all(pair, side, wire) {
         Ok(0) => pair.answer(Call::Write(side), Answer::Failed(Kind::Zero)),
         Ok(count) => pair.answer(Call::Write(side), Answer::Wrote(count)),
         Err(error) => pair.answer(
@@ -65,6 +68,18 @@ fn write<W: Wire>(pair: &mut Pair, side: Side, wire: &mut W)
             error_answer(wire, faults, blocks, &error),
         ),
     }
+}
+
+/// Offers a side all bytes that are bound for it, in one write.
+fn offer_all<W: Wire>(pair: &mut Pair, side: Side, wire: &mut W) -> io::Result<usize>
+    ensures same { pair.new ≡ pair.old }
+    ensures most { WritesAtMost result (offer pair.old side) }
+    ensures bytes { WriteAppends (W.told wire.old).written (W.told wire.new).written result (offer pair.old side) }
+    ensures kept { Keeps (W.told wire.old).remaining (W.told wire.new).remaining }
+    ensures counts { CountsWrite result (offer pair.old side) (W.told wire.old) (W.told wire.new) }
+    ensures did { W.does (ask.Write (offer pair.old side)) (write_gave result) wire.old wire.new }
+{
+    wire.write(pair.offer(side))
 }
 
 fn join<W: Wire>(pair: &mut Pair, side: Side, wire: &mut W)

@@ -161,7 +161,7 @@ fn play_in(
     }
     assert_eq!(rt; client.written(), client_part.given);
     assert_eq!(rt; target.written(), target_part.given);
-    assert_eq!(rt; pair.offer(Side::Target), waiting);
+    assert_eq!(rt; &*pair.offer(Side::Target), waiting);
     Ok(seen)
 }
 
