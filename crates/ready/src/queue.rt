@@ -1,0 +1,150 @@
+// The queue of tickets.
+ghost use Rattle.std.specs.Prelude.{◌≡◌, ◌<◌, ◌≤◌, IfOk, IfErr, vec_len};
+ghost use Rattle.std.specs.Arc.{arc_value};
+ghost use Rattle.crossbeam_queue.specs.Passes.{IsPassOf};
+
+use crate::idle::IdleEnds;
+use crate::rule::{Line, LinePass, NextEnd, Step};
+use crate::ticket::{Full, Ticket};
+use crossbeam_utils::sync::{Parker, Unparker};
+use std::alloc::{AllocError, Global};
+use std::sync::{Arc, Wait};
+
+// What all ends share.
+#[derive(Drop)]
+struct Shared {
+    line: Line<Ticket>,
+    ends: IdleEnds,
+}
+
+/// One thread's end of a queue of tickets.
+///
+/// An end that calls [`ReadyQueue::take`] has to call it again after each ticket that it gave, until it answers none:
+/// its next put counts on that.
+#[derive(Drop)]
+pub struct ReadyQueue {
+    shared: Arc<Shared>,
+    number: usize,
+    parker: Parker,
+    pass: LinePass<Ticket>,
+    // The last `take` gave a ticket, and nothing was put since.
+    comes_back: bool,
+    ghost mine: { IsPassOf (arc_value shared).line pass },
+    ghost inside: { number < 32 },
+}
+
+impl ReadyQueue {
+    /// Makes a queue for at most `capacity` tickets, and its ends. This takes all the memory that it ever uses.
+    ///
+    /// Fails only where there is no such memory, and then no queue is made.
+    pub fn new(alloc: Global, capacity: usize, ends: usize) -> Result<Vec<ReadyQueue>, AllocError>
+        requires capacity { (1 ≤ capacity) × (capacity ≤ 32768) }
+        requires ends { (1 ≤ ends) × (ends ≤ 32) }
+        ensures { IfOk result (λ all. vec_len all ≡ ends) }
+    {
+        let (mut parkers, unparkers) = signals(alloc, ends)?;
+        let (line, mut first) = Line::ruled(alloc, capacity)?;
+        let shared = Arc::new(
+            alloc,
+            Shared {
+                line,
+                ends: IdleEnds::new(unparkers),
+            },
+        )?;
+        let mut all = Vec::with_capacity(alloc, ends)?;
+        while let Some(parker) = parkers.pop() {
+            let shared = Arc::try_clone(&shared)?;
+            let pass = shared.line.another::<NextEnd>(&mut first);
+            all.push(ReadyQueue {
+                shared,
+                number: parkers.len(),
+                parker,
+                pass,
+                comes_back: false,
+            })?;
+        }
+        Ok(all)
+    }
+
+    /// Puts a ticket at the back, and wakes an idle end for it unless this one comes back for it itself.
+    ///
+    /// Full gives the ticket back, and nothing else has changed.
+    pub fn put(&mut self, rt: &impl Wait, ticket: Ticket) -> Result<(), Full<Ticket>>
+        ensures given_back { IfErr result (λ full. full.0 ≡ ticket) }
+    {
+        let shared = &*self.shared;
+        if let Err(ticket) = shared.line.push_as::<Step, _>(rt, &mut self.pass, ticket) {
+            return Err(Full(ticket));
+        }
+        if self.comes_back {
+            self.comes_back = false;
+        } else {
+            shared.ends.wake_one();
+        }
+        Ok(())
+    }
+
+    /// Takes the ticket at the front. None: the queue was empty at one moment of the call.
+    pub fn try_take(&mut self, rt: &impl Wait) -> Option<Ticket> {
+        self.shared.line.pop_as::<Step, _>(rt, &mut self.pass)
+    }
+
+    /// Takes the ticket at the front, and sleeps until there is one. None: the queue was closed and empty.
+    pub fn take(&mut self, rt: &impl Wait) -> Option<Ticket> {
+        self.comes_back = false;
+        for _ in rt.forever() {
+            // The mark is read before the queue. The other way round a ticket that was put before the close, and after
+            // this end's look, would be left.
+            let closed = self.shared.ends.is_closed();
+            let found = self.try_take(rt);
+            if found.is_some() {
+                self.comes_back = true;
+                return found;
+            }
+            if closed {
+                return None;
+            }
+            let found = self.last_look(rt);
+            if found.is_some() {
+                self.comes_back = true;
+                return found;
+            }
+        }
+        unreachable!()
+    }
+
+    // Announces that this end is idle, looks once more, and parks where there was nothing.
+    fn last_look(&mut self, rt: &impl Wait) -> Option<Ticket> {
+        self.shared.ends.announce(self.number);
+        let found = self.try_take(rt);
+        if found.is_none() {
+            self.parker.park(rt);
+        }
+        let still_idle = self.shared.ends.withdraw(self.number);
+        if found.is_some() && !still_idle {
+            // Another put spent its wake on this end, which has a ticket in hand already. So the wake is passed on:
+            // otherwise that put's ticket would lie while a third end sleeps.
+            self.shared.ends.wake_one();
+        }
+        found
+    }
+
+    /// Lets `take` answer none once the queue is empty, at every end, and wakes all that sleep.
+    pub fn close(&mut self) {
+        self.shared.ends.close();
+    }
+}
+
+// A parker for each end, and what unparks it.
+fn signals(alloc: Global, ends: usize) -> Result<(Vec<Parker>, Vec<Unparker>), AllocError>
+    ensures { IfOk result (λ both. (vec_len both.0 ≡ ends) × (vec_len both.1 ≡ ends)) }
+{
+    let mut parkers = Vec::with_capacity(alloc, ends)?;
+    let mut unparkers = Vec::with_capacity(alloc, ends)?;
+    for _end in 0..ends {
+        let parker = Parker::new(alloc)?;
+        unparkers.push(parker.unparker().clone()?)?;
+        parkers.push(parker)?;
+    }
+    Ok((parkers, unparkers))
+}
