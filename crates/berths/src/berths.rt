@@ -6,7 +6,7 @@ use claims::ClaimSeat;
 use relay_core::Pair;
 use std::alloc::{AllocError, Global};
 use std::marker::Model;
-use std::sync::{Mutex, Wait};
+use std::sync::{Mutex, MutexGuard, Wait};
 
 /// A connection: its pair and its two wires. Dropping it closes what its wires own.
 #[derive(Drop)]
@@ -77,7 +77,7 @@ impl<C, T> Berths<C, T> {
         requires holder { Holds seat.now slot }
         ensures given_back { IfErr result (λ given. given.0 ≡ berth) }
     {
-        let mut place = self.places[slot].lock(rt);
+        let mut place = self.place(rt, seat, slot);
         if place.is_some() {
             return Err(Occupied(berth));
         }
@@ -91,6 +91,19 @@ impl<C, T> Berths<C, T> {
         requires inside { slot < self.now }
         requires holder { Holds seat.now slot }
     {
-        self.places[slot].lock(rt).take()
+        self.place(rt, seat, slot).take()
+    }
+
+    // The place of a slot, for the one seat that holds it.
+    fn place(
+        &self,
+        rt: &impl Wait,
+        _holder: &ClaimSeat,
+        slot: usize,
+    ) -> MutexGuard<'_, Option<Berth<C, T>>>
+        requires inside { slot < self.now }
+        requires holder { Holds _holder.now slot }
+    {
+        self.places[slot].lock(rt)
     }
 }

@@ -16,5 +16,7 @@
 #![tactic(auto)]
 
 mod berths;
+#[cfg(test)]
+mod tests;
 
 pub use berths::{Berth, Berths, Occupied};
