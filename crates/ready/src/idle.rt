@@ -36,14 +36,20 @@ impl IdleEnds {
         self.idle.fetch_or(1u64 << end, SeqCst);
     }
 
-    /// Marks the end as awake, and tells whether it was still marked as idle: if not, another thread has woken it.
-    pub(crate) fn withdraw(&self, end: usize) -> bool
+    /// Marks the end as awake, after its last look at the queue or its sleep.
+    ///
+    /// Where the look found something, and another put had spent its wake on this end, the wake is passed on.
+    pub(crate) fn withdraw(&self, end: usize, found: bool)
         requires { end < 32 }
     {
-        // Pairs with the exchange in `wake_one`: of the two, one alone finds the bit. A load and then a store would
-        // let both find it, and a wake that was spent on an end with a ticket in hand would be lost.
+        // Pairs with the exchange in `wake_one`: of the two, one alone finds the bit. A load and then a store could
+        // let both find it, and nobody would pass that wake on: the other put's ticket would lie until this end is
+        // back, while a third end sleeps.
         let bit = 1u64 << end;
-        self.idle.fetch_and(!bit, SeqCst) & bit != 0
+        let was_woken = self.idle.fetch_and(!bit, SeqCst) & bit == 0;
+        if found && was_woken {
+            self.wake_one();
+        }
     }
 
     /// Wakes the idle end of the lowest number, if any is idle.
@@ -75,5 +81,11 @@ impl IdleEnds {
         for unparker in self.unparkers.iter() {
             unparker.unpark();
         }
+    }
+
+    /// How many ends are idle, for tests.
+    #[cfg(test)]
+    pub(crate) fn count(&self) -> u32 {
+        self.idle.load(SeqCst).count_ones()
     }
 }

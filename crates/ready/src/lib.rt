@@ -21,6 +21,8 @@ mod free;
 mod idle;
 mod queue;
 mod rule;
+#[cfg(test)]
+mod tests;
 mod ticket;
 
 pub use free::FreeQueue;

@@ -120,13 +120,20 @@ impl ReadyQueue {
         if found.is_none() {
             self.parker.park(rt);
         }
-        let still_idle = self.shared.ends.withdraw(self.number);
-        if found.is_some() && !still_idle {
-            // Another put spent its wake on this end, which has a ticket in hand already. So the wake is passed on:
-            // otherwise that put's ticket would lie while a third end sleeps.
-            self.shared.ends.wake_one();
-        }
+        self.shared.ends.withdraw(self.number, found.is_some());
         found
+    }
+
+    #[cfg(test)]
+    pub(crate) fn idle(&self) -> &IdleEnds {
+        &self.shared.ends
+    }
+
+    #[cfg(test)]
+    pub(crate) fn number(&self) -> usize
+        ensures { result < 32 }
+    {
+        self.number
     }
 
     /// Lets `take` answer none once the queue is empty, at every end, and wakes all that sleep.
