@@ -18,6 +18,7 @@
 #![tactic(auto)]
 
 mod free;
+mod history;
 mod idle;
 mod queue;
 mod rule;

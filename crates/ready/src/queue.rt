@@ -1,13 +1,15 @@
 // The queue of tickets.
-ghost use Rattle.std.specs.Prelude.{◌≡◌, ◌<◌, ◌≤◌, IfOk, IfErr, vec_len};
+ghost use Rattle.std.specs.Prelude.{◌≡◌, ◌<◌, ◌≤◌, IfOk, OnOk, IfErr, OnErr, MatchOption, replicate, vec_len};
 ghost use Rattle.std.specs.Arc.{arc_value};
-ghost use Rattle.crossbeam_queue.specs.Passes.{IsPassOf};
+ghost use Rattle.crossbeam_queue.specs.Passes.{view, IsPassOf, ruled_capacity};
+ghost use Rattle.ready.specs.Steps.{fresh, blank, HeldOnce, PutOne, TookOne};
 
 use crate::idle::IdleEnds;
-use crate::rule::{Line, LinePass, NextEnd, Step};
+use crate::rule::{Line, LinePass, another, pop, push};
 use crate::ticket::{Full, Ticket};
 use crossbeam_utils::sync::{Parker, Unparker};
 use std::alloc::{AllocError, Global};
+use std::marker::Model;
 use std::sync::{Arc, Wait};
 
 // What all ends share.
@@ -21,6 +23,9 @@ struct Shared {
 ///
 /// An end that calls [`ReadyQueue::take`] has to call it again after each ticket that it gave, until it answers none:
 /// its next put counts on that.
+///
+/// In a clause it is the queue's capacity and the end's history: what it has put and taken, each with its place among
+/// all that was ever put. Only its own calls change that.
 #[derive(Drop)]
 pub struct ReadyQueue {
     shared: Arc<Shared>,
@@ -33,6 +38,17 @@ pub struct ReadyQueue {
     ghost inside: { number < 32 },
 }
 
+impl Model for ReadyQueue {
+    ghost use Rattle.std.specs.Arc.{arc_value};
+    ghost use Rattle.crossbeam_queue.specs.Passes.{ruled_capacity};
+    ghost use Rattle.ready.specs.declared.ticket.Ticket.{Ticket};
+    ghost use Rattle.ready.specs.Steps.{EndState};
+
+    ghost Value = { EndState Ticket };
+
+    ghost view = { λ q. record { capacity = ruled_capacity (arc_value q.shared).line; history = q.pass.me.0.client } };
+}
+
 impl ReadyQueue {
     /// Makes a queue for at most `capacity` tickets, and its ends. This takes all the memory that it ever uses.
     ///
@@ -40,7 +56,7 @@ impl ReadyQueue {
     pub fn new(alloc: Global, capacity: usize, ends: usize) -> Result<Vec<ReadyQueue>, AllocError>
         requires capacity { (1 ≤ capacity) × (capacity ≤ 32768) }
         requires ends { (1 ≤ ends) × (ends ≤ 32) }
-        ensures { IfOk result (λ all. vec_len all ≡ ends) }
+        ensures { IfOk result (λ all. all.items ≡ replicate ends (fresh capacity)) }
     {
         let (mut parkers, unparkers) = signals(alloc, ends)?;
         let (line, mut first) = Line::ruled(alloc, capacity)?;
@@ -54,7 +70,7 @@ impl ReadyQueue {
         let mut all = Vec::with_capacity(alloc, ends)?;
         while let Some(parker) = parkers.pop() {
             let shared = Arc::try_clone(&shared)?;
-            let pass = shared.line.another::<NextEnd>(&mut first);
+            let pass = another(&shared.line, &mut first);
             all.push(ReadyQueue {
                 shared,
                 number: parkers.len(),
@@ -70,12 +86,13 @@ impl ReadyQueue {
     ///
     /// Full gives the ticket back, and nothing else has changed.
     pub fn put(&mut self, rt: &impl Wait, ticket: Ticket) -> Result<(), Full<Ticket>>
+        ensures put { OnOk result (PutOne self.old.history ticket self.new.history) }
         ensures given_back { IfErr result (λ full. full.0 ≡ ticket) }
+        ensures full { OnErr result ((self.new.history ≡ self.old.history) × HeldOnce self.old.capacity self.old.history) }
+        ensures capacity { self.new.capacity ≡ self.old.capacity }
     {
         let shared = &*self.shared;
-        if let Err(ticket) = shared.line.push_as::<Step, _>(rt, &mut self.pass, ticket) {
-            return Err(Full(ticket));
-        }
+        push(rt, &shared.line, &mut self.pass, ticket)?;
         if self.comes_back {
             self.comes_back = false;
         } else {
@@ -85,12 +102,18 @@ impl ReadyQueue {
     }
 
     /// Takes the ticket at the front. None: the queue was empty at one moment of the call.
-    pub fn try_take(&mut self, rt: &impl Wait) -> Option<Ticket> {
-        self.shared.line.pop_as::<Step, _>(rt, &mut self.pass)
+    pub fn try_take(&mut self, rt: &impl Wait) -> Option<Ticket>
+        ensures taken { MatchOption result ((self.new.history ≡ self.old.history) × HeldOnce 0 self.old.history) (λ ticket. TookOne self.old.history ticket self.new.history) }
+        ensures capacity { self.new.capacity ≡ self.old.capacity }
+    {
+        pop(rt, &self.shared.line, &mut self.pass)
     }
 
     /// Takes the ticket at the front, and sleeps until there is one. None: the queue was closed and empty.
-    pub fn take(&mut self, rt: &impl Wait) -> Option<Ticket> {
+    pub fn take(&mut self, rt: &impl Wait) -> Option<Ticket>
+        ensures taken { MatchOption result ((self.new.history ≡ self.old.history) × HeldOnce 0 self.old.history) (λ ticket. TookOne self.old.history ticket self.new.history) }
+        ensures capacity { self.new.capacity ≡ self.old.capacity }
+    {
         self.comes_back = false;
         for _ in rt.forever() {
             // The mark is read before the queue. The other way round a ticket that was put before the close, and after
@@ -114,7 +137,10 @@ impl ReadyQueue {
     }
 
     // Announces that this end is idle, looks once more, and parks where there was nothing.
-    fn last_look(&mut self, rt: &impl Wait) -> Option<Ticket> {
+    fn last_look(&mut self, rt: &impl Wait) -> Option<Ticket>
+        ensures taken { MatchOption result ((self.new.history ≡ self.old.history) × HeldOnce 0 self.old.history) (λ ticket. TookOne self.old.history ticket self.new.history) }
+        ensures capacity { self.new.capacity ≡ self.old.capacity }
+    {
         self.shared.ends.announce(self.number);
         let found = self.try_take(rt);
         if found.is_none() {
@@ -137,7 +163,9 @@ impl ReadyQueue {
     }
 
     /// Lets `take` answer none once the queue is empty, at every end, and wakes all that sleep.
-    pub fn close(&mut self) {
+    pub fn close(&mut self)
+        ensures { self.new ≡ self.old }
+    {
         self.shared.ends.close();
     }
 }
