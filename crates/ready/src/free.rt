@@ -1,5 +1,5 @@
 // The queue of free slots.
-ghost use Rattle.std.specs.Prelude.{◌≡◌, ◌<◌, ◌≤◌, IfOk, OnOk, IfErr, OnErr, MatchOption, replicate};
+ghost use Rattle.std.specs.Prelude.{◌≡◌, ◌<◌, ◌≤◌, IfOk, OnOk, IfErr, OnErr, IfSome, IfNone, replicate};
 ghost use Rattle.std.specs.Arc.{arc_value};
 ghost use Rattle.crossbeam_queue.specs.Passes.{view, IsPassOf, ruled_capacity};
 ghost use Rattle.ready.specs.Steps.{fresh, blank, HeldOnce, PutOne, TookOne};
@@ -69,7 +69,8 @@ impl FreeQueue {
     pub fn give(&mut self, rt: &impl Wait, slot: usize) -> Result<(), Full<usize>>
         ensures put { OnOk result (PutOne self.old.history slot self.new.history) }
         ensures given_back { IfErr result (λ full. full.0 ≡ slot) }
-        ensures full { OnErr result ((self.new.history ≡ self.old.history) × HeldOnce self.old.capacity self.old.history) }
+        ensures full { OnErr result (HeldOnce self.old.capacity self.old.history) }
+        ensures unchanged { OnErr result (self.new ≡ self.old) }
         ensures capacity { self.new.capacity ≡ self.old.capacity }
     {
         push(rt, &self.line, &mut self.pass, slot)
@@ -77,7 +78,9 @@ impl FreeQueue {
 
     /// Takes the slot at the front. None: the queue was empty at one moment of the call.
     pub fn try_take(&mut self, rt: &impl Wait) -> Option<usize>
-        ensures taken { MatchOption result ((self.new.history ≡ self.old.history) × HeldOnce 0 self.old.history) (λ slot. TookOne self.old.history slot self.new.history) }
+        ensures taken { IfSome result (λ slot. TookOne self.old.history slot self.new.history) }
+        ensures empty { IfNone result (HeldOnce 0 self.old.history) }
+        ensures unchanged { IfNone result (self.new ≡ self.old) }
         ensures capacity { self.new.capacity ≡ self.old.capacity }
     {
         pop(rt, &self.line, &mut self.pass)

@@ -1,5 +1,5 @@
 // The queue of tickets.
-ghost use Rattle.std.specs.Prelude.{◌≡◌, ◌<◌, ◌≤◌, IfOk, OnOk, IfErr, OnErr, MatchOption, replicate, vec_len};
+ghost use Rattle.std.specs.Prelude.{◌≡◌, ◌<◌, ◌≤◌, IfOk, OnOk, IfErr, OnErr, IfSome, IfNone, replicate, vec_len};
 ghost use Rattle.std.specs.Arc.{arc_value};
 ghost use Rattle.crossbeam_queue.specs.Passes.{view, IsPassOf, ruled_capacity};
 ghost use Rattle.ready.specs.Steps.{fresh, blank, HeldOnce, PutOne, TookOne};
@@ -88,7 +88,8 @@ impl ReadyQueue {
     pub fn put(&mut self, rt: &impl Wait, ticket: Ticket) -> Result<(), Full<Ticket>>
         ensures put { OnOk result (PutOne self.old.history ticket self.new.history) }
         ensures given_back { IfErr result (λ full. full.0 ≡ ticket) }
-        ensures full { OnErr result ((self.new.history ≡ self.old.history) × HeldOnce self.old.capacity self.old.history) }
+        ensures full { OnErr result (HeldOnce self.old.capacity self.old.history) }
+        ensures unchanged { OnErr result (self.new ≡ self.old) }
         ensures capacity { self.new.capacity ≡ self.old.capacity }
     {
         let shared = &*self.shared;
@@ -103,7 +104,9 @@ impl ReadyQueue {
 
     /// Takes the ticket at the front. None: the queue was empty at one moment of the call.
     pub fn try_take(&mut self, rt: &impl Wait) -> Option<Ticket>
-        ensures taken { MatchOption result ((self.new.history ≡ self.old.history) × HeldOnce 0 self.old.history) (λ ticket. TookOne self.old.history ticket self.new.history) }
+        ensures taken { IfSome result (λ ticket. TookOne self.old.history ticket self.new.history) }
+        ensures empty { IfNone result (HeldOnce 0 self.old.history) }
+        ensures unchanged { IfNone result (self.new ≡ self.old) }
         ensures capacity { self.new.capacity ≡ self.old.capacity }
     {
         pop(rt, &self.shared.line, &mut self.pass)
@@ -111,7 +114,9 @@ impl ReadyQueue {
 
     /// Takes the ticket at the front, and sleeps until there is one. None: the queue was closed and empty.
     pub fn take(&mut self, rt: &impl Wait) -> Option<Ticket>
-        ensures taken { MatchOption result ((self.new.history ≡ self.old.history) × HeldOnce 0 self.old.history) (λ ticket. TookOne self.old.history ticket self.new.history) }
+        ensures taken { IfSome result (λ ticket. TookOne self.old.history ticket self.new.history) }
+        ensures empty { IfNone result (HeldOnce 0 self.old.history) }
+        ensures unchanged { IfNone result (self.new ≡ self.old) }
         ensures capacity { self.new.capacity ≡ self.old.capacity }
     {
         self.comes_back = false;
@@ -138,7 +143,9 @@ impl ReadyQueue {
 
     // Announces that this end is idle, looks once more, and parks where there was nothing.
     fn last_look(&mut self, rt: &impl Wait) -> Option<Ticket>
-        ensures taken { MatchOption result ((self.new.history ≡ self.old.history) × HeldOnce 0 self.old.history) (λ ticket. TookOne self.old.history ticket self.new.history) }
+        ensures taken { IfSome result (λ ticket. TookOne self.old.history ticket self.new.history) }
+        ensures empty { IfNone result (HeldOnce 0 self.old.history) }
+        ensures unchanged { IfNone result (self.new ≡ self.old) }
         ensures capacity { self.new.capacity ≡ self.old.capacity }
     {
         self.shared.ends.announce(self.number);
