@@ -11,6 +11,11 @@ use Rattle.relay_log.specs.declared.cause.Cause.TheVariants.{Memory, Connect, Re
 abbrev pub open_message : ℕ → ℕ → List ℕ
 open_message slot generation = codes "open s=" ++ (decimal slot ++ (codes " g=" ++ decimal generation))
 
+-- from an address, as it is written
+abbrev pub peer_message : ℕ → ℕ → List ℕ → List ℕ
+peer_message slot generation address =
+    codes "peer s=" ++ (decimal slot ++ (codes " g=" ++ (decimal generation ++ (codes " from=" ++ address))))
+
 abbrev pub done_message : ℕ → ℕ → ℕ → ℕ → List ℕ
 done_message slot generation up down =
     codes "done s=" ++ (decimal slot ++ (codes " g=" ++ (decimal generation

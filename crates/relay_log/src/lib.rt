@@ -3,6 +3,7 @@
 //! | message | level | when |
 //! |---|---|---|
 //! | `open s=3 g=1` | info | a connection was opened in slot 3, the first there |
+//! | `peer s=3 g=1 from=192.0.2.7:50000` | debug | whose connection that is: the client's address and port |
 //! | `done s=3 g=1 up=120 down=400` | info | both its ends were passed on; bytes sent each way |
 //! | `fail s=3 g=1 side=target call=write kind=pipe` | warn | a call on one of its sockets failed |
 //! | `drop kind=memory` | warn | an accepted connection was closed at once: for want of memory, or because `connect` or `register` failed |
@@ -16,6 +17,6 @@ mod cause;
 mod tests;
 mod texts;
 
-pub use calls::{log_done, log_drop, log_fail, log_open};
+pub use calls::{log_done, log_drop, log_fail, log_open, log_peer};
 pub use cause::Cause;
-pub use texts::{done_text, drop_text, fail_text, open_text};
+pub use texts::{done_text, drop_text, fail_text, open_text, peer_text};

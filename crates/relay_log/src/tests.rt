@@ -1,5 +1,6 @@
 use crate::{
-    Cause, done_text, drop_text, fail_text, log_done, log_drop, log_fail, log_open, open_text,
+    Cause, done_text, drop_text, fail_text, log_done, log_drop, log_fail, log_open, log_peer,
+    open_text, peer_text,
 };
 use log::sink::Memory;
 use log::{Level, Log, Logged};
@@ -18,6 +19,8 @@ const PIPE: Fault = Fault {
 fn texts(rt: HostRuntime) -> Result<(), Fail> {
     let alloc = rt.alloc();
     assert_eq!(rt; open_text(alloc, 3, 1)?.as_str(), "open s=3 g=1");
+    let peer = "peer s=3 g=1 from=192.0.2.7:50000";
+    assert_eq!(rt; peer_text(alloc, 3, 1, &"192.0.2.7:50000")?.as_str(), peer);
     assert_eq!(rt;
         done_text(alloc, 3, 1, 120, 400)?.as_str(),
         "done s=3 g=1 up=120 down=400"
@@ -40,6 +43,7 @@ fn texts(rt: HostRuntime) -> Result<(), Fail> {
 /// Logs one message of each kind, and each of them twice.
 fn log_each_twice(log: &impl Log, alloc: Global) {
     for _ in 0..2 {
+        log_peer(log, alloc, 3, 1, &"192.0.2.7:50000");
         log_open(log, alloc, 3, 1);
         log_done(log, alloc, 3, 1, 120, 400);
         log_fail(log, alloc, 3, 1, PIPE);
@@ -52,13 +56,19 @@ fn log_each_twice(log: &impl Log, alloc: Global) {
 #[test]
 fn levels(rt: HostRuntime) {
     let all = [
+        "[DEBUG relayd] peer s=3 g=1 from=192.0.2.7:50000",
         "[INFO  relayd] open s=3 g=1",
         "[INFO  relayd] done s=3 g=1 up=120 down=400",
         "[WARN  relayd] fail s=3 g=1 side=target call=write kind=pipe",
         "[WARN  relayd] drop kind=connect",
     ];
     let mut missing = 0usize;
-    for (level, first) in [(Level::Info, 0), (Level::Warn, 2), (Level::Error, 4)] {
+    for (level, first) in [
+        (Level::Debug, 0),
+        (Level::Info, 1),
+        (Level::Warn, 3),
+        (Level::Error, 5),
+    ] {
         let sink = Memory::new(rt.alloc());
         log_each_twice(&Logged::new(&rt, level, &sink), rt.alloc());
         let lines = sink.into_lines();

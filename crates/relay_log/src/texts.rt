@@ -1,15 +1,28 @@
-ghost use Rattle.std.specs.Prelude.{◌≡◌, string_bytes, IfOk};
-ghost use Rattle.relay_log.specs.Messages.{open_message, done_message, fail_message, drop_message};
+ghost use Rattle.std.specs.Prelude.{◌≡◌, string_bytes, IfOk, IfSome};
+ghost use Rattle.relay_log.specs.Messages.{open_message, peer_message, done_message, fail_message, drop_message};
 
 use crate::Cause;
 use relay_core::Fault;
 use std::alloc::{AllocError, Global};
+use std::fmt::Display;
 
 /// A connection was opened in a slot, which has now been opened so often.
 pub fn open_text(alloc: Global, slot: usize, generation: u64) -> Result<String, AllocError>
     ensures { IfOk result (λ text. string_bytes text ≡ open_message slot generation) }
 {
     format!(in alloc; "open s={slot} g={generation}")
+}
+
+/// Whose connection it is: the client's address, as it prints.
+pub fn peer_text<D: Display>(
+    alloc: Global,
+    slot: usize,
+    generation: u64,
+    from: &D,
+) -> Result<String, AllocError>
+    ensures { IfOk result (λ text. IfSome (D.output from.now) (λ address. string_bytes text ≡ peer_message slot generation address)) }
+{
+    format!(in alloc; "peer s={slot} g={generation} from={from}")
 }
 
 /// A connection is done: so many bytes were sent up, to the target, and down, to the client.
