@@ -1,14 +1,14 @@
 -- One end's list of places and items, and the sums over all ends, when one entry is added.
-use Rattle.std.proofs.Common.{◌≡◌, ℕ, zero, suc, ◌+◌, ◌<◌, ◌==◌, if◌then◌else◌, List, [], ◌∷◌, ◌++◌, length, get_or, set, refl, sym, subst, ap, ◌∙◌, arith}
+use Rattle.std.proofs.Common.{◌≢◌, true, false, true≢false, ⊎_elim, ◌≡◌, ℕ, zero, suc, ◌+◌, ◌<◌, ◌==◌, if◌then◌else◌, List, [], ◌∷◌, ◌++◌, length, get_or, set, refl, sym, subst, ap, ◌∙◌, arith}
 use Rattle.std.specs.List.{sum_by, All}
 use Rattle.std.proofs.lemmas.List.Elements.{All-push}
 use Rattle.std.proofs.lemmas.List.Quantifiers.{all_pairs_push}
 use Rattle.std.proofs.lemmas.List.Sums.{sum_by_push, sum_by-set}
 use mathlib.Core.Option.{some, some-injective, some-ne-none}
 use lib.ListN.{get_elem?}
-use Rattle.crossbeam_queue.proofs.Lists.{at_longer, at_last}
+use Rattle.crossbeam_queue.proofs.Lists.{at_longer, at_last, at_set, at_snoc}
 use Rattle.ready.specs.declared.history.History.{History}
-use Rattle.ready.specs.Rule.{once_below, times, Fits}
+use Rattle.ready.specs.Rule.{once_below, times, Fits, FirstPutAll}
 
 module _ {A : Type 0} where
   inside : (l : List A) (k : ℕ) (v : A) → get_elem? l k ≡ some v → k < length l
@@ -67,3 +67,38 @@ module _ {T : Type 0} where
 
   pub fits_nothing : (line : List T) → Fits line []
   fits_nothing line = record { there = λ k d lt. absurd (omega arith); rising = λ i j d lt in_list. absurd (omega arith) }
+
+  one_place : (u : History T) (j : ℕ) (a : History T) → get_elem? (u ∷ []) j ≡ some a → j ≡ 0
+  one_place u zero a e = refl
+  one_place u (suc j) a e = absurd (some-ne-none a (sym e))
+
+  -- one end alone cannot be another than the one that steps
+  module _ (views : List (History T)) (port n : ℕ) (v : History T) (at : get_elem? views port ≡ some v) (old : FirstPutAll n views) where
+    other_alone : (j : ℕ) (u : History T) → j ≢ port → get_elem? views j ≡ some u → u.alone ≢ true
+    other_alone j u apart there lone =
+        let mine = old j u there lone in
+        apart (one_place u j u (subst (λ l. get_elem? l j ≡ some u) mine.0 there) ∙ sym (one_place u port v (subst (λ l. get_elem? l port ≡ some v) mine.0 at)))
+
+    pub still_alone : (m : ℕ) (w : History T) → (w.alone ≡ true → (v.alone ≡ true) × (length v.put ≡ n → length w.put ≡ m)) → FirstPutAll m (set views port w)
+    still_alone m w step j u there lone = ⊎_elim
+        (λ (h : (j ≡ port) × (w ≡ u)).
+        let more = step (ap (λ (a : History T). a.alone) h.1 ∙ lone) in
+        let mine = old port v at more.0 in
+        let first : port ≡ 0 = one_place v port v (subst (λ l. get_elem? l port ≡ some v) mine.0 at) in
+        (ap (λ l. set l port w) mine.0 ∙ ap (λ p. set (v ∷ []) p w) first ∙ ap (λ a. a ∷ []) h.1, ap (λ (a : History T). length a.put) (sym h.1) ∙ more.1 mine.1))
+        (λ (h : (j ≢ port) × (get_elem? views j ≡ some u)). absurd (other_alone j u h.0 h.1 lone))
+        (at_set views port j w u there)
+
+    -- once a further end was made, none is alone
+    pub none_alone : (w b : History T) → w.alone ≡ false → b.alone ≡ false → (m : ℕ) → FirstPutAll m (set views port w ++ b ∷ [])
+    none_alone w b w_not b_not m j u there lone = absurd (⊎_elim
+        (λ (h : get_elem? (set views port w) j ≡ some u). ⊎_elim
+        (λ (is : (j ≡ port) × (w ≡ u)). true≢false (sym lone ∙ ap (λ (a : History T). a.alone) (sym is.1) ∙ w_not))
+        (λ (is : (j ≢ port) × (get_elem? views j ≡ some u)). other_alone j u is.0 is.1 lone)
+        (at_set views port j w u h))
+        (λ (is : b ≡ u). true≢false (sym lone ∙ ap (λ (a : History T). a.alone) (sym is) ∙ b_not))
+        (at_snoc (set views port w) b u j there))
+
+  pub first_alone : (v : History T) → v.put ≡ [] → FirstPutAll 0 (v ∷ [])
+  first_alone v none zero u there lone = (ap (λ a. a ∷ []) (some-injective v u there), ap (λ (a : History T). length a.put) (sym (some-injective v u there)) ∙ ap length none)
+  first_alone v none (suc j) u there lone = absurd (some-ne-none u (sym there))

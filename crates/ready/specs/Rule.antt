@@ -1,5 +1,5 @@
 -- The queue rule: what is true of a queue's items and of what each end has put and taken, between any two steps, in every schedule.
-use Rattle.std.specs.Prelude.{◌≡◌, ℕ, ◌<◌, ◌==◌, nat_lt, if◌then◌else◌, List, ◌++◌, length, All, sum_by}
+use Rattle.std.specs.Prelude.{◌≡◌, ℕ, ◌<◌, ◌==◌, nat_lt, if◌then◌else◌, true, List, [], ◌∷◌, ◌++◌, length, All, sum_by}
 use Rattle.std.specs.List.{AllPairs}
 use mathlib.Core.Option.{some}
 use lib.ListN.{get_elem?}
@@ -19,6 +19,10 @@ module _ {T : Type 0} where
     pub there : All (λ e. get_elem? line e.0 ≡ some e.1) entries
     pub rising : AllPairs (λ a b. a.0 < b.0) entries
 
+  -- an end beside which no other was made yet has put all that was put
+  abbrev pub FirstPutAll : ℕ → List (History T) → Type 0
+  FirstPutAll count views = (number : ℕ) (v : History T) → get_elem? views number ≡ some v → v.alone ≡ true → (views ≡ v ∷ []) × (length v.put ≡ count)
+
   -- A place counts the items that were put before. All that was ever put, in order, is what was taken and then what the queue holds.
   -- Over all ends each place was put once, and each place below the first that is left was taken once
   pub record QueueRule (items : List T) (views : List (History T)) : Type 0 where
@@ -27,3 +31,4 @@ module _ {T : Type 0} where
     pub taken_once : (place : ℕ) → sum_by (λ v. times place v.taken) views ≡ once_below (length gone) place
     pub puts_fit : All (λ v. Fits (gone ++ items) v.put) views
     pub takes_fit : All (λ v. Fits gone v.taken) views
+    pub alone : FirstPutAll (length (gone ++ items)) views

@@ -1,5 +1,5 @@
 -- What a call tells the end that made it. The state is some state that meets the rule, since no clause can name what other threads do, but the end's own history stands in it.
-use Rattle.std.specs.Prelude.{◌≡◌, ℕ, List, [], ◌∷◌, ◌++◌, length, slice_set}
+use Rattle.std.specs.Prelude.{◌≡◌, ℕ, zero, suc, true, false, List, [], ◌∷◌, ◌++◌, length, slice_set}
 use mathlib.Core.Option.{some}
 use lib.ListN.{get_elem?}
 use Rattle.ready.specs.declared.history.History.{History}
@@ -13,7 +13,21 @@ pub record EndState (T : Type 0) : Type 0 where
 module _ {T : Type 0} where
   -- of an end that has done nothing yet
   abbrev pub blank : History T
-  blank = record { put = []; taken = [] }
+  blank = record { alone = false; put = []; taken = [] }
+
+  -- of the first end, before any other is made
+  abbrev pub opener : History T
+  opener = record { alone = true; put = []; taken = [] }
+
+  -- another end was made
+  abbrev pub among_others : History T → History T
+  among_others h = record h { alone = false }
+
+  abbrev pub after_put : History T → ℕ → T → History T
+  after_put h place item = record h { put = h.put ++ (place, item) ∷ [] }
+
+  abbrev pub after_take : History T → ℕ → T → History T
+  after_take h place item = record h { taken = h.taken ++ (place, item) ∷ [] }
 
   abbrev pub fresh : ℕ → EndState T
   fresh capacity = record { capacity = capacity; history = blank }
@@ -38,8 +52,7 @@ module _ {T : Type 0} where
     pub end_number : ℕ
     pub mine : get_elem? views end_number ≡ some old
     pub before : QueueRule items views
-    pub put : new.put ≡ old.put ++ (length (before.gone ++ items), item) ∷ []
-    pub taken : new.taken ≡ old.taken
+    pub put : new ≡ after_put old (length (before.gone ++ items)) item
     pub after : QueueRule (items ++ item ∷ []) (slice_set views end_number new)
 
   -- the item left at the front, and the end has its place
@@ -49,6 +62,14 @@ module _ {T : Type 0} where
     pub end_number : ℕ
     pub mine : get_elem? views end_number ≡ some old
     pub before : QueueRule (item ∷ items) views
-    pub taken : new.taken ≡ old.taken ++ (length before.gone, item) ∷ []
-    pub put : new.put ≡ old.put
+    pub taken : new ≡ after_take old (length before.gone) item
     pub after : QueueRule items (slice_set views end_number new)
+
+-- the slots below this one, in order, each at the place of its own number
+unfoldable pub in_order : ℕ → List (ℕ × ℕ)
+in_order zero = []
+in_order (suc n) = in_order n ++ (n, n) ∷ []
+
+-- the first end of a queue of free slots, which has put all of them
+abbrev pub opened : ℕ → EndState ℕ
+opened slots = record { capacity = slots; history = record blank { put = in_order slots } }

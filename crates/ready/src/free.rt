@@ -1,8 +1,8 @@
 // The queue of free slots.
-ghost use Rattle.std.specs.Prelude.{◌≡◌, ◌<◌, ◌≤◌, IfOk, OnOk, IfErr, OnErr, IfSome, IfNone, replicate};
+ghost use Rattle.std.specs.Prelude.{◌≡◌, ◌∷◌, ◌-◌, ◌<◌, ◌≤◌, IfOk, OnOk, IfErr, OnErr, IfSome, IfNone, replicate};
 ghost use Rattle.std.specs.Arc.{arc_value};
-ghost use Rattle.crossbeam_queue.specs.Passes.{view, IsPassOf, ruled_capacity};
-ghost use Rattle.ready.specs.Steps.{fresh, blank, HeldOnce, PutOne, TookOne};
+ghost use Rattle.crossbeam_queue.specs.Passes.{view, IsPassOf, IsSamePass, ruled_capacity};
+ghost use Rattle.ready.specs.Steps.{fresh, opener, opened, in_order, HeldOnce, PutOne, TookOne};
 
 use crate::rule::{Line, LinePass, another, pop, push};
 use crate::ticket::Full;
@@ -36,6 +36,8 @@ impl FreeQueue {
     /// Makes a queue that holds the slots 0, 1, and so on, in order, and its ends. This takes all the memory that it
     /// ever uses.
     ///
+    /// The first end has put the slots, each at the place of its own number.
+    ///
     /// Fails only where there is no such memory, and then no queue is made.
     pub fn new(
         rt: &impl Wait,
@@ -45,19 +47,21 @@ impl FreeQueue {
     ) -> Result<Vec<FreeQueue>, AllocError>
         requires slots { (1 ≤ slots) × (slots ≤ 32768) }
         requires ends { (1 ≤ ends) × (ends ≤ 32) }
-        ensures { IfOk result (λ all. all.items ≡ replicate ends (fresh slots)) }
+        ensures { IfOk result (λ all. all.items ≡ opened slots ∷ replicate (ends - 1) (fresh slots)) }
     {
         let (line, mut first) = Line::ruled(alloc, slots)?;
-        for slot in 0..slots {
-            if push(rt, &line, &mut first, slot).is_err() {
-                break;
-            }
-        }
+        fill(rt, &line, &mut first, slots);
+        // The further passes come from one that has done nothing.
+        let mut next = another(&line, &mut first);
         let line = Arc::new(alloc, line)?;
         let mut all = Vec::with_capacity(alloc, ends)?;
-        for _end in 0..ends {
+        all.push(FreeQueue {
+            line: Arc::try_clone(&line)?,
+            pass: first,
+        })?;
+        for _end in 1..ends {
             let line = Arc::try_clone(&line)?;
-            let pass = another(&line, &mut first);
+            let pass = another(&line, &mut next);
             all.push(FreeQueue { line, pass })?;
         }
         Ok(all)
@@ -84,5 +88,21 @@ impl FreeQueue {
         ensures capacity { self.new.capacity ≡ self.old.capacity }
     {
         pop(rt, &self.line, &mut self.pass)
+    }
+}
+
+// Puts the slots in order. The pass is alone, so the queue has room for each.
+fn fill<R: Wait>(rt: &R, line: &Line<usize>, first: &mut LinePass<usize>, slots: usize)
+    requires pass { IsPassOf line.now first.old }
+    requires room { ruled_capacity line.now ≡ slots }
+    requires alone { view first.old ≡ opener }
+    ensures same { IsSamePass first.old first.new }
+    ensures filled { view first.new ≡ record opener { put = in_order slots } }
+{
+    for slot in 0..slots {
+        match push(rt, line, first, slot) {
+            Ok(()) => {}
+            Err(_) => unreachable!(),
+        }
     }
 }

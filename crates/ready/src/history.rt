@@ -3,6 +3,8 @@ use std::collections::LinkedList;
 
 /// The items that one end has put and those that it has taken, each with its place: how many were put before it.
 pub struct History<T> {
+    /// Whether no other end was made yet.
+    pub alone: bool,
     pub put: LinkedList<(u64, T)>,
     pub taken: LinkedList<(u64, T)>,
 }

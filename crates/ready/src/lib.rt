@@ -2,6 +2,22 @@
 //!
 //! Each value of a queue is one thread's end of it. Any end may put and any may take, and no lock is held.
 //!
+//! # The queue rule
+//!
+//! Each item that is put gets a place: the number of items that were put before it. Between any two steps, in every
+//! schedule, this is true of a queue and of what all its ends have put and taken:
+//!
+//! 1. Each place below the number of puts was put once. The places that were taken are the first ones, each once.
+//! 2. An item that was taken at a place is the item that was put there.
+//! 3. The queue holds the items of the other places, in order.
+//! 4. The places that one end puts rise, and so do those that it takes.
+//!
+//! So each ticket is taken once or still there, first in first out. Full is answered only if the queue was full at one
+//! moment of the call, and none only if it was empty at one. `specs/Rule.antt` has the rule, and `specs/Steps.antt`
+//! what each call tells the end that made it.
+//!
+//! That a call returns, and that a sleeping end wakes, is not proved. Tests show it.
+//!
 //! # How an end sleeps, and who wakes it
 //!
 //! A thread with nothing to do parks in [`ReadyQueue::take`]. One word has a bit for each end that is idle. An end

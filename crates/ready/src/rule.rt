@@ -1,7 +1,7 @@
 // The queue rule as the rule of a queue of `crossbeam_queue`, and the steps on it.
 ghost use Rattle.std.specs.Prelude.{◌≡◌, OnOk, IfErr, OnErr, MatchOption};
 ghost use Rattle.crossbeam_queue.specs.Passes.{view, IsPassOf, IsSamePass, ruled_capacity};
-ghost use Rattle.ready.specs.Steps.{blank, HeldOnce, PutOne, TookOne};
+ghost use Rattle.ready.specs.Steps.{among_others, blank, HeldOnce, PutOne, TookOne};
 
 use crate::history::History;
 use crate::ticket::Full;
@@ -17,11 +17,11 @@ pub struct InPlaces;
 
 impl<T> Protocol<T, History<T>> for InPlaces {
     ghost use Rattle.ready.specs.Rule.{QueueRule};
-    ghost use Rattle.ready.specs.Steps.{blank};
+    ghost use Rattle.ready.specs.Steps.{opener};
 
     ghost holds = { QueueRule };
 
-    ghost first = { blank };
+    ghost first = { opener };
 }
 
 pub struct Put;
@@ -55,9 +55,9 @@ impl<T> Lesson<T, History<T>> for Take {
 pub struct NextEnd;
 
 impl<T> Split<History<T>> for NextEnd {
-    ghost use Rattle.ready.specs.Steps.{blank};
+    ghost use Rattle.ready.specs.Steps.{among_others, blank};
 
-    ghost left = { λ v. v };
+    ghost left = { among_others };
 
     ghost right = { λ v. blank };
 }
@@ -93,7 +93,7 @@ pub(crate) fn pop<T, R: Wait>(rt: &R, line: &Line<T>, pass: &mut LinePass<T>) ->
 /// The pass of a further end, which has done nothing.
 pub(crate) fn another<T>(line: &Line<T>, pass: &mut LinePass<T>) -> LinePass<T>
     requires { IsPassOf line.now pass.old }
-    ensures same { IsSamePass pass.old pass.new × (view pass.new ≡ view pass.old) }
+    ensures same { IsSamePass pass.old pass.new × (view pass.new ≡ among_others (view pass.old)) }
     ensures new { IsPassOf line.now result × (view result ≡ blank) }
 {
     line.another::<NextEnd>(pass)
