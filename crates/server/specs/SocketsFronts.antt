@@ -1,0 +1,23 @@
+-- What is reported, and what the log says of a connection that could not be opened.
+use Rattle.std.specs.Prelude.{ℕ, List, map}
+use Rattle.std.specs.declared.net.SocketAddr.{SocketAddr}
+use Rattle.mio.specs.declared.event.event.Event.{Event}
+use Rattle.mio.specs.Event.{event_token}
+use Rattle.relay_log.specs.declared.cause.Cause.{Cause}
+use Rattle.relay_log.specs.declared.cause.Cause.TheVariants as cause
+use Rattle.server.specs.declared.front.Unopened.{Unopened}
+use Rattle.server.specs.declared.front.Unopened.TheVariants.{Connect, Register}
+
+-- the word for the log
+abbrev pub cause_of : Unopened → Cause
+cause_of Connect = cause.Connect
+cause_of Register = cause.Register
+
+-- the numbers of what is reported, in the order of the reports
+abbrev pub numbers : List Event → List ℕ
+numbers events = map (λ (event : Event). (event_token event).0) events
+
+-- where a front's connections go, and the numbers that its last poll was told
+pub record Watched : Type 0 where
+  pub target : SocketAddr
+  pub reported : List ℕ

@@ -1,0 +1,103 @@
+//! The threads of a server: what each has of its own, and the loop of a worker.
+ghost use Rattle.std.specs.Prelude.{◌≡◌, IfOk, IfSome};
+ghost use Rattle.claims.specs.Seats.{fresh, HoldsNothing};
+ghost use Rattle.server.specs.Crews.{AreFresh};
+
+use crate::faults::ServerFault;
+use crate::front::Front;
+use crate::gate::Gate;
+use crate::hand::Hand;
+use crate::note::Note;
+use crate::putting::{give_slots, put_tickets};
+use crate::shared::{Own, Shared};
+use crate::worker::worker_turn;
+use claims::ClaimSeat;
+use log::Log;
+use ready::{FreeQueue, ReadyQueue};
+use std::alloc::{AllocError, Global};
+use std::sync::Wait;
+use std::thread;
+
+/// What the threads of a server are made of: a seat, an end of the queue of tickets and one of the queue of free
+/// slots for each.
+#[derive(Drop)]
+pub(crate) struct Parts {
+    pub(crate) seats: Vec<ClaimSeat>,
+    pub(crate) ready: Vec<ReadyQueue>,
+    pub(crate) free: Vec<FreeQueue>,
+}
+
+/// What the next thread has of its own, with a hand of this capacity. None: the parts are used up.
+pub(crate) fn next_own<F: Front>(
+    alloc: Global,
+    shared: &Shared<F>,
+    parts: &mut Parts,
+    capacity: usize,
+) -> Result<Option<Own>, AllocError>
+    requires { AreFresh shared.now.claims parts.old.seats.items }
+    ensures left { AreFresh shared.now.claims parts.new.seats.items }
+    ensures next { IfOk result (λ next. IfSome next (λ own. own.seat ≡ fresh shared.now.claims)) }
+{
+    let hand = Hand::new(alloc, capacity)?;
+    let Some(seat) = parts.seats.pop() else {
+        return Ok(None);
+    };
+    let (Some(ready), Some(free)) = (parts.ready.pop(), parts.free.pop()) else {
+        return Ok(None);
+    };
+    Ok(Some(Own {
+        seat,
+        ready,
+        free,
+        hand,
+    }))
+}
+
+/// The loop of a worker: it takes tickets and runs their turns until the queue of tickets is closed and empty, or a
+/// fault is noted. Its own fault is noted, and ends all other threads too.
+pub(crate) fn work<F: Front, G: Gate, R: Wait + Log>(
+    rt: &R,
+    alloc: Global,
+    gate: &G,
+    note: &Note,
+    shared: &Shared<F>,
+    number: usize,
+    mut own: Own,
+)
+    requires { own.seat ≡ fresh shared.now.claims }
+{
+    if let Err(fault) = run_turns(rt, alloc, gate, note, shared, &mut own) {
+        note.write(rt, number, fault);
+        own.ready.close();
+        F::wake(&shared.waker);
+    }
+}
+
+fn run_turns<F: Front, G: Gate, R: Wait + Log>(
+    rt: &R,
+    alloc: Global,
+    gate: &G,
+    note: &Note,
+    shared: &Shared<F>,
+    own: &mut Own,
+) -> Result<(), ServerFault>
+    requires same { own.old.seat.table ≡ shared.now.claims }
+    requires idle { HoldsNothing own.old.seat }
+{
+    for _turn in rt.forever() {
+        if note.is_written() {
+            return Ok(());
+        }
+        if !own.hand.has_room() {
+            put_tickets(rt, &mut own.ready, &mut own.hand);
+            give_slots(rt, &mut own.free, &mut own.hand);
+            thread::yield_now();
+            continue;
+        }
+        let Some(ticket) = own.ready.take(rt) else {
+            return Ok(());
+        };
+        worker_turn(rt, alloc, shared, own, gate, ticket)?;
+    }
+    Ok(())
+}

@@ -1,0 +1,86 @@
+ghost use Rattle.std.specs.Prelude.{◌≡◌, ◌≤◌, [], OnErr, vec_len, vec_capacity};
+
+use engine::Wire;
+use log::Log;
+use relay_log::Cause;
+use std::io;
+use std::net::{Net, SocketAddr};
+use thiserror::Error;
+use token::Token;
+
+/// A wire of a server. Beside a wire's calls it is told when a turn on its connection has ended quiet.
+pub trait Line: Wire {
+    /// No call is worth a try on this connection before the next report. What was held back so that more could go
+    /// out with it goes out now. It changes nothing that the wire tells.
+    fn settle(&mut self)
+        ensures same { Self.told self.new ≡ Self.told self.old };
+}
+
+/// Why an accepted connection could not be opened.
+#[derive(Clone, Copy, Debug, PartialEq, Eq, Error)]
+pub enum Unopened {
+    /// The connection to the target could not be begun (socket(2), connect(2)).
+    #[error("connect: failed")]
+    Connect,
+    /// A socket could not be registered for reports (epoll_ctl(2)).
+    #[error("register: failed")]
+    Register,
+}
+
+impl From<Unopened> for Cause {
+    ghost use Rattle.std.specs.Prelude.{◌≡◌};
+    ghost use Rattle.server.specs.SocketsFronts.{cause_of};
+
+    ghost from_gives = { λ unopened cause. cause ≡ cause_of unopened };
+
+    fn from(unopened: Unopened) -> Cause {
+        match unopened {
+            Unopened::Connect => Cause::Connect,
+            Unopened::Register => Cause::Register,
+        }
+    }
+}
+
+/// The most reports that one poll gives.
+pub const MAX_BATCH: usize = 256;
+
+/// Where connections and reports come from: the system's sockets, or a fake in memory.
+pub trait Front {
+    /// The wire of a client.
+    type Client: Line + Drop;
+
+    /// The wire of a target.
+    type Target: Line + Drop;
+
+    /// What ends a wait for reports from another thread.
+    type Waker;
+
+    /// Waits at most 200 milliseconds for reports, and puts the numbers of their tokens into the batch, at most
+    /// [`MAX_BATCH`], in place of what it had (epoll_wait(2)). At an error the batch is empty. It takes no memory.
+    fn poll(&mut self, batch: &mut Vec<u64>) -> io::Result<()>
+        requires room { MAX_BATCH ≤ vec_capacity batch.old }
+        ensures most { vec_len batch.new ≤ MAX_BATCH }
+        ensures capacity { vec_capacity batch.new ≡ vec_capacity batch.old }
+        ensures failed { OnErr result (batch.new.items ≡ []) };
+
+    /// The next connection that waits (accept(2)).
+    fn accept(&mut self) -> io::Result<Self::Client>;
+
+    /// Begins the connection to the target (connect(2)), and has both sockets reported for reading and writing, each
+    /// under its token. At an error no target is left open, and the client may still be reported until it is closed.
+    /// It changes nothing that the client's wire tells.
+    fn open<N: Net + Log>(
+        &mut self,
+        rt: &N,
+        client: &mut Self::Client,
+        client_token: Token,
+        target_token: Token,
+    ) -> Result<Self::Target, Unopened>
+        ensures same { Self.Client.told client.new ≡ Self.Client.told client.old };
+
+    /// Ends the wait that is under way, or else the next one, which then reports the waker's number, 1.
+    fn wake(waker: &Self::Waker);
+
+    /// Where a client comes from, if that is known: it is for the log alone.
+    fn peer(client: &Self::Client) -> Option<SocketAddr>;
+}

@@ -1,0 +1,42 @@
+//! The note of a fault, by which one thread lets all others know that the server ends.
+
+use crate::faults::ServerFault;
+use std::sync::atomic::AtomicBool;
+use std::sync::atomic::Ordering::SeqCst;
+use std::sync::{Mutex, Wait};
+
+/// Whether a thread met a fault, and the fault of the first of these threads in their order.
+#[derive(Drop)]
+pub(crate) struct Note {
+    written: AtomicBool,
+    first: Mutex<Option<(usize, ServerFault)>>,
+}
+
+impl Note {
+    pub(crate) fn new() -> Note {
+        Note {
+            written: AtomicBool::new(false),
+            first: Mutex::new(None),
+        }
+    }
+
+    /// Notes the fault of the thread of this number. Of several the one of the lowest number is kept.
+    pub(crate) fn write(&self, rt: &impl Wait, number: usize, fault: ServerFault) {
+        let mut first = self.first.lock(rt);
+        let earlier = matches!(*first, Some((other, _)) if other <= number);
+        if !earlier {
+            *first = Some((number, fault));
+        }
+        self.written.store(true, SeqCst);
+    }
+
+    /// Whether a fault is noted.
+    pub(crate) fn is_written(&self) -> bool {
+        self.written.load(SeqCst)
+    }
+
+    /// The fault that is noted.
+    pub(crate) fn into_fault(self) -> Option<ServerFault> {
+        self.first.into_inner().map(|(_, fault)| fault)
+    }
+}

@@ -1,0 +1,221 @@
+//! A server over the system's sockets, from its settings to its end.
+ghost use Rattle.std.specs.Prelude.{◌≡◌, ◌+◌, ◌<◌, ◌≤◌, length, replicate, IfOk};
+ghost use Rattle.claims.specs.Seats.{fresh, HoldsNothing};
+ghost use Rattle.server.specs.Crews.{AreFresh};
+
+use crate::crew::{Parts, next_own, work};
+use crate::faults::ServerFault;
+use crate::front::{Front, MAX_BATCH};
+use crate::gate::Gate;
+use crate::note::Note;
+use crate::poller::{Poller, poller_round};
+use crate::shared::{Own, Shared};
+use crate::sockets::{Bound, Sockets};
+use crate::worker::worker_turn;
+use berths::Berths;
+use claims::{ClaimSeat, Claims};
+use log::Log;
+use ready::{FreeQueue, ReadyQueue};
+use settings::Settings;
+use std::alloc::Global;
+use std::net::{Net, SocketAddr};
+use std::sync::Wait;
+use std::thread;
+use std::thread::Threads;
+
+/// How much a worker keeps in hand. A queue has room for each ticket and each slot, so nothing stays there.
+const WORKER_HAND: usize = 2;
+
+/// Serves what was bound: accepts connections and forwards each to the settings' target, with the settings' number of
+/// workers beside the calling thread, which polls. It returns once `stop_after` connections were opened and all of
+/// them are closed, or at a fault; every thread has ended then, and every socket is closed.
+///
+/// Refuses with `NoMemory` where there is none to begin with, `Poll` where the system's reports fail, `Threads` where
+/// a worker can't be started, and `Worn` where a thread has posted 2^56 notes. Of several faults it answers its own or
+/// the poller's, else that of the first worker.
+pub fn serve<G: Gate + Sync, R: Net + Wait + Threads + Log + Sync>(
+    rt: &R,
+    alloc: Global,
+    settings: &Settings,
+    gate: &G,
+    bound: Bound,
+) -> Result<(), ServerFault> {
+    serve_as(rt, alloc, settings, gate, bound, true)
+}
+
+/// [`serve`], where the poller's thread may run turns as well, or leaves them all to the workers.
+pub(crate) fn serve_as<G: Gate + Sync, R: Net + Wait + Threads + Log + Sync>(
+    rt: &R,
+    alloc: Global,
+    settings: &Settings,
+    gate: &G,
+    bound: Bound,
+    poller_works: bool,
+) -> Result<(), ServerFault> {
+    let slots = settings.slots;
+    let threads = settings.workers + 1;
+    let (front, waker) = Sockets::new(rt, alloc, bound, SocketAddr::from(settings.target))?;
+    let (claims, seats) = opened(alloc, slots, threads)?;
+    let shared = Shared {
+        claims,
+        berths: Berths::new(alloc, slots)?,
+        waker,
+        budget: settings.budget as usize,
+    };
+    let parts = Parts {
+        seats,
+        ready: ReadyQueue::new(alloc, slots, threads)?,
+        free: FreeQueue::new(rt, alloc, slots, threads)?,
+    };
+    let poller = Poller::new(alloc, front, slots, settings.ring, settings.stop_after)?;
+    run_threads(
+        rt,
+        alloc,
+        gate,
+        &shared,
+        parts,
+        poller,
+        settings.workers,
+        poller_works,
+    )
+}
+
+/// The claim words and their seats, one for each thread.
+fn opened(
+    alloc: Global,
+    slots: usize,
+    threads: usize,
+) -> Result<(Claims, Vec<ClaimSeat>), ServerFault>
+    requires slots { (1 ≤ slots) × (slots ≤ 4096) }
+    requires threads { (1 ≤ threads) × (threads ≤ 17) }
+    ensures { IfOk result (λ made. (made.0.words ≡ slots) × (made.1.items ≡ replicate threads (fresh made.0))) }
+{
+    match Claims::open(alloc, slots, threads) {
+        Ok(made) => Ok(made),
+        Err(_) => Err(ServerFault::NoMemory),
+    }
+}
+
+/// Starts the workers, and polls until the server ends.
+fn run_threads<G: Gate + Sync, R: Net + Wait + Threads + Log + Sync>(
+    rt: &R,
+    alloc: Global,
+    gate: &G,
+    shared: &Shared<Sockets>,
+    mut parts: Parts,
+    poller: Poller<Sockets>,
+    workers: usize,
+    poller_works: bool,
+) -> Result<(), ServerFault>
+    requires few { workers ≤ 16 }
+    requires seats { AreFresh shared.now.claims parts.seats.items }
+    requires sized { length poller.table ≡ shared.now.claims.words }
+{
+    // The poller's hand holds all that two rounds may put there.
+    let capacity = 2 * shared.claims.slots() + 2 * MAX_BATCH;
+    let Some(own) = next_own(alloc, shared, &mut parts, capacity)? else {
+        return Err(ServerFault::NoMemory);
+    };
+    let note = Note::new();
+    let noted = &note;
+    thread::scope(
+        thread::scope_env(),
+        rt,
+        move |scope| -> ()
+            requires { (workers ≤ 16) × AreFresh shared.now.claims parts.seats.items × (own.seat ≡ fresh shared.now.claims) × (length poller.table ≡ shared.now.claims.words) }
+        {
+            for number in 1..workers + 1 {
+                match next_own(alloc, shared, &mut parts, WORKER_HAND) {
+                    Ok(Some(next)) => {
+                        let worker = move || -> ()
+                            requires { next.seat ≡ fresh shared.now.claims }
+                        { work(rt, alloc, gate, noted, shared, number, next) };
+                        if scope.spawn(worker).is_err() {
+                            noted.write(rt, 0, ServerFault::Threads);
+                        }
+                    }
+                    _ => noted.write(rt, 0, ServerFault::NoMemory),
+                }
+            }
+            lead(rt, alloc, gate, noted, shared, own, poller, poller_works)
+        },
+    );
+    match note.into_fault() {
+        Some(fault) => Err(fault),
+        None => Ok(()),
+    }
+}
+
+/// The loop of the poller's thread, whose fault is noted like a worker's. At its end the queue of tickets is closed,
+/// which ends the workers.
+fn lead<F: Front + Drop, G: Gate, R: Net + Wait + Log>(
+    rt: &R,
+    alloc: Global,
+    gate: &G,
+    note: &Note,
+    shared: &Shared<F>,
+    mut own: Own,
+    mut poller: Poller<F>,
+    works: bool,
+)
+    requires unused { own.seat ≡ fresh shared.now.claims }
+    requires sized { length poller.table ≡ shared.now.claims.words }
+{
+    if let Err(fault) = run_rounds(rt, alloc, gate, note, shared, &mut own, &mut poller, works) {
+        note.write(rt, 0, fault);
+    }
+    own.ready.close();
+}
+
+fn run_rounds<F: Front, G: Gate, R: Net + Wait + Log>(
+    rt: &R,
+    alloc: Global,
+    gate: &G,
+    note: &Note,
+    shared: &Shared<F>,
+    own: &mut Own,
+    poller: &mut Poller<F>,
+    works: bool,
+) -> Result<(), ServerFault>
+    requires same { own.old.seat.table ≡ shared.now.claims }
+    requires idle { HoldsNothing own.old.seat }
+    requires sized { length poller.old.table ≡ shared.now.claims.words }
+{
+    for _round in rt.forever() {
+        if note.is_written() || poller.is_over() {
+            return Ok(());
+        }
+        poller_round(rt, alloc, shared, own, poller)?;
+        if works {
+            run_alone(rt, alloc, gate, shared, own)?;
+        }
+    }
+    Ok(())
+}
+
+/// Runs a turn in the poller's thread where its round left exactly one ticket: a worker need not be woken for it.
+fn run_alone<F: Front, G: Gate, R: Wait + Log>(
+    rt: &R,
+    alloc: Global,
+    gate: &G,
+    shared: &Shared<F>,
+    own: &mut Own,
+) -> Result<(), ServerFault>
+    requires same { own.old.seat.table ≡ shared.now.claims }
+    requires idle { HoldsNothing own.old.seat }
+    ensures same { own.new.seat.table ≡ own.old.seat.table }
+    ensures idle { HoldsNothing own.new.seat }
+{
+    if own.hand.tickets() != 1 {
+        return Ok(());
+    }
+    let Some(ticket) = own.hand.take_ticket() else {
+        return Ok(());
+    };
+    if !own.hand.has_room() {
+        own.hand.keep_ticket(ticket);
+        return Ok(());
+    }
+    worker_turn(rt, alloc, shared, own, gate, ticket)?;
+    Ok(())
+}

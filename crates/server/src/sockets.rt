@@ -1,0 +1,10 @@
+//! The front over the system's sockets: a listener, a connection to the target for each client, and epoll(7), all
+//! edge-triggered and none of them waiting but for [`Front::poll`](crate::Front::poll).
+mod bound;
+mod delay;
+mod poll;
+mod wire;
+
+pub use bound::{Bound, bind};
+pub use poll::Sockets;
+pub use wire::SocketWire;

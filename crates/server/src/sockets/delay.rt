@@ -1,0 +1,72 @@
+ghost use Rattle.std.specs.Prelude.{◌≡◌, ◌↔◌, true, false, IsTrue};
+ghost use Rattle.server.specs.SocketsDelays.{waiting, prompt, IsOffered};
+
+use relay_core::READ_MOST;
+use std::marker::Model;
+
+/// So many full offers in a row are bulk, which is sent in larger parts where a socket may wait for more.
+const BULK: u8 = 4;
+
+/// When a socket sends at once, by TCP_NODELAY of tcp(7): from its opening on, but for bulk until the connection is
+/// quiet.
+///
+/// Sending at once, a request in two writes is not held back by a peer that is slow to acknowledge the first. In bulk it
+/// costs a fifth of the speed. The switch back at a quiet turn's end also sends a short tail that waits.
+#[derive(Clone, Copy, Debug, PartialEq, Eq)]
+pub(crate) struct Delay {
+    at_once: bool,
+    full_offers: u8,
+}
+
+impl Model for Delay {
+    ghost use Rattle.std.specs.Prelude.{◌≤◌};
+    ghost use Rattle.server.specs.SocketsDelays.{Sending};
+
+    ghost Value = { Sending };
+
+    ghost view = { λ d. record { at_once = d.at_once; full_offers = d.full_offers } };
+
+    ghost invariant = { λ d. d.full_offers ≤ 4 };
+
+    ghost inverse = { λ s. record { at_once = s.at_once; full_offers = s.full_offers } };
+}
+
+impl Delay {
+    /// A socket as the system makes it, which may wait.
+    pub(crate) fn new() -> Delay
+        ensures { result ≡ waiting }
+    {
+        Delay {
+            at_once: false,
+            full_offers: 0,
+        }
+    }
+
+    /// So many bytes were offered to the socket. Whether it is to wait from now on, where it did not.
+    pub(crate) fn offer(&mut self, bytes: usize) -> bool
+        ensures offered { IsOffered bytes self.old self.new }
+        ensures switched { IsTrue result ↔ ((self.old.at_once ≡ true) × (self.new.at_once ≡ false)) }
+    {
+        if bytes < READ_MOST {
+            self.full_offers = 0;
+            return false;
+        }
+        self.full_offers = BULK.min(self.full_offers + 1);
+        let wait = self.at_once && self.full_offers == BULK;
+        if wait {
+            self.at_once = false;
+        }
+        wait
+    }
+
+    /// The connection is quiet. Whether the socket is to send at once from now on, where it did not.
+    pub(crate) fn settle(&mut self) -> bool
+        ensures settled { self.new ≡ prompt }
+        ensures switched { IsTrue result ↔ (self.old.at_once ≡ false) }
+    {
+        let send = !self.at_once;
+        self.at_once = true;
+        self.full_offers = 0;
+        send
+    }
+}

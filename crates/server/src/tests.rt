@@ -1,0 +1,3 @@
+mod fake;
+mod poller;
+mod sockets;

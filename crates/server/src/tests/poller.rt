@@ -1,0 +1,309 @@
+// The poller's rounds over a fake front: what no clause says of words, tickets, calls of accept and log lines.
+ghost use Rattle.std.specs.Prelude.{◌≡◌, ◌≤◌, length, IfOk};
+ghost use Rattle.claims.specs.Seats.{HoldsNothing};
+
+use super::fake::{Fake, Script};
+use crate::{Hand, OpenGate, Own, Poller, Shared, Unopened, Worked, poller_round, worker_turn};
+use berths::Berths;
+use claims::{ClaimSeat, Claims};
+use log::sink::Memory;
+use log::{Level, Log, Logged};
+use ready::{FreeQueue, ReadyQueue, Ticket};
+use std::alloc::{AllocError, Global};
+use std::cell::Cell;
+use std::io::ErrorKind;
+use std::net::Net;
+use std::sync::Wait;
+use std::test::Fail;
+
+/// A server of two threads, the poller and one worker, which both run in the test's own.
+#[derive(Drop)]
+struct Stage {
+    shared: Shared<Fake>,
+    poller: Poller<Fake>,
+    own: Own,
+    worker: Own,
+    pub ghost sized: { length poller.table ≡ shared.claims.words },
+    pub ghost poller_seat: { own.seat.table ≡ shared.claims },
+    pub ghost worker_seat: { worker.seat.table ≡ shared.claims },
+    pub ghost poller_idle: { HoldsNothing own.seat },
+    pub ghost worker_idle: { HoldsNothing worker.seat },
+}
+
+impl Stage {
+    /// Whether a round ended without a fault.
+    fn round<R: Net + Wait + Log>(&mut self, rt: &R, alloc: Global) -> bool {
+        poller_round(rt, alloc, &self.shared, &mut self.own, &mut self.poller).is_ok()
+    }
+
+    /// A worker's turn for the oldest ticket that the poller has in hand. Nothing where there is none.
+    fn work<R: Wait + Log>(&mut self, rt: &R, alloc: Global) -> Option<Worked> {
+        let ticket = self.own.hand.take_ticket()?;
+        if !self.worker.hand.has_room() {
+            return None;
+        }
+        worker_turn(rt, alloc, &self.shared, &mut self.worker, &OpenGate, ticket).ok()
+    }
+
+    /// The word of a slot, as far as there is one.
+    fn word(&self, slot: usize) -> Option<u64> {
+        if slot < self.shared.claims.slots() {
+            Some(self.shared.claims.peek(slot))
+        } else {
+            None
+        }
+    }
+}
+
+fn own_of(
+    alloc: Global,
+    seat: ClaimSeat,
+    ready: ReadyQueue,
+    free: FreeQueue,
+    slots: usize,
+) -> Result<Own, AllocError>
+    requires { slots ≤ 4096 }
+    ensures { IfOk result (λ own. own.seat ≡ seat) }
+{
+    Ok(Own {
+        seat,
+        ready,
+        free,
+        hand: Hand::new(alloc, 2 * slots + 512)?,
+    })
+}
+
+/// A server whose front plays this script. Rings have four bytes.
+#[tactic(auto, using(claims::proofs::Seats::fresh_holds_nothing))]
+fn staged(
+    rt: &impl Wait,
+    alloc: Global,
+    slots: usize,
+    stop_after: u32,
+    script: Script,
+) -> Result<Stage, AllocError>
+    requires { (1 ≤ slots) × (slots ≤ 4096) }
+{
+    let Ok((claims, mut seats)) = Claims::open(alloc, slots, 2) else {
+        return Err(AllocError);
+    };
+    let mut ready = ReadyQueue::new(alloc, slots, 2)?;
+    let mut free = FreeQueue::new(rt, alloc, slots, 2)?;
+    let (Some(first), Some(ready_end), Some(free_end)) = (seats.pop(), ready.pop(), free.pop())
+    else {
+        return Err(AllocError);
+    };
+    let own = own_of(alloc, first, ready_end, free_end, slots)?;
+    let (Some(second), Some(ready_end), Some(free_end)) = (seats.pop(), ready.pop(), free.pop())
+    else {
+        return Err(AllocError);
+    };
+    let worker = own_of(alloc, second, ready_end, free_end, slots)?;
+    let poller = Poller::new(alloc, Fake::new(alloc, script), slots, 4, stop_after)?;
+    let shared = Shared {
+        claims,
+        berths: Berths::new(alloc, slots)?,
+        waker: Cell::new(0),
+        budget: 64,
+    };
+    Ok(Stage {
+        shared,
+        poller,
+        own,
+        worker,
+    })
+}
+
+fn ticket(slot: usize, generation: u64) -> Option<Ticket> {
+    Some(Ticket { slot, generation })
+}
+
+#[test]
+fn an_opening_throws_old_notes_away(rt: HostRuntime) -> Result<(), Fail> {
+    let alloc = rt.alloc();
+    let sink = Memory::new(alloc);
+    let log = Logged::new(&rt, Level::Info, &sink);
+    // The second batch reports the client of the first connection, which is closed by then.
+    let script = Script {
+        batches: &[&[], &[65_536]],
+        accepts: &[None, None],
+        opens: &[],
+    };
+    let mut stage = staged(&rt, alloc, 1, 0, script)?;
+    assert!(rt; stage.round(&log, alloc));
+    assert_eq!(rt; stage.word(0), Some(4));
+    assert_eq!(rt; stage.work(&log, alloc), Some(Worked::Ended));
+    assert_eq!(rt; stage.word(0), Some(3));
+    assert_eq!(rt; stage.shared.waker.get(), 1);
+    assert!(rt; stage.round(&log, alloc));
+    assert_eq!(rt; stage.word(0), Some(4));
+    assert_eq!(rt; stage.own.hand.take_ticket(), ticket(0, 2));
+    assert_eq!(rt; stage.own.hand.tickets(), 0);
+    Ok(())
+}
+
+#[test]
+fn a_batch_leaves_notes_at_open_connections_alone(rt: HostRuntime) -> Result<(), Fail> {
+    let alloc = rt.alloc();
+    let sink = Memory::new(alloc);
+    let log = Logged::new(&rt, Level::Info, &sink);
+    // 0.1.client, 0.1.target, 0.2.client, 1.1.client, and a number that names nothing.
+    let script = Script {
+        batches: &[&[], &[65_536, 65_537, 131_072, 65_538, 2]],
+        accepts: &[None],
+        opens: &[],
+    };
+    let mut stage = staged(&rt, alloc, 2, 0, script)?;
+    assert!(rt; stage.round(&log, alloc));
+    assert_eq!(rt; (stage.word(0), stage.word(1)), (Some(4), Some(3)));
+    assert!(rt; stage.round(&log, alloc));
+    assert_eq!(rt; (stage.word(0), stage.word(1)), (Some(12), Some(3)));
+    assert_eq!(rt; stage.worker.ready.try_take(&rt), ticket(0, 1));
+    assert_eq!(rt; stage.own.hand.tickets(), 0);
+    Ok(())
+}
+
+#[test]
+fn a_failed_opening_leaves_its_slot_as_it_was(rt: HostRuntime) -> Result<(), Fail> {
+    let alloc = rt.alloc();
+    let sink = Memory::new(alloc);
+    let log = Logged::new(&rt, Level::Info, &sink);
+    // Accept would block after each connection, and the next batch reports the listener.
+    let script = Script {
+        batches: &[&[], &[0], &[0]],
+        accepts: &[
+            None,
+            Some(ErrorKind::WouldBlock),
+            None,
+            Some(ErrorKind::WouldBlock),
+            None,
+        ],
+        opens: &[Some(Unopened::Connect), Some(Unopened::Register), None],
+    };
+    let mut stage = staged(&rt, alloc, 1, 0, script)?;
+    for (word, tickets) in [(3, 0), (3, 0), (4, 1)] {
+        assert!(rt; stage.round(&log, alloc));
+        assert_eq!(rt; stage.word(0), Some(word));
+        assert_eq!(rt; stage.own.hand.tickets(), tickets);
+    }
+    let asked = stage.poller.front.asked.as_slice();
+    let wanted = [65_536, 65_537, 65_536, 65_537, 65_536, 65_537];
+    assert_eq!(rt; asked, &wanted[..]);
+    let lines = sink.into_lines();
+    let mut lines = lines.as_slice().iter();
+    for text in [
+        "[WARN  relayd] drop kind=connect",
+        "[WARN  relayd] drop kind=register",
+        "[INFO  relayd] open s=0 g=1",
+    ] {
+        assert_eq!(rt; lines.next().map(|line| line.as_str()), Some(text));
+    }
+    assert!(rt; lines.next().is_none());
+    Ok(())
+}
+
+/// Answers of accept, the calls of accept in each of three rounds, and how many errors are logged. The third round's
+/// batch reports the listener.
+struct Row {
+    accepts: &'static [Option<ErrorKind>],
+    calls: [usize; 3],
+    errors: usize,
+}
+
+const AGAIN: [Option<ErrorKind>; 300] = [Some(ErrorKind::Interrupted); 300];
+
+const ROWS: [Row; 9] = [
+    Row {
+        accepts: &AGAIN,
+        calls: [256, 45, 1],
+        errors: 0,
+    },
+    Row {
+        accepts: &[Some(ErrorKind::ConnectionAborted)],
+        calls: [2, 0, 1],
+        errors: 0,
+    },
+    Row {
+        accepts: &[Some(ErrorKind::NetworkDown)],
+        calls: [2, 0, 1],
+        errors: 0,
+    },
+    Row {
+        accepts: &[Some(ErrorKind::NetworkUnreachable)],
+        calls: [2, 0, 1],
+        errors: 0,
+    },
+    Row {
+        accepts: &[Some(ErrorKind::HostUnreachable)],
+        calls: [2, 0, 1],
+        errors: 0,
+    },
+    Row {
+        accepts: &[Some(ErrorKind::WouldBlock)],
+        calls: [1, 0, 1],
+        errors: 0,
+    },
+    // Starved twice is logged once.
+    Row {
+        accepts: &[Some(ErrorKind::Other), Some(ErrorKind::OutOfMemory)],
+        calls: [1, 1, 1],
+        errors: 1,
+    },
+    Row {
+        accepts: &[
+            Some(ErrorKind::Other),
+            Some(ErrorKind::WouldBlock),
+            Some(ErrorKind::Other),
+        ],
+        calls: [1, 1, 1],
+        errors: 2,
+    },
+    Row {
+        accepts: &[None],
+        calls: [1, 0, 0],
+        errors: 0,
+    },
+];
+
+#[test]
+fn each_answer_of_accept_is_obeyed(rt: HostRuntime) -> Result<(), Fail> {
+    let alloc = rt.alloc();
+    for (number, row) in ROWS.iter().enumerate() {
+        let sink = Memory::new(alloc);
+        let log = Logged::new(&rt, Level::Error, &sink);
+        let script = Script {
+            batches: &[&[], &[], &[0]],
+            accepts: row.accepts,
+            opens: &[],
+        };
+        let mut stage = staged(&rt, alloc, 1, 0, script)?;
+        for calls in row.calls {
+            let before = stage.poller.front.accepted;
+            assert!(rt; stage.round(&log, alloc));
+            let made = stage.poller.front.accepted.saturating_sub(before);
+            assert_eq!(rt; made, calls, "in row {number}");
+        }
+        assert_eq!(rt; sink.into_lines().len(), row.errors, "in row {number}");
+    }
+    Ok(())
+}
+
+#[test]
+fn a_poller_stops_after_its_last_connection(rt: HostRuntime) -> Result<(), Fail> {
+    let alloc = rt.alloc();
+    let sink = Memory::new(alloc);
+    let log = Logged::new(&rt, Level::Info, &sink);
+    let script = Script {
+        batches: &[],
+        accepts: &[None, None],
+        opens: &[],
+    };
+    let mut stage = staged(&rt, alloc, 2, 1, script)?;
+    assert!(rt; stage.round(&log, alloc));
+    assert!(rt; !stage.poller.is_over());
+    assert_eq!(rt; stage.work(&log, alloc), Some(Worked::Ended));
+    assert!(rt; stage.round(&log, alloc));
+    assert!(rt; stage.poller.is_over());
+    assert_eq!(rt; stage.poller.front.accepted, 1);
+    Ok(())
+}

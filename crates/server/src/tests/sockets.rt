@@ -1,0 +1,84 @@
+mod fronts;
+mod wires;
+
+use crate::{Front, MAX_BATCH, SocketWire, Sockets, bind};
+use mio::Waker;
+use settings::{LogLevel, Settings};
+use std::alloc::Global;
+use std::io;
+use std::io::ErrorKind;
+use std::net::{SocketAddr, TcpListener, TcpStream};
+use std::test::Fail;
+use token::{Side, Token};
+
+// The helpers below promise nothing, so that what a test says is told by its run alone.
+
+/// Settings of a relay on loopback at this port, where 0 has the system pick one.
+fn settings(port: u16) -> Settings {
+    Settings {
+        listen: ([127, 0, 0, 1], port),
+        target: ([127, 0, 0, 1], 1),
+        ring: 16,
+        budget: 64,
+        workers: 1,
+        slots: 1,
+        stop_after: 0,
+        log: LogLevel::Off,
+    }
+}
+
+/// A listening socket on loopback, for targets.
+fn listener(rt: &HostRuntime) -> io::Result<TcpListener> {
+    TcpListener::bind(rt, "127.0.0.1:0")
+}
+
+/// A front on loopback, and its own address.
+fn front(rt: &HostRuntime, target: SocketAddr) -> Result<(Sockets, Waker, SocketAddr), Fail> {
+    let bound = bind(rt, &settings(0))?;
+    let address = bound.text();
+    let (front, waker) = Sockets::new(rt, rt.alloc(), bound, target)?;
+    Ok((front, waker, address))
+}
+
+/// Polls until each of these numbers was reported, many times at most.
+fn reports<F: Front>(alloc: Global, front: &mut F, numbers: &[u64]) -> io::Result<()> {
+    let mut seen = Vec::new(alloc);
+    let mut batch = Vec::with_capacity(alloc, MAX_BATCH)?;
+    for _ in 0..100 {
+        front.poll(&mut batch)?;
+        seen.extend_from_slice(batch.as_slice())?;
+        if numbers.iter().all(|number| seen.contains(number)) {
+            return Ok(());
+        }
+    }
+    Err(io::Error::from(ErrorKind::TimedOut))
+}
+
+/// The token of a side of the first connection in slot 3.
+fn token(side: Side) -> Result<Token, Fail> {
+    Ok(Token::pack(3, side, 1)?)
+}
+
+/// A client's wire, a target's wire, and what they are connected to.
+#[derive(Drop)]
+struct Opened {
+    peer: TcpStream,
+    client: SocketWire,
+    target: SocketWire,
+}
+
+/// Connects to a front, and opens the connection.
+fn connected(rt: &HostRuntime, target: SocketAddr) -> Result<Opened, Fail> {
+    let (mut front, _waker, address) = front(rt, target)?;
+    let peer = TcpStream::connect(rt, address)?;
+    reports(rt.alloc(), &mut front, &[0])?;
+    let mut client = front.accept()?;
+    let (near, far) = (token(Side::Client)?, token(Side::Target)?);
+    let target = front.open(rt, &mut client, near, far)?;
+    reports(rt.alloc(), &mut front, &[near.value(), far.value()])?;
+    Ok(Opened {
+        peer,
+        client,
+        target,
+    })
+}

@@ -1,0 +1,270 @@
+//! One turn of a worker: a ticket's slot is claimed, its connection taken out, told of its notes, run and put back.
+ghost use Rattle.std.specs.Prelude.{◌≡◌, ◌+◌, ◌<◌, ◌≤◌, length, Ok};
+ghost use Rattle.claims.specs.Seats.{account_at, HoldsNothing, OnlyAt};
+ghost use Rattle.server.specs.Hands.{HasRoom};
+ghost use Rattle.server.specs.Turns.{TurnChange, exchanges, HoldsOnly, Released as ReleasedHere};
+
+use crate::faults::ServerFault;
+use crate::front::{Front, Line};
+use crate::gate::Gate;
+use crate::putting::{give_slot, give_slots, put_ticket, put_tickets};
+use crate::shared::{Own, Shared};
+use berths::Berth;
+use claims::{Claimed, Posted, Released};
+use engine::{Turn, turn};
+use log::Log;
+use ready::Ticket;
+use relay_core::{Pair, Verdict};
+use relay_log::{log_done, log_fail};
+use std::alloc::Global;
+use std::sync::Wait;
+use token::MAX_GEN;
+
+/// What a worker's turn came to.
+#[derive(Clone, Copy, Debug, PartialEq, Eq)]
+pub enum Worked {
+    /// The slot was held or free. The ticket is dropped, and nothing else has changed.
+    Busy,
+    /// There was no such connection in the slot.
+    Gone,
+    /// The connection is done or has failed. Its sockets are closed, and its slot is free.
+    Ended,
+    /// The budget is spent, and the connection is due again.
+    Again,
+    /// No call is worth a try before the next report.
+    Quiet,
+}
+
+/// Runs one turn of the connection that a ticket names.
+///
+/// What is in hand is put first, until one is refused. Then the slot is claimed, the connection taken out of its
+/// place, its pair told if notes wait, and run on its two wires, between the gate's two calls. A connection that is
+/// done or has failed is logged, closed, and its slot given back, unless its generation is the last one; and the
+/// poller is woken. Any other is put back before the slot is released. Where the release finds notes, a ticket is
+/// put for them. What a queue refuses stays in hand.
+///
+/// The one refusal is `Worn`: the seat has posted 2^56 times. The slot is released then, too.
+pub fn worker_turn<F: Front, G: Gate, R: Wait + Log>(
+    rt: &R,
+    alloc: Global,
+    shared: &Shared<F>,
+    own: &mut Own,
+    gate: &G,
+    ticket: Ticket,
+) -> Result<Worked, ServerFault>
+    requires same { own.old.seat.table ≡ shared.now.claims }
+    requires idle { HoldsNothing own.old.seat }
+    requires room { HasRoom own.old.hand }
+    ensures idle { HoldsNothing own.new.seat }
+    ensures only { OnlyAt ticket.slot own.old.seat own.new.seat }
+    ensures change { TurnChange (account_at own.old.seat ticket.slot) result (account_at own.new.seat ticket.slot) }
+    ensures exchanges { ticket.slot < shared.now.claims.words → own.new.seat.steps ≡ own.old.seat.steps + exchanges result }
+    ensures outside { shared.now.claims.words ≤ ticket.slot → (result ≡ Ok Worked.Gone) × (own.new.seat ≡ own.old.seat) }
+{
+    put_tickets(rt, &mut own.ready, &mut own.hand);
+    give_slots(rt, &mut own.free, &mut own.hand);
+    if ticket.slot >= shared.claims.slots() {
+        return Ok(Worked::Gone);
+    }
+    match shared.claims.claim(&mut own.seat, ticket.slot) {
+        Claimed::Busy => Ok(Worked::Busy),
+        Claimed::Held => claimed(rt, alloc, shared, own, gate, ticket),
+    }
+}
+
+/// The rest of a turn, once the slot is held.
+fn claimed<F: Front, G: Gate, R: Wait + Log>(
+    rt: &R,
+    alloc: Global,
+    shared: &Shared<F>,
+    own: &mut Own,
+    gate: &G,
+    ticket: Ticket,
+) -> Result<Worked, ServerFault>
+    requires same { own.old.seat.table ≡ shared.now.claims }
+    requires inside { ticket.slot < shared.now.claims.words }
+    requires holder { HoldsOnly ticket.slot own.old.seat }
+    requires room { HasRoom own.old.hand }
+    ensures idle { HoldsNothing own.new.seat }
+    ensures only { OnlyAt ticket.slot own.old.seat own.new.seat }
+    ensures change { TurnChange (account_at own.old.seat ticket.slot) result (account_at own.new.seat ticket.slot) }
+    ensures exchanges { own.new.seat.steps + 1 ≡ own.old.seat.steps + exchanges result }
+{
+    match shared.berths.take_out(rt, &own.seat, ticket.slot) {
+        Some(berth) if berth.pair.generation() == ticket.generation => {
+            run(rt, alloc, shared, own, gate, ticket, berth)
+        }
+        Some(other) => {
+            put_in(rt, shared, own, ticket.slot, other);
+            give_up(rt, shared, own, ticket);
+            Ok(Worked::Gone)
+        }
+        None => {
+            give_up(rt, shared, own, ticket);
+            Ok(Worked::Gone)
+        }
+    }
+}
+
+/// Takes the notes off a slot without its connection, and releases it.
+fn give_up<F: Front, R: Wait>(rt: &R, shared: &Shared<F>, own: &mut Own, ticket: Ticket)
+    requires same { own.old.seat.table ≡ shared.now.claims }
+    requires inside { ticket.slot < shared.now.claims.words }
+    requires holder { HoldsOnly ticket.slot own.old.seat }
+    requires room { HasRoom own.old.hand }
+    ensures idle { HoldsNothing own.new.seat }
+    ensures only { OnlyAt ticket.slot own.old.seat own.new.seat }
+    ensures posted { (account_at own.new.seat ticket.slot).posted ≡ (account_at own.old.seat ticket.slot).posted }
+    ensures exchanges { own.new.seat.steps ≡ own.old.seat.steps + 2 }
+{
+    shared.claims.take(&mut own.seat, ticket.slot);
+    leave(rt, shared, own, ticket);
+}
+
+/// Runs the connection of a slot that is held, and ends it or puts it back.
+fn run<F: Front, G: Gate, R: Wait + Log>(
+    rt: &R,
+    alloc: Global,
+    shared: &Shared<F>,
+    own: &mut Own,
+    gate: &G,
+    ticket: Ticket,
+    mut berth: Berth<F::Client, F::Target>,
+) -> Result<Worked, ServerFault>
+    requires same { own.old.seat.table ≡ shared.now.claims }
+    requires inside { ticket.slot < shared.now.claims.words }
+    requires holder { HoldsOnly ticket.slot own.old.seat }
+    requires room { HasRoom own.old.hand }
+    ensures idle { HoldsNothing own.new.seat }
+    ensures only { OnlyAt ticket.slot own.old.seat own.new.seat }
+    ensures change { TurnChange (account_at own.old.seat ticket.slot) result (account_at own.new.seat ticket.slot) }
+    ensures exchanges { own.new.seat.steps + 1 ≡ own.old.seat.steps + exchanges result }
+{
+    if shared.claims.take(&mut own.seat, ticket.slot) > 0 {
+        berth.pair.note();
+    }
+    gate.before_turn(ticket.slot);
+    let ending = turn(
+        &mut berth.pair,
+        &mut berth.client,
+        &mut berth.target,
+        shared.budget,
+    );
+    gate.after_turn(ticket.slot);
+    match ending {
+        Turn::Done | Turn::Failed => {
+            end(rt, alloc, shared, own, ticket, berth);
+            Ok(Worked::Ended)
+        }
+        Turn::Again => {
+            put_in(rt, shared, own, ticket.slot, berth);
+            again(rt, shared, own, ticket)
+        }
+        Turn::Quiet => {
+            berth.client.settle();
+            berth.target.settle();
+            put_in(rt, shared, own, ticket.slot, berth);
+            leave(rt, shared, own, ticket);
+            Ok(Worked::Quiet)
+        }
+    }
+}
+
+/// Puts a connection back into its place. A place that is not empty, which no run meets, keeps what it has, and the
+/// connection is closed.
+fn put_in<F: Front, R: Wait>(
+    rt: &R,
+    shared: &Shared<F>,
+    own: &Own,
+    slot: usize,
+    berth: Berth<F::Client, F::Target>,
+)
+    requires inside { slot < shared.now.claims.words }
+    requires holder { HoldsOnly slot own.now.seat }
+{
+    let _ = shared.berths.put_in(rt, &own.seat, slot, berth);
+}
+
+/// Posts the note that keeps a connection due, and releases its slot.
+fn again<F: Front, R: Wait>(
+    rt: &R,
+    shared: &Shared<F>,
+    own: &mut Own,
+    ticket: Ticket,
+) -> Result<Worked, ServerFault>
+    requires same { own.old.seat.table ≡ shared.now.claims }
+    requires inside { ticket.slot < shared.now.claims.words }
+    requires holder { HoldsOnly ticket.slot own.old.seat }
+    requires room { HasRoom own.old.hand }
+    ensures idle { HoldsNothing own.new.seat }
+    ensures only { OnlyAt ticket.slot own.old.seat own.new.seat }
+    ensures change { TurnChange (account_at own.old.seat ticket.slot) result (account_at own.new.seat ticket.slot) }
+    ensures exchanges { own.new.seat.steps + 2 ≡ own.old.seat.steps + exchanges result }
+{
+    // A holder's own post never answers Wake: the release does.
+    let posted = shared.claims.post(&mut own.seat, ticket.slot);
+    leave(rt, shared, own, ticket);
+    if posted == Posted::Worn {
+        Err(ServerFault::Worn)
+    } else {
+        Ok(Worked::Again)
+    }
+}
+
+/// Releases a slot, and puts a ticket where notes wait.
+fn leave<F: Front, R: Wait>(rt: &R, shared: &Shared<F>, own: &mut Own, ticket: Ticket)
+    requires same { own.old.seat.table ≡ shared.now.claims }
+    requires inside { ticket.slot < shared.now.claims.words }
+    requires holder { HoldsOnly ticket.slot own.old.seat }
+    requires room { HasRoom own.old.hand }
+    ensures idle { HoldsNothing own.new.seat }
+    ensures only { OnlyAt ticket.slot own.old.seat own.new.seat }
+    ensures exchanges { own.new.seat.steps ≡ own.old.seat.steps + 1 }
+    ensures released { ReleasedHere (account_at own.old.seat ticket.slot) (account_at own.new.seat ticket.slot) }
+{
+    if shared.claims.release(&mut own.seat, ticket.slot) == Released::Wake {
+        put_ticket(rt, &mut own.ready, &mut own.hand, ticket);
+    }
+}
+
+/// Logs and closes a connection that is done or has failed, gives its slot back, and wakes the poller.
+fn end<F: Front, R: Wait + Log>(
+    rt: &R,
+    alloc: Global,
+    shared: &Shared<F>,
+    own: &mut Own,
+    ticket: Ticket,
+    berth: Berth<F::Client, F::Target>,
+)
+    requires same { own.old.seat.table ≡ shared.now.claims }
+    requires inside { ticket.slot < shared.now.claims.words }
+    requires holder { HoldsOnly ticket.slot own.old.seat }
+    requires room { HasRoom own.old.hand }
+    ensures idle { HoldsNothing own.new.seat }
+    ensures only { OnlyAt ticket.slot own.old.seat own.new.seat }
+    ensures change { TurnChange (account_at own.old.seat ticket.slot) (Ok Worked.Ended) (account_at own.new.seat ticket.slot) }
+    ensures exchanges { own.new.seat.steps ≡ own.old.seat.steps + 1 }
+{
+    log_end(rt, alloc, &berth.pair);
+    drop(berth);
+    shared.claims.retire(&mut own.seat, ticket.slot);
+    // No connection can be opened in a slot after its last generation.
+    if ticket.generation < MAX_GEN {
+        give_slot(rt, &mut own.free, &mut own.hand, ticket.slot);
+    }
+    F::wake(&shared.waker);
+}
+
+/// Logs what became of a connection.
+fn log_end<R: Log>(rt: &R, alloc: Global, pair: &Pair) {
+    let (slot, generation) = (pair.slot(), pair.generation());
+    match pair.verdict() {
+        Verdict::Failed(fault) => log_fail(rt, alloc, slot, generation, fault),
+        Verdict::Done => {
+            let (up, down) = pair.counts();
+            log_done(rt, alloc, slot, generation, up, down);
+        }
+        // Only a connection that has ended is logged here.
+        Verdict::Live => {}
+    }
+}
