@@ -10,6 +10,8 @@ pub enum Asked<'a> {
     Simulate,
     /// Read this settings file and print what it sets.
     Check(&'a str),
+    /// Read this settings file and serve by it.
+    Run(&'a str),
 }
 
 /// Reads the command line, the program's own name first. An error is help that was asked for, or why
@@ -21,6 +23,10 @@ pub fn read_words<'a>(alloc: Global, words: &'a [&'a str]) -> Result<Asked<'a>, 
 
 /// The command that was chosen; without one, the simulator.
 fn chosen<'a>(matches: &ArgMatches<'a>) -> Asked<'a> {
+    let run = matches.subcommand_matches("run");
+    if let Some(path) = run.and_then(|run| run.get_str("config")) {
+        return Asked::Run(path);
+    }
     let check = matches.subcommand_matches("check");
     match check.and_then(|check| check.get_str("config")) {
         Some(path) => Asked::Check(path),
@@ -31,12 +37,13 @@ fn chosen<'a>(matches: &ArgMatches<'a>) -> Asked<'a> {
 /// The program's command line.
 fn relayd<'a>(alloc: Global) -> Result<Command<'a>, AllocError> {
     Command::new(alloc, "relayd")
-        .about("A TCP relay on edge-triggered readiness, and its simulator")
+        .about("A TCP port forwarder on edge-triggered readiness, and its simulator")
         .after_help(
-            "Without a command, relayd does what `relayd sim` does.\n\nExample:\n  relayd sim < examples/one-direction.flow\n\nrelayd(1) tells more, and relayd.toml(5) describes the settings.",
+            "Without a command, relayd does what `relayd sim` does.\n\nExamples:\n  relayd run --config examples/relayd.toml\n  relayd sim < examples/one-direction.flow\n\nrelayd(1) tells more, and relayd.toml(5) describes the settings.",
         )
-        .subcommand(simulate(alloc))?
-        .subcommand(check(alloc)?)
+        .subcommand(run(alloc)?)?
+        .subcommand(check(alloc)?)?
+        .subcommand(simulate(alloc))
 }
 
 /// `relayd sim`.
@@ -48,6 +55,18 @@ fn simulate<'a>(alloc: Global) -> Command<'a> {
         )
 }
 
+/// `relayd run --config FILE`.
+fn run<'a>(alloc: Global) -> Result<Command<'a>, AllocError> {
+    Ok(
+        Command::new(alloc, "run")
+            .about("Forwards connections by a settings file")
+            .after_help(
+                "Listens at the file's `listen` address, and forwards each connection to `target`. Prints\n`listening A.B.C.D:PORT` once it listens, and log lines to standard error. It ends after\n`stop_after` connections, if that is set, or at a fault, with the status 1.\n\nExample:\n  relayd run --config examples/relayd.toml\n\nrelayd(1) tells more, and relayd.toml(5) describes the settings.",
+            )
+            .arg(config(alloc))?,
+    )
+}
+
 /// `relayd check --config FILE`.
 fn check<'a>(alloc: Global) -> Result<Command<'a>, AllocError> {
     Ok(
@@ -56,12 +75,15 @@ fn check<'a>(alloc: Global) -> Result<Command<'a>, AllocError> {
             .after_help(
                 "Prints a line KEY=VALUE for each setting, defaults included. Where the file is not as it\nshould be, the first fault is told, with its key where it has one, and the status is 1.\n\nExample:\n  relayd check --config examples/relayd.toml\n\nrelayd.toml(5) describes the settings.",
             )
-            .arg(
-                Arg::new(alloc, "config")
-                    .long("config")
-                    .value_name("FILE")
-                    .required(true)
-                    .help("The settings file, at most 65,536 bytes of TOML"),
-            )?,
+            .arg(config(alloc))?,
     )
+}
+
+/// The argument that names the settings file.
+fn config<'a>(alloc: Global) -> Arg<'a> {
+    Arg::new(alloc, "config")
+        .long("config")
+        .value_name("FILE")
+        .required(true)
+        .help("The settings file, at most 65,536 bytes of TOML")
 }

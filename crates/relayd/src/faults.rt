@@ -1,6 +1,7 @@
 //! What the program tells on standard error.
 
 use script::ScriptFault;
+use server::ServerFault;
 use settings::SettingsFault;
 use std::alloc::AllocError;
 use thiserror::Error;
@@ -20,6 +21,9 @@ pub enum ProgramFault {
     /// The script could not be read, or its outcome not written.
     #[error(transparent)]
     Script(ScriptFault),
+    /// The server could not begin, or ended before its time.
+    #[error(transparent)]
+    Server(ServerFault),
     /// What was asked for could not be written.
     #[error("output: cannot be written")]
     Write,

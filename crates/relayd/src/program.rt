@@ -6,11 +6,18 @@ use crate::command_line::{Asked, read_words};
 use crate::config;
 use crate::faults::{ProgramFault, WordsFault};
 use clap::error::ErrorKind;
+use log::sink::Console;
+use log::{LevelFilter, Logged};
 use script::Outcome;
+use server::OpenGate;
+use settings::LogLevel;
 use std::alloc::{AllocError, Global};
 use std::env::{self, Env};
-use std::io::{self, Read, Write};
+use std::io::{self, Eprint, Read, Write};
+use std::net::Net;
 use std::rt::Files;
+use std::sync::Wait;
+use std::thread::Threads;
 
 /// The status of a program that did what it was asked for.
 const DONE: u8 = 0;
@@ -20,6 +27,11 @@ const FAULT: u8 = 1;
 
 /// The status of a program whose command line was refused.
 const USAGE: u8 = 2;
+
+/// What the program asks of the system: memory, files and standard error, and for `run` sockets, threads and waiting.
+pub trait System: AllocGlobal + Files + Eprint + Net + Wait + Threads + Sync + Copy + Drop {}
+
+impl<R: AllocGlobal + Files + Eprint + Net + Wait + Threads + Sync + Copy + Drop> System for R {}
 
 /// The words of the command line, the program's own name first.
 pub fn words<R: AllocGlobal + Env>(rt: &R) -> Result<Vec<String>, WordsFault> {
@@ -52,11 +64,12 @@ pub fn refuse<E: Write>(errors: &mut E, fault: WordsFault) -> u8 {
 /// |---|---|
 /// | `sim`, or none | runs the script that `reader` has, and writes its report or its fault's line to `writer` |
 /// | `check --config FILE` | reads a settings file and writes each setting to `writer` |
+/// | `run --config FILE` | reads a settings file, listens, writes `listening A.B.C.D:PORT` to `writer`, and serves; log lines go to the process's own standard error |
 ///
 /// Answers the exit status: 0 for what was asked for, help too; 1 for a fault, which is told to
 /// `errors` after `relayd: ` unless it is a script's own; 2 where the command line is refused, which is
 /// told to `errors`.
-pub fn act<R: AllocGlobal + Files, I: Read, O: Write, E: Write>(
+pub fn act<R: System, I: Read, O: Write, E: Write>(
     rt: &R,
     words: &[String],
     reader: &mut I,
@@ -69,6 +82,7 @@ pub fn act<R: AllocGlobal + Files, I: Read, O: Write, E: Write>(
     let outcome = match read_words(rt.alloc(), words.as_slice()) {
         Ok(Asked::Simulate) => simulate(rt.alloc(), reader, writer),
         Ok(Asked::Check(path)) => check(rt, path, writer),
+        Ok(Asked::Run(path)) => serve(rt, path, writer),
         Err(error) => return answered(&error, writer, errors),
     };
     match outcome {
@@ -108,6 +122,30 @@ fn check<R: AllocGlobal + Files, O: Write>(
     let text = format!(in rt.alloc(); "{settings}")?;
     write(writer, text.as_str())?;
     Ok(DONE)
+}
+
+/// Serves by a settings file, and tells where it listens.
+fn serve<R: System, O: Write>(rt: &R, path: &str, writer: &mut O) -> Result<u8, ProgramFault> {
+    let settings = config::load(rt, path)?;
+    let logged = Logged::new(*rt, most_logged(settings.log), Console(*rt));
+    let bound = server::bind(&logged, &settings).map_err(ProgramFault::Server)?;
+    let address = bound.text();
+    let line = format!(in rt.alloc(); "listening {address}\n")?;
+    write(writer, line.as_str())?;
+    server::serve(&logged, rt.alloc(), &settings, &OpenGate, bound).map_err(ProgramFault::Server)?;
+    Ok(DONE)
+}
+
+/// What is logged at a level of the settings.
+fn most_logged(level: LogLevel) -> LevelFilter {
+    match level {
+        LogLevel::Off => LevelFilter::Off,
+        LogLevel::Error => LevelFilter::Error,
+        LogLevel::Warn => LevelFilter::Warn,
+        LogLevel::Info => LevelFilter::Info,
+        LogLevel::Debug => LevelFilter::Debug,
+        LogLevel::Trace => LevelFilter::Trace,
+    }
 }
 
 /// Writes a text, all of it.

@@ -6,7 +6,7 @@ mod ends;
 mod growths;
 mod helps;
 
-use crate::program::act;
+use crate::program::{System, act};
 use ends::{Sink, Source};
 use std::alloc::{AllocError, Global};
 use std::io::ErrorKind;
@@ -34,8 +34,8 @@ impl Told {
 
 /// Runs the program with these words on a reader, and on a writer that fails after so many bytes. Where
 /// memory runs out, the test fails by that, and not by a text that it didn't want.
-fn play(
-    rt: &HostRuntime,
+fn play<R: System>(
+    rt: &R,
     words: &[String],
     source: &mut Source<'_>,
     room: usize,
@@ -56,7 +56,7 @@ fn play(
 }
 
 /// Runs the program on a script.
-fn play_script(rt: &HostRuntime, script: &[u8]) -> Result<Told, Fail> {
+fn play_script<R: System>(rt: &R, script: &[u8]) -> Result<Told, Fail> {
     play(rt, &[], &mut Source::whole(script), ROOM)
 }
 
@@ -279,8 +279,8 @@ fn a_reader_that_fails(rt: HostRuntime) -> Result<(), Fail> {
 
 /// Lets a writer fail after each front of this text: the number of bytes, if any, after which it has
 /// anything but that front, or the failure isn't told.
-fn first_untold(
-    rt: &HostRuntime,
+fn first_untold<R: System>(
+    rt: &R,
     words: &[String],
     script: &[u8],
     text: &[u8],

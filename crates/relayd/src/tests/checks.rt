@@ -2,12 +2,13 @@
 
 use super::ends::Source;
 use super::{ROOM, Told, first_untold, play};
+use crate::program::System;
 use std::alloc::{AllocError, Global};
 use std::test::Fail;
 use std::{env, fs, process};
 
 /// Runs the program with these words, and an empty input.
-pub(super) fn play_words(rt: &HostRuntime, words: &[String]) -> Result<Told, Fail> {
+pub(super) fn play_words<R: System>(rt: &R, words: &[String]) -> Result<Told, Fail> {
     play(rt, words, &mut Source::whole(b""), ROOM)
 }
 
@@ -38,12 +39,11 @@ pub(super) fn path(rt: &HostRuntime, name: &str) -> Result<String, Fail> {
 }
 
 /// Checks a settings file of these bytes.
-fn play_check(rt: &HostRuntime, name: &str, text: &[u8]) -> Result<Told, Fail> {
-    let path = path(rt, name)?;
-    let words = check_words(rt.alloc(), path.as_str())?;
-    fs::write(rt, path.as_str(), text)?;
+fn play_check<R: System>(rt: &R, path: &str, text: &[u8]) -> Result<Told, Fail> {
+    let words = check_words(rt.alloc(), path)?;
+    fs::write(rt, path, text)?;
     let told = play_words(rt, words.as_slice());
-    let removed = fs::remove_file(rt, path.as_str());
+    let removed = fs::remove_file(rt, path);
     let told = told?;
     removed?;
     Ok(told)
@@ -58,7 +58,7 @@ pub(super) const DEFAULTS: &str =
 
 #[test]
 fn prints_every_setting(rt: HostRuntime) -> Result<(), Fail> {
-    let told = play_check(&rt, "defaults", NEEDED.as_bytes())?;
+    let told = play_check(&rt, path(&rt, "defaults")?.as_str(), NEEDED.as_bytes())?;
     assert_eq!(rt; told.output.as_slice(), DEFAULTS.as_bytes());
     assert!(rt; told.errors.is_empty());
     assert_eq!(rt; told.status, 0);
@@ -89,7 +89,7 @@ fn tells_what_is_wrong(rt: HostRuntime) -> Result<(), Fail> {
         ("ring = ", "settings: not toml"),
     ] {
         let text = format!(in rt.alloc(); "{NEEDED}{line}\n")?;
-        let told = play_check(&rt, "wrong", text.as_bytes())?;
+        let told = play_check(&rt, path(&rt, "wrong")?.as_str(), text.as_bytes())?;
         let wanted = format!(in rt.alloc(); "relayd: {fault}\n")?;
         assert_eq!(rt; told.errors.as_slice(), wanted.as_bytes(), "{line}");
         assert!(rt; told.output.is_empty(), "{line}");
@@ -106,7 +106,7 @@ fn tells_what_is_wrong(rt: HostRuntime) -> Result<(), Fail> {
             "relayd: settings: target: bad address\n",
         ),
     ] {
-        let told = play_check(&rt, "text", text)?;
+        let told = play_check(&rt, path(&rt, "text")?.as_str(), text)?;
         assert_eq!(rt; told.errors.as_slice(), fault.as_bytes());
         assert_eq!(rt; told.status, 1);
     }
@@ -125,10 +125,10 @@ fn padded(alloc: Global, length: usize) -> Result<Vec<u8>, AllocError> {
 #[test]
 fn longest_file(rt: HostRuntime) -> Result<(), Fail> {
     let longest = padded(rt.alloc(), 65_536)?;
-    let told = play_check(&rt, "longest", longest.as_slice())?;
+    let told = play_check(&rt, path(&rt, "longest")?.as_str(), longest.as_slice())?;
     assert_eq!(rt; told.output.as_slice(), DEFAULTS.as_bytes());
     let longer = padded(rt.alloc(), 65_537)?;
-    let told = play_check(&rt, "longer", longer.as_slice())?;
+    let told = play_check(&rt, path(&rt, "longer")?.as_str(), longer.as_slice())?;
     assert_eq!(rt;
         told.errors.as_slice(),
         b"relayd: config: too long\n".as_slice()
@@ -148,6 +148,29 @@ fn no_file(rt: HostRuntime) -> Result<(), Fail> {
             "{path}"
         );
         assert_eq!(rt; told.status, 1, "{path}");
+    }
+    Ok(())
+}
+
+// The address is of a block for documentation, and no machine's own (RFC 5737), so it can't be listened at.
+#[test]
+fn tells_why_it_does_not_run(rt: HostRuntime) -> Result<(), Fail> {
+    let unusable = "listen = \"192.0.2.1:7000\"\ntarget = \"127.0.0.1:7001\"\nlog = \"off\"\n";
+    for (text, fault) in [
+        (unusable, "relayd: listen: failed\n"),
+        ("", "relayd: settings: listen: missing\n"),
+    ] {
+        let path = path(&rt, "run")?;
+        let mut words = words(rt.alloc(), "relayd run --config")?;
+        words.push(String::from_str(rt.alloc(), path.as_str())?)?;
+        fs::write(&rt, path.as_str(), text.as_bytes())?;
+        let told = play_words(&rt, words.as_slice());
+        let removed = fs::remove_file(&rt, path.as_str());
+        let told = told?;
+        removed?;
+        assert_eq!(rt; told.errors.as_slice(), fault.as_bytes());
+        assert!(rt; told.output.is_empty());
+        assert_eq!(rt; told.status, 1);
     }
     Ok(())
 }

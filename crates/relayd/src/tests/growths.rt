@@ -5,7 +5,7 @@ use super::checks::{DEFAULTS, NEEDED, check_words, path, words};
 use super::ends::Source;
 use super::helps::HELP;
 use super::{WHOLE, lines};
-use crate::program::act;
+use crate::program::{System, act};
 use std::fs;
 use std::test::Fail;
 
@@ -23,7 +23,7 @@ enum Ending {
 
 /// How a run ends that should write this output. Its writers take no memory, so that each growth is the
 /// program's own.
-fn ended(rt: &HostRuntime, words: &[String], input: &[u8], wanted: &[u8]) -> Ending {
+fn ended<R: System>(rt: &R, words: &[String], input: &[u8], wanted: &[u8]) -> Ending {
     let mut source = Source::whole(input);
     let mut output = [0u8; 2048];
     let mut errors = [0u8; 2048];

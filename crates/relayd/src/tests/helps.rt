@@ -8,13 +8,14 @@ use std::env::{Env, FillError};
 use std::test::Fail;
 
 /// What `relayd --help` prints.
-pub(super) const HELP: &str = r#"A TCP relay on edge-triggered readiness, and its simulator
+pub(super) const HELP: &str = r#"A TCP port forwarder on edge-triggered readiness, and its simulator
 
 Usage: relayd [COMMAND]
 
 Commands:
-  sim    Runs the script on standard input and prints its report
+  run    Forwards connections by a settings file
   check  Reads a settings file and prints every setting, or what is wrong
+  sim    Runs the script on standard input and prints its report
   help   Print this message or the help of the given subcommand(s)
 
 Options:
@@ -22,7 +23,8 @@ Options:
 
 Without a command, relayd does what `relayd sim` does.
 
-Example:
+Examples:
+  relayd run --config examples/relayd.toml
   relayd sim < examples/one-direction.flow
 
 relayd(1) tells more, and relayd.toml(5) describes the settings.
@@ -64,10 +66,38 @@ Example:
 relayd.toml(5) describes the settings.
 "#;
 
-/// Why `relayd run` is refused.
-const NO_SUCH_COMMAND: &str = r#"error: unrecognized subcommand 'run'
+/// What `relayd run --help` prints.
+const HELP_OF_RUN: &str = r#"Forwards connections by a settings file
+
+Usage: relayd run --config <FILE>
+
+Options:
+      --config <FILE>  The settings file, at most 65,536 bytes of TOML
+  -h, --help           Print help
+
+Listens at the file's `listen` address, and forwards each connection to `target`. Prints
+`listening A.B.C.D:PORT` once it listens, and log lines to standard error. It ends after
+`stop_after` connections, if that is set, or at a fault, with the status 1.
+
+Example:
+  relayd run --config examples/relayd.toml
+
+relayd(1) tells more, and relayd.toml(5) describes the settings.
+"#;
+
+/// Why `relayd serve` is refused.
+const NO_SUCH_COMMAND: &str = r#"error: unrecognized subcommand 'serve'
 
 Usage: relayd [COMMAND]
+
+For more information, try '--help'.
+"#;
+
+/// Why `relayd run` is refused.
+const NO_CONFIG_TO_RUN: &str = r#"error: the following required arguments were not provided:
+  --config <FILE>
+
+Usage: relayd run --config <FILE>
 
 For more information, try '--help'.
 "#;
@@ -89,6 +119,8 @@ fn tells_how_it_is_used(rt: HostRuntime) -> Result<(), Fail> {
         ("relayd help", HELP),
         ("relayd sim --help", HELP_OF_SIM),
         ("relayd help sim", HELP_OF_SIM),
+        ("relayd run --help", HELP_OF_RUN),
+        ("relayd help run", HELP_OF_RUN),
         ("relayd check --help", HELP_OF_CHECK),
         ("relayd help check", HELP_OF_CHECK),
     ] {
@@ -111,7 +143,11 @@ fn a_writer_that_fails(rt: HostRuntime) -> Result<(), Fail> {
 
 #[test]
 fn tells_why_a_command_line_is_refused(rt: HostRuntime) -> Result<(), Fail> {
-    for (line, text) in [("relayd run", NO_SUCH_COMMAND), ("relayd check", NO_CONFIG)] {
+    for (line, text) in [
+        ("relayd serve", NO_SUCH_COMMAND),
+        ("relayd run", NO_CONFIG_TO_RUN),
+        ("relayd check", NO_CONFIG),
+    ] {
         let words = words(rt.alloc(), line)?;
         let told = play_words(&rt, words.as_slice())?;
         assert_eq!(rt; told.errors.as_slice(), text.as_bytes(), "{line}");
@@ -124,8 +160,8 @@ fn tells_why_a_command_line_is_refused(rt: HostRuntime) -> Result<(), Fail> {
 #[test]
 fn refuses_other_command_lines(rt: HostRuntime) -> Result<(), Fail> {
     for line in [
-        "relayd run",
-        "relayd run --config x",
+        "relayd serve --config x",
+        "relayd run --config",
         "relayd check",
         "relayd check --config",
         "relayd --config x",
