@@ -1,9 +1,17 @@
 # Thin targets over the toolchain's command `rt`. See README.md.
 
-.PHONY: sim test bench-turn
+.PHONY: run sim test bench bench-turn
 
-# Runs the simulator on standard input, and writes nothing but its report to standard output. The first
-# time the program is proved and built, which takes minutes; what that prints goes to a file.
+# The settings file of `make run`.
+CONFIG ?= examples/relayd.toml
+
+# Forwards connections by a settings file, until it is interrupted. The first time the program is proved and
+# built, which takes minutes.
+run:
+	@.ci/build relayd
+	@crates/relayd/out/relayd run --config $(CONFIG)
+
+# Runs the simulator on standard input, and writes nothing but its report to standard output.
 sim:
 	@.ci/build relayd
 	@crates/relayd/out/relayd
@@ -12,6 +20,11 @@ sim:
 # runs the tests and the program.
 test:
 	rt ci
+
+# Measures the relay beside other forwarders. No part of the gate; docs/BENCHMARKS.md says what it needs.
+bench:
+	@.ci/build relayd
+	@bench/run --relayd crates/relayd/out/relayd
 
 # How fast a turn moves bytes through memory, against a plain loop. No part of the gate.
 bench-turn:

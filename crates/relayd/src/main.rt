@@ -1,6 +1,7 @@
-//! The program: the relay's simulator on standard input and output, and a check of its settings.
+//! The program: it forwards connections by a settings file, checks such a file, and runs the relay's simulator on
+//! standard input and output.
 //!
-//! [`program::act`] does all that the program does, from its words, a reader and two writers to a
+//! [`program::act`] does all that the program does, from its words, a reader, two writers and what serves to a
 //! status. `main` hands it the process's own, and words that can't be had are told by
 //! [`program::refuse`].
 #![tactic(auto)]
@@ -12,14 +13,29 @@ mod program;
 #[cfg(test)]
 mod tests;
 
+use log::Logged;
+use log::sink::Console;
+use server::{Bound, OpenGate, ServerFault};
+use settings::Settings;
 use std::process::ExitCode;
 
 fn main(rt: HostRuntime) -> ExitCode {
     let mut input = rt.stdin();
     let mut output = rt.stdout();
     let mut errors = rt.stderr();
+    let serve = |settings: Settings, bound: Bound| -> Result<(), ServerFault> {
+        let logged = Logged::new(rt, program::most_logged(settings.log), Console(rt));
+        server::serve(&logged, rt.alloc(), &settings, &OpenGate, bound)
+    };
     let status = match program::words(&rt) {
-        Ok(words) => program::act(&rt, words.as_slice(), &mut input, &mut output, &mut errors),
+        Ok(words) => program::act(
+            &rt,
+            words.as_slice(),
+            &mut input,
+            &mut output,
+            &mut errors,
+            &serve,
+        ),
         Err(fault) => program::refuse(&mut errors, fault),
     };
     ExitCode::from(status)

@@ -9,15 +9,13 @@ use clap::error::ErrorKind;
 use log::sink::Console;
 use log::{LevelFilter, Logged};
 use script::Outcome;
-use server::OpenGate;
-use settings::LogLevel;
+use server::{Bound, ServerFault};
+use settings::{LogLevel, Settings};
 use std::alloc::{AllocError, Global};
 use std::env::{self, Env};
 use std::io::{self, Eprint, Read, Write};
 use std::net::Net;
 use std::rt::Files;
-use std::sync::Wait;
-use std::thread::Threads;
 
 /// The status of a program that did what it was asked for.
 const DONE: u8 = 0;
@@ -27,11 +25,6 @@ const FAULT: u8 = 1;
 
 /// The status of a program whose command line was refused.
 const USAGE: u8 = 2;
-
-/// What the program asks of the system: memory, files and standard error, and for `run` sockets, threads and waiting.
-pub trait System: AllocGlobal + Files + Eprint + Net + Wait + Threads + Sync + Copy + Drop {}
-
-impl<R: AllocGlobal + Files + Eprint + Net + Wait + Threads + Sync + Copy + Drop> System for R {}
 
 /// The words of the command line, the program's own name first.
 pub fn words<R: AllocGlobal + Env>(rt: &R) -> Result<Vec<String>, WordsFault> {
@@ -69,20 +62,28 @@ pub fn refuse<E: Write>(errors: &mut E, fault: WordsFault) -> u8 {
 /// Answers the exit status: 0 for what was asked for, help too; 1 for a fault, which is told to
 /// `errors` after `relayd: ` unless it is a script's own; 2 where the command line is refused, which is
 /// told to `errors`.
-pub fn act<R: System, I: Read, O: Write, E: Write>(
+///
+/// `serve` is [`server::serve`] with the process's own handle: a thread can only be started with that one.
+pub fn act<R, S, I: Read, O: Write, E: Write>(
     rt: &R,
     words: &[String],
     reader: &mut I,
     writer: &mut O,
     errors: &mut E,
-) -> u8 {
+    serve: &S,
+) -> u8
+where
+    R: AllocGlobal + Files + Eprint + Net + Copy + Drop,
+    S: Fn(Settings, Bound) -> Result<(), ServerFault>,
+    requires { S.IsAlwaysCallable serve.now }
+{
     let Ok(words) = texts(rt.alloc(), words) else {
         return told(errors, ProgramFault::NoMemory);
     };
     let outcome = match read_words(rt.alloc(), words.as_slice()) {
         Ok(Asked::Simulate) => simulate(rt.alloc(), reader, writer),
         Ok(Asked::Check(path)) => check(rt, path, writer),
-        Ok(Asked::Run(path)) => serve(rt, path, writer),
+        Ok(Asked::Run(path)) => run(rt, path, writer, serve),
         Err(error) => return answered(&error, writer, errors),
     };
     match outcome {
@@ -124,20 +125,25 @@ fn check<R: AllocGlobal + Files, O: Write>(
     Ok(DONE)
 }
 
-/// Serves by a settings file, and tells where it listens.
-fn serve<R: System, O: Write>(rt: &R, path: &str, writer: &mut O) -> Result<u8, ProgramFault> {
+/// Listens by a settings file, tells where, and serves.
+fn run<R, S, O: Write>(rt: &R, path: &str, writer: &mut O, serve: &S) -> Result<u8, ProgramFault>
+where
+    R: AllocGlobal + Files + Eprint + Net + Copy + Drop,
+    S: Fn(Settings, Bound) -> Result<(), ServerFault>,
+    requires { S.IsAlwaysCallable serve.now }
+{
     let settings = config::load(rt, path)?;
     let logged = Logged::new(*rt, most_logged(settings.log), Console(*rt));
     let bound = server::bind(&logged, &settings).map_err(ProgramFault::Server)?;
     let address = bound.text();
     let line = format!(in rt.alloc(); "listening {address}\n")?;
     write(writer, line.as_str())?;
-    server::serve(&logged, rt.alloc(), &settings, &OpenGate, bound).map_err(ProgramFault::Server)?;
+    serve(settings, bound).map_err(ProgramFault::Server)?;
     Ok(DONE)
 }
 
 /// What is logged at a level of the settings.
-fn most_logged(level: LogLevel) -> LevelFilter {
+pub fn most_logged(level: LogLevel) -> LevelFilter {
     match level {
         LogLevel::Off => LevelFilter::Off,
         LogLevel::Error => LevelFilter::Error,

@@ -6,10 +6,12 @@ mod ends;
 mod growths;
 mod helps;
 
-use crate::program::{System, act};
+use crate::program::act;
 use ends::{Sink, Source};
 use std::alloc::{AllocError, Global};
-use std::io::ErrorKind;
+use std::io::{Eprint, ErrorKind};
+use std::net::Net;
+use std::rt::Files;
 use std::test::Fail;
 
 /// The room for what a run writes, which a test takes before the run.
@@ -34,7 +36,7 @@ impl Told {
 
 /// Runs the program with these words on a reader, and on a writer that fails after so many bytes. Where
 /// memory runs out, the test fails by that, and not by a text that it didn't want.
-fn play<R: System>(
+fn play<R: AllocGlobal + Files + Eprint + Net + Copy + Drop>(
     rt: &R,
     words: &[String],
     source: &mut Source<'_>,
@@ -42,7 +44,14 @@ fn play<R: System>(
 ) -> Result<Told, Fail> {
     let mut sink = Sink::failing_after(rt.alloc(), room)?;
     let mut errors = Vec::with_capacity(rt.alloc(), ROOM)?;
-    let status = act(rt, words, source, &mut sink, &mut errors);
+    let status = act(
+        rt,
+        words,
+        source,
+        &mut sink,
+        &mut errors,
+        &|_settings, _bound| Ok(()),
+    );
     let told = Told {
         status,
         output: sink.into_taken(),
@@ -56,7 +65,10 @@ fn play<R: System>(
 }
 
 /// Runs the program on a script.
-fn play_script<R: System>(rt: &R, script: &[u8]) -> Result<Told, Fail> {
+fn play_script<R: AllocGlobal + Files + Eprint + Net + Copy + Drop>(
+    rt: &R,
+    script: &[u8],
+) -> Result<Told, Fail> {
     play(rt, &[], &mut Source::whole(script), ROOM)
 }
 
@@ -279,7 +291,7 @@ fn a_reader_that_fails(rt: HostRuntime) -> Result<(), Fail> {
 
 /// Lets a writer fail after each front of this text: the number of bytes, if any, after which it has
 /// anything but that front, or the failure isn't told.
-fn first_untold<R: System>(
+fn first_untold<R: AllocGlobal + Files + Eprint + Net + Copy + Drop>(
     rt: &R,
     words: &[String],
     script: &[u8],

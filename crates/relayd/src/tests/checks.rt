@@ -2,13 +2,18 @@
 
 use super::ends::Source;
 use super::{ROOM, Told, first_untold, play};
-use crate::program::System;
 use std::alloc::{AllocError, Global};
+use std::io::Eprint;
+use std::net::Net;
+use std::rt::Files;
 use std::test::Fail;
 use std::{env, fs, process};
 
 /// Runs the program with these words, and an empty input.
-pub(super) fn play_words<R: System>(rt: &R, words: &[String]) -> Result<Told, Fail> {
+pub(super) fn play_words<R: AllocGlobal + Files + Eprint + Net + Copy + Drop>(
+    rt: &R,
+    words: &[String],
+) -> Result<Told, Fail> {
     play(rt, words, &mut Source::whole(b""), ROOM)
 }
 
@@ -39,7 +44,11 @@ pub(super) fn path(rt: &HostRuntime, name: &str) -> Result<String, Fail> {
 }
 
 /// Checks a settings file of these bytes.
-fn play_check<R: System>(rt: &R, path: &str, text: &[u8]) -> Result<Told, Fail> {
+fn play_check<R: AllocGlobal + Files + Eprint + Net + Copy + Drop>(
+    rt: &R,
+    path: &str,
+    text: &[u8],
+) -> Result<Told, Fail> {
     let words = check_words(rt.alloc(), path)?;
     fs::write(rt, path, text)?;
     let told = play_words(rt, words.as_slice());

@@ -5,8 +5,11 @@ use super::checks::{DEFAULTS, NEEDED, check_words, path, words};
 use super::ends::Source;
 use super::helps::HELP;
 use super::{WHOLE, lines};
-use crate::program::{System, act};
+use crate::program::act;
 use std::fs;
+use std::io::Eprint;
+use std::net::Net;
+use std::rt::Files;
 use std::test::Fail;
 
 /// How a run ended, by its status and what it wrote.
@@ -23,13 +26,25 @@ enum Ending {
 
 /// How a run ends that should write this output. Its writers take no memory, so that each growth is the
 /// program's own.
-fn ended<R: System>(rt: &R, words: &[String], input: &[u8], wanted: &[u8]) -> Ending {
+fn ended<R: AllocGlobal + Files + Eprint + Net + Copy + Drop>(
+    rt: &R,
+    words: &[String],
+    input: &[u8],
+    wanted: &[u8],
+) -> Ending {
     let mut source = Source::whole(input);
     let mut output = [0u8; 2048];
     let mut errors = [0u8; 2048];
     let mut writer = output.as_mut_slice();
     let mut error_writer = errors.as_mut_slice();
-    let status = act(rt, words, &mut source, &mut writer, &mut error_writer);
+    let status = act(
+        rt,
+        words,
+        &mut source,
+        &mut writer,
+        &mut error_writer,
+        &|_settings, _bound| Ok(()),
+    );
     let (unused, unused_errors) = (writer.len(), error_writer.len());
     let output = output.get(..2048usize.saturating_sub(unused));
     let errors = errors.get(..2048usize.saturating_sub(unused_errors));

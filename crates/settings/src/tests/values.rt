@@ -10,11 +10,12 @@ const DEFAULTS: &str =
 /// The example file, which has every key at its default.
 const EXAMPLE: &str = r#"# Settings of relayd, with every key at its default.
 #
+#   relayd run --config examples/relayd.toml
 #   relayd check --config examples/relayd.toml
 #
 # listen and target have no default and must be given. Any other key may be
-# left out, and then has the value that stands here. A key that relayd doesn't
-# know is refused, so a misspelled one is found. relayd.toml(5) says more.
+# left out, and then has the value shown here. A key that relayd does not know
+# is refused, so a misspelled one is found. relayd.toml(5) says more.
 
 # Where clients connect: an IPv4 address and a port. At port 0 the system picks
 # a free port.
@@ -27,18 +28,19 @@ target = "127.0.0.1:7001"
 # has two directions, so slots = 1024 full connections hold 32 MiB.
 ring = 16384
 
-# The most system calls that a worker makes for one connection before the
-# others get their turn, 1 to 1024.
+# The most calls (read, write, join, shutdown) that a thread makes for one
+# connection before another connection gets its turn, 1 to 1024.
 budget = 64
 
-# Worker threads, 1 to 16.
+# Worker threads, 1 to 16. One more thread waits for the system's reports.
 workers = 4
 
 # The most connections at a time, 1 to 4096. Further clients wait in the
 # system's backlog until one ends.
 slots = 1024
 
-# End after this many connections, up to 4294967295. 0 means never.
+# End once this many connections were opened and all of them are closed, up to
+# 4294967295. 0 means never.
 stop_after = 0
 
 # The least important messages that still go to standard error:
