@@ -1,3 +1,6 @@
 mod fake;
+mod holding;
 mod poller;
+mod serving;
 mod sockets;
+mod worker;

@@ -1,5 +1,6 @@
 // A front in memory, for the tests of rounds and turns. It promises nothing beyond the trait, so that what a test says
 // is told by its run alone.
+ghost use Rattle.std.specs.Prelude.{◌≡◌, ◌≤◌, vec_len, vec_capacity};
 
 use crate::front::{Front, Line, MAX_BATCH, Unopened};
 use engine::{Play, ScriptWire};
@@ -17,17 +18,19 @@ impl Line for ScriptWire {
 /// What a fake plays, in order: the batches of its polls, its answers to accept, an error or a connection, and its
 /// answers to open. After the last of them a batch is empty, accept would block, and open succeeds.
 #[derive(Clone, Copy)]
-pub(crate) struct Script {
-    pub(crate) batches: &'static [&'static [u64]],
-    pub(crate) accepts: &'static [Option<ErrorKind>],
-    pub(crate) opens: &'static [Option<Unopened>],
+pub(crate) struct Script<'a> {
+    pub(crate) batches: &'a [&'a [u64]],
+    pub(crate) accepts: &'a [Option<ErrorKind>],
+    pub(crate) opens: &'a [Option<Unopened>],
 }
 
-/// A front that plays its script. Its connections are reset at the first read.
+/// A front that plays a script. Its connections are reset at the first read.
 #[derive(Drop)]
 pub(crate) struct Fake {
     alloc: Global,
-    script: Script,
+    batches: Vec<Vec<u64>>,
+    accepts: Vec<Option<ErrorKind>>,
+    opens: Vec<Option<Unopened>>,
     polled: usize,
     /// How often accept was called.
     pub(crate) accepted: usize,
@@ -37,14 +40,34 @@ pub(crate) struct Fake {
 }
 
 impl Fake {
-    pub(crate) fn new(alloc: Global, script: Script) -> Fake {
-        Fake {
+    pub(crate) fn new(alloc: Global, script: Script) -> Result<Fake, AllocError> {
+        let mut batches = Vec::new(alloc);
+        for numbers in script.batches {
+            batches.push(numbers.to_vec(alloc)?)?;
+        }
+        Ok(Fake {
             alloc,
-            script,
+            batches,
+            accepts: script.accepts.to_vec(alloc)?,
+            opens: script.opens.to_vec(alloc)?,
             polled: 0,
             accepted: 0,
             opened: 0,
             asked: Vec::new(alloc),
+        })
+    }
+}
+
+/// Puts these numbers into an empty batch, as many as a poll gives.
+fn fill(batch: &mut Vec<u64>, numbers: &[u64])
+    requires empty { vec_len batch.old ≡ 0 }
+    requires room { MAX_BATCH ≤ vec_capacity batch.old }
+    ensures most { vec_len batch.new ≤ MAX_BATCH }
+    ensures capacity { vec_capacity batch.new ≡ vec_capacity batch.old }
+{
+    for number in numbers {
+        if batch.len() < MAX_BATCH {
+            batch.push_reserved(*number);
         }
     }
 }
@@ -65,16 +88,15 @@ impl Front for Fake {
 
     fn poll(&mut self, batch: &mut Vec<u64>) -> io::Result<()> {
         batch.clear();
-        let numbers = self.script.batches.get(self.polled).copied().unwrap_or(&[]);
-        self.polled = self.polled.saturating_add(1);
-        for number in numbers.iter().take(MAX_BATCH) {
-            batch.push_reserved(*number);
+        if let Some(numbers) = self.batches.get(self.polled) {
+            fill(batch, numbers.as_slice());
         }
+        self.polled = self.polled.saturating_add(1);
         Ok(())
     }
 
     fn accept(&mut self) -> io::Result<ScriptWire> {
-        let answer = self.script.accepts.get(self.accepted).copied();
+        let answer = self.accepts.get(self.accepted).copied();
         self.accepted = self.accepted.saturating_add(1);
         match answer {
             Some(None) => match reset_wire(self.alloc) {
@@ -96,7 +118,7 @@ impl Front for Fake {
         for token in [client_token, target_token] {
             let _ = self.asked.push(token.value());
         }
-        let answer = self.script.opens.get(self.opened).copied();
+        let answer = self.opens.get(self.opened).copied();
         self.opened = self.opened.saturating_add(1);
         if let Some(Some(unopened)) = answer {
             return Err(unopened);

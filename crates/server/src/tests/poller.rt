@@ -1,11 +1,14 @@
 // The poller's rounds over a fake front: what no clause says of words, tickets, calls of accept and log lines.
-ghost use Rattle.std.specs.Prelude.{◌≡◌, ◌≤◌, length, IfOk};
-ghost use Rattle.claims.specs.Seats.{HoldsNothing};
+ghost use Rattle.std.specs.Prelude.{◌≡◌, ◌≤◌, length};
+ghost use Rattle.claims.specs.Seats.{fresh, HoldsNothing};
 
 use super::fake::{Fake, Script};
-use crate::{Hand, OpenGate, Own, Poller, Shared, Unopened, Worked, poller_round, worker_turn};
+use crate::crew::{Parts, next_own};
+use crate::{
+    MAX_BATCH, OpenGate, Own, Poller, Shared, Unopened, Worked, poller_round, worker_turn,
+};
 use berths::Berths;
-use claims::{ClaimSeat, Claims};
+use claims::Claims;
 use log::sink::Memory;
 use log::{Level, Log, Logged};
 use ready::{FreeQueue, ReadyQueue, Ticket};
@@ -55,26 +58,7 @@ impl Stage {
     }
 }
 
-fn own_of(
-    alloc: Global,
-    seat: ClaimSeat,
-    ready: ReadyQueue,
-    free: FreeQueue,
-    slots: usize,
-) -> Result<Own, AllocError>
-    requires { slots ≤ 4096 }
-    ensures { IfOk result (λ own. own.seat ≡ seat) }
-{
-    Ok(Own {
-        seat,
-        ready,
-        free,
-        hand: Hand::new(alloc, 2 * slots + 512)?,
-    })
-}
-
 /// A server whose front plays this script. Rings have four bytes.
-#[tactic(auto, using(claims::proofs::Seats::fresh_holds_nothing))]
 fn staged(
     rt: &impl Wait,
     alloc: Global,
@@ -84,34 +68,42 @@ fn staged(
 ) -> Result<Stage, AllocError>
     requires { (1 ≤ slots) × (slots ≤ 4096) }
 {
-    let Ok((claims, mut seats)) = Claims::open(alloc, slots, 2) else {
+    let Ok((claims, seats)) = Claims::open(alloc, slots, 2) else {
         return Err(AllocError);
     };
-    let mut ready = ReadyQueue::new(alloc, slots, 2)?;
-    let mut free = FreeQueue::new(rt, alloc, slots, 2)?;
-    let (Some(first), Some(ready_end), Some(free_end)) = (seats.pop(), ready.pop(), free.pop())
-    else {
-        return Err(AllocError);
-    };
-    let own = own_of(alloc, first, ready_end, free_end, slots)?;
-    let (Some(second), Some(ready_end), Some(free_end)) = (seats.pop(), ready.pop(), free.pop())
-    else {
-        return Err(AllocError);
-    };
-    let worker = own_of(alloc, second, ready_end, free_end, slots)?;
-    let poller = Poller::new(alloc, Fake::new(alloc, script), slots, 4, stop_after)?;
     let shared = Shared {
         claims,
         berths: Berths::new(alloc, slots)?,
         waker: Cell::new(0),
         budget: 64,
     };
-    Ok(Stage {
+    let mut parts = Parts {
+        seats,
+        ready: ReadyQueue::new(alloc, slots, 2)?,
+        free: FreeQueue::new(rt, alloc, slots, 2)?,
+    };
+    let capacity = 2 * slots + 2 * MAX_BATCH;
+    let (Some(own), Some(worker)) = (
+        next_own(alloc, &shared, &mut parts, capacity)?,
+        next_own(alloc, &shared, &mut parts, capacity)?,
+    ) else {
+        return Err(AllocError);
+    };
+    let poller = Poller::new(alloc, Fake::new(alloc, script)?, slots, 4, stop_after)?;
+    Ok(stage_of(shared, poller, own, worker))
+}
+
+fn stage_of(shared: Shared<Fake>, poller: Poller<Fake>, own: Own, worker: Own) -> Stage
+    requires sized { length poller.table ≡ shared.claims.words }
+    requires poller_seat { own.seat ≡ fresh shared.claims }
+    requires worker_seat { worker.seat ≡ fresh shared.claims }
+{
+    Stage {
         shared,
         poller,
         own,
         worker,
-    })
+    }
 }
 
 fn ticket(slot: usize, generation: u64) -> Option<Ticket> {
