@@ -79,6 +79,22 @@ impl Hand {
         let _ = self.slots.try_push_back(slot);
     }
 
+    /// Puts a ticket back in front of the others: it is the oldest again.
+    pub fn return_ticket(&mut self, ticket: Ticket)
+        requires { length self.old.tickets < self.old.capacity }
+        ensures { self.new ≡ record self.old { tickets = ticket ∷ self.old.tickets } }
+    {
+        let _ = self.tickets.try_push_front(ticket);
+    }
+
+    /// Puts a slot back in front of the others: it is the oldest again.
+    pub fn return_slot(&mut self, slot: usize)
+        requires { length self.old.slots < self.old.capacity }
+        ensures { self.new ≡ record self.old { slots = slot ∷ self.old.slots } }
+    {
+        let _ = self.slots.try_push_front(slot);
+    }
+
     /// Takes the oldest ticket.
     pub fn take_ticket(&mut self) -> Option<Ticket>
         ensures value { result ≡ slice_get self.old.tickets 0 }

@@ -6,7 +6,7 @@ use crate::hand::Hand;
 use ready::{FreeQueue, Full, ReadyQueue, Ticket};
 use std::sync::Wait;
 
-/// Puts the tickets in hand, oldest first, until one is refused, which is then the last in hand.
+/// Puts the tickets in hand, oldest first, until one is refused, which stays the oldest.
 pub(crate) fn put_tickets<R: Wait>(rt: &R, ready: &mut ReadyQueue, hand: &mut Hand)
     ensures { Shrank hand.old hand.new }
 {
@@ -15,13 +15,13 @@ pub(crate) fn put_tickets<R: Wait>(rt: &R, ready: &mut ReadyQueue, hand: &mut Ha
             return;
         };
         if let Err(Full(ticket)) = ready.put(rt, ticket) {
-            hand.keep_ticket(ticket);
+            hand.return_ticket(ticket);
             return;
         }
     }
 }
 
-/// Gives the slots in hand back, oldest first, until one is refused, which is then the last in hand.
+/// Gives the slots in hand back, oldest first, until one is refused, which stays the oldest.
 pub(crate) fn give_slots<R: Wait>(rt: &R, free: &mut FreeQueue, hand: &mut Hand)
     ensures { Shrank hand.old hand.new }
 {
@@ -30,7 +30,7 @@ pub(crate) fn give_slots<R: Wait>(rt: &R, free: &mut FreeQueue, hand: &mut Hand)
             return;
         };
         if let Err(Full(slot)) = free.give(rt, slot) {
-            hand.keep_slot(slot);
+            hand.return_slot(slot);
             return;
         }
     }

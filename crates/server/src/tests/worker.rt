@@ -515,8 +515,12 @@ fn put_silent<R: Wait>(
     if slot >= shared.claims.slots() || !own.hand.has_room() {
         return Ok(false);
     }
-    let silent = berth(alloc, ticket(slot, 1), Scene::Silent)?;
-    let opened = placed(rt, shared, own, ticket(slot, 1), silent);
+    let first = Ticket {
+        slot,
+        generation: 1,
+    };
+    let silent = berth(alloc, first, Scene::Silent)?;
+    let opened = placed(rt, shared, own, first, silent);
     put_tickets(rt, &mut own.ready, &mut own.hand);
     Ok(opened == Ok(true))
 }
