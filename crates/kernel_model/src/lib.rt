@@ -10,12 +10,20 @@
 //! The rules follow epoll(7), read(2), write(2), shutdown(2) and connect(2).
 #![tactic(auto)]
 
+mod accepting;
 mod end;
+mod kernel;
+mod queue;
 mod refusal;
 mod reply;
+mod sockets;
 #[cfg(test)]
 mod tests;
+mod watched;
 
+pub use accepting::Accepting;
 pub use end::End;
+pub use kernel::{Kernel, MOST_BACKLOG, MOST_POLLED, Open};
 pub use refusal::Refusal;
 pub use reply::Reply;
+pub use watched::Watched;
