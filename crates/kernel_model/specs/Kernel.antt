@@ -10,6 +10,8 @@ use Rattle.kernel_model.specs.declared.watched.Watched.TheVariants as watched
 use Rattle.kernel_model.specs.declared.accepting.Accepting.{Accepting}
 use Rattle.kernel_model.specs.declared.accepting.Accepting.TheVariants.{Accepted, Blocked, Again, Starved}
 use Rattle.kernel_model.specs.declared.reply.Reply.{Reply}
+use Rattle.kernel_model.specs.declared.both.Descriptors.{Descriptors}
+use Rattle.kernel_model.specs.declared.both.Sockets.{Sockets}
 use Rattle.kernel_model.specs.Outcome.{guard, Told}
 use Rattle.kernel_model.specs.Ends.{Endpoint, opened, is_readable, is_writable, arrival, finish, failure, new_room}
 use Rattle.kernel_model.specs.Replies.{after_read, after_write, after_join, after_shut}
@@ -28,11 +30,6 @@ pub record Watcher : Type 0 where
   pub queue : List Name
   pub backlog : ℕ
   pub armed : Bool
-
--- something of each side of a connection
-pub record Both (X : Type 0) : Type 0 where
-  pub client : X
-  pub target : X
 
 -- nothing is open or queued, and nobody waits
 abbrev pub idle : Watcher
@@ -58,7 +55,7 @@ open_end k token = record {
 }
 
 -- both ends of a connection are opened, the client's first
-abbrev pub open_both : Watcher → EndName → EndName → Told Watcher (Both ℕ)
+abbrev pub open_both : Watcher → EndName → EndName → Told Watcher Descriptors
 open_both k client target = record {
   value = (open_end (open_end k client).value target).value;
   told = record { client = (open_end k client).told; target = (open_end (open_end k client).value target).told };
@@ -74,12 +71,12 @@ close k descriptor = option_map
     (end_at k.ends descriptor)
 
 -- both ends of a connection are closed
-abbrev pub close_both : Watcher → ℕ → ℕ → Option (Told Watcher (Both Endpoint))
-close_both k client target = option_and_then
+abbrev pub close_both : Watcher → Descriptors → Option (Told Watcher Sockets)
+close_both k ends = option_and_then
     (λ (one : Told Watcher Endpoint). option_map
     (λ (two : Told Watcher Endpoint). record { value = two.value; told = record { client = one.told; target = two.told } })
-    (close one.value target))
-    (close k client)
+    (close one.value ends.target))
+    (close k ends.client)
 
 -- a name is queued where something is to be reported
 abbrev pub reported : List Name → Name → Bool → List Name

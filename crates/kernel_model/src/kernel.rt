@@ -1,12 +1,13 @@
 // The kernel of one process: its open ends, its readiness queue and its listener. The calls on single
 // ends stand in `sockets.rt`.
-ghost use Rattle.std.specs.Prelude.{◌≡◌, ◌<◌, vec_len, vec_capacity, Some, position};
+ghost use Rattle.std.specs.Prelude.{◌≡◌, ◌<◌, vec_len, vec_capacity, Some, IsSome, IsTrue, ◌↔◌, position};
 ghost use Rattle.std.specs.Option.{option_copied, is_none};
 ghost use Rattle.kernel_model.specs.Outcome.{Meets, MeetsAlways, Tells, TellsAlways};
 ghost use Rattle.kernel_model.specs.Names.{has};
 ghost use Rattle.kernel_model.specs.Kernel.{Registered, idle, end_at, lowest_free, open_end, close, name_of, is_quiet, spurious, vanish, poll, connect_in, accept};
 
 use crate::accepting::Accepting;
+use crate::connecting::place;
 use crate::end::End;
 use crate::queue::{add, are_among, are_distinct, has, remove, remove_all};
 use crate::refusal::Refusal;
@@ -40,7 +41,7 @@ impl Model for Open {
 /// A kernel, by plain values.
 #[derive(Drop)]
 pub struct Kernel {
-    alloc: Global,
+    pub(crate) alloc: Global,
     pub(crate) ends: Vec<Option<Open>>,
     pub(crate) queue: Vec<Name>,
     backlog: usize,
@@ -116,18 +117,8 @@ impl Kernel {
     pub fn open_end(&mut self, token: Token) -> Result<usize, Refusal>
         ensures { Tells (Some (open_end self.old token)) self.old self.new result }
     {
-        let descriptor = self.lowest_free();
         self.ends.reserve(1)?;
-        let open = Open {
-            token,
-            socket: End::new(self.alloc, token.side()),
-        };
-        if descriptor < self.ends.len() {
-            self.ends[descriptor] = Some(open);
-        } else {
-            self.ends.push(Some(open)).unwrap();
-        }
-        Ok(descriptor)
+        Ok(place(self.alloc, &mut self.ends, token))
     }
 
     /// Closes an end, takes its name off the queue, and hands the end out (close(2)).
@@ -181,6 +172,14 @@ impl Kernel {
         Ok(())
     }
 
+    /// Whether a poll may hand these names over: there are not too many, each is queued, and none stands
+    /// there twice.
+    pub fn may_poll(&self, names: &[Name]) -> bool
+        ensures { IsTrue result ↔ IsSome (poll self.now names.now) }
+    {
+        names.len() <= MOST_POLLED && are_among(self.queue.as_slice(), names) && are_distinct(names)
+    }
+
     /// A poll hands these names over, and they leave the queue (epoll_wait(2)).
     ///
     /// Refuses with `NotAllowed`, and changes nothing, where there are more than [`MOST_POLLED`] names, or
@@ -188,10 +187,7 @@ impl Kernel {
     pub fn poll(&mut self, names: &[Name]) -> Result<(), Refusal>
         ensures { MeetsAlways (poll self.old names.now) self.old self.new result }
     {
-        if names.len() > MOST_POLLED
-            || !are_among(self.queue.as_slice(), names)
-            || !are_distinct(names)
-        {
+        if !self.may_poll(names) {
             return Err(Refusal::NotAllowed);
         }
         remove_all(&mut self.queue, names);
@@ -241,16 +237,6 @@ impl Kernel {
         Ok(())
     }
 
-    /// The lowest descriptor that is not open.
-    fn lowest_free(&self) -> usize
-        ensures { result ≡ lowest_free self.now.ends }
-    {
-        match first_closed(self.ends.as_slice()) {
-            Some(descriptor) => descriptor,
-            None => self.ends.len(),
-        }
-    }
-
     /// The name of what is watched; a descriptor that is not open has none.
     fn name_of(&self, who: Watched) -> Option<Name>
         ensures { result ≡ name_of self.now who }
@@ -277,6 +263,16 @@ impl Kernel {
                 None => true,
             },
         }
+    }
+}
+
+/// The lowest descriptor that is not open.
+pub fn lowest_free(ends: &[Option<Open>]) -> usize
+    ensures { result ≡ lowest_free ends.now }
+{
+    match first_closed(ends) {
+        Some(descriptor) => descriptor,
+        None => ends.len(),
     }
 }
 

@@ -11,6 +11,8 @@
 #![tactic(auto)]
 
 mod accepting;
+mod both;
+mod connecting;
 mod end;
 mod kernel;
 mod queue;
@@ -22,6 +24,7 @@ mod tests;
 mod watched;
 
 pub use accepting::Accepting;
+pub use both::{Descriptors, Sockets};
 pub use end::End;
 pub use kernel::{Kernel, MOST_BACKLOG, MOST_POLLED, Open};
 pub use refusal::Refusal;
