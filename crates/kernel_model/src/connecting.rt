@@ -26,6 +26,15 @@ impl Kernel {
         Ok(Descriptors { client, target })
     }
 
+    /// Whether these are two descriptors, and both are open.
+    pub fn may_close_both(&self, ends: Descriptors) -> bool
+        ensures { IsTrue result ↔ IsSome (close_both self.now ends) }
+    {
+        ends.client != ends.target
+            && self.end(ends.client).is_some()
+            && self.end(ends.target).is_some()
+    }
+
     /// Closes both ends of a connection, as [`Kernel::close`] does, and hands them out.
     ///
     /// Refuses with `NotAllowed`, and closes neither, where a descriptor is not open, or both are the same.
@@ -33,10 +42,7 @@ impl Kernel {
     pub fn close_both(&mut self, ends: Descriptors) -> Result<Sockets, Refusal>
         ensures { TellsAlways (close_both self.old ends) self.old self.new result }
     {
-        if ends.client == ends.target
-            || self.end(ends.client).is_none()
-            || self.end(ends.target).is_none()
-        {
+        if !self.may_close_both(ends) {
             return Err(Refusal::NotAllowed);
         }
         let client = self.close(ends.client)?;
