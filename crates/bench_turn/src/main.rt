@@ -1,5 +1,6 @@
 //! How fast a turn moves bytes, against a plain loop: `bench_turn run` prints both, in megabytes per
-//! second, and their ratio. Without the word `run` it does nothing, so that the gate can run it.
+//! second, and their ratio, where each write takes all that it is offered and where it takes an eighth of
+//! a ring. Without the word `run` it does nothing, so that the gate can run it.
 #![tactic(auto)]
 
 mod memory;
@@ -18,6 +19,9 @@ const RING: usize = 16_384;
 
 const BUDGET: usize = 64;
 
+/// What a short write takes: an eighth of a ring.
+const SHORT: usize = 2_048;
+
 /// Rounds of both ways, so that a change of the machine's pace between them shows.
 const ROUNDS: u32 = 3;
 
@@ -30,23 +34,29 @@ fn main(rt: HostRuntime) -> io::Result<()> {
     Ok(())
 }
 
-/// Times both ways in turn, and prints what came.
+/// Times both ways in turn, over whole writes and over short ones, and prints what came.
 fn compare(rt: &HostRuntime) -> io::Result<()> {
     for _ in 0..ROUNDS {
-        let start = Instant::now(rt)?;
-        let by_turns = by_turns(rt)?;
-        let turns = start.elapsed(rt)?.as_nanos();
-        let start = Instant::now(rt)?;
-        let by_loop = by_loop()?;
-        let plain = start.elapsed(rt)?.as_nanos();
-        if by_turns != by_loop {
-            println!(rt; "the two ways moved other bytes: {by_turns:?}, {by_loop:?}")?;
-        }
-        let (turns, plain) = (rate(turns), rate(plain));
-        let percent = turns.saturating_mul(100) / plain.max(1);
-        println!(rt; "turn {turns} MB/s, plain loop {plain} MB/s, ratio {percent} %")?;
+        compare_writes(rt, "whole writes", RING)?;
+        compare_writes(rt, "short writes", SHORT)?;
     }
     Ok(())
+}
+
+/// Times both ways once, where a write takes at most so many bytes.
+fn compare_writes(rt: &HostRuntime, what: &str, most: usize) -> io::Result<()> {
+    let start = Instant::now(rt)?;
+    let by_turns = by_turns(rt, most)?;
+    let turns = start.elapsed(rt)?.as_nanos();
+    let start = Instant::now(rt)?;
+    let by_loop = by_loop(most)?;
+    let plain = start.elapsed(rt)?.as_nanos();
+    if by_turns != by_loop {
+        println!(rt; "the two ways moved other bytes: {by_turns:?}, {by_loop:?}")?;
+    }
+    let (turns, plain) = (rate(turns), rate(plain));
+    let percent = turns.saturating_mul(100) / plain.max(1);
+    println!(rt; "{what}: turn {turns} MB/s, plain loop {plain} MB/s, ratio {percent} %")
 }
 
 /// Megabytes per second, for a run of so many nanoseconds.
@@ -56,10 +66,10 @@ fn rate(nanoseconds: u128) -> u64 {
 }
 
 /// Moves all bytes by turns of a pair.
-fn by_turns(rt: &HostRuntime) -> io::Result<(u64, u8)> {
+fn by_turns(rt: &HostRuntime, most: usize) -> io::Result<(u64, u8)> {
     let mut pair = Pair::new(rt.alloc(), 0, 1, RING)?;
-    let mut client = MemoryWire::new(BYTES);
-    let mut target = MemoryWire::new(0);
+    let mut client = MemoryWire::new(BYTES, RING);
+    let mut target = MemoryWire::new(0, most);
     for _ in 0..BYTES {
         match turn(&mut pair, &mut client, &mut target, BUDGET) {
             Turn::Again => {}
@@ -71,16 +81,29 @@ fn by_turns(rt: &HostRuntime) -> io::Result<(u64, u8)> {
 }
 
 /// Moves all bytes by a loop that reads into an array and writes it out.
-fn by_loop() -> io::Result<(u64, u8)> {
-    let mut client = MemoryWire::new(BYTES);
-    let mut target = MemoryWire::new(0);
+fn by_loop(most: usize) -> io::Result<(u64, u8)> {
+    let mut client = MemoryWire::new(BYTES, RING);
+    let mut target = MemoryWire::new(0, most);
     let mut buffer = [0; RING];
     for _ in 0..BYTES {
         let count = client.read(&mut buffer)?;
         if count == 0 {
             break;
         }
-        target.write(&buffer[..count])?;
+        write_out(&mut target, &buffer[..count])?;
     }
     Ok(target.taken())
+}
+
+/// Writes all of `bytes`, by as many writes as it takes.
+fn write_out(target: &mut MemoryWire, bytes: &[u8]) -> io::Result<()> {
+    let mut rest = bytes;
+    for _ in 0..bytes.len() {
+        if rest.is_empty() {
+            break;
+        }
+        let count = target.write(rest)?;
+        rest = &rest[count..];
+    }
+    Ok(())
 }

@@ -6,22 +6,26 @@ use std::io;
 /// How many bytes one copy moves at most.
 const CHUNK: usize = 16_384;
 
-/// A wire that has so many bytes to read, and takes all that is written. Its calls are not inlined, as a
-/// system call isn't, and it counts what it took, so that no copy can be left out.
+/// A wire that has so many bytes to read, and takes what is written, at most so many bytes in one write.
+/// Its calls are not inlined, as a system call isn't, and it counts what it took, so that no copy can be
+/// left out.
 #[derive(Drop)]
 pub struct MemoryWire {
     left: u64,
     taken: u64,
+    most: usize,
     source: [u8; CHUNK],
     sink: [u8; CHUNK],
 }
 
 impl MemoryWire {
-    /// A wire with so many bytes to read.
-    pub fn new(bytes: u64) -> MemoryWire {
+    /// A wire with so many bytes to read, whose writes take at most `most` bytes each, but 1 at least and
+    /// 16,384 at most.
+    pub fn new(bytes: u64, most: usize) -> MemoryWire {
         MemoryWire {
             left: bytes,
             taken: 0,
+            most,
             source: [7; CHUNK],
             sink: [0; CHUNK],
         }
@@ -49,7 +53,7 @@ impl Wire for MemoryWire {
 
     #[inline(never)]
     fn write(&mut self, offer: &[u8]) -> io::Result<usize> {
-        let count = offer.len().min(CHUNK);
+        let count = offer.len().min(self.most.max(1)).min(CHUNK);
         self.sink[..count].copy_from_slice(&offer[..count]);
         self.taken = self.taken.wrapping_add(count as u64);
         Ok(count)

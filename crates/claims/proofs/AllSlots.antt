@@ -1,5 +1,5 @@
 -- One step keeps the rule of all slots: at another slot nothing changes.
-use Rattle.std.proofs.Common.{◌≡◌, ◌≢◌, ℕ, ◌^◌, ◌<◌, ◌≤◌, List, length, get_or, set, sym, subst, ap, ◌∙◌, arith, get_or-set_other, get_or-set_same, length-set}
+use Rattle.std.proofs.Common.{◌≡◌, ◌≢◌, ℕ, ◌+◌, ◌^◌, ◌<◌, ◌≤◌, List, length, get_or, set, sym, subst, ap, ◌∙◌, arith, get_or-set_other, get_or-set_same, length-set}
 use Rattle.std.specs.List.{sum_by, All}
 use Rattle.std.proofs.lemmas.List.{map-set}
 use Rattle.std.proofs.lemmas.List.Elements.{All-set}
@@ -14,6 +14,10 @@ use Rattle.claims.specs.declared.view.View.{View}
 use Rattle.claims.specs.Views.{blank, posted_of, spare_of, account_in, column}
 use Rattle.claims.specs.Rule.{SlotRule, ClaimRule}
 use Rattle.claims.proofs.Totals.{sum_by-map, sum_by-put, each_at}
+
+-- the view after a step that leaves this account of the slot
+abbrev with_account : View → ℕ → Account → View
+with_account v slot b = record v { accounts = set v.accounts slot b; steps = v.steps + 1 }
 
 module _ (slots : ℕ) (words : List ℕ) (views : List View) (rule : ClaimRule slots words views) where
   -- the notes that all seats ever posted at one slot
@@ -38,9 +42,9 @@ module _ (slots : ℕ) (words : List ℕ) (views : List View) (rule : ClaimRule 
 
     -- the seat k has the account b of this slot, and the word became n
     pub kept : (n : ℕ) (b : Account) → SlotRule n (set (column slot views) k b) → sum_by posted_of (set v.accounts slot b) ≤ 2 ^ 56
-        → ClaimRule slots (set words slot n) (set views k (record v { accounts = set v.accounts slot b }))
+        → ClaimRule slots (set words slot n) (set views k (with_account v slot b))
     kept n b here few =
-        let w : View = record v { accounts = set v.accounts slot b } in
+        let w : View = with_account v slot b in
         let sized = each_at (λ u. length u.accounts ≡ slots) views k v at rule.one_account_each in
         let spares = sum_by-put spare_of views k v w at in
         let seats = rule.few_seats in
@@ -53,17 +57,17 @@ module _ (slots : ℕ) (words : List ℕ) (views : List View) (rule : ClaimRule 
           few_seats = omega arith;
         }
       where
-        at_slot : (n : ℕ) (b : Account) → SlotRule n (set (column slot views) k b) → SlotRule (get_or (set words slot n) slot 0) (column slot (set views k (record v { accounts = set v.accounts slot b })))
+        at_slot : (n : ℕ) (b : Account) → SlotRule n (set (column slot views) k b) → SlotRule (get_or (set words slot n) slot 0) (column slot (set views k (with_account v slot b)))
         at_slot n b here =
-            let w : View = record v { accounts = set v.accounts slot b } in
+            let w : View = with_account v slot b in
             let word : get_or (set words slot n) slot 0 ≡ n = get_or-set_same words slot n 0 (subst (λ (m : ℕ). slot < m) (sym rule.one_word_each) lt) in
             let mine : account_in slot w ≡ b = get_or-set_same v.accounts slot b blank wide in
             let columns : column slot (set views k w) ≡ set (column slot views) k b = map-set (account_in slot) views k w ∙ ap (λ (a : Account). set (column slot views) k a) mine in
             subst (λ (m : ℕ). SlotRule m (column slot (set views k w))) (sym word) (subst (λ (as_ : List Account). SlotRule n as_) (sym columns) here)
 
-        elsewhere : (n : ℕ) (b : Account) (j : ℕ) → j < slots → j ≢ slot → SlotRule (get_or (set words slot n) j 0) (column j (set views k (record v { accounts = set v.accounts slot b })))
+        elsewhere : (n : ℕ) (b : Account) (j : ℕ) → j < slots → j ≢ slot → SlotRule (get_or (set words slot n) j 0) (column j (set views k (with_account v slot b)))
         elsewhere n b j j_lt other =
-            let w : View = record v { accounts = set v.accounts slot b } in
+            let w : View = with_account v slot b in
             let word : get_or (set words slot n) j 0 ≡ get_or words j 0 = get_or-set_other words slot j n 0 other in
             let mine : account_in j w ≡ account_in j v = get_or-set_other v.accounts slot j b blank other in
             let columns : column j (set views k w) ≡ column j views =

@@ -6,3 +6,5 @@ pub mod Moves
 pub mod Tells
 pub mod Cases
 pub mod Opens
+pub mod Seats
+pub mod States

@@ -8,7 +8,7 @@ use native.Mathlib.Decide.{ℕ_discrete}
 use lib.ListN.{get_elem?}
 use Rattle.claims.specs.declared.view.Account.{Account}
 use Rattle.claims.specs.Words.{one, some_wait, wakes, word_of, word_after, WordState, Kind, post, claim, take, release, retire, adopt}
-use Rattle.claims.specs.Views.{posted_of, taken_of, minted_of, redeemed_of, holding_of, account_after, after_post, after_claim, after_take, after_release, after_retire, after_adopt}
+use Rattle.claims.specs.Views.{posted_of, taken_of, minted_of, redeemed_of, holding_of, adopts_of, retires_of, account_after, after_post, after_claim, after_take, after_release, after_retire, after_adopt}
 use Rattle.claims.specs.Rule.{due, Knows, SlotRule}
 use Rattle.claims.specs.Steps.{NeedsHolder}
 use Rattle.claims.proofs.Totals.{sum_by-put, term-le, each_at}
@@ -49,17 +49,21 @@ module _ (accounts : List Account) (k : ℕ) (v : Account) (at : get_elem? accou
       → s.pending + sum_by taken_of accounts ≡ sum_by posted_of accounts
       → sum_by holding_of accounts + one s.free ≡ one s.held
       → sum_by minted_of accounts ≡ sum_by redeemed_of accounts + due s
+      → one s.free + sum_by adopts_of accounts ≡ 1 + sum_by retires_of accounts
       → t.pending + w.taken + v.posted ≡ s.pending + v.taken + w.posted
       → one w.holds + one t.free + one s.held ≡ one v.holds + one s.free + one t.held
       → w.minted + v.redeemed + due s ≡ v.minted + w.redeemed + due t
+      → one t.free + w.adopts + v.retires ≡ one s.free + v.adopts + w.retires
       → All (Knows t.pending) (set accounts k w)
       → SlotRule (word_of t) (set accounts k w)
-  turned w s t notes holders tickets n h m knows =
+  turned w s t notes holders tickets freed n h m f knows =
       let taken = sum_by-put taken_of accounts k v w at in
       let posted = sum_by-put posted_of accounts k v w at in
       let holding = sum_by-put holding_of accounts k v w at in
       let minted = sum_by-put minted_of accounts k v w at in
       let redeemed = sum_by-put redeemed_of accounts k v w at in
+      let adopts = sum_by-put adopts_of accounts k v w at in
+      let retires = sum_by-put retires_of accounts k v w at in
       record {
         state = t;
         reads = refl;
@@ -67,6 +71,7 @@ module _ (accounts : List Account) (k : ℕ) (v : Account) (at : get_elem? accou
         holders = omega arith;
         tickets = omega arith;
         known = knows;
+        freed = omega arith;
       }
 
   -- who holds the slot is the only one
@@ -86,49 +91,50 @@ module _ (accounts : List Account) (k : ℕ) (v : Account) (at : get_elem? accou
       → sum_by holding_of accounts + one f ≡ one h
       → sum_by minted_of accounts ≡ sum_by redeemed_of accounts + due (word_state p f h)
       → All (Knows p) accounts
+      → one f + sum_by adopts_of accounts ≡ 1 + sum_by retires_of accounts
       → SlotRule (word_of (word_after kind (word_state p f h))) (set accounts k (account_after kind (word_state p f h) v))
-  step_by post p f h may notes holders tickets known =
+  step_by post p f h may notes holders tickets known freed =
       let s = word_state p f h in let w = after_post (wakes s) v in
       let due_now = due-post p f h in
       let mine = each_at (Knows p) accounts k v at known in
       let some = one_le v.holds in
       let none : v.holds ≡ false → w.known ≡ 0 = λ e. (let z : one v.holds ≡ 0 = ap one e in let y = mine.1 e in omega arith) in
-      turned w s (word_state (suc p) f h) notes holders tickets (omega arith) refl (omega arith)
+      turned w s (word_state (suc p) f h) notes holders tickets freed (omega arith) refl (omega arith) (omega arith)
       (all_put (Knows (suc p)) accounts k w ((let m = mine.0 in omega arith), none) (λ j d other lt. ((let m = (known j d lt).0 in omega arith), (known j d lt).1)))
-  step_by claim p f true may notes holders tickets known =
+  step_by claim p f true may notes holders tickets known freed =
       let s = word_state p f true in
-      turned v s s notes holders tickets (omega arith) refl (omega arith) (all_put (Knows p) accounts k v (each_at (Knows p) accounts k v at known) (λ j d other lt. known j d lt))
-  step_by claim p f false may notes holders tickets known =
+      turned v s s notes holders tickets freed (omega arith) refl (omega arith) (omega arith) (all_put (Knows p) accounts k v (each_at (Knows p) accounts k v at known) (λ j d other lt. known j d lt))
+  step_by claim p f false may notes holders tickets known freed =
       let w = after_claim p v in
       let mine = term-le holding_of accounts k v at in
-      turned w (word_state p f false) (word_state p f true) notes holders tickets (omega arith) (omega arith) (omega arith)
+      turned w (word_state p f false) (word_state p f true) notes holders tickets freed (omega arith) (omega arith) (omega arith) (omega arith)
       (all_put (Knows p) accounts k w (omega arith, (λ e. cc)) (λ j d other lt. known j d lt))
-  step_by take p f true may notes holders tickets known =
+  step_by take p f true may notes holders tickets known freed =
       let s = word_state p f true in let w = after_take p v in
-      turned w s (word_state zero f true) notes holders tickets (omega arith) refl (omega arith)
+      turned w s (word_state zero f true) notes holders tickets freed (omega arith) refl (omega arith) (omega arith)
       (all_put (Knows zero) accounts k w (omega arith, (λ e. refl))
       (λ j d other lt. (let none = (known j d lt).1 (alone s may holders j d other lt) in (omega arith, (λ e. none)))))
-  step_by take p f false may notes holders tickets known =
+  step_by take p f false may notes holders tickets known freed =
       let mine = term-le holding_of accounts k v at in let me : one v.holds ≡ 1 = ap one may in absurd (omega arith)
-  step_by release p f true may notes holders tickets known =
+  step_by release p f true may notes holders tickets known freed =
       let w = after_release (some_wait p) v in let me : one v.holds ≡ 1 = ap one may in
-      turned w (word_state p f true) (word_state p f false) notes holders tickets (omega arith) (omega arith) (omega arith)
+      turned w (word_state p f true) (word_state p f false) notes holders tickets freed (omega arith) (omega arith) (omega arith) (omega arith)
       (all_put (Knows p) accounts k w (omega arith, (λ e. refl)) (λ j d other lt. known j d lt))
-  step_by release p f false may notes holders tickets known =
+  step_by release p f false may notes holders tickets known freed =
       let mine = term-le holding_of accounts k v at in let me : one v.holds ≡ 1 = ap one may in absurd (omega arith)
-  step_by retire p f h may notes holders tickets known =
+  step_by retire p f h may notes holders tickets known freed =
       let w = after_retire v in
       let mine = term-le holding_of accounts k v at in let me : one v.holds ≡ 1 = ap one may in let top = one_le h in
-      turned w (word_state p f h) (word_state p true h) notes holders tickets (omega arith) (omega arith) (omega arith)
+      turned w (word_state p f h) (word_state p true h) notes holders tickets freed (omega arith) (omega arith) (omega arith) (omega arith)
       (all_put (Knows p) accounts k w (omega arith, (λ e. refl)) (λ j d other lt. known j d lt))
-  step_by adopt p true h may notes holders tickets known =
+  step_by adopt p true h may notes holders tickets known freed =
       let w = after_adopt p v in
       let mine = term-le holding_of accounts k v at in let top = one_le h in
-      turned w (word_state p true h) (word_state p false h) notes holders tickets (omega arith) (omega arith) (omega arith)
+      turned w (word_state p true h) (word_state p false h) notes holders tickets freed (omega arith) (omega arith) (omega arith) (omega arith)
       (all_put (Knows p) accounts k w (omega arith, (λ e. cc)) (λ j d other lt. known j d lt))
-  step_by adopt p false h may notes holders tickets known =
+  step_by adopt p false h may notes holders tickets known freed =
       let s = word_state p false h in
-      turned v s s notes holders tickets (omega arith) refl (omega arith) (all_put (Knows p) accounts k v (each_at (Knows p) accounts k v at known) (λ j d other lt. known j d lt))
+      turned v s s notes holders tickets freed (omega arith) refl (omega arith) (omega arith) (all_put (Knows p) accounts k v (each_at (Knows p) accounts k v at known) (λ j d other lt. known j d lt))
 
   pub slot_kept : (kind : Kind) (n : ℕ) → NeedsHolder kind v → (rule : SlotRule n accounts) → SlotRule (word_of (word_after kind rule.state)) (set accounts k (account_after kind rule.state v))
-  slot_kept kind n may rule = step_by kind rule.state.pending rule.state.free rule.state.held may rule.notes rule.holders rule.tickets rule.known
+  slot_kept kind n may rule = step_by kind rule.state.pending rule.state.free rule.state.held may rule.notes rule.holders rule.tickets rule.known rule.freed

@@ -1,7 +1,7 @@
 -- The rule holds at the start, and a seat that makes another keeps it.
 use Rattle.std.proofs.Common.{◌≡◌, ℕ, zero, suc, ◌+◌, ◌-◌, ◌*◌, ◌^◌, ◌<◌, ◌≤◌, Bool, true, false, List, [], ◌∷◌, ◌++◌, length, map, set, get_or, replicate, refl, sym, subst, ap, ◌∙◌, arith}
 use Rattle.std.specs.List.{sum_by}
-use Rattle.std.proofs.lemmas.List.{map-set, map-append, length-replicate, get_or-replicate, replicate_more, length-append, length-set}
+use Rattle.std.proofs.lemmas.List.{ext_get_or, map-set, map-append, length-replicate, get_or-replicate, replicate_more, length-append, length-set}
 use Rattle.std.proofs.lemmas.List.Elements.{All-set, All-push, All-replicate}
 use Rattle.std.proofs.lemmas.List.Folds.{sum_by-replicate}
 use Rattle.std.proofs.lemmas.List.Sums.{sum_by_push}
@@ -9,10 +9,10 @@ use Rattle.atomic_table.specs.Table.{Splits}
 use Rattle.atomic_table.proofs.Lists.{at_map, set_again}
 use Rattle.claims.specs.declared.view.Account.{Account}
 use Rattle.claims.specs.declared.view.View.{View}
-use Rattle.claims.specs.Views.{blank, posted_of, taken_of, minted_of, redeemed_of, holding_of, holds_of, spare_of, view_of, account_in, column}
+use Rattle.claims.specs.Views.{blank, posted_of, taken_of, minted_of, redeemed_of, holding_of, holds_of, adopts_of, retires_of, spare_of, unused_view, account_in, column}
 use Rattle.claims.specs.Rule.{Knows, SlotRule, ClaimRule}
 use Rattle.claims.specs.Steps.{first_view, one_spare_less, newcomer}
-use Rattle.claims.specs.Seats.{TableId, SeatState, fresh, SeatOk}
+use Rattle.claims.specs.Seats.{TableId, SeatState, view_of, fresh, SeatOk}
 use Rattle.claims.specs.Opening.{OpensLawful}
 use Rattle.claims.proofs.Totals.{each_at, sum_by-put}
 
@@ -29,6 +29,8 @@ blank_slot n =
     let minted = none minted_of refl in
     let redeemed = none redeemed_of refl in
     let holding = none holding_of refl in
+    let adopts = none adopts_of refl in
+    let retires = none retires_of refl in
     record {
       state = record { pending = 0; free = true; held = true };
       reads = refl;
@@ -36,6 +38,7 @@ blank_slot n =
       holders = omega arith;
       tickets = omega arith;
       known = All-replicate (Knows 0) n blank (omega arith, (λ e. refl));
+      freed = omega arith;
     }
 
 map-replicate : {A B : Type 0} (f : A → B) (n : ℕ) (a : A) → map f (replicate n a) ≡ replicate n (f a)
@@ -44,9 +47,9 @@ map-replicate f (suc n) a = ap (λ l. f a ∷ l) (map-replicate f n a)
 
 module _ (slots : ℕ) (spare : ℕ) where
   -- so many seats that have done nothing and have this spare each
-  pub unused_rule : (seats : ℕ) → seats + seats * spare ≤ 32 → ClaimRule slots (replicate slots 3) (replicate seats (view_of (replicate slots blank) spare))
+  pub unused_rule : (seats : ℕ) → seats + seats * spare ≤ 32 → ClaimRule slots (replicate slots 3) (replicate seats (unused_view slots spare))
   unused_rule seats few =
-      let v : View = view_of (replicate slots blank) spare in
+      let v : View = unused_view slots spare in
       let posts : sum_by posted_of v.accounts ≡ 0 = sum_by-replicate posted_of slots blank ∙ omega arith in
       let spares = sum_by-replicate spare_of seats v in
       let many = length-replicate seats v in
@@ -64,12 +67,14 @@ module _ (slots : ℕ) (spare : ℕ) where
 -- one blank account more
 blank_more : (n : ℕ) (accounts : List Account) → SlotRule n accounts → SlotRule n (accounts ++ blank ∷ [])
 blank_more n accounts rule =
-    let notes = rule.notes in let holders = rule.holders in let tickets = rule.tickets in
+    let notes = rule.notes in let holders = rule.holders in let tickets = rule.tickets in let freed = rule.freed in
     let posted = sum_by_push posted_of accounts blank in
     let taken = sum_by_push taken_of accounts blank in
     let minted = sum_by_push minted_of accounts blank in
     let redeemed = sum_by_push redeemed_of accounts blank in
     let holding = sum_by_push holding_of accounts blank in
+    let adopts = sum_by_push adopts_of accounts blank in
+    let retires = sum_by_push retires_of accounts blank in
     record {
       state = rule.state;
       reads = rule.reads;
@@ -77,6 +82,7 @@ blank_more n accounts rule =
       holders = omega arith;
       tickets = omega arith;
       known = All-push (Knows rule.state.pending) accounts blank rule.known (omega arith, (λ e. refl));
+      freed = omega arith;
     }
 
 pub may_split : (slots id : ℕ) (v : View) → 0 < v.spare → Splits {S = Unit {0}} (λ s. ClaimRule slots s.words s.views) id v (one_spare_less v) (newcomer v)
@@ -111,7 +117,7 @@ opening_rule slots seats words is some_seat few =
     subst (λ (ws : List ℕ). ClaimRule slots ws (first_view slots seats ∷ [])) (sym is) (unused_rule slots (seats - 1) 1 (omega arith))
 
 -- what an unused seat keeps beside its view
-pub unused_ok : (slots : ℕ) (held : List Bool) (table : TableId) (v : View) → held ≡ replicate slots false → table.words ≡ slots → v ≡ view_of (replicate slots blank) 0 → SeatOk 0 held table v
+pub unused_ok : (slots : ℕ) (held : List Bool) (table : TableId) (v : View) → held ≡ replicate slots false → table.words ≡ slots → v ≡ unused_view slots 0 → SeatOk 0 held table v
 unused_ok slots held table v marks words is = subst (λ (u : View). SeatOk 0 held table u) (sym is) (record {
   counted = sym (sum_by-replicate posted_of slots blank ∙ omega arith);
   unworn = omega arith;
@@ -120,19 +126,41 @@ unused_ok slots held table v marks words is = subst (λ (u : View). SeatOk 0 hel
   sized = length-replicate slots blank ∙ sym words;
 })
 
--- the rule holds of words that are all 3 and of views that are all zeros
+-- the word that blank accounts leave
+word_is_3 : (n word : ℕ) → SlotRule word (replicate n blank) → word ≡ 3
+word_is_3 n word rule =
+    let none : (f : Account → ℕ) → f blank ≡ 0 → sum_by f (replicate n blank) ≡ 0 = λ f is. (sum_by-replicate f n blank ∙ ap (λ m. n * m) is ∙ omega arith) in
+    let posted = none posted_of refl in
+    let holding = none holding_of refl in
+    let adopts = none adopts_of refl in
+    let retires = none retires_of refl in
+    let reads = rule.reads in let notes = rule.notes in let holders = rule.holders in let freed = rule.freed in
+    omega arith
+
+-- the words that unused seats leave
+words_are_3 : (slots seats : ℕ) (words : List ℕ) → ClaimRule slots words (replicate seats (unused_view slots 0)) → words ≡ replicate slots 3
+words_are_3 slots seats words rule =
+    ext_get_or 0 words (replicate slots 3) (rule.one_word_each ∙ sym (length-replicate slots 3)) (λ slot lt. (
+    let inside : slot < slots = subst (λ n. slot < n) rule.one_word_each lt in
+    let columns : column slot (replicate seats (unused_view slots 0)) ≡ replicate seats blank =
+    map-replicate (account_in slot) seats (unused_view slots 0) ∙ ap (λ (a : Account). replicate seats a) (blank_in slots slot inside) in
+    word_is_3 seats (get_or words slot 0) (subst (λ (l : List Account). SlotRule (get_or words slot 0) l) columns (rule.slot_rules slot inside))
+    ∙ sym (get_or-replicate slots slot 3 0 inside)))
+
+-- the rule holds of words that are all 3 and of unused seats, and of no other words
 pub opens_lawful : (slots seats : ℕ) (table : TableId) (all : List SeatState) → table.words ≡ slots → all ≡ replicate seats (fresh table) → seats ≤ 32 → OpensLawful slots all
-opens_lawful slots seats table all words is few =
-    let views : map (λ (s : SeatState). view_of s.accounts 0) all ≡ replicate seats (view_of (replicate slots blank) 0) =
-    ap (λ (l : List SeatState). map (λ (s : SeatState). view_of s.accounts 0) l) is ∙ map-replicate (λ (s : SeatState). view_of s.accounts 0) seats (fresh table)
-    ∙ ap (λ (n : ℕ). replicate seats (view_of (replicate n blank) 0)) words in
-    subst (λ (vs : List View). ClaimRule slots (replicate slots 3) vs) (sym views) (unused_rule slots 0 seats (omega arith))
+opens_lawful slots seats table all sized is few words =
+    let views : map view_of all ≡ replicate seats (unused_view slots 0) =
+    ap (λ (l : List SeatState). map view_of l) is ∙ map-replicate view_of seats (fresh table) ∙ ap (λ (n : ℕ). replicate seats (unused_view n 0)) sized in (
+      (λ rule. words_are_3 slots seats words (subst (λ (vs : List View). ClaimRule slots words vs) views rule)),
+      (λ all_3. subst (λ (vs : List View). ClaimRule slots words vs) (sym views) (subst (λ (ws : List ℕ). ClaimRule slots ws (replicate seats (unused_view slots 0))) (sym all_3) (unused_rule slots 0 seats (omega arith)))),
+    )
 
 -- the first seat after one split more
-pub spare_used : (slots seats made : ℕ) (v w : View) → w ≡ one_spare_less v → v ≡ view_of (replicate slots blank) (seats - made) → w ≡ view_of (replicate slots blank) (seats - (made + 1))
+pub spare_used : (slots seats made : ℕ) (v w : View) → w ≡ one_spare_less v → v ≡ unused_view slots (seats - made) → w ≡ unused_view slots (seats - (made + 1))
 spare_used slots seats made v w split was =
     let less : seats - made - 1 ≡ seats - (made + 1) = omega arith in
-    split ∙ ap one_spare_less was ∙ ap (λ (n : ℕ). view_of (replicate slots blank) n) less
+    split ∙ ap one_spare_less was ∙ ap (λ (n : ℕ). unused_view slots n) less
 
 pub one_seat_more : (table next : TableId) (made : ℕ) (all all' : List SeatState) (s : SeatState) → 1 ≤ made → all ≡ replicate (made - 1) (fresh table) → s ≡ fresh next → next ≡ table
     → all' ≡ all ++ s ∷ [] → all' ≡ replicate (made + 1 - 1) (fresh table)

@@ -9,10 +9,10 @@ use Rattle.atomic_table.proofs.Lists.{at_map, set_here}
 use Rattle.claims.specs.declared.view.Account.{Account}
 use Rattle.claims.specs.declared.view.View.{View}
 use Rattle.claims.specs.Words.{one, word_of, word_after, answer_of, WordState, Kind, Answer}
-use Rattle.claims.specs.Views.{blank, posted_of, taken_of, holds_of, holding_of, view_of, account_in, column, account_after}
+use Rattle.claims.specs.Views.{blank, posted_of, taken_of, holds_of, holding_of, account_in, column, account_after}
 use Rattle.claims.specs.Rule.{Knows, ClaimRule}
 use Rattle.claims.specs.Steps.{state_at, Told}
-use Rattle.claims.specs.Seats.{TableId, SeatState, seat_state, account_at, Holds, HoldsNot, Changed, KeepsRule, Stepped, SeatOk}
+use Rattle.claims.specs.Seats.{TableId, SeatState, seat_state, view_of, account_at, Holds, HoldsNot, one_step_later, Changed, KeepsRule, Stepped, SeatOk}
 use Rattle.claims.proofs.Totals.{inside, each_at, term-le}
 use Rattle.claims.proofs.OneSlot.{false_from_zero}
 use Rattle.claims.proofs.AllSlots.{few_posts}
@@ -97,21 +97,25 @@ module _ {kind : Kind} {slot found : ℕ} {v w : View} (told : Told kind slot fo
       changed = subst (λ (s : SeatState). Changed slot s (seat_state table' w) (account_after kind state (account_at s slot))) was (record {
         table = same;
         here = here;
+        steps = ap (λ (u : View). u.steps) told.becomes;
         others = λ other ne. (ap (λ (l : List Account). get_or l other blank) accounts ∙ get_or-set_other v.accounts slot other next blank ne);
       })
 
       pub changed_to : (a : Account) → account_after kind state (account_at old slot) ≡ a → Changed slot old (seat_state table' w) a
       changed_to a is = subst (λ (b : Account). Changed slot old (seat_state table' w) b) is changed
 
-      -- a step that leaves the account leaves the seat
-      pub unchanged : next ≡ account_in slot v → seat_state table' w ≡ old
-      unchanged e = (λ i. record { table = same i; accounts = (accounts ∙ ap (λ (a : Account). set v.accounts slot a) e ∙ set-get_or v.accounts slot blank) i }) ∙ was
+      -- a step that leaves the account leaves the seat, but for the step itself
+      pub unchanged : next ≡ account_in slot v → seat_state table' w ≡ one_step_later old
+      unchanged e =
+          let kept : w.accounts ≡ v.accounts = accounts ∙ ap (λ (a : Account). set v.accounts slot a) e ∙ set-get_or v.accounts slot blank in
+          let more : w.steps ≡ v.steps + 1 = ap (λ (u : View). u.steps) told.becomes in
+          (λ i. record { table = same i; accounts = kept i; steps = more i }) ∙ ap one_step_later was
 
       pub stepped : (answer : Answer) → answer ≡ answer_of kind state → Stepped kind slot old (seat_state table' w) answer
       unfolding Stepped
       stepped answer is = subst (λ (s : SeatState). KeepsRule kind slot s (seat_state table' w) answer) was (
           let slots : told.slots ≡ table.words = sym sized ∙ ok.sized in
-          let whole : (u : View) → u.spare ≡ 0 → u ≡ view_of u.accounts 0 = λ u e i. record { accounts = u.accounts; spare = e i } in
+          let whole : (u : View) → u.spare ≡ 0 → u ≡ record { accounts = u.accounts; spare = 0; steps = u.steps } = λ u e i. record { accounts = u.accounts; spare = e i; steps = u.steps } in
           let spare : w.spare ≡ 0 = ap (λ (u : View). u.spare) told.becomes ∙ ok.splits_no_more in
           record {
             words = told.words;
@@ -122,7 +126,7 @@ module _ {kind : Kind} {slot found : ℕ} {v w : View} (told : Told kind slot fo
             before = subst (λ (n : ℕ). ClaimRule n told.words told.views) slots told.before;
             step = record { found = state; old_is = (told.before.slot_rules slot told.inside).reads; new_is = refl; answer_is = is };
             account = here;
-            after = subst (λ (n : ℕ). ClaimRule n (set told.words slot (word_of (word_after kind state))) (set told.views told.seat (view_of w.accounts 0))) slots
+            after = subst (λ (n : ℕ). ClaimRule n (set told.words slot (word_of (word_after kind state))) (set told.views told.seat (view_of (seat_state table' w)))) slots
                 (subst (λ (u : View). ClaimRule told.slots (set told.words slot (word_of (word_after kind state))) (set told.views told.seat u)) (whole w spare) told.after);
           })
 

@@ -10,9 +10,9 @@ use Rattle.claims.specs.declared.answers.Adopted.{Adopted as AdoptAnswer}
 use Rattle.claims.specs.declared.answers.Adopted.TheVariants.{Adopted, NotFree}
 use Rattle.claims.specs.Words.{Answer, wake, quiet, held, busy, adopted, not_free, post}
 use Rattle.claims.specs.Views.{posted_of, after_post, after_claim, after_release, after_adopt}
-use Rattle.claims.specs.Seats.{SeatState, account_at, HoldsNot, Changed, Stepped}
+use Rattle.claims.specs.Seats.{SeatState, account_at, HoldsNot, one_step_later, Changed, Stepped}
 
--- Wake only where the caller does not hold the slot. Worn changes nothing, and comes only once the seat has posted 2 ^ 56 times
+-- Wake only where the caller does not hold the slot. Worn makes no exchange, and comes only once the seat has posted 2 ^ 56 times
 abbrev pub PostChange : ℕ → SeatState → Posted → SeatState → Type 0
 PostChange slot old Wake new = Changed slot old new (after_post true (account_at old slot)) × HoldsNot old slot
 PostChange slot old Quiet new = Changed slot old new (after_post false (account_at old slot))
@@ -23,10 +23,10 @@ PostStep slot old Wake new = Stepped post slot old new wake
 PostStep slot old Quiet new = Stepped post slot old new quiet
 PostStep slot old Worn new = Unit {0}
 
--- Held: some number of notes waited, and the caller knows of these
+-- Held: some number of notes waited, and the caller knows of these. Busy: one exchange, which left all as it was
 abbrev pub ClaimChange : ℕ → SeatState → Claimed → SeatState → Type 0
 ClaimChange slot old Held new = (pending : ℕ) × Changed slot old new (after_claim pending (account_at old slot)) × HoldsNot old slot
-ClaimChange slot old Busy new = new ≡ old
+ClaimChange slot old Busy new = new ≡ one_step_later old
 
 abbrev pub claim_answer : Claimed → Answer
 claim_answer Held = held
@@ -43,7 +43,7 @@ release_answer ReleaseQuiet = quiet
 
 abbrev pub AdoptChange : ℕ → SeatState → AdoptAnswer → SeatState → Type 0
 AdoptChange slot old Adopted new = (pending : ℕ) × Changed slot old new (after_adopt pending (account_at old slot)) × HoldsNot old slot
-AdoptChange slot old NotFree new = new ≡ old
+AdoptChange slot old NotFree new = new ≡ one_step_later old
 
 abbrev pub adopt_answer : AdoptAnswer → Answer
 adopt_answer Adopted = adopted

@@ -5,3 +5,4 @@ pub mod Steps
 pub mod Seats
 pub mod Calls
 pub mod Opening
+pub mod Laws

@@ -3,7 +3,7 @@ use Rattle.std.specs.Prelude.{◌≡◌, ℕ, ◌+◌, ◌^◌, ◌<◌, ◌≤�
 use Rattle.claims.specs.declared.view.Account.{Account}
 use Rattle.claims.specs.declared.view.View.{View}
 use Rattle.claims.specs.Words.{one, some_wait, word_of, WordState}
-use Rattle.claims.specs.Views.{posted_of, taken_of, minted_of, redeemed_of, holding_of, spare_of, column}
+use Rattle.claims.specs.Views.{posted_of, taken_of, minted_of, redeemed_of, holding_of, adopts_of, retires_of, spare_of, column}
 
 -- how many tickets a slot needs: one while notes wait and nobody holds it
 abbrev pub due : WordState → ℕ
@@ -24,6 +24,8 @@ pub record SlotRule (word : ℕ) (accounts : List Account) : Type 0 where
   -- the tickets that were made and not redeemed are those that the slot needs
   pub tickets : sum_by minted_of accounts ≡ sum_by redeemed_of accounts + due state
   pub known : All (Knows state.pending) accounts
+  -- a slot is free at the start, each retire frees it, and each adopt of the free slot ends that
+  pub freed : one state.free + sum_by adopts_of accounts ≡ 1 + sum_by retires_of accounts
 
 pub record ClaimRule (slots : ℕ) (words : List ℕ) (views : List View) : Type 0 where
   pub one_word_each : length words ≡ slots

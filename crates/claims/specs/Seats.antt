@@ -1,21 +1,26 @@
 -- What callers see of a seat, and how a call changes it.
-use Rattle.std.specs.Prelude.{◌≡◌, ◌≢◌, ℕ, ◌^◌, ◌≤◌, Bool, true, false, List, map, length, replicate, sum_by, slice_index, slice_index_or, slice_set}
+use Rattle.std.specs.Prelude.{◌≡◌, ◌≢◌, ℕ, ◌+◌, ◌^◌, ◌≤◌, Bool, true, false, List, map, length, replicate, sum_by, slice_index, slice_index_or, slice_set}
 use mathlib.Core.Option.{some}
 use lib.ListN.{get_elem?}
 pub use Rattle.atomic_table.specs.Seated.{TableId}
 use Rattle.claims.specs.declared.view.Account.{Account}
 use Rattle.claims.specs.declared.view.View.{View}
 use Rattle.claims.specs.Words.{Kind, Answer, WordStep}
-use Rattle.claims.specs.Views.{blank, posted_of, holds_of, view_of, account_after}
+use Rattle.claims.specs.Views.{blank, posted_of, holds_of, account_after}
 use Rattle.claims.specs.Rule.{ClaimRule}
 
--- the claim words that the seat belongs to, and its account of each slot
+-- the claim words that the seat belongs to, its account of each slot, and how many exchanges it has made
 pub record SeatState : Type 0 where
   pub table : TableId
   pub accounts : List Account
+  pub steps : ℕ
 
 abbrev pub seat_state : TableId → View → SeatState
-seat_state table v = record { table = table; accounts = v.accounts }
+seat_state table v = record { table = table; accounts = v.accounts; steps = v.steps }
+
+-- the view of such a seat, which makes no other seats
+abbrev pub view_of : SeatState → View
+view_of s = record { accounts = s.accounts; spare = 0; steps = s.steps }
 
 -- the account of this slot
 abbrev pub account_at : SeatState → ℕ → Account
@@ -29,13 +34,27 @@ HoldsNot s slot = (account_at s slot).holds ≡ false
 
 -- a seat of these claim words that has done nothing yet
 abbrev pub fresh : TableId → SeatState
-fresh table = record { table = table; accounts = replicate table.words blank }
+fresh table = record { table = table; accounts = replicate table.words blank; steps = 0 }
 
--- the account of this slot became `account`, and nothing else of the seat changed
+-- the seat holds no slot
+pub record HoldsNothing (s : SeatState) : Type 0 where
+  pub nowhere : (slot : ℕ) → HoldsNot s slot
+
+-- at every other slot the seat's account is what it was
+pub record OnlyAt (slot : ℕ) (old new : SeatState) : Type 0 where
+  pub table : new.table ≡ old.table
+  pub others : (other : ℕ) → other ≢ slot → account_at new other ≡ account_at old other
+
+-- the seat as it was, but for one exchange more
+abbrev pub one_step_later : SeatState → SeatState
+one_step_later s = record s { steps = s.steps + 1 }
+
+-- by one exchange the account of this slot became `account`, and nothing else of the seat changed
 pub record Changed (slot : ℕ) (old new : SeatState) (account : Account) : Type 0 where
   pub table : new.table ≡ old.table
   pub here : account_at new slot ≡ account
   pub others : (other : ℕ) → other ≢ slot → account_at new other ≡ account_at old other
+  pub steps : new.steps ≡ old.steps + 1
 
 -- In a state that met the rule the seat did one step of this kind at the slot's word, which answered so. Its account became what
 -- the kind makes of it by what the word said, and the rule was kept. The state is some state, since no clause can name what other
@@ -45,11 +64,11 @@ pub record KeepsRule (kind : Kind) (slot : ℕ) (old new : SeatState) (answer : 
   pub views : List View
   pub seat : ℕ
   pub word : ℕ
-  pub mine : get_elem? views seat ≡ some (view_of old.accounts 0)
+  pub mine : get_elem? views seat ≡ some (view_of old)
   pub before : ClaimRule old.table.words words views
   pub step : WordStep kind (slice_index words slot) word answer
   pub account : account_at new slot ≡ account_after kind step.found (account_at old slot)
-  pub after : ClaimRule old.table.words (slice_set words slot word) (slice_set views seat (view_of new.accounts 0))
+  pub after : ClaimRule old.table.words (slice_set words slot word) (slice_set views seat (view_of new))
 
 -- the same, closed: a caller's proof does not open it unasked
 unfoldable pub Stepped : Kind → ℕ → SeatState → SeatState → Answer → Type 0

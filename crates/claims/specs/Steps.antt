@@ -1,16 +1,16 @@
 -- What one exchange tells the seat that made it.
-use Rattle.std.specs.Prelude.{◌≡◌, ℕ, ◌-◌, ◌^◌, ◌<◌, true, List, length, replicate, sum_by, slice_index, slice_set}
+use Rattle.std.specs.Prelude.{◌≡◌, ℕ, ◌+◌, ◌-◌, ◌^◌, ◌<◌, true, List, length, sum_by, slice_index, slice_set}
 use mathlib.Core.Option.{some}
 use lib.ListN.{get_elem?}
 use Rattle.claims.specs.declared.view.Account.{Account}
 use Rattle.claims.specs.declared.view.View.{View}
 use Rattle.claims.specs.Words.{word_of, word_after, WordState, Kind, post, claim, take, release, retire, adopt}
-use Rattle.claims.specs.Views.{blank, posted_of, view_of, account_in, account_after}
+use Rattle.claims.specs.Views.{posted_of, unused_view, account_in, account_after}
 use Rattle.claims.specs.Rule.{ClaimRule}
 
--- the view that a step of this kind leaves
+-- the view that a step of this kind leaves, with one step more
 abbrev pub view_after : Kind → WordState → ℕ → View → View
-view_after kind w slot v = record v { accounts = slice_set v.accounts slot (account_after kind w (account_in slot v)) }
+view_after kind w slot v = record v { accounts = slice_set v.accounts slot (account_after kind w (account_in slot v)); steps = v.steps + 1 }
 
 -- what each kind of step asks of its seat's account: take, release and retire are for the holder
 abbrev pub NeedsHolder : Kind → Account → Type 0
@@ -45,11 +45,11 @@ pub record Told (kind : Kind) (slot found : ℕ) (v w : View) : Type 0 where
 
 -- the view of the first seat, which may still make the others
 abbrev pub first_view : ℕ → ℕ → View
-first_view slots seats = view_of (replicate slots blank) (seats - 1)
+first_view slots seats = unused_view slots (seats - 1)
 
 -- a seat makes another, which has done nothing and makes none
 abbrev pub one_spare_less : View → View
 one_spare_less v = record v { spare = v.spare - 1 }
 
 abbrev pub newcomer : View → View
-newcomer v = view_of (replicate (length v.accounts) blank) 0
+newcomer v = unused_view (length v.accounts) 0

@@ -1,12 +1,12 @@
 -- What a seat has done at one slot, its account, and the view of a seat: an account for each slot.
-use Rattle.std.specs.Prelude.{ℕ, ◌+◌, Bool, true, false, List, map, if◌then◌else◌, slice_index_or}
+use Rattle.std.specs.Prelude.{ℕ, ◌+◌, Bool, true, false, List, map, replicate, if◌then◌else◌, slice_index_or}
 use Rattle.claims.specs.declared.view.Account.{Account}
 use Rattle.claims.specs.declared.view.View.{View}
 use Rattle.claims.specs.Words.{one, some_wait, wakes, WordState, Kind, post, claim, take, release, retire, adopt}
 
 -- the account of a seat that has done nothing at the slot
 abbrev pub blank : Account
-blank = record { posted = 0; taken = 0; minted = 0; redeemed = 0; holds = false; known = 0 }
+blank = record { posted = 0; taken = 0; minted = 0; redeemed = 0; holds = false; known = 0; adopts = 0; retires = 0 }
 
 abbrev pub posted_of : Account → ℕ
 posted_of a = a.posted
@@ -27,12 +27,19 @@ holds_of a = a.holds
 abbrev pub holding_of : Account → ℕ
 holding_of a = one a.holds
 
+abbrev pub adopts_of : Account → ℕ
+adopts_of a = a.adopts
+
+abbrev pub retires_of : Account → ℕ
+retires_of a = a.retires
+
 -- the seats that a seat may still make
 abbrev pub spare_of : View → ℕ
 spare_of v = v.spare
 
-abbrev pub view_of : List Account → ℕ → View
-view_of accounts spare = record { accounts = accounts; spare = spare }
+-- a seat that has done nothing at so many slots, and may make so many seats
+abbrev pub unused_view : ℕ → ℕ → View
+unused_view slots spare = record { accounts = replicate slots blank; spare = spare; steps = 0 }
 
 -- the account of this slot
 abbrev pub account_in : ℕ → View → Account
@@ -62,11 +69,11 @@ after_release woke a = record a { holds = false; known = 0; minted = a.minted + 
 
 -- a retire, which leaves the slot free
 abbrev pub after_retire : Account → Account
-after_retire a = record a { holds = false; known = 0 }
+after_retire a = record a { holds = false; known = 0; retires = a.retires + 1 }
 
 -- an adopt of a free slot where so many notes waited
 abbrev pub after_adopt : ℕ → Account → Account
-after_adopt pending a = record a { holds = true; known = pending }
+after_adopt pending a = record a { holds = true; known = pending; adopts = a.adopts + 1 }
 
 -- the same by the kind of step and by what the word said
 abbrev pub account_after : Kind → WordState → Account → Account

@@ -16,6 +16,12 @@
 //! 4. The holder knows of no more notes than wait, so a take answers at least those that it knows of: those that its
 //!    claim or adopt found, and those that it has posted since.
 //! 5. A seat has posted at most 2^56 times, and there are at most 32 seats, so no word overflows.
+//! 6. A slot is free at the start and after each retire, until it is adopted. So before any call each slot is free,
+//!    held and without notes: its word is 3.
+//!
+//! Each call makes exactly one exchange, whatever it answers, but for a post that answers Worn, which makes none. A
+//! seat counts its exchanges of the six kinds below, and the call's contract says that the count rose by one. So no
+//! call tries again, and none answers Busy or NotFree before it has made its exchange.
 //!
 //! # The exchanges, and the race that each closes
 //!
@@ -35,17 +41,20 @@
 //!
 //! # What is not promised
 //!
-//! That Busy or NotFree was necessary, that a call makes no second exchange beside its own, any order between
-//! threads that never met, or that anyone gets on. A seat that is dropped while it holds a slot leaves it held.
+//! That Busy or NotFree was necessary, any order between threads that never met, or that anyone gets on. A seat that
+//! is dropped while it holds a slot leaves it held. A look by [`Claims::peek`] is no exchange, and is not counted.
 //!
 //! # Where to look
 //!
 //! `specs/Words.antt` has the word and its steps, `specs/Rule.antt` the rule, `specs/Calls.antt` and
 //! `specs/Views.antt` what each answer says of the caller's account of the slot, and `src/calls.rt` the calls.
+//! [`laws`] says in plain words what the rule comes to. For callers, `specs/Seats.antt` has that a seat holds nothing
+//! and that it changed at one slot alone, and `proofs/Seats.antt` how these go on from call to call.
 #![tactic(auto)]
 
 mod answers;
 mod calls;
+pub mod laws;
 mod opening;
 mod plays;
 mod rule;

@@ -1,6 +1,6 @@
 // `Claims::open`: the words at their start, and a seat for each thread.
 ghost use Rattle.std.specs.Prelude.{◌≡◌, ◌+◌, ◌<◌, ◌≤◌, ◌↔◌, IfOk, OnOk, IsErrOf, false, replicate};
-ghost use Rattle.claims.specs.Views.{blank, view_of};
+ghost use Rattle.claims.specs.Views.{unused_view};
 ghost use Rattle.claims.specs.Steps.{first_view};
 ghost use Rattle.claims.specs.Seats.{fresh};
 ghost use Rattle.claims.specs.Opening.{IsWithin, IsOutside, OpensLawful};
@@ -106,7 +106,7 @@ fn seated(
 
 fn seat_of(alloc: Global, seat: Seat<(), View>, slots: usize) -> Result<ClaimSeat, AllocError>
     requires words { seat.table_id.words ≡ slots }
-    requires unused { seat.me.0 ≡ view_of (replicate slots blank) 0 }
+    requires unused { seat.me.0 ≡ unused_view slots 0 }
     ensures { IfOk result (λ s. s ≡ fresh seat.table_id) }
 {
     let held = vec![in alloc; false; slots]?;

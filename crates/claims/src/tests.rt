@@ -4,7 +4,7 @@ ghost use Rattle.std.specs.Prelude.{◌≡◌, ◌<◌};
 mod threads;
 
 use self::Who::{First, Second};
-use crate::{Adopted, ClaimSeat, Claimed, Claims, OpenFault, Posted, Released};
+use crate::{Adopted, ClaimSeat, Claimed, Claims, OpenFault, Posted, Released, laws};
 use std::process::Abort;
 use std::test::Fail;
 
@@ -127,6 +127,25 @@ fn one_word_goes_through_its_row(rt: HostRuntime) -> Result<(), Fail> {
     Ok(())
 }
 
+#[test]
+fn each_slot_has_its_word(rt: HostRuntime) -> Result<(), Fail> {
+    let (claims, mut seats) = Claims::open(rt.alloc(), 2, 1)?;
+    let Some(mut seat) = seats.pop() else {
+        panic!(rt; "there is no seat")
+    };
+    assert!(rt; claims.slots() == 2);
+    assert!(rt; claims.post(&mut seat, 1) == Posted::Quiet);
+    assert!(rt; claims.peek(0) == 3 && claims.peek(1) == 7);
+    Ok(())
+}
+
+#[test]
+fn laws_do_nothing(_rt: HostRuntime) {
+    laws::one_holder_each();
+    laws::notes_are_kept();
+    laws::tickets_are_needed();
+}
+
 #[derive(Clone, Copy, Debug, PartialEq, Eq)]
 enum Outcome {
     Opened,
@@ -153,6 +172,7 @@ fn open_refuses_at_the_edges(rt: HostRuntime) {
         (32_769, 1, Outcome::SlotRange),
         (1, 0, Outcome::SeatRange),
         (1, 32, Outcome::Opened),
+        (1_000, 7, Outcome::Opened),
         (32_768, 32, Outcome::Opened),
         (1, 33, Outcome::SeatRange),
         (32_768, 33, Outcome::SeatRange),

@@ -15,10 +15,18 @@ pub struct Account {
     pub holds: bool,
     /// Notes that it knows to wait, while it holds the slot.
     pub known: u64,
+    /// Its adopts that found the slot free.
+    pub adopts: u64,
+    /// Its retires.
+    pub retires: u64,
 }
 
-/// An account for each slot, and the seats that this one may still make.
+/// What one seat has done at all slots.
 pub struct View {
+    /// An account for each slot.
     pub accounts: LinkedList<Account>,
+    /// The seats that it may still make.
     pub spare: u64,
+    /// The exchanges that it has made, at all slots together.
+    pub steps: u64,
 }

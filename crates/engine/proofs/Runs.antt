@@ -19,8 +19,9 @@ use Rattle.relay_core.specs.Laws.{TellsOf}
 use Rattle.relay_core.proofs.Over.{Step, step_of}
 use Rattle.relay_core.proofs.Faults.{asked_while_live, fails_by_call}
 use Rattle.relay_core.specs.Moved.{brought, carried, or_nothing, all_brought, all_carried}
-use Rattle.engine.specs.Wires.{Rises}
-use Rattle.engine.specs.Turns.{Told, is_failed, is_blocked, one_if, count_on, same_side, way_from, way_to, IsServed, IsTurn}
+use Rattle.engine.specs.Asked.{Asked, Given}
+use Rattle.engine.specs.Wires.{Told, Rises}
+use Rattle.engine.specs.Turns.{is_failed, is_blocked, one_if, count_on, same_side, way_from, way_to, asked, Made, made, made_if, made_on, AreMade, IsServed, IsTurn}
 use Rattle.engine.specs.Steps.{IsAnswered, IsStep, IsMove}
 use Rattle.engine.proofs.Steps.{stays_at}
 
@@ -81,6 +82,23 @@ count_more test side reply m [] p h = let same : p ≡ m = cc in ap (λ (x : Rel
 count_more test side reply m (first ∷ replies) p h =
     count_next test side reply replies m (unwrap_or (option_map (λ (call : Call). one_if test side call first) (next_call p)) 0) (λ x e. count_more test side reply m replies x e) (answered p first) h
 
+made_next : (side : Side) (reply : Reply) (replies : List Reply) (m : Relay) (before : List Made) →
+    ((x : Relay) → over x replies ≡ Some m → made_on side x (replies ++ reply ∷ []) ≡ made_on side x replies ++ made_on side m (reply ∷ [])) →
+    (o : Option Relay) → option_and_then (λ (x : Relay). over x replies) o ≡ Some m →
+    before ++ unwrap_or (option_map (λ (x : Relay). made_on side x (replies ++ reply ∷ [])) o) [] ≡ (before ++ unwrap_or (option_map (λ (x : Relay). made_on side x replies) o) []) ++ made_on side m (reply ∷ [])
+made_next side reply replies m before rest None e = absurd (cc)
+made_next side reply replies m before rest (Some x) e = ap (λ (xs : List Made). before ++ xs) (rest x e) ∙ sym (append_assoc before (made_on side x replies) (made_on side m (reply ∷ [])))
+
+pub made_more : (side : Side) (reply : Reply) (m : Relay) (replies : List Reply) (p : Relay) → over p replies ≡ Some m → made_on side p (replies ++ reply ∷ []) ≡ made_on side p replies ++ made_on side m (reply ∷ [])
+made_more side reply m [] p h = let same : p ≡ m = cc in ap (λ (x : Relay). made_on side x (reply ∷ [])) same
+made_more side reply m (first ∷ replies) p h =
+    made_next side reply replies m (unwrap_or (option_map (λ (call : Call). made_if side p call first) (next_call p)) []) (λ x e. made_more side reply m replies x e) (answered p first) h
+
+-- calls after calls
+pub made_then : {S : Type 0} (told : S → Told) (does : Asked → Given → S → S → Type 0) (calls more : List Made) (a b c : S) → AreMade told does calls a b → AreMade told does more b c → AreMade told does (calls ++ more) a c
+made_then told does [] more a b c first next = rw first at next
+made_then told does (call ∷ calls) more a b c first next = (first.0, first.1, made_then told does calls more first.0 b c first.2 next)
+
 -- what one answer alone comes to
 brought_once : (d : Direction) (p : Relay) (call : Call) (reply : Reply) (q : Relay) → Answers p call reply q → all_brought p d (reply ∷ []) ≡ brought d call reply
 brought_once d p call reply q a = rw (answered_so p call reply q a, a.next) (append-nil (brought d call reply))
@@ -90,6 +108,9 @@ carried_once d p call reply q a = rw (answered_so p call reply q a, a.next) (app
 
 count_once : (test : Reply → Bool) (side : Side) (p : Relay) (call : Call) (reply : Reply) (q : Relay) → Answers p call reply q → count_on test side p (reply ∷ []) ≡ one_if test side call reply
 count_once test side p call reply q a = rw (answered_so p call reply q a, a.next) (add-zero (one_if test side call reply))
+
+made_once : (side : Side) (p : Relay) (call : Call) (reply : Reply) (q : Relay) → Answers p call reply q → made_on side p (reply ∷ []) ≡ made_if side p call reply
+made_once side p call reply q a = rw (answered_so p call reply q a, a.next) (append-nil (made_if side p call reply))
 
 same_again : (side : Side) → same_side side side ≡ true
 same_again Client = refl
@@ -101,13 +122,20 @@ one_here test call reply = rw (same_again (side_of call)) refl
 one_elsewhere : (test : Reply → Bool) (side : Side) (call : Call) (reply : Reply) → same_side (side_of call) side ≡ false → one_if test side call reply ≡ 0
 one_elsewhere test side call reply other = rw other refl
 
+made_here : (p : Relay) (call : Call) (reply : Reply) → made_if (side_of call) p call reply ≡ made (asked p call) reply ∷ []
+made_here p call reply = rw (same_again (side_of call)) refl
+
+made_elsewhere : (side : Side) (p : Relay) (call : Call) (reply : Reply) → same_side (side_of call) side ≡ false → made_if side p call reply ≡ []
+made_elsewhere side p call reply other = rw other refl
+
 -- the wire of the call's side
-pub served_here : (p : Relay) (call : Call) (reply : Reply) (q : Relay) (old new : Told) → Answers p call reply q → IsAnswered call p reply old new → IsServed (side_of call) p (reply ∷ []) old new
-served_here p call reply q old new a s = record {
+pub served_here : {S : Type 0} (told : S → Told) (does : Asked → Given → S → S → Type 0) (p : Relay) (call : Call) (reply : Reply) (q : Relay) (old new : S) → Answers p call reply q → IsAnswered told does call p reply old new → IsServed told does old new (side_of call) p (reply ∷ [])
+served_here told does p call reply q old new a s = record {
   read = rw (brought_once (way_from (side_of call)) p call reply q a) s.read;
   written = rw (carried_once (way_to (side_of call)) p call reply q a) s.written;
   faults = rw (count_once is_failed (side_of call) p call reply q a, one_here is_failed call reply) s.faults;
   blocks = rw (count_once is_blocked (side_of call) p call reply q a, one_here is_blocked call reply) s.blocks;
+  made = rw (made_once (side_of call) p call reply q a, made_here p call reply) (new, record { called = s.made; faults = s.faults; blocks = s.blocks }, refl);
 }
 
 brought_other : (side : Side) (p : Relay) (call : Call) (bytes : List ℕ) → fits p call (Bytes bytes) ≡ true → same_side (side_of call) side ≡ false → brought (way_from side) call (Bytes bytes) ≡ []
@@ -149,34 +177,37 @@ carried_elsewhere side p call Interrupted fit other = refl
 carried_elsewhere side p call (Failed kind) fit other = refl
 
 -- the wire of the other side
-pub served_elsewhere : (side : Side) (p : Relay) (call : Call) (reply : Reply) (q : Relay) (told : Told) → Answers p call reply q → same_side (side_of call) side ≡ false → IsServed side p (reply ∷ []) told told
-served_elsewhere side p call reply q told a other = record {
-  read = rw (brought_once (way_from side) p call reply q a, brought_elsewhere side p call reply a.fit other) (Consumes-nil told.remaining);
-  written = rw (carried_once (way_to side) p call reply q a, carried_elsewhere side p call reply a.fit other) (Appends-nil told.written);
-  faults = rw (count_once is_failed side p call reply q a, one_elsewhere is_failed side call reply other) (stays_at told.faults told.faults refl);
-  blocks = rw (count_once is_blocked side p call reply q a, one_elsewhere is_blocked side call reply other) (stays_at told.blocks told.blocks refl);
+pub served_elsewhere : {S : Type 0} (told : S → Told) (does : Asked → Given → S → S → Type 0) (side : Side) (p : Relay) (call : Call) (reply : Reply) (q : Relay) (wire : S) → Answers p call reply q → same_side (side_of call) side ≡ false → IsServed told does wire wire side p (reply ∷ [])
+served_elsewhere told does side p call reply q wire a other = record {
+  read = rw (brought_once (way_from side) p call reply q a, brought_elsewhere side p call reply a.fit other) (Consumes-nil (told wire).remaining);
+  written = rw (carried_once (way_to side) p call reply q a, carried_elsewhere side p call reply a.fit other) (Appends-nil (told wire).written);
+  faults = rw (count_once is_failed side p call reply q a, one_elsewhere is_failed side call reply other) (stays_at (told wire).faults (told wire).faults refl);
+  blocks = rw (count_once is_blocked side p call reply q a, one_elsewhere is_blocked side call reply other) (stays_at (told wire).blocks (told wire).blocks refl);
+  made = rw (made_once side p call reply q a, made_elsewhere side p call reply other) refl;
 }
 
-pub moved_client : (call : Call) (p q : Relay) (client client_now target : Told) → next_call p ≡ Some call → Client ≡ side_of call → IsStep call p q client client_now → IsMove p q client client_now target target
-moved_client call p q client client_now target next here s =
+pub moved_client : {A B : Type 0} (told : A → Told) (does : Asked → Given → A → A → Type 0) (told_b : B → Told) (does_b : Asked → Given → B → B → Type 0) (call : Call) (p q : Relay) (client client_now : A) (target : B) → next_call p ≡ Some call → Client ≡ side_of call → IsStep told does call p q client client_now →
+    IsMove p q (IsServed told does client client_now) (IsServed told_b does_b target target)
+moved_client told does told_b does_b call p q client client_now target next here s =
     let a : Answers p call s.reply q = record { next = next; fit = s.fit; run = s.run } in
     let other : same_side (side_of call) Target ≡ false = rw (← here) refl in
     record {
       reply = s.reply;
       run = answered_so p call s.reply q a;
-      by_client = rw here (served_here p call s.reply q client client_now a s.served);
-      by_target = served_elsewhere Target p call s.reply q target a other;
+      by_client = rw here (served_here told does p call s.reply q client client_now a s.served);
+      by_target = served_elsewhere told_b does_b Target p call s.reply q target a other;
     }
 
-pub moved_target : (call : Call) (p q : Relay) (client target target_now : Told) → next_call p ≡ Some call → Target ≡ side_of call → IsStep call p q target target_now → IsMove p q client client target target_now
-moved_target call p q client target target_now next here s =
+pub moved_target : {A B : Type 0} (told : A → Told) (does : Asked → Given → A → A → Type 0) (told_b : B → Told) (does_b : Asked → Given → B → B → Type 0) (call : Call) (p q : Relay) (client : A) (target target_now : B) → next_call p ≡ Some call → Target ≡ side_of call → IsStep told_b does_b call p q target target_now →
+    IsMove p q (IsServed told does client client) (IsServed told_b does_b target target_now)
+moved_target told does told_b does_b call p q client target target_now next here s =
     let a : Answers p call s.reply q = record { next = next; fit = s.fit; run = s.run } in
     let other : same_side (side_of call) Client ≡ false = rw (← here) refl in
     record {
       reply = s.reply;
       run = answered_so p call s.reply q a;
-      by_client = served_elsewhere Client p call s.reply q client a other;
-      by_target = rw here (served_here p call s.reply q target target_now a s.served);
+      by_client = served_elsewhere told does Client p call s.reply q client a other;
+      by_target = rw here (served_here told_b does_b p call s.reply q target target_now a s.served);
     }
 
 -- ---- a run of several calls
@@ -189,40 +220,50 @@ rises_more a b c n k first next =
     ∙ (mod-add-mod (a + n) (2 ^ 64) k
     ∙ ap (λ (x : ℕ). x % 2 ^ 64) (add_assoc a n k))))
 
-served_more : (side : Side) (p m : Relay) (reply : Reply) (replies : List Reply) (a b c : Told) → over p replies ≡ Some m → IsServed side p replies a b → IsServed side m (reply ∷ []) b c → IsServed side p (replies ++ reply ∷ []) a c
-served_more side p m reply replies a b c run s t = record {
-  read = rw (brought_more (way_from side) reply m replies p run) (Consumes-trans a.remaining b.remaining c.remaining _ _ s.read t.read);
-  written = rw (carried_more (way_to side) reply m replies p run) (Appends-trans a.written b.written c.written _ _ s.written t.written);
-  faults = rw (count_more is_failed side reply m replies p run) (rises_more a.faults b.faults c.faults _ _ s.faults t.faults);
-  blocks = rw (count_more is_blocked side reply m replies p run) (rises_more a.blocks b.blocks c.blocks _ _ s.blocks t.blocks);
+served_more : {S : Type 0} (told : S → Told) (does : Asked → Given → S → S → Type 0) (side : Side) (p m : Relay) (reply : Reply) (replies : List Reply) (a b c : S) → over p replies ≡ Some m →
+    IsServed told does a b side p replies → IsServed told does b c side m (reply ∷ []) → IsServed told does a c side p (replies ++ reply ∷ [])
+served_more told does side p m reply replies a b c run s t = record {
+  read = rw (brought_more (way_from side) reply m replies p run) (Consumes-trans (told a).remaining (told b).remaining (told c).remaining _ _ s.read t.read);
+  written = rw (carried_more (way_to side) reply m replies p run) (Appends-trans (told a).written (told b).written (told c).written _ _ s.written t.written);
+  faults = rw (count_more is_failed side reply m replies p run) (rises_more (told a).faults (told b).faults (told c).faults _ _ s.faults t.faults);
+  blocks = rw (count_more is_blocked side reply m replies p run) (rises_more (told a).blocks (told b).blocks (told c).blocks _ _ s.blocks t.blocks);
+  made = rw (made_more side reply m replies p run) (made_then told does _ _ a b c s.made t.made);
 }
 
 -- so many answers have come
-pub record Runs (made : ℕ) (old now : Relay) (client client_now target target_now : Told) : Type 0 where
+pub record Runs (made : ℕ) (old now : Relay) (client target : Side → Relay → List Reply → Type 0) : Type 0 where
   pub replies : List Reply
   pub many : length replies ≡ made
   pub run : over old replies ≡ Some now
-  pub by_client : IsServed Client old replies client client_now
-  pub by_target : IsServed Target old replies target target_now
+  pub by_client : client Client old replies
+  pub by_target : target Target old replies
 
-served_none : (side : Side) (p : Relay) (told : Told) → IsServed side p [] told told
-served_none side p told = record {
-  read = Consumes-nil told.remaining;
-  written = Appends-nil told.written;
-  faults = stays_at told.faults told.faults refl;
-  blocks = stays_at told.blocks told.blocks refl;
+served_none : {S : Type 0} (told : S → Told) (does : Asked → Given → S → S → Type 0) (side : Side) (p : Relay) (wire : S) → IsServed told does wire wire side p []
+served_none told does side p wire = record {
+  read = Consumes-nil (told wire).remaining;
+  written = Appends-nil (told wire).written;
+  faults = stays_at (told wire).faults (told wire).faults refl;
+  blocks = stays_at (told wire).blocks (told wire).blocks refl;
+  made = refl;
 }
 
-pub starts : (p : Relay) (client target : Told) → Runs 0 p p client client target target
-starts p client target = record { replies = []; many = refl; run = refl; by_client = served_none Client p client; by_target = served_none Target p target }
+pub starts : {A B : Type 0} (told : A → Told) (does : Asked → Given → A → A → Type 0) (told_b : B → Told) (does_b : Asked → Given → B → B → Type 0) (p : Relay) (client : A) (target : B) → Runs 0 p p (IsServed told does client client) (IsServed told_b does_b target target)
+starts told does told_b does_b p client target = record {
+  replies = [];
+  many = refl;
+  run = refl;
+  by_client = served_none told does Client p client;
+  by_target = served_none told_b does_b Target p target;
+}
 
-pub goes_on : (made : ℕ) (p m q : Relay) (a b c t u v : Told) → Runs made p m a b t u → IsMove m q b c u v → Runs (made + 1) p q a c t v
-goes_on made p m q a b c t u v r s = record {
+pub goes_on : {A B : Type 0} (told : A → Told) (does : Asked → Given → A → A → Type 0) (told_b : B → Told) (does_b : Asked → Given → B → B → Type 0) (made : ℕ) (p m q : Relay) (a b c : A) (t u v : B) →
+    Runs made p m (IsServed told does a b) (IsServed told_b does_b t u) → IsMove m q (IsServed told does b c) (IsServed told_b does_b u v) → Runs (made + 1) p q (IsServed told does a c) (IsServed told_b does_b t v)
+goes_on told does told_b does_b made p m q a b c t u v r s = record {
   replies = r.replies ++ s.reply ∷ [];
   many = length-append r.replies (s.reply ∷ []) ∙ ap (λ (n : ℕ). n + 1) r.many;
   run = over_more m q s.reply s.run r.replies p r.run;
-  by_client = served_more Client p m s.reply r.replies a b c r.run r.by_client s.by_client;
-  by_target = served_more Target p m s.reply r.replies t u v r.run r.by_target s.by_target;
+  by_client = served_more told does Client p m s.reply r.replies a b c r.run r.by_client s.by_client;
+  by_target = served_more told_b does_b Target p m s.reply r.replies t u v r.run r.by_target s.by_target;
 }
 
 -- a pair fails by its last answer
@@ -261,8 +302,8 @@ on_some None h = tt
 on_some (Some x) h = h
 
 -- the budget is spent
-pub spent : (budget made : ℕ) (p q : Relay) (a b t u : Told) → made ≡ budget → Runs made p q a b t u → IsTurn budget p q a b t u
-spent budget made p q a b t u all r = record {
+pub spent : (budget made : ℕ) (p q : Relay) (client target : Side → Relay → List Reply → Type 0) → made ≡ budget → Runs made p q client target → IsTurn budget p q client target
+spent budget made p q client target all r = record {
   replies = r.replies;
   few = omega (arith, r.many, all);
   run = r.run;
@@ -273,8 +314,8 @@ spent budget made p q a b t u all r = record {
 }
 
 -- no call is left
-pub stopped : (budget made : ℕ) (p q : Relay) (a b t u : Told) → made ≤ budget → next_call q ≡ None → Runs made p q a b t u → IsTurn budget p q a b t u
-stopped budget made p q a b t u few none r = record {
+pub stopped : (budget made : ℕ) (p q : Relay) (client target : Side → Relay → List Reply → Type 0) → made ≤ budget → next_call q ≡ None → Runs made p q client target → IsTurn budget p q client target
+stopped budget made p q client target few none r = record {
   replies = r.replies;
   few = omega (arith, few, r.many);
   run = r.run;

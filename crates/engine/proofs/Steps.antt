@@ -7,16 +7,22 @@ use Rattle.std.specs.Io.KnownBytes.{Consumes, Appends, Keeps}
 use Rattle.relay_core.specs.declared.Side.{Side}
 use Rattle.relay_core.specs.declared.Side.TheVariants.{Client, Target}
 use Rattle.relay_core.specs.declared.Kind.{Kind}
+use Rattle.relay_core.specs.declared.Kind.TheVariants.{Zero}
+use Rattle.std.specs.declared.io.ErrorKind.{ErrorKind}
 use Rattle.relay_core.specs.declared.call.Call.{Call}
-use Rattle.relay_core.specs.declared.call.Call.TheVariants.{Write, Read}
+use Rattle.relay_core.specs.declared.call.Call.TheVariants as call
+use Rattle.relay_core.specs.declared.call.Call.TheVariants.{Write, Read, Join}
 use Rattle.relay_core.specs.Calls.{side_of}
 use Rattle.relay_core.specs.Pairs.{Relay}
 use Rattle.relay_core.specs.Order.{offer}
-use Rattle.relay_core.specs.Replies.{Reply, Bytes, Wrote, Failed, fits, after}
+use Rattle.relay_core.specs.Replies.{Reply, Bytes, End, Wrote, Joined, Shut, Blocked, Interrupted, Failed, fits, after}
 use Rattle.relay_core.specs.Moved.{brought, carried}
-use Rattle.engine.specs.Wires.{Rises}
-use Rattle.engine.specs.Turns.{Told, is_failed, is_blocked, way_from, way_to}
-use Rattle.engine.specs.Steps.{IsStep}
+use Rattle.engine.specs.Classes.{kind_of_error}
+use Rattle.engine.specs.Asked as ask
+use Rattle.engine.specs.Asked.{Asked, Given, Brought, Took, Refused}
+use Rattle.engine.specs.Wires.{Told, Rises}
+use Rattle.engine.specs.Turns.{asked, made, is_failed, is_blocked, way_from, way_to, IsCalled}
+use Rattle.engine.specs.Steps.{IsErrorReply, IsError, IsStep}
 
 -- nothing moved, and no count changed
 pub record Stays (old new : Told) : Type 0 where
@@ -39,18 +45,19 @@ pub stays_at : (n m : ℕ) → m ≡ n → Rises n m 0
 stays_at n m e = ap (λ (k : ℕ). k % 2 ^ 64) (e ∙ sym (add-zero n))
 
 -- an answer that moves nothing and that no wire counts
-pub still : (call : Call) (p q : Relay) (reply : Reply) (old new : Told) → fits p call reply ≡ true → q ≡ after p call reply →
+pub still : {S : Type 0} (told : S → Told) (does : Asked → Given → S → S → Type 0) (call : Call) (p q : Relay) (reply : Reply) (old new : S) → fits p call reply ≡ true → q ≡ after p call reply →
     brought (way_from (side_of call)) call reply ≡ [] → carried p (way_to (side_of call)) call reply ≡ [] →
-    is_failed reply ≡ false → is_blocked reply ≡ false → Stays old new → IsStep call p q old new
-still call p q reply old new fit run brings carries sound free s = record {
+    is_failed reply ≡ false → is_blocked reply ≡ false → Stays (told old) (told new) → IsCalled does (made (asked p call) reply) old new → IsStep told does call p q old new
+still told does call p q reply old new fit run brings carries sound free s m = record {
   reply = reply;
   fit = fit;
   run = run;
   served = record {
-    read = rw brings (kept_is_read old.remaining new.remaining s.remaining);
-    written = rw carries (kept_is_written old.written new.written s.written);
-    faults = rw sound (stays_at old.faults new.faults s.faults);
-    blocks = rw free (stays_at old.blocks new.blocks s.blocks);
+    read = rw brings (kept_is_read (told old).remaining (told new).remaining s.remaining);
+    written = rw carries (kept_is_written (told old).written (told new).written s.written);
+    faults = rw sound (stays_at (told old).faults (told new).faults s.faults);
+    blocks = rw free (stays_at (told old).blocks (told new).blocks s.blocks);
+    made = m;
   };
 }
 
@@ -68,10 +75,10 @@ fitting n most buffer some within small =
     rw (length-take-le n buffer within, le-leb 1 n some, le-leb n most small) refl
 
 -- a read brought bytes, which stand at the front of the buffer
-pub bytes_in : (side : Side) (most : ℕ) (p q : Relay) (n : ℕ) (buffer rest : List ℕ) (old new : Told) → 1 ≤ n → n ≤ length buffer → n ≤ most →
-    q ≡ after p (Read side most) (Bytes (take n (buffer ++ rest))) → Consumes old.remaining new.remaining (take n buffer) →
-    Keeps old.written new.written → new.faults ≡ old.faults → new.blocks ≡ old.blocks → IsStep (Read side most) p q old new
-bytes_in side most p q n buffer rest old new some within small run taken kept faults blocks =
+pub bytes_in : {S : Type 0} (told : S → Told) (does : Asked → Given → S → S → Type 0) (side : Side) (most : ℕ) (p q : Relay) (n : ℕ) (room buffer rest : List ℕ) (old new : S) → 1 ≤ n → n ≤ length buffer → n ≤ most →
+    q ≡ after p (Read side most) (Bytes (take n (buffer ++ rest))) → Consumes (told old).remaining (told new).remaining (take n buffer) →
+    Stays (record (told old) { remaining = None }) (record (told new) { remaining = None }) → length room ≡ most → does (ask.Read (length room)) (Brought (take n buffer)) old new → IsStep told does (Read side most) p q old new
+bytes_in told does side most p q n room buffer rest old new some within small run taken s all did =
     let same : take n (buffer ++ rest) ≡ take n buffer = take-append-le n buffer rest within in
     record {
       reply = Bytes (take n buffer);
@@ -79,9 +86,10 @@ bytes_in side most p q n buffer rest old new some within small run taken kept fa
       run = rw same at run;
       served = record {
         read = rw (brought_whole side most (take n buffer)) taken;
-        written = kept_is_written old.written new.written kept;
-        faults = stays_at old.faults new.faults faults;
-        blocks = stays_at old.blocks new.blocks blocks;
+        written = kept_is_written (told old).written (told new).written s.written;
+        faults = stays_at (told old).faults (told new).faults s.faults;
+        blocks = stays_at (told old).blocks (told new).blocks s.blocks;
+        made = record { given = Brought (take n buffer); told = refl; did = rw all at did };
       };
     }
 
@@ -102,31 +110,117 @@ raised f g moved (inl same) = absurd (moved same)
 raised f g moved (inr rose) = rose
 
 -- a write took bytes
-pub bytes_out : (side : Side) (p q : Relay) (n : ℕ) (offered : List ℕ) (old new : Told) → 1 ≤ n → n ≤ length offered → offered ≡ offer p side → q ≡ after p (Write side) (Wrote n) →
-    Appends old.written new.written (take n offered) → Keeps old.remaining new.remaining → new.faults ≡ old.faults → new.blocks ≡ old.blocks → IsStep (Write side) p q old new
-bytes_out side p q n offered old new some within same run taken kept faults blocks = record {
+pub bytes_out : {S : Type 0} (told : S → Told) (does : Asked → Given → S → S → Type 0) (side : Side) (p q : Relay) (n : ℕ) (offered : List ℕ) (old new : S) → 1 ≤ n → n ≤ length offered → offered ≡ offer p side → q ≡ after p (Write side) (Wrote n) →
+    Appends (told old).written (told new).written (take n offered) → Stays (record (told old) { written = None }) (record (told new) { written = None }) → does (ask.Write offered) (Took n) old new → IsStep told does (Write side) p q old new
+bytes_out told does side p q n offered old new some within same run taken s did = record {
   reply = Wrote n;
   fit = let all : n ≤ length (offer p side) = rw same at within in rw (le-leb 1 n some, le-leb n (length (offer p side)) all) refl;
   run = run;
   served = record {
-    read = kept_is_read old.remaining new.remaining kept;
+    read = kept_is_read (told old).remaining (told new).remaining s.remaining;
     written = rw (carried_front p side n, ← same) taken;
-    faults = stays_at old.faults new.faults faults;
-    blocks = stays_at old.blocks new.blocks blocks;
+    faults = stays_at (told old).faults (told new).faults s.faults;
+    blocks = stays_at (told old).blocks (told new).blocks s.blocks;
+    made = record { given = Took n; told = refl; did = rw same at did };
   };
 }
 
 -- a call failed
-pub failed : (call : Call) (p q : Relay) (kind : Kind) (old new : Told) → fits p call (Failed kind) ≡ true → q ≡ after p call (Failed kind) →
-    Keeps old.remaining new.remaining → Keeps old.written new.written → Rises old.faults new.faults 1 → new.blocks ≡ old.blocks → IsStep call p q old new
-failed call p q kind old new fit run left kept faults blocks = record {
+pub failed : {S : Type 0} (told : S → Told) (does : Asked → Given → S → S → Type 0) (call : Call) (p q : Relay) (kind : Kind) (old new : S) → fits p call (Failed kind) ≡ true → q ≡ after p call (Failed kind) →
+    Keeps (told old).remaining (told new).remaining → Keeps (told old).written (told new).written → Rises (told old).faults (told new).faults 1 → (told new).blocks ≡ (told old).blocks →
+    IsCalled does (made (asked p call) (Failed kind)) old new → IsStep told does call p q old new
+failed told does call p q kind old new fit run left kept faults blocks m = record {
   reply = Failed kind;
   fit = fit;
   run = run;
   served = record {
-    read = kept_is_read old.remaining new.remaining left;
-    written = kept_is_written old.written new.written kept;
+    read = kept_is_read (told old).remaining (told new).remaining left;
+    written = kept_is_written (told old).written (told new).written kept;
     faults = faults;
-    blocks = stays_at old.blocks new.blocks blocks;
+    blocks = stays_at (told old).blocks (told new).blocks blocks;
+    made = m;
   };
 }
+
+-- a write took none of an offer
+pub none_taken : {S : Type 0} (does : Asked → Given → S → S → Type 0) (p : Relay) (side : Side) (n : ℕ) (offered : List ℕ) (old new : S) → n ≡ 0 → offered ≡ offer p side → does (ask.Write offered) (Took n) old new →
+    IsCalled does (made (asked p (Write side)) (Failed Zero)) old new
+none_taken does p side n offered old new none same did = record { given = Took n; told = (none, refl); did = rw same at did }
+
+-- a read met the end of input
+pub end_met : {S : Type 0} (does : Asked → Given → S → S → Type 0) (p : Relay) (side : Side) (most n : ℕ) (room buffer : List ℕ) (old new : S) → n ≡ 0 → length room ≡ most → does (ask.Read (length room)) (Brought (take n buffer)) old new →
+    IsCalled does (made (asked p (Read side most)) End) old new
+end_met does p side most n room buffer old new none all did = record { given = Brought (take n buffer); told = rw none refl; did = rw all at did }
+
+-- a read of as many bytes as there is room for
+pub read_of : {S : Type 0} (does : Asked → Given → S → S → Type 0) (most : ℕ) (given : Given) (room : List ℕ) (old new : S) → length room ≡ most → does (ask.Read (length room)) given old new → does (ask.Read most) given old new
+read_of does most given room old new all did = rw all at did
+
+-- an error, told as what it is
+pub refused : {S : Type 0} (does : Asked → Given → S → S → Type 0) (call : Asked) (error : ErrorKind) (reply : Reply) (old new : S) → IsErrorReply (kind_of_error error) reply → does call (Refused error) old new → IsCalled does (made call reply) old new
+refused does call error Blocked old new sort did = record { given = Refused error; told = (error, refl); did = did }
+refused does call error Interrupted old new sort did = record { given = Refused error; told = (error, refl); did = did }
+refused does call error (Failed kind) old new sort did = record { given = Refused error; told = sort; did = did }
+refused does call error (Bytes bytes) old new sort did = absurd sort
+refused does call error End old new sort did = absurd sort
+refused does call error (Wrote n) old new sort did = absurd sort
+refused does call error Joined old new sort did = absurd sort
+refused does call error Shut old new sort did = absurd sort
+
+interrupted_fits : (p : Relay) (call : Call) → fits p call Interrupted ≡ true
+interrupted_fits p (Read side most) = refl
+interrupted_fits p (Write side) = refl
+interrupted_fits p (Join side) = refl
+interrupted_fits p (call.Shut side) = refl
+
+failed_fits : (p : Relay) (call : Call) (kind : Kind) → fits p call (Failed kind) ≡ true
+failed_fits p (Read side most) kind = refl
+failed_fits p (Write side) kind = refl
+failed_fits p (Join side) kind = refl
+failed_fits p (call.Shut side) kind = refl
+
+-- an error, classed by what the wire counted
+pub erred : {S : Type 0} (told : S → Told) (does : Asked → Given → S → S → Type 0) (call : Call) (p q : Relay) (error : ErrorKind) (reply : Reply) (faults blocks : ℕ) (old new : S) → fits p call Blocked ≡ true → q ≡ after p call reply →
+    Keeps (told old).remaining (told new).remaining → Keeps (told old).written (told new).written → faults ≡ (told old).faults → blocks ≡ (told old).blocks →
+    IsError (kind_of_error error) reply faults (told new).faults blocks (told new).blocks → does (asked p call) (Refused error) old new → IsStep told does call p q old new
+erred told does call p q error Blocked faults blocks old new may run left kept f b e did = record {
+  reply = Blocked;
+  fit = may;
+  run = run;
+  served = record {
+    read = kept_is_read (told old).remaining (told new).remaining left;
+    written = kept_is_written (told old).written (told new).written kept;
+    faults = rw f at e.failed;
+    blocks = rw b at e.waited;
+    made = refused does (asked p call) error Blocked old new tt did;
+  };
+}
+erred told does call p q error Interrupted faults blocks old new may run left kept f b e did = record {
+  reply = Interrupted;
+  fit = interrupted_fits p call;
+  run = run;
+  served = record {
+    read = kept_is_read (told old).remaining (told new).remaining left;
+    written = kept_is_written (told old).written (told new).written kept;
+    faults = rw f at e.failed;
+    blocks = rw b at e.waited;
+    made = refused does (asked p call) error Interrupted old new tt did;
+  };
+}
+erred told does call p q error (Failed kind) faults blocks old new may run left kept f b e did = record {
+  reply = Failed kind;
+  fit = failed_fits p call kind;
+  run = run;
+  served = record {
+    read = kept_is_read (told old).remaining (told new).remaining left;
+    written = kept_is_written (told old).written (told new).written kept;
+    faults = rw f at e.failed;
+    blocks = rw b at e.waited;
+    made = refused does (asked p call) error (Failed kind) old new e.sort did;
+  };
+}
+erred told does call p q error (Bytes bytes) faults blocks old new may run left kept f b e did = absurd e.sort
+erred told does call p q error End faults blocks old new may run left kept f b e did = absurd e.sort
+erred told does call p q error (Wrote n) faults blocks old new may run left kept f b e did = absurd e.sort
+erred told does call p q error Joined faults blocks old new may run left kept f b e did = absurd e.sort
+erred told does call p q error Shut faults blocks old new may run left kept f b e did = absurd e.sort

@@ -1,7 +1,7 @@
 -- What the errors of read(2), write(2), connect(2) and shutdown(2) mean to the relay.
 use Rattle.std.specs.Prelude.{Bool, true, false, not, ◌&&◌, if◌then◌else◌}
 use Rattle.std.specs.declared.io.ErrorKind.{ErrorKind}
-use Rattle.std.specs.declared.io.ErrorKind.TheVariants.{ConnectionReset, BrokenPipe, ConnectionAborted, ConnectionRefused, NotConnected, TimedOut, WouldBlock, Interrupted}
+use Rattle.std.specs.declared.io.ErrorKind.TheVariants.{ConnectionReset, BrokenPipe, ConnectionAborted, ConnectionRefused, NotConnected, TimedOut, WouldBlock, Interrupted, Other}
 use Rattle.relay_core.specs.declared.Kind.{Kind}
 use Rattle.relay_core.specs.declared.Kind.TheVariants as kind
 use Rattle.relay_core.specs.declared.call.Call.{Call}
@@ -40,3 +40,10 @@ class_of call joined error =
     if is_interrupted error then class.Interrupted
     else if may_wait call && would_wait joined error then class.Blocked
     else class.Failed (kind_of_error error)
+
+-- a socket's pending error, told under a kind that is a failure of every call
+abbrev pub pending_kind : ErrorKind → ErrorKind
+pending_kind Interrupted = Other
+pending_kind WouldBlock = Other
+pending_kind NotConnected = Other
+pending_kind error = error

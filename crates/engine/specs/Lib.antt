@@ -1,5 +1,9 @@
 pub mod Classes
+pub mod Tallies
+pub mod Asked
 pub mod Wires
 pub mod Turns
 pub mod Steps
+pub mod Cues
 pub mod Scripts
+pub mod Playing

@@ -1,51 +1,91 @@
 -- A wire over memory that plays answers, as its callers see it.
-use Rattle.std.specs.Prelude.{ℕ, ◌+◌, ◌%◌, ◌^◌, Bool, List, [], ◌∷◌, ◌++◌, length, drop}
-use Rattle.engine.specs.declared.class.Class.{Class}
-use Rattle.engine.specs.declared.class.Class.TheVariants.{Interrupted, Blocked, Failed}
-use Rattle.engine.specs.declared.play.Play.{Play}
-use Rattle.engine.specs.declared.play.Play.TheVariants.{Bytes, Take}
+use Rattle.std.specs.Prelude.{◌≡◌, ℕ, ◌+◌, ◌&&◌, nat_eq, nat_lt, nat_le, if◌then◌else◌, Bool, false, List, [], ◌∷◌, ◌++◌, length, take, drop}
+use Rattle.std.specs.declared.io.ErrorKind.TheVariants.{WouldBlock}
+use Rattle.relay_core.specs.declared.Side.TheVariants.{Target}
+use Rattle.relay_core.specs.declared.call.Call.{Call}
+use Rattle.relay_core.specs.declared.call.Call.TheVariants as call
+use Rattle.engine.specs.Classes.{class_of}
+use Rattle.engine.specs.Asked.{Asked, Read, Write, Join, Shut, Given, Took, Done, Refused}
+use Rattle.engine.specs.Cues.{Cue, Bytes, bytes_in, read_by, written_by, joined_by, shut_by, connects}
+use Rattle.engine.specs.Tallies.{Tallied, connected, counted, fault_more}
 
--- the plays that each kind of call has left, how many bytes of the first of its reads were given, the bytes
--- that its writes took, whether the socket that it stands for is connected, and its counts
+-- the plays that each kind of call has left, the bytes that writes took, and what the wire knows of its
+-- answers. A play of bytes that were given in part stands there with the rest.
 pub record Script : Type 0 where
-  pub reads : List Play
-  pub given : ℕ
-  pub writes : List Play
-  pub closings : List Play
+  pub reads : List Cue
+  pub writes : List Cue
+  pub closings : List Cue
   pub written : List ℕ
-  pub joined : Bool
-  pub faults : ℕ
-  pub blocks : ℕ
-
-abbrev pub bytes_in : Play → List ℕ
-bytes_in (Bytes bytes) = bytes.items
-bytes_in play = []
+  pub tally : Tallied
 
 -- the bytes of all plays
-abbrev pub bytes_of : List Play → List ℕ
+abbrev pub bytes_of : List Cue → List ℕ
 bytes_of [] = []
-bytes_of (play ∷ plays) = bytes_in play ++ bytes_of plays
-
--- those of the first
-abbrev pub first_bytes : List Play → List ℕ
-first_bytes [] = []
-first_bytes (play ∷ plays) = bytes_in play
-
--- the bytes that its reads have left to give
-abbrev pub bytes_left : Script → List ℕ
-bytes_left s = drop s.given (bytes_of s.reads)
+bytes_of (cue ∷ cues) = bytes_in cue ++ bytes_of cues
 
 -- the plays that were not used
 abbrev pub plays_left : Script → ℕ
 plays_left s = length s.reads + length s.writes + length s.closings
 
--- the most bytes that a play takes
-abbrev pub most_taken : Play → ℕ
-most_taken (Take n) = n
-most_taken play = 0
+-- what the first play gives, or what an empty list does
+abbrev pub first_by : Given → (Cue → Given) → List Cue → Given
+first_by empty by [] = empty
+first_by empty by (cue ∷ cues) = by cue
 
--- an answer of this class was counted
-abbrev pub counted : Class → Script → Script
-counted Interrupted s = s
-counted Blocked s = record s { blocks = (s.blocks + 1) % 2 ^ 64 }
-counted (Failed kind) s = record s { faults = (s.faults + 1) % 2 ^ 64 }
+-- what a call gives: an empty list blocks it, and lets a shutdown be done
+abbrev pub given_by : Asked → Script → Given
+given_by (Read n) s = first_by (Refused WouldBlock) (read_by n) s.reads
+given_by (Write offer) s = first_by (Refused WouldBlock) (written_by (length offer)) s.writes
+given_by Join s = first_by (Refused WouldBlock) joined_by s.closings
+given_by Shut s = first_by Done shut_by s.closings
+
+-- a read of at most n bytes leaves the rest of a play that has more, and each other play is used once
+abbrev pub after_read : ℕ → List Cue → List Cue
+after_read n [] = []
+after_read n (Bytes bytes ∷ cues) = if nat_le (length bytes) n then cues else Bytes (drop n bytes) ∷ cues
+after_read n (cue ∷ cues) = cues
+
+-- the bytes that a write took
+abbrev pub taken_of : List ℕ → Given → List ℕ
+taken_of offer (Took n) = take n offer
+taken_of offer given = []
+
+-- the call as one on the target's socket, which may still be connecting
+abbrev pub call_of : Asked → Call
+call_of (Read n) = call.Read Target n
+call_of (Write offer) = call.Write Target
+call_of Join = call.Join Target
+call_of Shut = call.Shut Target
+
+abbrev pub first_connects : List Cue → Bool
+first_connects [] = false
+first_connects (cue ∷ cues) = connects cue
+
+-- a write that took none of an offer that isn't empty
+abbrev pub is_none_taken : Asked → Given → Bool
+is_none_taken (Write offer) (Took n) = nat_eq n 0 && nat_lt 0 (length offer)
+is_none_taken asked given = false
+
+-- what the wire knows after a call, by the plays that stood there for it: an error is counted by its
+-- class, and so is a write of none; another answer may show that the socket is connected
+abbrev pub known : Asked → List Cue → Given → Tallied → Tallied
+known asked cues (Refused error) t = counted (class_of (call_of asked) t.joined error) t
+known asked cues given t =
+    let now = if first_connects cues then connected t else t in
+    if is_none_taken asked given then fault_more now else now
+
+-- the wire after a call
+abbrev pub after : Asked → Script → Script
+after (Read n) s = record s { reads = after_read n s.reads; tally = known (Read n) s.reads (given_by (Read n) s) s.tally }
+after (Write offer) s = record s {
+  writes = drop 1 s.writes;
+  written = s.written ++ taken_of offer (given_by (Write offer) s);
+  tally = known (Write offer) s.writes (given_by (Write offer) s) s.tally;
+}
+after Join s = record s { closings = drop 1 s.closings; tally = known Join s.closings (given_by Join s) s.tally }
+after Shut s = record s { closings = drop 1 s.closings; tally = known Shut s.closings (given_by Shut s) s.tally }
+
+-- a call did what the plays say
+pub record IsPlayed (asked : Asked) (given : Given) (old new : Script) : Type 0 where
+  pub gave : given ≡ given_by asked old
+  pub left : new ≡ after asked old

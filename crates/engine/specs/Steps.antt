@@ -1,7 +1,8 @@
 -- What one call comes to: the steps of a turn.
-use Rattle.std.specs.Prelude.{◌≡◌, ℕ, true, if◌then◌else◌, [], ◌∷◌}
+use Rattle.std.specs.Prelude.{◌≡◌, ℕ, true, if◌then◌else◌, List, [], ◌∷◌}
 use Rattle.std.specs.Prelude.{Some}
 use Rattle.std.specs.Io.KnownBytes.{Consumes, Appends}
+use Rattle.relay_core.specs.declared.Side.{Side}
 use Rattle.relay_core.specs.declared.Side.TheVariants.{Client, Target}
 use Rattle.relay_core.specs.declared.Kind.{Kind}
 use Rattle.relay_core.specs.declared.call.Call.{Call}
@@ -10,8 +11,9 @@ use Rattle.relay_core.specs.Pairs.{Relay}
 use Rattle.relay_core.specs.Replies.{Reply, Blocked, Interrupted, Failed, fits, after}
 use Rattle.relay_core.specs.Runs.{answered}
 use Rattle.relay_core.specs.Moved.{brought, carried}
-use Rattle.engine.specs.Wires.{Rises}
-use Rattle.engine.specs.Turns.{Told, is_failed, is_blocked, way_from, way_to, IsServed}
+use Rattle.engine.specs.Asked.{Asked, Given}
+use Rattle.engine.specs.Wires.{Told, Rises}
+use Rattle.engine.specs.Turns.{asked, made, is_failed, is_blocked, way_from, way_to, IsCalled}
 
 -- the answers that an error of this kind may be
 abbrev pub IsErrorReply : Kind → Reply → Type 0
@@ -21,18 +23,19 @@ IsErrorReply kind (Failed other) = other ≡ kind
 IsErrorReply kind reply = ⊥
 
 -- what one answer to a call did to the wire that gave it
-pub record IsAnswered (call : Call) (p : Relay) (reply : Reply) (old new : Told) : Type 0 where
-  pub read : Consumes old.remaining new.remaining (brought (way_from (side_of call)) call reply)
-  pub written : Appends old.written new.written (carried p (way_to (side_of call)) call reply)
-  pub faults : Rises old.faults new.faults (if is_failed reply then 1 else 0)
-  pub blocks : Rises old.blocks new.blocks (if is_blocked reply then 1 else 0)
+pub record IsAnswered {S : Type 0} (told : S → Told) (does : Asked → Given → S → S → Type 0) (call : Call) (p : Relay) (reply : Reply) (old new : S) : Type 0 where
+  pub read : Consumes (told old).remaining (told new).remaining (brought (way_from (side_of call)) call reply)
+  pub written : Appends (told old).written (told new).written (carried p (way_to (side_of call)) call reply)
+  pub faults : Rises (told old).faults (told new).faults (if is_failed reply then 1 else 0)
+  pub blocks : Rises (told old).blocks (told new).blocks (if is_blocked reply then 1 else 0)
+  pub made : IsCalled does (made (asked p call) reply) old new
 
 -- a call was made, and the pair has its answer
-pub record IsStep (call : Call) (old new : Relay) (wire wire_now : Told) : Type 0 where
+pub record IsStep {S : Type 0} (told : S → Told) (does : Asked → Given → S → S → Type 0) (call : Call) (old new : Relay) (wire wire_now : S) : Type 0 where
   pub reply : Reply
   pub fit : fits old call reply ≡ true
   pub run : new ≡ after old call reply
-  pub served : IsAnswered call old reply wire wire_now
+  pub served : IsAnswered told does call old reply wire wire_now
 
 -- an error's answer: what the wire counted tells a failure from "would block", and both from an interruption
 pub record IsError (kind : Kind) (reply : Reply) (faults faults_now blocks blocks_now : ℕ) : Type 0 where
@@ -41,8 +44,8 @@ pub record IsError (kind : Kind) (reply : Reply) (faults faults_now blocks block
   pub waited : Rises blocks blocks_now (if is_blocked reply then 1 else 0)
 
 -- the next call of a pair was made on the wire of its side, and the pair has its answer
-pub record IsMove (old new : Relay) (client client_now target target_now : Told) : Type 0 where
+pub record IsMove (old new : Relay) (client target : Side → Relay → List Reply → Type 0) : Type 0 where
   pub reply : Reply
   pub run : answered old reply ≡ Some new
-  pub by_client : IsServed Client old (reply ∷ []) client client_now
-  pub by_target : IsServed Target old (reply ∷ []) target target_now
+  pub by_client : client Client old (reply ∷ [])
+  pub by_target : target Target old (reply ∷ [])

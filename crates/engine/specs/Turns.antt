@@ -2,10 +2,13 @@
 use Rattle.std.specs.Prelude.{◌≡◌, ℕ, ◌+◌, ◌≤◌, Bool, true, false, ◌&&◌, if◌then◌else◌, List, [], ◌∷◌, ◌++◌, length, OnSome, unwrap_or, option_map}
 use Rattle.std.specs.Prelude.{Option}
 use Rattle.std.specs.Prelude.{Some, None}
+use Rattle.std.specs.declared.io.ErrorKind.{ErrorKind}
 use Rattle.std.specs.Io.KnownBytes.{Consumes, Appends}
 use Rattle.relay_core.specs.declared.Side.{Side}
 use Rattle.relay_core.specs.declared.Side.TheVariants.{Client, Target}
 use Rattle.relay_core.specs.declared.Direction.{Direction}
+use Rattle.relay_core.specs.declared.Kind.{Kind}
+use Rattle.relay_core.specs.declared.Kind.TheVariants.{Zero}
 use Rattle.relay_core.specs.declared.call.Call.{Call}
 use Rattle.relay_core.specs.declared.call.Call.TheVariants as call
 use Rattle.relay_core.specs.declared.verdict.Fault.{Fault}
@@ -13,11 +16,14 @@ use Rattle.relay_core.specs.declared.verdict.Verdict.{Verdict}
 use Rattle.relay_core.specs.declared.verdict.Verdict.TheVariants as verdict
 use Rattle.relay_core.specs.Calls.{side_of, direction_of}
 use Rattle.relay_core.specs.Pairs.{Relay, verdict}
-use Rattle.relay_core.specs.Order.{next_call}
-use Rattle.relay_core.specs.Replies.{Reply, Blocked, Failed}
+use Rattle.relay_core.specs.Order.{next_call, offer}
+use Rattle.relay_core.specs.Replies.{Reply, Bytes, End, Wrote, Joined, Shut, Blocked, Interrupted, Failed}
 use Rattle.relay_core.specs.Runs.{answered, over}
 use Rattle.relay_core.specs.Moved.{all_brought, all_carried}
-use Rattle.engine.specs.Wires.{Rises}
+use Rattle.engine.specs.Classes.{kind_of_error}
+use Rattle.engine.specs.Asked as ask
+use Rattle.engine.specs.Asked.{Asked, Given, Brought, Took, Done, Refused}
+use Rattle.engine.specs.Wires.{Told, Rises}
 use Rattle.engine.specs.declared.ending.Turn.{Turn}
 use Rattle.engine.specs.declared.ending.Turn.TheVariants as turn
 
@@ -31,16 +37,6 @@ ending verdict.Live None = turn.Quiet
 
 abbrev pub ending_of : Relay → Turn
 ending_of p = ending (verdict p) (next_call p)
-
--- what a wire tells: the bytes left to read and those written, where it tells them, and its two counts
-pub record Told : Type 0 where
-  pub remaining : Option (List ℕ)
-  pub written : Option (List ℕ)
-  pub faults : ℕ
-  pub blocks : ℕ
-
-abbrev pub told : Option (List ℕ) → Option (List ℕ) → ℕ → ℕ → Told
-told remaining written faults blocks = record { remaining = remaining; written = written; faults = faults; blocks = blocks }
 
 -- the direction of the bytes that reads on a side bring, and of those that writes on it carry
 abbrev pub way_from : Side → Direction
@@ -75,23 +71,83 @@ count_on test side p (reply ∷ replies) =
     unwrap_or (option_map (λ (call : Call). one_if test side call reply) (next_call p)) 0
     + unwrap_or (option_map (λ (q : Relay). count_on test side q replies) (answered p reply)) 0
 
+-- what a call asks of its wire: a write offers all bytes that are bound for its side
+abbrev pub asked : Relay → Call → Asked
+asked p (call.Read side most) = ask.Read most
+asked p (call.Write side) = ask.Write (offer p side)
+asked p (call.Join side) = ask.Join
+asked p (call.Shut side) = ask.Shut
+
+-- a call that was made, and the answer that the pair had
+pub record Made : Type 0 where
+  pub asked : Asked
+  pub reply : Reply
+
+abbrev pub made : Asked → Reply → Made
+made asked reply = record { asked = asked; reply = reply }
+
+abbrev pub made_if : Side → Relay → Call → Reply → List Made
+made_if side p call reply = if same_side (side_of call) side then made (asked p call) reply ∷ [] else []
+
+-- the calls on one side along a list of answers, each the one that comes next at that point
+abbrev pub made_on : Side → Relay → List Reply → List Made
+made_on side p [] = []
+made_on side p (reply ∷ replies) =
+    unwrap_or (option_map (λ (call : Call). made_if side p call reply) (next_call p)) []
+    ++ unwrap_or (option_map (λ (q : Relay). made_on side q replies) (answered p reply)) []
+
+-- a failure of this kind: a write that took no byte, or an error of that kind
+abbrev pub IsFailure : Given → Kind → Type 0
+IsFailure (Took n) kind = (n ≡ 0) × (kind ≡ Zero)
+IsFailure (Refused error) kind = kind ≡ kind_of_error error
+IsFailure given kind = ⊥
+
+-- what a call gave is told to the pair by this answer. Which of the three an error is, its wire counts.
+abbrev pub IsToldBy : Given → Reply → Type 0
+IsToldBy given (Bytes bytes) = given ≡ Brought bytes
+IsToldBy given End = given ≡ Brought []
+IsToldBy given (Wrote n) = given ≡ Took n
+IsToldBy given Joined = given ≡ Done
+IsToldBy given Shut = given ≡ Done
+IsToldBy given Blocked = (error : ErrorKind) × (given ≡ Refused error)
+IsToldBy given Interrupted = (error : ErrorKind) × (given ≡ Refused error)
+IsToldBy given (Failed kind) = IsFailure given kind
+
+-- one call was made on a wire, by what the wire tells of its calls
+pub record IsCalled {S : Type 0} (does : Asked → Given → S → S → Type 0) (call : Made) (old new : S) : Type 0 where
+  pub given : Given
+  pub told : IsToldBy given call.reply
+  pub did : does call.asked given old new
+
+-- and it counted the answer to this very call, where that is a fault or "would block"
+pub record IsMade {S : Type 0} (told : S → Told) (does : Asked → Given → S → S → Type 0) (call : Made) (old new : S) : Type 0 where
+  pub called : IsCalled does call old new
+  pub faults : Rises (told old).faults (told new).faults (if is_failed call.reply then 1 else 0)
+  pub blocks : Rises (told old).blocks (told new).blocks (if is_blocked call.reply then 1 else 0)
+
+-- these were made, in order, each once, and nothing else
+abbrev pub AreMade : {S : Type 0} → (S → Told) → (Asked → Given → S → S → Type 0) → List Made → S → S → Type 0
+AreMade told does [] old new = new ≡ old
+AreMade {S} told does (call ∷ calls) old new = (between : S) × IsMade told does call old between × AreMade told does calls between new
+
 -- what the answers of a list did to the wire on one side: the bytes that they brought were read from it,
--- and those that they carried were written to it, in order and nothing else; and it counted each answer
--- that was a fault, and each that was "would block"
-pub record IsServed (side : Side) (p : Relay) (replies : List Reply) (old new : Told) : Type 0 where
-  pub read : Consumes old.remaining new.remaining (all_brought p (way_from side) replies)
-  pub written : Appends old.written new.written (all_carried p (way_to side) replies)
-  pub faults : Rises old.faults new.faults (count_on is_failed side p replies)
-  pub blocks : Rises old.blocks new.blocks (count_on is_blocked side p replies)
+-- and those that they carried were written to it, in order and nothing else; it counted each answer that
+-- was a fault, and each that was "would block"; and the calls on its side were made on it and no other
+pub record IsServed {S : Type 0} (told : S → Told) (does : Asked → Given → S → S → Type 0) (old new : S) (side : Side) (p : Relay) (replies : List Reply) : Type 0 where
+  pub read : Consumes (told old).remaining (told new).remaining (all_brought p (way_from side) replies)
+  pub written : Appends (told old).written (told new).written (all_carried p (way_to side) replies)
+  pub faults : Rises (told old).faults (told new).faults (count_on is_failed side p replies)
+  pub blocks : Rises (told old).blocks (told new).blocks (count_on is_blocked side p replies)
+  pub made : AreMade told does (made_on side p replies) old new
 
 -- a turn of at most `budget` calls: there is a list of answers over which the pair ran, and both wires
 -- gave them. Fewer came than the budget allows only where there is no next call, and a pair that was live
 -- fails by the last answer
-pub record IsTurn (budget : ℕ) (old new : Relay) (client client_now target target_now : Told) : Type 0 where
+pub record IsTurn (budget : ℕ) (old new : Relay) (client target : Side → Relay → List Reply → Type 0) : Type 0 where
   pub replies : List Reply
   pub few : length replies ≤ budget
   pub run : over old replies ≡ Some new
   pub whole : OnSome (next_call new) (length replies ≡ budget)
   pub failed_last : (fault : Fault) → verdict old ≡ verdict.Live → verdict new ≡ verdict.Failed fault → (front : List Reply) × (replies ≡ front ++ Failed fault.kind ∷ [])
-  pub by_client : IsServed Client old replies client client_now
-  pub by_target : IsServed Target old replies target target_now
+  pub by_client : client Client old replies
+  pub by_target : target Target old replies

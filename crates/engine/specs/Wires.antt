@@ -2,12 +2,29 @@
 -- block".
 use Rattle.std.specs.Prelude.{◌≡◌, ◌⊎◌, ℕ, ◌+◌, ◌%◌, ◌^◌, ◌≤◌, List, [], length, take, MatchResult}
 use Rattle.std.specs.Prelude.{Option}
-use Rattle.std.specs.Prelude.{Result}
+use Rattle.std.specs.Prelude.{None}
+use Rattle.std.specs.Prelude.{Result, Ok, Err}
+use Rattle.std.specs.declared.io.Error.{Error}
+use Rattle.std.specs.IoError.{error_kind}
 use Rattle.std.specs.Io.KnownBytes.{Consumes, Keeps}
+use Rattle.engine.specs.Asked.{Given, Brought, Took, Done, Refused}
+
+-- what a wire tells: the bytes left to read and those written, where it tells them, and how many of its
+-- answers were faults, and how many "would block"
+pub record Told : Type 0 where
+  pub remaining : Option (List ℕ)
+  pub written : Option (List ℕ)
+  pub faults : ℕ
+  pub blocks : ℕ
+
+-- of a wire that tells no bytes
+abbrev pub counts_alone : ℕ → ℕ → Told
+counts_alone faults blocks = record { remaining = None; written = None; faults = faults; blocks = blocks }
 
 -- a read took the bytes that it gave from those left, and none at an error
-abbrev pub ReadTakes : {E : Type 0} → Option (List ℕ) → Option (List ℕ) → Result ℕ E → List ℕ → Type 0
-ReadTakes old new result buffer = MatchResult result (λ n. Consumes old new (take n buffer)) (λ error. Keeps old new)
+abbrev pub ReadTakes : {E : Type 0} → Result ℕ E → List ℕ → Told → Told → Type 0
+ReadTakes result buffer old new =
+    MatchResult result (λ n. Consumes old.remaining new.remaining (take n buffer)) (λ error. Keeps old.remaining new.remaining)
 
 -- a count that goes round at 2^64 rose by n
 abbrev pub Rises : ℕ → ℕ → ℕ → Type 0
@@ -21,22 +38,39 @@ CountsError faults faults_now blocks blocks_now =
     ⊎ ((faults_now ≡ faults) × Rises blocks blocks_now 1))
 
 -- an answer without error leaves both
-abbrev pub CountsAnswer : {T E : Type 0} → Result T E → ℕ → ℕ → ℕ → ℕ → Type 0
-CountsAnswer result faults faults_now blocks blocks_now =
-    MatchResult result (λ answer. (faults_now ≡ faults) × (blocks_now ≡ blocks)) (λ error. CountsError faults faults_now blocks blocks_now)
+abbrev pub CountsAnswer : {T E : Type 0} → Result T E → Told → Told → Type 0
+CountsAnswer result old new =
+    MatchResult result
+    (λ answer. (new.faults ≡ old.faults) × (new.blocks ≡ old.blocks))
+    (λ error. CountsError old.faults new.faults old.blocks new.blocks)
 
 -- n bytes of an offer were taken: none of an offer that isn't empty is a fault
-pub record CountsTaken (n : ℕ) (offer : List ℕ) (faults faults_now blocks blocks_now : ℕ) : Type 0 where
-  pub none : n ≡ 0 → 1 ≤ length offer → Rises faults faults_now 1
-  pub some : 1 ≤ n → faults_now ≡ faults
-  pub nothing_offered : offer ≡ [] → faults_now ≡ faults
-  pub same_blocks : blocks_now ≡ blocks
+pub record CountsTaken (n : ℕ) (offer : List ℕ) (old new : Told) : Type 0 where
+  pub none : n ≡ 0 → 1 ≤ length offer → Rises old.faults new.faults 1
+  pub some : 1 ≤ n → new.faults ≡ old.faults
+  pub nothing_offered : offer ≡ [] → new.faults ≡ old.faults
+  pub same_blocks : new.blocks ≡ old.blocks
 
-abbrev pub CountsWrite : {E : Type 0} → Result ℕ E → List ℕ → ℕ → ℕ → ℕ → ℕ → Type 0
-CountsWrite result offer faults faults_now blocks blocks_now =
-    MatchResult result (λ n. CountsTaken n offer faults faults_now blocks blocks_now) (λ error. CountsError faults faults_now blocks blocks_now)
+abbrev pub CountsWrite : {E : Type 0} → Result ℕ E → List ℕ → Told → Told → Type 0
+CountsWrite result offer old new =
+    MatchResult result (λ n. CountsTaken n offer old new) (λ error. CountsError old.faults new.faults old.blocks new.blocks)
 
 -- a shutdown never has to wait: its error is a fault, or it is none
-abbrev pub CountsShut : {T E : Type 0} → Result T E → ℕ → ℕ → Type 0
-CountsShut result faults faults_now =
-    MatchResult result (λ answer. faults_now ≡ faults) (λ error. (faults_now ≡ faults) ⊎ Rises faults faults_now 1)
+abbrev pub CountsShut : {T E : Type 0} → Result T E → Told → Told → Type 0
+CountsShut result old new =
+    MatchResult result
+    (λ answer. new.faults ≡ old.faults)
+    (λ error. (new.faults ≡ old.faults) ⊎ Rises old.faults new.faults 1)
+
+-- what a call gave, by its result
+abbrev pub read_gave : Result ℕ Error → List ℕ → Given
+read_gave (Ok n) buffer = Brought (take n buffer)
+read_gave (Err error) buffer = Refused (error_kind error)
+
+abbrev pub write_gave : Result ℕ Error → Given
+write_gave (Ok n) = Took n
+write_gave (Err error) = Refused (error_kind error)
+
+abbrev pub call_gave : {T : Type 0} → Result T Error → Given
+call_gave (Ok answer) = Done
+call_gave (Err error) = Refused (error_kind error)

@@ -1,6 +1,6 @@
-ghost use Rattle.std.specs.Prelude.{◌≡◌, true};
+ghost use Rattle.std.specs.Prelude.{◌≡◌, Bool, true};
 ghost use Rattle.relay_core.specs.Calls.{side_of};
-ghost use Rattle.engine.specs.Classes.{class_of, kind_of_error};
+ghost use Rattle.engine.specs.Classes.{class_of, kind_of_error, pending_kind};
 
 use relay_core::{Call, Kind, Side};
 use std::io::ErrorKind;
@@ -28,6 +28,20 @@ pub fn class_of(call: &Call, kind: ErrorKind, joined: bool) -> Class
         ErrorKind::WouldBlock if may_wait => Class::Blocked,
         ErrorKind::NotConnected if may_wait && !joined => Class::Blocked,
         _ => Class::Failed(kind_of(kind)),
+    }
+}
+
+/// The kind under which a socket's pending error (SO_ERROR) is told that a join finds. Such an error is
+/// always a failure, so a kind that the answer of a call may have without one becomes `Other`.
+pub fn pending(kind: ErrorKind) -> ErrorKind
+    ensures told { result ≡ pending_kind kind }
+    ensures fails { (call : Call) (joined : Bool) → class_of call joined result ≡ Class.Failed (kind_of_error result) }
+{
+    match kind {
+        ErrorKind::Interrupted | ErrorKind::WouldBlock | ErrorKind::NotConnected => {
+            ErrorKind::Other
+        }
+        _ => kind,
     }
 }
 

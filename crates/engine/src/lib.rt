@@ -3,27 +3,31 @@
 //!
 //! A wire is a socket that never waits, or anything that answers as one. It counts its own faults and
 //! its own answers "would block", and [`turn`] reads those counts to tell an error from the other.
-//! [`class_of`] is the rule by which wires count. [`ScriptWire`] is a wire over memory that plays a list
-//! of answers.
+//! [`class_of`] is the rule by which wires count, and [`Tally`] counts by it. [`ScriptWire`] is a wire over
+//! memory that plays a list of answers.
 //!
-//! The definitions stand in `specs/`: what a wire's calls do in `Wires.antt`, the classes of errors in
-//! `Classes.antt`, and what a turn comes to in `Turns.antt`.
+//! The definitions stand in `specs/`: what is asked of a wire and what it gives in `Asked.antt`, what its
+//! calls do in `Wires.antt`, the classes of errors in `Classes.antt`, what a turn comes to in `Turns.antt`,
+//! and what a scripted wire plays in `Cues.antt` and `Scripts.antt`.
 #![tactic(auto)]
 
 mod class;
 mod ending;
 mod play;
 mod plays;
+mod reads;
 mod script_wire;
 mod step;
+mod tally;
 #[cfg(test)]
 mod tests;
 mod turning;
 mod wire;
 
-pub use class::{Class, class_of};
+pub use class::{Class, class_of, pending};
 pub use ending::Turn;
 pub use play::Play;
 pub use script_wire::ScriptWire;
+pub use tally::Tally;
 pub use turning::turn;
 pub use wire::Wire;

@@ -1,3 +1,7 @@
+ghost use Rattle.std.specs.Prelude.{◌≡◌};
+ghost use Rattle.engine.specs.Cues.{cue_of, error_of, error_of_kind, written_by, connects};
+ghost use Rattle.engine.specs.Playing.{took};
+
 use relay_core::Kind;
 use std::io::ErrorKind;
 
@@ -27,7 +31,9 @@ pub enum Play {
 
 impl Play {
     /// The error by which a call answers where this play is one, or does not fit the call.
-    pub(crate) fn error(&self) -> ErrorKind {
+    pub(crate) fn error(&self) -> ErrorKind
+        ensures { result ≡ error_of (cue_of self.now) }
+    {
         match self {
             Play::Interrupted => ErrorKind::Interrupted,
             Play::Blocked => ErrorKind::WouldBlock,
@@ -35,9 +41,32 @@ impl Play {
             _ => ErrorKind::Other,
         }
     }
+
+    /// How many bytes a write takes that offers so many, or its error.
+    pub(crate) fn taken(&self, offered: usize) -> Result<usize, ErrorKind>
+        ensures { took result ≡ written_by offered (cue_of self.now) }
+    {
+        match self {
+            Play::Take(most) => Ok(offered.min(*most)),
+            Play::Zero => Ok(0),
+            _ => Err(self.error()),
+        }
+    }
+
+    /// Whether it shows, where it fits its call, that the socket is connected.
+    pub(crate) fn connects(&self) -> bool
+        ensures { result ≡ connects (cue_of self.now) }
+    {
+        matches!(
+            self,
+            Play::Bytes(_) | Play::End | Play::Take(_) | Play::Joined
+        )
+    }
 }
 
-fn error_of(kind: Kind) -> ErrorKind {
+fn error_of(kind: Kind) -> ErrorKind
+    ensures { result ≡ error_of_kind kind }
+{
     match kind {
         Kind::Reset => ErrorKind::ConnectionReset,
         Kind::Pipe => ErrorKind::BrokenPipe,

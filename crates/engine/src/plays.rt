@@ -1,4 +1,5 @@
-ghost use Rattle.std.specs.Prelude.{◌≡◌, ◌≤◌, ◌∷◌, [], length, drop, IsNone, IfSome};
+ghost use Rattle.std.specs.Prelude.{◌≡◌, ◌≤◌, ◌∷◌, [], map, length, drop, IsNone, IfSome};
+ghost use Rattle.engine.specs.Cues.{cue_of};
 
 use crate::play::Play;
 use std::marker::Model;
@@ -11,19 +12,19 @@ pub(crate) struct Plays {
 }
 
 impl Model for Plays {
-    ghost use Rattle.std.specs.Prelude.{◌≤◌, List, drop, vec_len};
-    ghost use Rattle.engine.specs.declared.play.Play.{Play};
+    ghost use Rattle.std.specs.Prelude.{◌≤◌, List, map, drop, vec_len};
+    ghost use Rattle.engine.specs.Cues.{Cue, cue_of};
 
-    ghost Value = { List Play };
+    ghost Value = { List Cue };
 
-    ghost view = { λ p. drop p.used p.plays.items };
+    ghost view = { λ p. map cue_of (drop p.used p.plays.items) };
 
     ghost invariant = { λ p. p.used ≤ vec_len p.plays };
 }
 
 impl Plays {
     pub(crate) fn new(plays: Vec<Play>) -> Plays
-        ensures { result ≡ plays.items }
+        ensures { result ≡ map cue_of plays.items }
     {
         Plays { plays, used: 0 }
     }
@@ -38,7 +39,7 @@ impl Plays {
     /// The one that comes next.
     pub(crate) fn first(&self) -> Option<&Play>
         ensures none { IsNone result → self.now ≡ [] }
-        ensures some { IfSome result (λ play. self.now ≡ play.now ∷ drop 1 self.now) }
+        ensures some { IfSome result (λ play. self.now ≡ cue_of play.now ∷ drop 1 self.now) }
     {
         self.plays.as_slice().get(self.used)
     }

@@ -1,12 +1,15 @@
-ghost use Rattle.std.specs.Prelude.{◌≡◌, ℕ, ◌-◌, ◌^◌, ◌≤◌, min, Some, [], length, take, sum_by, IfOk, IfSome};
+ghost use Rattle.std.specs.Prelude.{◌≡◌, ◌-◌, ◌^◌, min, Some, [], map, length, take, sum_by, IfOk, IfSome};
 ghost use Rattle.std.specs.IoError.{error_kind};
 ghost use Rattle.relay_core.specs.Calls.{side_of};
 ghost use Rattle.engine.specs.Classes.{class_of};
-ghost use Rattle.engine.specs.Scripts.{bytes_left, plays_left, most_taken, counted};
+ghost use Rattle.engine.specs.Cues.{cue_of, most_taken};
+ghost use Rattle.engine.specs.Scripts.{bytes_of, plays_left, IsPlayed};
+ghost use Rattle.engine.specs.Tallies.{tally, counted};
 
-use crate::class::{Class, class_of};
 use crate::play::Play;
 use crate::plays::Plays;
+use crate::reads::Reads;
+use crate::tally::Tally;
 use crate::wire::Wire;
 use relay_core::{Call, Side};
 use std::alloc::{AllocError, Global};
@@ -23,25 +26,23 @@ use std::marker::Model;
 /// shutdown.
 #[derive(Drop)]
 pub struct ScriptWire {
-    reads: Plays,
-    given: usize,
+    reads: Reads,
     writes: Plays,
     closings: Plays,
     taken: Vec<u8>,
-    joined: bool,
-    faults: u64,
-    blocks: u64,
+    tally: Tally,
 }
 
 impl Model for ScriptWire {
-    ghost use Rattle.std.specs.Prelude.{◌+◌, ◌≤◌, length, sum_by, vec_len, vec_capacity};
-    ghost use Rattle.engine.specs.Scripts.{Script, first_bytes, most_taken};
+    ghost use Rattle.std.specs.Prelude.{◌+◌, ◌≤◌, sum_by, vec_len, vec_capacity};
+    ghost use Rattle.engine.specs.Cues.{most_taken};
+    ghost use Rattle.engine.specs.Scripts.{Script};
 
     ghost Value = { Script };
 
-    ghost view = { λ w. record { reads = w.reads; given = w.given; writes = w.writes; closings = w.closings; written = w.taken.items; joined = w.joined; faults = w.faults; blocks = w.blocks } };
+    ghost view = { λ w. record { reads = w.reads; writes = w.writes; closings = w.closings; written = w.taken.items; tally = w.tally } };
 
-    ghost invariant = { λ w. (w.given ≤ length (first_bytes w.reads)) × (vec_len w.taken + sum_by most_taken w.writes ≤ vec_capacity w.taken) };
+    ghost invariant = { λ w. vec_len w.taken + sum_by most_taken w.writes ≤ vec_capacity w.taken };
 }
 
 impl ScriptWire {
@@ -55,21 +56,18 @@ impl ScriptWire {
         writes: Vec<Play>,
         closings: Vec<Play>,
     ) -> Result<ScriptWire, AllocError>
-        ensures { IfOk result (λ wire. wire ≡ record { reads = reads.items; given = 0; writes = writes.items; closings = closings.items; written = []; joined = joined; faults = 0; blocks = 0 }) }
+        ensures { IfOk result (λ wire. wire ≡ record { reads = map cue_of reads.items; writes = map cue_of writes.items; closings = map cue_of closings.items; written = []; tally = tally joined 0 0 }) }
     {
         let Some(room) = room_for(writes.as_slice()) else {
             return Err(AllocError);
         };
         let taken = Vec::with_capacity(alloc, room)?;
         Ok(ScriptWire {
-            reads: Plays::new(reads),
-            given: 0,
+            reads: Reads::new(reads),
             writes: Plays::new(writes),
             closings: Plays::new(closings),
             taken,
-            joined,
-            faults: 0,
-            blocks: 0,
+            tally: Tally::new(joined),
         })
     }
 
@@ -94,20 +92,16 @@ impl ScriptWire {
     fn refuse(&mut self, call: Call, kind: ErrorKind) -> io::Error
         requires { side_of call ≡ Side.Target }
         ensures kind { error_kind result ≡ kind }
-        ensures counted { self.new ≡ counted (class_of call self.old.joined kind) self.old }
+        ensures counted { self.new ≡ record self.old { tally = counted (class_of call self.old.tally.joined kind) self.old.tally } }
     {
-        match class_of(&call, kind, self.joined) {
-            Class::Interrupted => {}
-            Class::Blocked => self.blocks = self.blocks.wrapping_add(1),
-            Class::Failed(_) => self.faults = self.faults.wrapping_add(1),
-        }
+        self.tally.refuse(call, kind);
         io::Error::from(kind)
     }
 }
 
 /// The room for the bytes of every Take, or none where no memory is so large.
 fn room_for(plays: &[Play]) -> Option<usize>
-    ensures { IfSome result (λ room. room ≡ sum_by most_taken plays.now) }
+    ensures { IfSome result (λ room. room ≡ sum_by most_taken (map cue_of plays.now)) }
 {
     let mut room = 0usize;
     for play in plays {
@@ -118,76 +112,41 @@ fn room_for(plays: &[Play]) -> Option<usize>
     Some(room)
 }
 
-/// Copies the first bytes of one slice to the front of another, as many as both hold.
-fn copy_front(from: &[u8], to: &mut [u8]) -> usize
-    ensures count { result ≡ min (length from.now) (length to.old) }
-    ensures bytes { take result to.new ≡ take result from.now }
-{
-    let count = from.len().min(to.len());
-    to[..count].copy_from_slice(&from[..count]);
-    count
-}
-
 impl Wire for ScriptWire {
-    ghost remaining = { λ w. Some (bytes_left w) };
+    ghost told = { λ w. record { remaining = Some (bytes_of w.reads); written = Some w.written; faults = w.tally.faults; blocks = w.tally.blocks } };
 
-    ghost written = { λ w. Some w.written };
-
-    ghost fault_count = { λ w. w.faults };
-
-    ghost block_count = { λ w. w.blocks };
+    ghost does = { IsPlayed };
 
     fn read(&mut self, buffer: &mut [u8]) -> io::Result<usize> {
         let call = Call::Read(Side::Target, buffer.len());
-        match self.reads.first() {
-            None => Err(self.refuse(call, ErrorKind::WouldBlock)),
-            Some(Play::Bytes(bytes)) => {
-                let count = copy_front(&bytes[self.given..], buffer);
-                self.joined = true;
-                if self.given + count == bytes.len() {
-                    self.reads.pass();
-                    self.given = 0;
-                } else {
-                    self.given += count;
-                }
+        match self.reads.read(buffer) {
+            Ok(count) => {
+                self.tally.connect();
                 Ok(count)
             }
-            Some(Play::End) => {
-                self.reads.pass();
-                self.joined = true;
-                Ok(0)
-            }
-            Some(play) => {
-                let kind = play.error();
-                self.reads.pass();
-                Err(self.refuse(call, kind))
-            }
+            Err(kind) => Err(self.refuse(call, kind)),
         }
     }
 
     fn write(&mut self, offer: &[u8]) -> io::Result<usize> {
         let call = Call::Write(Side::Target);
-        match self.writes.first() {
-            None => Err(self.refuse(call, ErrorKind::WouldBlock)),
-            Some(Play::Take(most)) => {
-                let count = offer.len().min(*most);
-                self.joined = true;
+        let Some(play) = self.writes.first() else {
+            return Err(self.refuse(call, ErrorKind::WouldBlock));
+        };
+        let (taken, connects) = (play.taken(offer.len()), play.connects());
+        match taken {
+            Ok(count) => {
+                if connects {
+                    self.tally.connect();
+                }
                 self.taken.extend_from_slice(&offer[..count]).unwrap();
                 self.writes.pass();
                 if count == 0 && !offer.is_empty() {
-                    self.faults = self.faults.wrapping_add(1);
+                    self.tally.none_taken();
                 }
                 Ok(count)
             }
-            Some(Play::Zero) => {
-                self.writes.pass();
-                if !offer.is_empty() {
-                    self.faults = self.faults.wrapping_add(1);
-                }
-                Ok(0)
-            }
-            Some(play) => {
-                let kind = play.error();
+            Err(kind) => {
                 self.writes.pass();
                 Err(self.refuse(call, kind))
             }
@@ -215,7 +174,7 @@ impl Wire for ScriptWire {
             None => Err(self.refuse(call, ErrorKind::WouldBlock)),
             Some(Play::Joined) => {
                 self.closings.pass();
-                self.joined = true;
+                self.tally.connect();
                 Ok(())
             }
             Some(play) => {
@@ -227,10 +186,10 @@ impl Wire for ScriptWire {
     }
 
     fn faults(&self) -> u64 {
-        self.faults
+        self.tally.faults()
     }
 
     fn blocks(&self) -> u64 {
-        self.blocks
+        self.tally.blocks()
     }
 }

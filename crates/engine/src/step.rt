@@ -3,10 +3,12 @@ ghost use Rattle.relay_core.specs.declared.call.Call.TheVariants as call;
 ghost use Rattle.relay_core.specs.Order.{next_call, offer};
 ghost use Rattle.relay_core.specs.Answers.{reply_of};
 ghost use Rattle.relay_core.specs.Laws.{IsPossible};
+ghost use Rattle.std.specs.Io.{WritesAtMost};
+ghost use Rattle.std.specs.Io.KnownBytes.{Keeps, WriteAppends};
 ghost use Rattle.std.specs.IoError.{error_kind};
+ghost use Rattle.engine.specs.Asked as ask;
 ghost use Rattle.engine.specs.Classes.{kind_of_error};
-ghost use Rattle.engine.specs.Wires.{CountsError};
-ghost use Rattle.engine.specs.Turns.{told};
+ghost use Rattle.engine.specs.Wires.{CountsError, CountsWrite, write_gave};
 ghost use Rattle.engine.specs.Steps.{IsStep, IsError};
 
 use crate::class::kind_of;
@@ -18,7 +20,7 @@ use std::io;
 pub(crate) fn step<W: Wire>(pair: &mut Pair, call: Call, wire: &mut W, buffer: &mut [u8; READ_MOST])
     requires next { next_call pair.old ≡ Some call }
     requires possible { IsPossible pair.old call }
-    ensures { IsStep call pair.old pair.new (told (W.remaining wire.old) (W.written wire.old) (W.fault_count wire.old) (W.block_count wire.old)) (told (W.remaining wire.new) (W.written wire.new) (W.fault_count wire.new) (W.block_count wire.new)) }
+    ensures { IsStep W.told W.does call pair.old pair.new wire.old wire.new }
 {
     match call {
         Call::Write(side) => write(pair, side, wire),
@@ -37,7 +39,7 @@ fn read<W: Wire>(
 )
     requires next { next_call pair.old ≡ Some (call.Read side most) }
     requires possible { IsPossible pair.old (call.Read side most) }
-    ensures { IsStep (call.Read side most) pair.old pair.new (told (W.remaining wire.old) (W.written wire.old) (W.fault_count wire.old) (W.block_count wire.old)) (told (W.remaining wire.new) (W.written wire.new) (W.fault_count wire.new) (W.block_count wire.new)) }
+    ensures { IsStep W.told W.does (call.Read side most) pair.old pair.new wire.old wire.new }
 {
     let faults = wire.faults();
     let blocks = wire.blocks();
@@ -54,11 +56,11 @@ fn read<W: Wire>(
 fn write<W: Wire>(pair: &mut Pair, side: Side, wire: &mut W)
     requires next { next_call pair.old ≡ Some (call.Write side) }
     requires possible { IsPossible pair.old (call.Write side) }
-    ensures { IsStep (call.Write side) pair.old pair.new (told (W.remaining wire.old) (W.written wire.old) (W.fault_count wire.old) (W.block_count wire.old)) (told (W.remaining wire.new) (W.written wire.new) (W.fault_count wire.new) (W.block_count wire.new)) }
+    ensures { IsStep W.told W.does (call.Write side) pair.old pair.new wire.old wire.new }
 {
     let faults = wire.faults();
     let blocks = wire.blocks();
-    match wire.write(pair.offer(side)) {
+    match offer_all(pair, side, wire) {
         Ok(0) => pair.answer(Call::Write(side), Answer::Failed(Kind::Zero)),
         Ok(count) => pair.answer(Call::Write(side), Answer::Wrote(count)),
         Err(error) => pair.answer(
@@ -68,9 +70,21 @@ fn write<W: Wire>(pair: &mut Pair, side: Side, wire: &mut W)
     }
 }
 
+/// Offers a side all bytes that are bound for it, in one write.
+fn offer_all<W: Wire>(pair: &mut Pair, side: Side, wire: &mut W) -> io::Result<usize>
+    ensures same { pair.new ≡ pair.old }
+    ensures most { WritesAtMost result (offer pair.old side) }
+    ensures bytes { WriteAppends (W.told wire.old).written (W.told wire.new).written result (offer pair.old side) }
+    ensures kept { Keeps (W.told wire.old).remaining (W.told wire.new).remaining }
+    ensures counts { CountsWrite result (offer pair.old side) (W.told wire.old) (W.told wire.new) }
+    ensures did { W.does (ask.Write (offer pair.old side)) (write_gave result) wire.old wire.new }
+{
+    wire.write(pair.offer(side))
+}
+
 fn join<W: Wire>(pair: &mut Pair, side: Side, wire: &mut W)
     requires next { next_call pair.old ≡ Some (call.Join side) }
-    ensures { IsStep (call.Join side) pair.old pair.new (told (W.remaining wire.old) (W.written wire.old) (W.fault_count wire.old) (W.block_count wire.old)) (told (W.remaining wire.new) (W.written wire.new) (W.fault_count wire.new) (W.block_count wire.new)) }
+    ensures { IsStep W.told W.does (call.Join side) pair.old pair.new wire.old wire.new }
 {
     let faults = wire.faults();
     let blocks = wire.blocks();
@@ -82,7 +96,7 @@ fn join<W: Wire>(pair: &mut Pair, side: Side, wire: &mut W)
 
 fn shut<W: Wire>(pair: &mut Pair, side: Side, wire: &mut W)
     requires next { next_call pair.old ≡ Some (call.Shut side) }
-    ensures { IsStep (call.Shut side) pair.old pair.new (told (W.remaining wire.old) (W.written wire.old) (W.fault_count wire.old) (W.block_count wire.old)) (told (W.remaining wire.new) (W.written wire.new) (W.fault_count wire.new) (W.block_count wire.new)) }
+    ensures { IsStep W.told W.does (call.Shut side) pair.old pair.new wire.old wire.new }
 {
     let faults = wire.faults();
     match wire.shut_write() {
@@ -96,8 +110,8 @@ fn shut<W: Wire>(pair: &mut Pair, side: Side, wire: &mut W)
 
 /// What an error was, by what the wire has counted since the call began.
 fn error_answer<W: Wire>(wire: &W, faults: u64, blocks: u64, error: &io::Error) -> Answer<'static>
-    requires { CountsError faults (W.fault_count wire.now) blocks (W.block_count wire.now) }
-    ensures { IsError (kind_of_error (error_kind error.now)) (reply_of result) faults (W.fault_count wire.now) blocks (W.block_count wire.now) }
+    requires { CountsError faults (W.told wire.now).faults blocks (W.told wire.now).blocks }
+    ensures { IsError (kind_of_error (error_kind error.now)) (reply_of result) faults (W.told wire.now).faults blocks (W.told wire.now).blocks }
 {
     if wire.faults() != faults {
         Answer::Failed(kind_of(error.kind()))

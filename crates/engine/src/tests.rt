@@ -120,8 +120,7 @@ fn observe(turn: Turn, pair: &Pair, client: &ScriptWire, target: &ScriptWire) ->
 }
 
 /// A turn of a fresh connection with rings of four bytes, over wires that play these. `waiting` is what
-/// has to be left in the ring towards the target. A turn that is through makes no call when it is taken up
-/// again.
+/// has to be left in the ring towards the target.
 fn play(
     rt: &impl Abort,
     alloc: Global,
@@ -133,7 +132,25 @@ fn play(
     requires least { 1 ≤ budget }
     requires most { budget ≤ 1024 }
 {
-    let mut pair = Pair::new(alloc, 0, 1, 4)?;
+    play_in(rt, alloc, 4, budget, client_part, target_part, waiting)
+}
+
+/// The same with rings of so many bytes. A turn that is through makes no call when it is taken up again.
+fn play_in(
+    rt: &impl Abort,
+    alloc: Global,
+    ring: usize,
+    budget: usize,
+    client_part: Part,
+    target_part: Part,
+    waiting: &[u8],
+) -> Result<Seen, AllocError>
+    requires small { 1 ≤ ring }
+    requires large { ring ≤ 65536 }
+    requires least { 1 ≤ budget }
+    requires most { budget ≤ 1024 }
+{
+    let mut pair = Pair::new(alloc, 0, 1, ring)?;
     let mut client = wire_of(alloc, client_part)?;
     let mut target = wire_of(alloc, target_part)?;
     let ending = turn(&mut pair, &mut client, &mut target, budget);
@@ -144,7 +161,7 @@ fn play(
     }
     assert_eq!(rt; client.written(), client_part.given);
     assert_eq!(rt; target.written(), target_part.given);
-    assert_eq!(rt; pair.offer(Side::Target), waiting);
+    assert_eq!(rt; &*pair.offer(Side::Target), waiting);
     Ok(seen)
 }
 
@@ -226,60 +243,107 @@ fn passes_on_the_end_of_an_empty_stream(rt: HostRuntime) -> Result<(), Fail> {
     Ok(())
 }
 
-// Each call has its own play, so an answer that no call gave would leave one over, or change the pair.
+/// What a client's read gives, what the target plays for writes and closings, the call that is
+/// interrupted, and whether the end of input came before it, the socket was found connected, and what waits
+/// in the ring.
+type Interruption<'a> = (usize, Cue, &'a [Cue], &'a [Cue], Call, bool, bool, &'a [u8]);
+
+// The last call of a budget is interrupted, and the play after it is left: a write, a join and a shutdown
+// on the target.
 #[test]
-fn invents_no_answer(rt: HostRuntime) -> Result<(), Fail> {
-    let client = Part {
-        reads: &[Cue::Interrupted, Cue::Bytes(b"hi"), Cue::Blocked],
-        ..SILENT
-    };
-    let target = Part {
-        joined: false,
-        reads: &[Cue::Interrupted, Cue::Blocked],
-        writes: &[Cue::Interrupted, Cue::Blocked],
-        ..SILENT
-    };
-    let want = Seen {
-        client: (0, 1),
-        target: (0, 2),
-        ..STILL
-    };
-    assert_eq!(rt; play(&rt, rt.alloc(), 64, client, target, b"hi")?, want);
+fn ends_at_an_interrupted_call(rt: HostRuntime) -> Result<(), Fail> {
+    let write = [Cue::Interrupted, Cue::Take(1)];
+    let join = [Cue::Interrupted, Cue::Joined];
+    let shut = [Cue::Joined, Cue::Interrupted, Cue::Shut];
+    let rows: [Interruption; 3] = [
+        (
+            3,
+            Cue::Bytes(b"x"),
+            &write,
+            &[],
+            Call::Write(Side::Target),
+            false,
+            false,
+            b"x",
+        ),
+        (
+            3,
+            Cue::End,
+            &[],
+            &join,
+            Call::Join(Side::Target),
+            true,
+            false,
+            b"",
+        ),
+        (
+            4,
+            Cue::End,
+            &[],
+            &shut,
+            Call::Shut(Side::Target),
+            true,
+            true,
+            b"",
+        ),
+    ];
+    for (budget, read, writes, closings, next, ended, joined, waiting) in rows {
+        let client = Part {
+            reads: &[read],
+            ..SILENT
+        };
+        let target = Part {
+            joined: false,
+            reads: &[Cue::Blocked],
+            writes,
+            closings,
+            given: b"",
+        };
+        let want = Seen {
+            turn: Turn::Again,
+            next: Some(next),
+            ends: (ended, false),
+            joined,
+            left: (0, 1),
+            target: (0, 1),
+            ..STILL
+        };
+        assert_eq!(rt;
+            play(&rt, rt.alloc(), budget, client, target, waiting)?,
+            want
+        );
+    }
     Ok(())
 }
 
-// The same of joins and shutdowns: the end waits in the ring's stead until the target answers both.
+/// A ring of the default size, full.
+static FULL: [u8; 16_384] = [7; 16_384];
+
+// At the default size one read fills the ring, and one write empties it.
 #[test]
-fn invents_no_join_and_no_shutdown(rt: HostRuntime) -> Result<(), Fail> {
-    let client = Part {
-        reads: &[Cue::End],
-        ..SILENT
-    };
-    let joins = Part {
-        joined: false,
-        closings: &[Cue::Interrupted, Cue::Blocked],
-        ..SILENT
-    };
-    let want = Seen {
-        ends: (true, false),
-        target: (0, 2),
-        ..STILL
-    };
-    assert_eq!(rt; play(&rt, rt.alloc(), 64, client, joins, b"")?, want);
-    let shuts = Part {
-        joined: false,
-        closings: &[Cue::Joined, Cue::Interrupted],
-        ..SILENT
-    };
-    let want = Seen {
-        turn: Turn::Again,
-        next: Some(Call::Shut(Side::Target)),
-        ends: (true, false),
-        joined: true,
-        target: (0, 1),
-        ..STILL
-    };
-    assert_eq!(rt; play(&rt, rt.alloc(), 4, client, shuts, b"")?, want);
+fn fills_the_default_ring(rt: HostRuntime) -> Result<(), Fail> {
+    for count in [1, 16_383, 16_384] {
+        let client = Part {
+            reads: &[Cue::Bytes(&FULL[..count]), Cue::End],
+            ..SILENT
+        };
+        let target = Part {
+            reads: &[Cue::Blocked],
+            writes: &[Cue::Take(count)],
+            closings: &[Cue::Shut],
+            given: &FULL[..count],
+            ..SILENT
+        };
+        let want = Seen {
+            ends: (true, false),
+            shut: (true, false),
+            joined: true,
+            target: (0, 1),
+            ..STILL
+        };
+        let seen = play_in(&rt, rt.alloc(), 16_384, 64, client, target, b"")?;
+        assert_eq!(rt; seen, want);
+    }
     Ok(())
 }
 
@@ -436,6 +500,7 @@ fn reads_as_played(rt: HostRuntime) -> Result<(), Fail> {
     let part = Part {
         reads: &[
             Cue::Bytes(b"abc"),
+            Cue::Bytes(b"de"),
             Cue::End,
             Cue::Interrupted,
             Cue::Blocked,
@@ -447,6 +512,7 @@ fn reads_as_played(rt: HostRuntime) -> Result<(), Fail> {
     let lines = [
         (Ok(2), 0, 0),
         (Ok(1), 0, 0),
+        (Ok(2), 0, 0),
         (Ok(0), 0, 0),
         (Err(ErrorKind::Interrupted), 0, 0),
         (Err(ErrorKind::WouldBlock), 0, 1),
@@ -660,6 +726,34 @@ fn classes_errors(rt: HostRuntime) {
     expect_class(&rt, shut, true, ErrorKind::WouldBlock, other);
     let unconnected = Class::Failed(Kind::NotConnected);
     expect_class(&rt, shut, false, ErrorKind::NotConnected, unconnected);
+}
+
+// The same error waits before the socket is known to be connected, and fails after.
+#[test]
+fn tallies_by_class(rt: HostRuntime) {
+    let read = Call::Read(Side::Target, 1);
+    let mut tally = Tally::new(false);
+    tally.refuse(read, ErrorKind::NotConnected);
+    tally.connect();
+    tally.refuse(read, ErrorKind::NotConnected);
+    tally.refuse(read, ErrorKind::Interrupted);
+    tally.none_taken();
+    assert_eq!(rt; tally.joined(), true);
+    assert_eq!(rt; (tally.faults(), tally.blocks()), (2, 1));
+}
+
+// A pending error is a failure of every call.
+#[test]
+fn tells_pending_errors(rt: HostRuntime) {
+    for (kind, told) in [
+        (ErrorKind::ConnectionRefused, ErrorKind::ConnectionRefused),
+        (ErrorKind::TimedOut, ErrorKind::TimedOut),
+        (ErrorKind::WouldBlock, ErrorKind::Other),
+        (ErrorKind::Interrupted, ErrorKind::Other),
+        (ErrorKind::NotConnected, ErrorKind::Other),
+    ] {
+        assert_eq!(rt; pending(kind), told);
+    }
 }
 
 // No memory holds the bytes of these.

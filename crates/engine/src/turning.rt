@@ -2,7 +2,7 @@ ghost use Rattle.std.specs.Prelude.{◌≡◌, ◌≤◌, Some};
 ghost use Rattle.relay_core.specs.Order.{next_call};
 ghost use Rattle.relay_core.specs.Laws.{IsPossible};
 ghost use Rattle.engine.specs.Steps.{IsMove};
-ghost use Rattle.engine.specs.Turns.{told, ending_of, IsTurn};
+ghost use Rattle.engine.specs.Turns.{ending_of, IsServed, IsTurn};
 
 use crate::ending::Turn;
 use crate::step::step;
@@ -12,6 +12,10 @@ use relay_core::{Call, Pair, READ_MOST, Side, Verdict};
 /// Makes the calls that a pair asks for, at most `budget` of them (1 to 1,024), each on the wire of its
 /// side, and hands the pair their answers. A pair that is done or has failed asks for none. It takes no
 /// memory.
+///
+/// What it asks of each wire are exactly the calls that come next along the answers, in order and each
+/// once: a read of as many bytes as the pair asks for, and a write of all bytes that are bound for that
+/// side. It makes no answer up, and a failure has the kind of the error that the call gave.
 ///
 /// An error is a failure where the wire counted a fault, "would block" where it counted that, and an
 /// interruption where it counted neither. A write that took no byte is a failure.
@@ -24,11 +28,7 @@ pub fn turn<A: Wire, B: Wire>(
     requires least { 1 ≤ budget }
     requires most { budget ≤ 1024 }
     ensures ending { result ≡ ending_of pair.new }
-    ensures run { IsTurn budget pair.old pair.new
-        (told (A.remaining client.old) (A.written client.old) (A.fault_count client.old) (A.block_count client.old))
-        (told (A.remaining client.new) (A.written client.new) (A.fault_count client.new) (A.block_count client.new))
-        (told (B.remaining target.old) (B.written target.old) (B.fault_count target.old) (B.block_count target.old))
-        (told (B.remaining target.new) (B.written target.new) (B.fault_count target.new) (B.block_count target.new)) }
+    ensures run { IsTurn budget pair.old pair.new (IsServed A.told A.does client.old client.new) (IsServed B.told B.does target.old target.new) }
 {
     let mut buffer = [0; READ_MOST];
     for _calls in 0..budget {
@@ -50,11 +50,7 @@ fn advance<A: Wire, B: Wire>(
 )
     requires next { next_call pair.old ≡ Some call }
     requires possible { IsPossible pair.old call }
-    ensures { IsMove pair.old pair.new
-        (told (A.remaining client.old) (A.written client.old) (A.fault_count client.old) (A.block_count client.old))
-        (told (A.remaining client.new) (A.written client.new) (A.fault_count client.new) (A.block_count client.new))
-        (told (B.remaining target.old) (B.written target.old) (B.fault_count target.old) (B.block_count target.old))
-        (told (B.remaining target.new) (B.written target.new) (B.fault_count target.new) (B.block_count target.new)) }
+    ensures { IsMove pair.old pair.new (IsServed A.told A.does client.old client.new) (IsServed B.told B.does target.old target.new) }
 {
     match call.side() {
         Side::Client => step(pair, call, client, buffer),

@@ -1,15 +1,17 @@
-ghost use Rattle.std.specs.Prelude.{◌≡◌, ℕ, List, None, length};
-ghost use Rattle.std.specs.Prelude.{Option};
+ghost use Rattle.std.specs.Prelude.{◌≡◌, length};
 ghost use Rattle.std.specs.Io.{WritesAtMost};
 ghost use Rattle.std.specs.Io.KnownBytes.{Keeps, WriteAppends};
-ghost use Rattle.engine.specs.Wires.{ReadTakes, CountsAnswer, CountsWrite, CountsShut};
+ghost use Rattle.engine.specs.Asked as ask;
+ghost use Rattle.engine.specs.Asked.{Asked, Given};
+ghost use Rattle.engine.specs.Wires.{Told, ReadTakes, CountsAnswer, CountsWrite, CountsShut, read_gave, write_gave, call_gave};
 
 use std::io;
 
 /// A connection's socket, or what stands for one: none of its calls waits.
 ///
-/// A wire may tell two lists: the bytes that it has left to read, `remaining`, and those that were
-/// written to it, `written`.
+/// A wire tells its two counts, and it may tell two lists: the bytes that it has left to read, and those
+/// that were written to it. It may also tell what a call does to it, all of it, by what was asked and what
+/// the call gave. A socket tells its counts alone.
 ///
 /// It counts its answers that are faults and those that are "would block", by
 /// [`class_of`](crate::class_of), and [`turn`](crate::turn) tells an error's class by which of the two
@@ -17,49 +19,49 @@ use std::io;
 /// fault. An error raises one of the two by one, or neither where it is an interruption. A shutdown never
 /// raises the second. Both go round at 2^64.
 pub trait Wire {
-    // The bytes that reads will give from here on, where the wire tells them.
-    ghost remaining: { Self → Option (List ℕ) } = { λ _. None };
+    // The bytes left to read and those written, where the wire tells them, and its two counts.
+    ghost told: { Self → Told };
 
-    // The bytes that writes took, where the wire tells them.
-    ghost written: { Self → Option (List ℕ) } = { λ _. None };
-
-    // How many of its answers were faults, and how many "would block".
-    ghost fault_count: { Self → ℕ };
-
-    ghost block_count: { Self → ℕ };
+    // What one call may do, where the wire tells it: what was asked, what it gave, and the wire before and
+    // after.
+    ghost does: { Asked → Given → Self → Self → Type 0 } = { λ _ _ _ _. Unit {0} };
 
     /// read(2): gives a count of at most the buffer's length, and 0 at the end of input.
     fn read(&mut self, buffer: &mut [u8]) -> io::Result<usize>
         ensures most { WritesAtMost result buffer.new }
-        ensures bytes { ReadTakes (remaining self.old) (remaining self.new) result buffer.new }
-        ensures kept { Keeps (written self.old) (written self.new) }
-        ensures counts { CountsAnswer result (fault_count self.old) (fault_count self.new) (block_count self.old) (block_count self.new) };
+        ensures bytes { ReadTakes result buffer.new (told self.old) (told self.new) }
+        ensures kept { Keeps (told self.old).written (told self.new).written }
+        ensures counts { CountsAnswer result (told self.old) (told self.new) }
+        ensures did { does (ask.Read (length buffer.old)) (read_gave result buffer.new) self.old self.new };
 
     /// write(2): takes the first bytes of an offer, at most all, and tells how many.
     fn write(&mut self, offer: &[u8]) -> io::Result<usize>
         ensures most { WritesAtMost result offer.now }
-        ensures bytes { WriteAppends (written self.old) (written self.new) result offer.now }
-        ensures kept { Keeps (remaining self.old) (remaining self.new) }
-        ensures counts { CountsWrite result offer.now (fault_count self.old) (fault_count self.new) (block_count self.old) (block_count self.new) };
+        ensures bytes { WriteAppends (told self.old).written (told self.new).written result offer.now }
+        ensures kept { Keeps (told self.old).remaining (told self.new).remaining }
+        ensures counts { CountsWrite result offer.now (told self.old) (told self.new) }
+        ensures did { does (ask.Write offer.now) (write_gave result) self.old self.new };
 
     /// shutdown(2) with `SHUT_WR`: passes the end of input on.
     fn shut_write(&mut self) -> io::Result<()>
-        ensures left { Keeps (remaining self.old) (remaining self.new) }
-        ensures kept { Keeps (written self.old) (written self.new) }
-        ensures counts { CountsShut result (fault_count self.old) (fault_count self.new) }
-        ensures blocks { block_count self.new ≡ block_count self.old };
+        ensures left { Keeps (told self.old).remaining (told self.new).remaining }
+        ensures kept { Keeps (told self.old).written (told self.new).written }
+        ensures counts { CountsShut result (told self.old) (told self.new) }
+        ensures blocks { (told self.new).blocks ≡ (told self.old).blocks }
+        ensures did { does ask.Shut (call_gave result) self.old self.new };
 
     /// Whether connect(2) has ended: an error while it goes on, or where it failed.
     fn joined(&mut self) -> io::Result<()>
-        ensures left { Keeps (remaining self.old) (remaining self.new) }
-        ensures kept { Keeps (written self.old) (written self.new) }
-        ensures counts { CountsAnswer result (fault_count self.old) (fault_count self.new) (block_count self.old) (block_count self.new) };
+        ensures left { Keeps (told self.old).remaining (told self.new).remaining }
+        ensures kept { Keeps (told self.old).written (told self.new).written }
+        ensures counts { CountsAnswer result (told self.old) (told self.new) }
+        ensures did { does ask.Join (call_gave result) self.old self.new };
 
     /// How many answers of this wire were faults; it goes round at 2^64.
     fn faults(&self) -> u64
-        ensures { result ≡ fault_count self.now };
+        ensures { result ≡ (told self.now).faults };
 
     /// How many answers of this wire were "would block"; it goes round at 2^64.
     fn blocks(&self) -> u64
-        ensures { result ≡ block_count self.now };
+        ensures { result ≡ (told self.now).blocks };
 }

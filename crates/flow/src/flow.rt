@@ -1,35 +1,34 @@
-ghost use Rattle.std.specs.Prelude.{◌≡◌, ℕ, ◌+◌, ◌-◌, ◌^◌, ◌<◌, ◌≤◌, [], length, true, false, IsTrue, ◌↔◌, IfOk, slice_index, drop, vec_len, vec_capacity};
+ghost use Rattle.std.specs.Prelude.{◌≡◌, ℕ, ◌+◌, ◌-◌, ◌^◌, ◌<◌, ◌≤◌, [], length, true, false, IsTrue, ◌↔◌, IfOk, slice_index};
 ghost use Rattle.flow.specs.Stream.{empty_stream, free_room, taken_in, dropped, ended, closed};
 
+use circular_buffer::HeapCircularBuffer;
 use std::alloc::{AllocError, Global};
 use std::marker::Model;
 
 /// One direction's ring of bytes, with its end of input and its shutdown.
 ///
-/// The bytes lie in one piece, from `start` to the end of `bytes`, so that a whole ring can be offered
-/// to one write(2). They move to the front of the buffer only where the bytes that come in would not
-/// fit behind them.
+/// The bytes lie in one piece at the front of their block, so that a whole ring can be offered to one
+/// write(2): what a short write leaves moves to the front at once.
 #[derive(Drop)]
 pub struct Flow {
-    bytes: Vec<u8>,
-    start: usize,
-    capacity: usize,
+    bytes: HeapCircularBuffer<u8>,
     end_seen: bool,
     shut: bool,
 }
 
 impl Model for Flow {
-    ghost use Rattle.std.specs.Prelude.{◌≤◌, drop, vec_len, vec_capacity};
+    ghost use Rattle.std.specs.Prelude.{◌≤◌, length};
     ghost use Rattle.flow.specs.Stream.{Stream};
 
     ghost Value = { Stream };
 
-    ghost view = { λ f. record { ring = drop f.start f.bytes.items; capacity = f.capacity; end_seen = f.end_seen; shut = f.shut } };
-
-    ghost invariant = { λ f. (f.start ≤ vec_len f.bytes) × (vec_len f.bytes ≤ f.capacity) × (f.capacity ≤ vec_capacity f.bytes) };
+    ghost view = { λ f. record { ring = f.bytes.items; capacity = f.bytes.capacity; end_seen = f.end_seen; shut = f.shut } };
 }
 
 impl Flow {
+    ghost use Rattle.std.specs.Borrow.{sem};
+    ghost use Rattle.flow.specs.Lending.{with_ring, LendsRing};
+
     /// The most bytes that a ring may hold.
     pub const MOST: usize = 65_536;
 
@@ -43,9 +42,7 @@ impl Flow {
         ensures { IfOk result (λ flow. flow ≡ empty_stream capacity) }
     {
         Ok(Flow {
-            bytes: Vec::with_capacity(alloc, capacity)?,
-            start: 0,
-            capacity,
+            bytes: HeapCircularBuffer::with_capacity(alloc, capacity)?,
             end_seen: false,
             shut: false,
         })
@@ -55,7 +52,7 @@ impl Flow {
     pub fn len(&self) -> usize
         ensures { result ≡ length self.now.ring }
     {
-        self.bytes.len() - self.start
+        self.bytes.len()
     }
 
     /// Whether no byte waits.
@@ -70,14 +67,24 @@ impl Flow {
         ensures room { result ≡ free_room self.now }
         ensures whole { result + length self.now.ring ≡ self.now.capacity }
     {
-        self.capacity - self.len()
+        self.bytes.capacity() - self.bytes.len()
     }
 
-    /// All bytes that wait, oldest first: what is offered to the destination's next write(2).
-    pub fn front(&self) -> &[u8]
-        ensures { result.now ≡ self.now.ring }
+    /// All bytes that wait, oldest first: what is offered to the destination's next write(2). They are
+    /// lent to be read: who writes nothing into them leaves the ring as it was.
+    pub fn front(&mut self) -> &mut [u8]
+        ensures* lends { sem 𝓛 (LendsRing self.entry result) }
+        ensures value { result.now ≡ self.old.ring }
+        ensures unwritten { with_ring self.old self.old.ring ≡ self.old }
     {
-        &self.bytes[self.start..]
+        self.bytes.make_contiguous()
+    }
+
+    /// A copy of all bytes that wait, oldest first; or memory for it was refused.
+    pub fn to_vec(&self, alloc: Global) -> Result<Vec<u8>, AllocError>
+        ensures { IfOk result (λ bytes. bytes.items ≡ self.now.ring) }
+    {
+        self.bytes.to_vec(alloc)
     }
 
     /// The byte that `i` others stand before.
@@ -85,7 +92,10 @@ impl Flow {
         requires { i < length self.now.ring }
         ensures { result ≡ slice_index self.now.ring i }
     {
-        self.bytes[self.start + i]
+        match self.bytes.get(i) {
+            Some(byte) => *byte,
+            None => unreachable!(),
+        }
     }
 
     /// Appends bytes that the source gave, behind all others.
@@ -94,11 +104,7 @@ impl Flow {
         requires open { self.old.end_seen ≡ false }
         ensures { self.new ≡ taken_in self.old bytes.now }
     {
-        if self.capacity - self.bytes.len() < bytes.len() {
-            move_to_front(&mut self.bytes, self.start);
-            self.start = 0;
-        }
-        self.bytes.extend_from_slice(bytes).unwrap();
+        self.bytes.fill_from_slice(bytes);
     }
 
     /// Drops the `n` oldest bytes, which the destination took.
@@ -106,11 +112,11 @@ impl Flow {
         requires { n ≤ length self.old.ring }
         ensures { self.new ≡ dropped self.old n }
     {
-        self.start += n;
-        if self.start == self.bytes.len() {
-            self.bytes.clear();
-            self.start = 0;
+        let left = self.bytes.len() - n;
+        if left > 0 {
+            self.bytes.make_contiguous().copy_within(n.., 0);
         }
+        self.bytes.truncate_back(left);
     }
 
     /// Notes the source's end of input: read(2) answered 0.
@@ -143,15 +149,4 @@ impl Flow {
     {
         self.shut
     }
-}
-
-/// Moves what stands from `start` on to the front of its buffer.
-fn move_to_front(bytes: &mut Vec<u8>, start: usize)
-    requires { start ≤ vec_len bytes.old }
-    ensures items { bytes.new.items ≡ drop start bytes.old.items }
-    ensures len { vec_len bytes.new + start ≡ vec_len bytes.old }
-    ensures capacity { vec_capacity bytes.new ≡ vec_capacity bytes.old }
-{
-    bytes.copy_within(start.., 0);
-    bytes.truncate(bytes.len() - start);
 }

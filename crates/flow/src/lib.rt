@@ -5,7 +5,8 @@
 //! the ring is empty the end may be passed on to the destination ([`Flow::mark_shut`], shutdown(2)).
 //!
 //! Contracts see a [`Flow`] as the record `Stream` of `specs/Stream.antt`: a list of bytes, its
-//! capacity, and the two marks. How the bytes lie in memory shows nowhere.
+//! capacity, and the two marks. How the bytes lie in memory shows nowhere; [`Flow::front`] takes `&mut`
+//! since they may have to be put into one piece, and `specs/Lending.antt` says what it lends.
 #![tactic(auto)]
 
 mod flow;

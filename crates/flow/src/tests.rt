@@ -4,7 +4,7 @@ use std::test::Fail;
 #[test]
 fn opens_empty_at_each_size(rt: HostRuntime) -> Result<(), Fail> {
     for capacity in [1, 4, 65_536] {
-        let flow = Flow::new(rt.alloc(), capacity)?;
+        let mut flow = Flow::new(rt.alloc(), capacity)?;
         assert!(rt; flow.is_empty(), "{capacity}");
         assert_eq!(rt; flow.len(), 0, "{capacity}");
         assert_eq!(rt; flow.free(), capacity);
@@ -19,10 +19,10 @@ fn fills_to_its_capacity(rt: HostRuntime) -> Result<(), Fail> {
     let bytes = vec![in rt.alloc(); 7; 65_536]?;
     let mut flow = Flow::new(rt.alloc(), 65_536)?;
     flow.take_in(bytes.as_slice());
-    assert_eq!(rt; flow.front(), bytes.as_slice());
+    assert_eq!(rt; &*flow.front(), bytes.as_slice());
     assert_eq!(rt; flow.free(), 0);
     flow.drop_front(65_535);
-    assert_eq!(rt; flow.front(), [7].as_slice());
+    assert_eq!(rt; &*flow.front(), [7].as_slice());
     Ok(())
 }
 
@@ -33,7 +33,7 @@ fn keeps_the_order_of_bytes_where_all_leave(rt: HostRuntime) -> Result<(), Fail>
         let bytes = three(round);
         assert!(rt; !flow.end_seen() && flow.free() == 4, "{round}");
         flow.take_in(&bytes);
-        assert_eq!(rt; flow.front(), bytes.as_slice(), "{round}");
+        assert_eq!(rt; &*flow.front(), bytes.as_slice(), "{round}");
         assert_eq!(rt; flow.len(), 3, "{round}");
         flow.drop_front(3);
     }
@@ -52,7 +52,7 @@ fn keeps_the_order_of_bytes_where_one_stays(rt: HostRuntime) -> Result<(), Fail>
         assert!(rt; !flow.end_seen() && flow.free() == 3, "{round}");
         flow.take_in(&[first, second, third]);
         assert_eq!(rt;
-            flow.front(),
+            &*flow.front(),
             [oldest, first, second, third].as_slice(),
             "{round}"
         );
@@ -71,9 +71,10 @@ fn ends_and_then_shuts(rt: HostRuntime) -> Result<(), Fail> {
     flow.take_in(b"abc");
     flow.mark_end();
     assert!(rt; flow.end_seen() && !flow.is_shut());
-    assert_eq!(rt; flow.front(), b"abc".as_slice());
+    assert_eq!(rt; &*flow.front(), b"abc".as_slice());
     flow.drop_front(1);
-    assert_eq!(rt; flow.front(), b"bc".as_slice());
+    assert_eq!(rt; &*flow.front(), b"bc".as_slice());
+    assert_eq!(rt; flow.to_vec(rt.alloc())?.as_slice(), b"bc".as_slice());
     flow.drop_front(2);
     assert!(rt; flow.is_empty() && flow.end_seen() && !flow.is_shut());
     flow.mark_shut();

@@ -2,3 +2,5 @@ pub mod Possible
 pub mod Streams
 pub mod Faults
 pub mod Over
+pub mod Rest
+pub mod Events

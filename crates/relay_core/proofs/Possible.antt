@@ -39,7 +39,7 @@ waits s b h = ltb-true 0 (length s.ring) (first_so (is_waiting s) b h)
 emptied : (s : Stream) → not (is_waiting s) ≡ true → s.ring ≡ []
 emptied s h = nil_from_length s.ring (let e : nat_lt 0 (length s.ring) ≡ false = from_not (is_waiting s) h in grind (arith, nat_tests))
 
-drained : (s : Stream) → is_drained s ≡ true → IsDrained s
+pub drained : (s : Stream) → is_drained s ≡ true → IsDrained s
 drained s h =
     let both : (s.end_seen && not (is_waiting s)) ≡ true = first_so (s.end_seen && not (is_waiting s)) (not s.shut) h in
     record {

@@ -57,7 +57,7 @@ alike true s = refl
 alike false s = refl
 
 -- only the direction that the call serves changes, and only by the answer
-stream_after : (p : Relay) (d : Direction) (call : Call) (reply : Reply) → stream_of (after p call reply) d ≡ (if same_way (direction_of call) d then served reply (stream_of p d) else stream_of p d)
+pub stream_after : (p : Relay) (d : Direction) (call : Call) (reply : Reply) → stream_of (after p call reply) d ≡ (if same_way (direction_of call) d then served reply (stream_of p d) else stream_of p d)
 stream_after p d call (Bytes bytes) =
     stream_with_turn (effect p call (Bytes bytes)) (opposite (direction_of call)) d
     ∙ (stream_joined (change_stream p call (λ s. taken_in s bytes)) (side_of call) d
@@ -108,7 +108,7 @@ same_order false s t e = append-nil s.ring
 ring_after : (p : Relay) (d : Direction) (call : Call) (reply : Reply) → (if same_way (direction_of call) d then served reply (stream_of p d) else stream_of p d).ring ≡ (stream_of (after p call reply) d).ring
 ring_after p d call reply = sym (ap (λ (s : Stream). s.ring) (stream_after p d call reply))
 
-after_keeps_order : (p : Relay) (call : Call) (reply : Reply) → KeepsOrder p call reply (after p call reply)
+pub after_keeps_order : (p : Relay) (call : Call) (reply : Reply) → KeepsOrder p call reply (after p call reply)
 after_keeps_order p call (Bytes bytes) = λ d. read_order (same_way (direction_of call) d) (stream_of p d) bytes ∙ ring_after p d call (Bytes bytes)
 after_keeps_order p call End = λ d. same_order (same_way (direction_of call) d) (stream_of p d) (ended (stream_of p d)) refl ∙ ring_after p d call End
 after_keeps_order p call (Wrote n) = λ d.
@@ -124,7 +124,7 @@ after_keeps_order p call (Failed kind) = λ d. same_order (same_way (direction_o
 pub order_kept : (p : Relay) (call : Call) (reply : Reply) (q : Relay) → q ≡ after p call reply → KeepsOrder p call reply q
 order_kept p call reply q e = rw e (after_keeps_order p call reply)
 
-same_direction : (e d : Direction) → same_way e d ≡ true → e ≡ d
+pub same_direction : (e d : Direction) → same_way e d ≡ true → e ≡ d
 same_direction Up Up h = refl
 same_direction Up Down h = absurd (cc)
 same_direction Down Up h = absurd (cc)

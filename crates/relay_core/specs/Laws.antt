@@ -1,17 +1,19 @@
 -- What every pair keeps, said of the definitions.
-use Rattle.std.specs.Prelude.{◌≡◌, ℕ, ◌≤◌, ◌⊎◌, true, false, List, [], ◌++◌, length, Some}
+use Rattle.std.specs.Prelude.{◌≡◌, ◌↔◌, ℕ, ◌≤◌, ◌⊎◌, true, false, List, [], ◌++◌, length, map, Some, None}
 use Rattle.token.specs.declared.direction.Direction.{Direction}
-use Rattle.token.specs.Sides.{inward, outward}
+use Rattle.token.specs.Sides.{source, destination, inward, outward}
 use Rattle.flow.specs.Stream.{Stream, free_room}
 use Rattle.relay_core.specs.declared.call.Call.{Call}
 use Rattle.relay_core.specs.declared.call.Call.TheVariants.{Write, Join, Shut, Read}
 use Rattle.relay_core.specs.declared.verdict.Fault.{Fault}
-use Rattle.relay_core.specs.Calls.{side_of, kind_of}
-use Rattle.relay_core.specs.Pairs.{Relay, fresh, stream_of, is_joined}
-use Rattle.relay_core.specs.Order.{offer}
-use Rattle.relay_core.specs.Replies.{Reply, Failed}
-use Rattle.relay_core.specs.Runs.{over}
+use Rattle.relay_core.specs.declared.verdict.Verdict.TheVariants as Verdict
+use Rattle.relay_core.specs.Calls.{side_of, kind_of, direction_of}
+use Rattle.relay_core.specs.Pairs.{Relay, ready, fresh, stream_of, flags_of, is_joined, noted, verdict}
+use Rattle.relay_core.specs.Order.{next_call, offer}
+use Rattle.relay_core.specs.Replies.{Reply, End, Failed, fits, after}
+use Rattle.relay_core.specs.Runs.{answered, over}
 use Rattle.relay_core.specs.Moved.{brought, carried, all_brought, all_carried}
+use Rattle.relay_core.specs.Events.{Event, Answered, through, ever_brought, ever_carried}
 
 -- the end of input came, every byte before it has left, and it is still to be passed on
 pub record IsDrained (stream : Stream) : Type 0 where
@@ -56,15 +58,113 @@ pub record TellsOf (made : Call) (reply : Reply) (fault : Fault) : Type 0 where
   pub call : fault.call ≡ kind_of made
   pub kind : reply ≡ Failed fault.kind
 
--- over any list of answers the bytes of each direction keep their order, and none is lost or doubled
+-- the answer fits the call that comes next
+pub record AnswersNext (p : Relay) (call : Call) (reply : Reply) : Type 0 where
+  pub next : next_call p ≡ Some call
+  pub fit : fits p call reply ≡ true
+
+-- in each direction: where the end of input was passed on, it came last
+abbrev pub KeepsEndLast : Relay → Type 0
+KeepsEndLast p = (d : Direction) → IsClosedLast (stream_of p d)
+
+-- what a connection keeps from its opening to its end
+pub record Place : Type 0 where
+  pub slot : ℕ
+  pub generation : ℕ
+  pub up_capacity : ℕ
+  pub down_capacity : ℕ
+
+abbrev pub place_of : Relay → Place
+place_of p = record { slot = p.slot; generation = p.generation; up_capacity = p.up.capacity; down_capacity = p.down.capacity }
+
+-- no call serves this direction: bytes that wait have no writable destination, an end that is to be passed
+-- on has one that neither is connected nor can be asked, and a ring with room has no readable source
+pub record IsAtRest (p : Relay) (d : Direction) : Type 0 where
+  pub waiting : 1 ≤ length (stream_of p d).ring → (flags_of p (destination d)).write ≡ false
+  pub unjoined : IsDrained (stream_of p d) → is_joined p (destination d) ≡ false
+  pub unasked : IsDrained (stream_of p d) → (flags_of p (destination d)).write ≡ false
+  pub unread : (stream_of p d).end_seen ≡ false → 1 ≤ free_room (stream_of p d) → (flags_of p (source d)).read ≡ false
+
+-- laws of one answer
+
+abbrev pub AnswersKeepOrder : Type 0
+AnswersKeepOrder = (p : Relay) (call : Call) (reply : Reply) → KeepsOrder p call reply (after p call reply)
+
+abbrev pub AnswersPassEndLast : Type 0
+AnswersPassEndLast =
+    (p : Relay) (call : Call) (reply : Reply) → AnswersNext p call reply →
+    (d : Direction) → PassesEndLast (stream_of p d) (stream_of (after p call reply) d)
+
+-- the end of a direction is seen by an End that a call on it is answered, and then for good
+abbrev pub OnlyEndsAreSeen : Type 0
+OnlyEndsAreSeen =
+    (p : Relay) (call : Call) (reply : Reply) (d : Direction) →
+    ((stream_of (after p call reply) d).end_seen ≡ true) ↔ (((stream_of p d).end_seen ≡ true) ⊎ ((direction_of call ≡ d) × (reply ≡ End)))
+
+abbrev pub AnswersKeepPlace : Type 0
+AnswersKeepPlace = (p : Relay) (call : Call) (reply : Reply) → place_of (after p call reply) ≡ place_of p
+
+-- a pair fails by a failed call alone, and its fault tells of that call
+abbrev pub FailuresAreTold : Type 0
+FailuresAreTold =
+    (p : Relay) (call : Call) (reply : Reply) (fault : Fault) → AnswersNext p call reply →
+    (verdict (after p call reply) ≡ Verdict.Failed fault) ↔ TellsOf call reply fault
+
+-- what one answer does is what the answer to some next call does
+pub record IsAnswerOf (p : Relay) (reply : Reply) (q : Relay) : Type 0 where
+  pub call : Call
+  pub answers : AnswersNext p call reply
+  pub after_it : q ≡ after p call reply
+
+abbrev pub AnswersAreToNextCalls : Type 0
+AnswersAreToNextCalls = (p q : Relay) (reply : Reply) → answered p reply ≡ Some q → IsAnswerOf p reply q
+
+-- laws of the next call
+
+abbrev pub CallsComeWhileLive : Type 0
+CallsComeWhileLive = (p : Relay) (call : Call) → next_call p ≡ Some call → verdict p ≡ Verdict.Live
+
+abbrev pub LivePairsRest : Type 0
+LivePairsRest = (p : Relay) → verdict p ≡ Verdict.Live → next_call p ≡ None → (d : Direction) → IsAtRest p d
+
+-- laws of a report
+
+-- a report sets all four flags and changes nothing else
+abbrev pub ReportsSetFlags : Type 0
+ReportsSetFlags = (p : Relay) → noted p ≡ record p { client = ready; target = ready }
+
+abbrev pub ReportsKeepStreams : Type 0
+ReportsKeepStreams = (p : Relay) (d : Direction) → stream_of (noted p) d ≡ stream_of p d
+
+-- laws of runs: over any list of answers and reports
+
+-- the bytes of each direction keep their order, and none is lost or doubled
 abbrev pub RunsKeepOrder : Type 0
 RunsKeepOrder =
-    (p q : Relay) (replies : List Reply) → over p replies ≡ Some q →
-    (d : Direction) → (stream_of p d).ring ++ all_brought p d replies ≡ all_carried p d replies ++ (stream_of q d).ring
+    (p q : Relay) (events : List Event) → through p events ≡ Some q →
+    (d : Direction) → (stream_of p d).ring ++ ever_brought p d events ≡ ever_carried p d events ++ (stream_of q d).ring
 
--- a pair on which the end was passed on has passed on every byte that its reads ever brought
+-- a pair that passed on no end before its bytes goes on so, and one on which an end was passed on has
+-- passed on every byte that it ever had or read
+pub record RunPassesEndLast (p q : Relay) (events : List Event) : Type 0 where
+  pub kept : KeepsEndLast q
+  pub last : (d : Direction) → (stream_of q d).shut ≡ true → ever_carried p d events ≡ (stream_of p d).ring ++ ever_brought p d events
+
 abbrev pub RunsPassEndLast : Type 0
 RunsPassEndLast =
-    (slot generation capacity : ℕ) (q : Relay) (replies : List Reply) → over (fresh slot generation capacity) replies ≡ Some q →
-    (d : Direction) → (stream_of q d).shut ≡ true →
-    all_carried (fresh slot generation capacity) d replies ≡ all_brought (fresh slot generation capacity) d replies
+    (p q : Relay) (events : List Event) → KeepsEndLast p → through p events ≡ Some q → RunPassesEndLast p q events
+
+abbrev pub FreshPairsKeepEndLast : Type 0
+FreshPairsKeepEndLast = (slot generation capacity : ℕ) → KeepsEndLast (fresh slot generation capacity)
+
+abbrev pub RunsKeepPlace : Type 0
+RunsKeepPlace = (p q : Relay) (events : List Event) → through p events ≡ Some q → place_of q ≡ place_of p
+
+-- a list of answers alone, as events
+pub record IsRunOf (p : Relay) (replies : List Reply) : Type 0 where
+  pub run : through p (map Answered replies) ≡ over p replies
+  pub brought : (d : Direction) → ever_brought p d (map Answered replies) ≡ all_brought p d replies
+  pub carried : (d : Direction) → ever_carried p d (map Answered replies) ≡ all_carried p d replies
+
+abbrev pub AnswersAreEvents : Type 0
+AnswersAreEvents = (p : Relay) (replies : List Reply) → IsRunOf p replies

@@ -5,4 +5,6 @@ pub mod Replies
 pub mod Answers
 pub mod Runs
 pub mod Moved
+pub mod Events
 pub mod Laws
+pub mod Lending

@@ -15,7 +15,9 @@
 //!
 //! The definitions stand in `specs/`: the pair and its verdict in `Pairs.antt`, the order of work in
 //! `Order.antt`, what each answer does in `Replies.antt`, lists of answers in `Runs.antt`, the bytes
-//! that they move in `Moved.antt`, and what all that comes to in `Laws.antt`.
+//! that they move in `Moved.antt`, answers and reports in `Events.antt`, what an offer lends in
+//! `Lending.antt`, and what all that comes to in `Laws.antt`. [`laws`] has each law of all pairs as the
+//! contract of a function.
 #![tactic(auto)]
 
 mod answer;

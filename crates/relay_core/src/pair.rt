@@ -1,5 +1,5 @@
 ghost use Rattle.std.specs.Prelude.{◌≡◌, ◌≤◌, ◌<◌, ◌&&◌, true, false, Some, [], length, slice_index, ◌↔◌, IfOk, IfSome, OnSome};
-ghost use Rattle.token.specs.Sides.{destination};
+ghost use Rattle.token.specs.Sides.{destination, inward};
 ghost use Rattle.flow.specs.Stream.{taken_in, dropped, ended, closed, free_room};
 ghost use Rattle.relay_core.specs.Calls.{side_of};
 ghost use Rattle.relay_core.specs.Pairs.{fresh, stream_of, with_stream, flags_of, with_flags, is_joined, mark_joined, noted, verdict, is_live};
@@ -47,6 +47,9 @@ impl Model for Pair {
 }
 
 impl Pair {
+    ghost use Rattle.std.specs.Borrow.{sem};
+    ghost use Rattle.relay_core.specs.Lending.{with_offer, LendsOffer};
+
     /// A connection that was just made, in a slot that has been opened `generation` times, with a ring
     /// of `capacity` bytes, 1 to 65,536, for each direction. This takes all the memory that the pair
     /// will ever use.
@@ -93,9 +96,12 @@ impl Pair {
         }
     }
 
-    /// The bytes that are bound for a side: what a write to it offers.
-    pub fn offer(&self, side: Side) -> &[u8]
-        ensures { result.now ≡ offer self.now side }
+    /// The bytes that are bound for a side: what a write to it offers. They are lent to be read: who
+    /// writes nothing into them leaves the pair as it was.
+    pub fn offer(&mut self, side: Side) -> &mut [u8]
+        ensures* lends { sem 𝓛 (LendsOffer self.entry side result) }
+        ensures value { result.now ≡ offer self.old side }
+        ensures unwritten { with_offer self.old side (offer self.old side) ≡ self.old }
     {
         match side {
             Side::Client => self.down.front(),
@@ -111,7 +117,7 @@ impl Pair {
         match (call, answer) {
             (_, Answer::Interrupted | Answer::Failed(_)) => true,
             (Call::Read(_, most), Answer::Bytes(bytes)) => !bytes.is_empty() && bytes.len() <= most,
-            (Call::Write(side), Answer::Wrote(n)) => n > 0 && n <= self.offer(side).len(),
+            (Call::Write(side), Answer::Wrote(n)) => n > 0 && n <= self.bound_for(side).len(),
             (Call::Read(_, _), Answer::End | Answer::Blocked)
             | (Call::Write(_), Answer::Blocked)
             | (Call::Join(_), Answer::Joined | Answer::Blocked)
@@ -185,6 +191,23 @@ impl Pair {
             Side::Client => true,
             Side::Target => self.joined,
         }
+    }
+
+    /// What the pair believes of the readiness of one side's socket.
+    pub fn flags(&self, side: Side) -> Flags
+        ensures { result ≡ flags_of self.now side }
+    {
+        match side {
+            Side::Client => self.client,
+            Side::Target => self.target,
+        }
+    }
+
+    /// The direction whose calls are looked at first: the one that the last answered call did not serve.
+    pub fn turn(&self) -> Direction
+        ensures { result ≡ self.now.turn }
+    {
+        self.turn
     }
 
     /// How many bytes wait in one direction.
@@ -270,12 +293,13 @@ impl Pair {
         }
     }
 
-    fn flags(&self, side: Side) -> Flags
-        ensures { result ≡ flags_of self.now side }
+    /// The direction whose destination is a side.
+    fn bound_for(&self, side: Side) -> &Flow
+        ensures { result.now ≡ stream_of self.now (inward side) }
     {
         match side {
-            Side::Client => self.client,
-            Side::Target => self.target,
+            Side::Client => &self.down,
+            Side::Target => &self.up,
         }
     }
 

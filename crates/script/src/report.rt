@@ -10,7 +10,7 @@ pub fn print(alloc: Global, transfer: &Transfer) -> Result<String, AllocError>
     ensures { IfOk result (λ text. string_bytes text ≡ report transfer.now) }
 {
     let sent = shown_bytes(alloc, transfer.destination.taken())?;
-    let ring = shown_bytes(alloc, transfer.flow.front())?;
+    let ring = shown_bytes(alloc, transfer.flow.to_vec(alloc)?.as_slice())?;
     let unread = shown_bytes(alloc, transfer.source.unread())?;
     let end = yes_or_no(transfer.flow.end_seen());
     let shut = yes_or_no(transfer.flow.is_shut());

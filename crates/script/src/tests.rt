@@ -130,6 +130,19 @@ fn runs_from_a_reader_to_a_writer(rt: HostRuntime) -> Result<(), Fail> {
     Ok(())
 }
 
+// The second read fills a ring from which a short write took two bytes.
+#[test]
+fn bytes_keep_their_order_round_a_ring(rt: HostRuntime) -> Result<(), Fail> {
+    let text = b"flow ring=4\narrive 010203040506\nroom\nread 3\nwrote 2\nread 3\nwrote 3\n";
+    let (outcome, written) = ran(rt.alloc(), text)?;
+    assert_eq!(rt; outcome, Outcome::Report);
+    assert_eq!(rt;
+        written.get(2..),
+        Some(b"up sent=0102030405 ring=06 unread=- end=no shut=no\n".as_slice())
+    );
+    Ok(())
+}
+
 // One growth is refused under `rt try --test --fail-alloc N`, and none otherwise: the writer takes no
 // memory, so that each growth is the run's own.
 #[test]

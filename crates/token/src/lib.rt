@@ -5,7 +5,7 @@
 //! [`Kind`]. An end of a connection is named by a [`Token`]: the slot in which the connection lies,
 //! the side, and the slot's generation, which tells a report for this connection from a late one for
 //! an earlier connection in the same slot. A token travels through epoll(7) as one number
-//! ([`Token::value`]), and [`unpack`] reads any number back.
+//! ([`Token::value`], [`Name::number`]), and [`unpack`] reads any number back.
 #![tactic(auto)]
 
 mod direction;

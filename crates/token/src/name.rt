@@ -16,7 +16,21 @@ pub enum Name {
     End(Token),
 }
 
-/// The name of a number, if it has one: the reverse of [`Token::value`] for the ends.
+impl Name {
+    /// The name as one number: 0 for the listener, 1 for the waker, and an end's [`Token::value`].
+    pub fn number(self) -> u64
+        ensures number { result ≡ name_number self }
+        ensures unpacks { name_of result ≡ Some self }
+    {
+        match self {
+            Name::Listener => 0,
+            Name::Waker => 1,
+            Name::End(token) => token.value(),
+        }
+    }
+}
+
+/// The name of a number, if it has one: the reverse of [`Name::number`].
 pub fn unpack(number: u64) -> Option<Name>
     ensures value { result ≡ name_of number }
     ensures inverse { (name : Name) → IsName name → (result ≡ Some name) ↔ (name_number name ≡ number) }

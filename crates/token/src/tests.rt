@@ -22,6 +22,7 @@ fn numbers_of_ends(rt: HostRuntime) -> Result<(), Fail> {
         assert_eq!(rt; token.side(), side, "of {number}");
         assert_eq!(rt; token.generation(), generation, "of {number}");
         assert_eq!(rt; unpack(number), Some(Name::End(token)), "of {number}");
+        assert_eq!(rt; Name::End(token).number(), number);
     }
     Ok(())
 }
@@ -30,6 +31,7 @@ fn numbers_of_ends(rt: HostRuntime) -> Result<(), Fail> {
 fn numbers_without_an_end(rt: HostRuntime) {
     assert_eq!(rt; unpack(0), Some(Name::Listener));
     assert_eq!(rt; unpack(1), Some(Name::Waker));
+    assert_eq!(rt; (Name::Listener.number(), Name::Waker.number()), (0, 1));
     for number in [
         2,
         65_535,

@@ -1,5 +1,5 @@
 use Rattle.std.proofs.Common.{◌≡◌, ◌-◌, replicate}
-use Rattle.claims.specs.Views.{blank, view_of}
+use Rattle.claims.specs.Views.{unused_view}
 use Rattle.claims.specs.Seats.{fresh}
 use Rattle.claims.proofs.opening.seated.Given as goal
 
@@ -7,5 +7,5 @@ use Rattle.claims.proofs.opening.seated.Given as goal
 abbrev pub invariant-loop-made : goal.invariant-loop-made
 invariant-loop-made l =
     (l.first.table_id ≡ l.table.shared.table_id)
-    × (l.first.me.0 ≡ view_of (replicate l.slots blank) (l.seats - l._made))
+    × (l.first.me.0 ≡ unused_view l.slots (l.seats - l._made))
     × (l.all.items ≡ replicate (l._made - 1) (fresh l.table.shared.table_id))

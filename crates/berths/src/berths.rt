@@ -1,0 +1,109 @@
+// A place for each slot, and what waits there.
+ghost use Rattle.std.specs.Prelude.{◌≡◌, ◌<◌, IfOk, IfErr};
+ghost use Rattle.claims.specs.Seats.{Holds};
+
+use claims::ClaimSeat;
+use relay_core::Pair;
+use std::alloc::{AllocError, Global};
+use std::marker::Model;
+use std::sync::{Mutex, MutexGuard, Wait};
+
+/// A connection: its pair and its two wires. Dropping it closes what its wires own.
+#[derive(Drop)]
+pub struct Berth<C, T> {
+    pub pair: Pair,
+    pub client: C,
+    pub target: T,
+}
+
+/// The place held a berth already. This gives back the one that was to be put there.
+#[derive(Drop)]
+pub struct Occupied<B>(pub B);
+
+/// A place for each slot, empty or with one berth, which the threads share by `&`.
+///
+/// In a clause it is the number of slots.
+#[derive(Drop)]
+pub struct Berths<C, T> {
+    places: Vec<Mutex<Option<Berth<C, T>>>>,
+}
+
+impl<C, T> Model for Berths<C, T> {
+    ghost use Rattle.std.specs.Prelude.{ℕ, vec_len};
+
+    ghost Value = { ℕ };
+
+    ghost view = { λ b. vec_len b.places };
+}
+
+impl<C, T> Berths<C, T> {
+    /// An empty place for each of `slots` slots. This takes all the memory that the places ever use.
+    ///
+    /// Fails only where there is no such memory, and then no place is made.
+    pub fn new(alloc: Global, slots: usize) -> Result<Berths<C, T>, AllocError>
+    where
+        C: Drop,
+        T: Drop,
+        ensures { IfOk result (λ berths. berths ≡ slots) }
+    {
+        let mut places = Vec::with_capacity(alloc, slots)?;
+        for _slot in 0..slots {
+            places.push(Mutex::new(None))?;
+        }
+        Ok(Berths { places })
+    }
+
+    /// The number of slots.
+    pub fn slots(&self) -> usize
+        ensures { result ≡ self.now }
+    {
+        self.places.len()
+    }
+
+    /// Puts a berth into the place of a slot that the caller's seat holds.
+    ///
+    /// Occupied gives the berth back, and the place is as it was.
+    pub fn put_in(
+        &self,
+        rt: &impl Wait,
+        seat: &ClaimSeat,
+        slot: usize,
+        berth: Berth<C, T>,
+    ) -> Result<(), Occupied<Berth<C, T>>>
+    where
+        C: Drop,
+        T: Drop,
+        requires inside { slot < self.now }
+        requires holder { Holds seat.now slot }
+        ensures given_back { IfErr result (λ given. given.0 ≡ berth) }
+    {
+        let mut place = self.place(rt, seat, slot);
+        if place.is_some() {
+            return Err(Occupied(berth));
+        }
+        *place = Some(berth);
+        Ok(())
+    }
+
+    /// Takes the berth out of the place of a slot that the caller's seat holds. None is called Gone: the place was
+    /// empty.
+    pub fn take_out(&self, rt: &impl Wait, seat: &ClaimSeat, slot: usize) -> Option<Berth<C, T>>
+        requires inside { slot < self.now }
+        requires holder { Holds seat.now slot }
+    {
+        self.place(rt, seat, slot).take()
+    }
+
+    // The place of a slot, for the one seat that holds it.
+    fn place(
+        &self,
+        rt: &impl Wait,
+        _holder: &ClaimSeat,
+        slot: usize,
+    ) -> MutexGuard<'_, Option<Berth<C, T>>>
+        requires inside { slot < self.now }
+        requires holder { Holds _holder.now slot }
+    {
+        self.places[slot].lock(rt)
+    }
+}

@@ -1,0 +1,41 @@
+// One seat, two slots, and what the place of a held slot answers.
+use super::*;
+use claims::Claims;
+use relay_core::Pair;
+use std::alloc::{AllocError, Global};
+use std::test::Fail;
+
+/// A connection of slot 1, of this generation, whose wires are two numbers.
+fn berth(alloc: Global, generation: u64) -> Result<Berth<u8, char>, AllocError> {
+    let pair = Pair::new(alloc, 1, generation, 1)?;
+    Ok(Berth {
+        pair,
+        client: 7,
+        target: 't',
+    })
+}
+
+/// The generation of a berth and both its wires.
+fn told(berth: Option<Berth<u8, char>>) -> Option<(u64, u8, char)> {
+    berth.map(|berth| (berth.pair.generation(), berth.client, berth.target))
+}
+
+#[test]
+fn a_place_holds_one_berth(rt: HostRuntime) -> Result<(), Fail> {
+    let (claims, mut seats) = Claims::open(rt.alloc(), 2, 1)?;
+    let Some(mut seat) = seats.pop() else {
+        panic!(rt; "there is no seat")
+    };
+    let _adopted = claims.adopt(&mut seat, 1);
+    assert!(rt; seat.holds(1));
+    let berths = Berths::new(rt.alloc(), 2)?;
+    assert_eq!(rt; berths.slots(), 2);
+    assert_eq!(rt; told(berths.take_out(&rt, &seat, 1)), None);
+    assert!(rt; berths.put_in(&rt, &seat, 1, berth(rt.alloc(), 1)?).is_ok());
+    let refused = berths.put_in(&rt, &seat, 1, berth(rt.alloc(), 2)?).err();
+    let given_back = refused.map(|Occupied(berth)| berth);
+    assert_eq!(rt; told(given_back), Some((2, 7, 't')));
+    assert_eq!(rt; told(berths.take_out(&rt, &seat, 1)), Some((1, 7, 't')));
+    assert_eq!(rt; told(berths.take_out(&rt, &seat, 1)), None);
+    Ok(())
+}

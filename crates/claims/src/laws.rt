@@ -1,0 +1,20 @@
+//! What is true in every state that meets the claim rule. The functions do nothing: each one's contract
+//! is the law that it is named for.
+
+ghost use Rattle.claims.specs.Laws.{OneHolderEach, NotesAreKept, TicketsAreNeeded};
+
+/// Two seats that hold one slot are one seat.
+pub fn one_holder_each()
+    ensures { OneHolderEach }
+{}
+
+/// The notes that wait at a slot, by its word, are those that were posted there and not taken.
+pub fn notes_are_kept()
+    ensures { NotesAreKept }
+{}
+
+/// The tickets that are out for a slot are those that it needs by its word: one while notes wait and
+/// nobody holds it, otherwise none.
+pub fn tickets_are_needed()
+    ensures { TicketsAreNeeded }
+{}

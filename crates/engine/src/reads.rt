@@ -1,0 +1,90 @@
+ghost use Rattle.std.specs.Prelude.{◌≡◌, ◌≤◌, min, map, length, take, IfOk};
+ghost use Rattle.std.specs.declared.io.ErrorKind.TheVariants.{WouldBlock};
+ghost use Rattle.engine.specs.Asked.{Refused};
+ghost use Rattle.engine.specs.Cues.{cue_of, read_by};
+ghost use Rattle.engine.specs.Scripts.{first_by, after_read};
+ghost use Rattle.engine.specs.Playing.{brought};
+
+use crate::play::Play;
+use crate::plays::Plays;
+use std::io::ErrorKind;
+use std::marker::Model;
+
+/// The plays of reads. The first may have given some of its bytes, and counts as what is left of it.
+#[derive(Drop)]
+pub(crate) struct Reads {
+    plays: Plays,
+    given: usize,
+}
+
+impl Model for Reads {
+    ghost use Rattle.std.specs.Prelude.{◌≤◌, List, length};
+    ghost use Rattle.engine.specs.Cues.{Cue};
+    ghost use Rattle.engine.specs.Playing.{trimmed, first_bytes};
+
+    ghost Value = { List Cue };
+
+    ghost view = { λ r. trimmed r.given r.plays };
+
+    ghost invariant = { λ r. r.given ≤ length (first_bytes r.plays) };
+}
+
+impl Reads {
+    pub(crate) fn new(plays: Vec<Play>) -> Reads
+        ensures { result ≡ map cue_of plays.items }
+    {
+        Reads {
+            plays: Plays::new(plays),
+            given: 0,
+        }
+    }
+
+    /// How many plays are left.
+    pub(crate) fn len(&self) -> usize
+        ensures { result ≡ length self.now }
+    {
+        self.plays.len()
+    }
+
+    /// Plays one read.
+    pub(crate) fn read(&mut self, buffer: &mut [u8]) -> Result<usize, ErrorKind>
+        ensures most { IfOk result (λ count. count ≤ length buffer.old) }
+        ensures gave { brought result buffer.new ≡ first_by (Refused WouldBlock) (read_by (length buffer.old)) self.old }
+        ensures left { self.new ≡ after_read (length buffer.old) self.old }
+    {
+        let Some(play) = self.plays.first() else {
+            return Err(ErrorKind::WouldBlock);
+        };
+        match play {
+            Play::Bytes(bytes) => {
+                let count = copy_front(&bytes[self.given..], buffer);
+                if self.given + count == bytes.len() {
+                    self.plays.pass();
+                    self.given = 0;
+                } else {
+                    self.given += count;
+                }
+                Ok(count)
+            }
+            Play::End => {
+                self.plays.pass();
+                Ok(0)
+            }
+            play => {
+                let kind = play.error();
+                self.plays.pass();
+                Err(kind)
+            }
+        }
+    }
+}
+
+/// Copies the first bytes of one slice to the front of another, as many as both hold.
+fn copy_front(from: &[u8], to: &mut [u8]) -> usize
+    ensures count { result ≡ min (length from.now) (length to.old) }
+    ensures bytes { take result to.new ≡ take result from.now }
+{
+    let count = from.len().min(to.len());
+    to[..count].copy_from_slice(&from[..count]);
+    count
+}

@@ -1,0 +1,87 @@
+ghost use Rattle.std.specs.Prelude.{◌≡◌, true};
+ghost use Rattle.relay_core.specs.Calls.{side_of};
+ghost use Rattle.engine.specs.Classes.{class_of};
+ghost use Rattle.engine.specs.Tallies.{tally, connected, counted, fault_more};
+
+use crate::class::{Class, class_of};
+use relay_core::{Call, Side};
+use std::io::ErrorKind;
+use std::marker::Model;
+
+/// What a [`Wire`](crate::Wire) knows of its answers: whether its socket is known to be connected, how many
+/// of its answers were faults, and how many "would block". Both counts go round at 2^64.
+#[derive(Debug, Drop)]
+pub struct Tally {
+    joined: bool,
+    faults: u64,
+    blocks: u64,
+}
+
+impl Model for Tally {
+    ghost use Rattle.engine.specs.Tallies.{Tallied, tally};
+
+    ghost Value = { Tallied };
+
+    ghost view = { λ t. tally t.joined t.faults t.blocks };
+}
+
+impl Tally {
+    /// No answer yet, on a socket that is known to be connected or not. The client's always is.
+    pub fn new(joined: bool) -> Tally
+        ensures { result ≡ tally joined 0 0 }
+    {
+        Tally {
+            joined,
+            faults: 0,
+            blocks: 0,
+        }
+    }
+
+    /// Whether the socket is known to be connected.
+    pub fn joined(&self) -> bool
+        ensures { result ≡ self.now.joined }
+    {
+        self.joined
+    }
+
+    /// How many answers were faults; it goes round at 2^64.
+    pub fn faults(&self) -> u64
+        ensures { result ≡ self.now.faults }
+    {
+        self.faults
+    }
+
+    /// How many answers were "would block"; it goes round at 2^64.
+    pub fn blocks(&self) -> u64
+        ensures { result ≡ self.now.blocks }
+    {
+        self.blocks
+    }
+
+    /// The socket is known to be connected from now on.
+    pub fn connect(&mut self)
+        ensures { self.new ≡ connected self.old }
+    {
+        self.joined = true;
+    }
+
+    /// A call answered by an error of this kind, which is counted by its class. A client's socket has to
+    /// be known to be connected.
+    pub fn refuse(&mut self, call: Call, kind: ErrorKind)
+        requires client { side_of call ≡ Side.Client → self.old.joined ≡ true }
+        ensures { self.new ≡ counted (class_of call self.old.joined kind) self.old }
+    {
+        match class_of(&call, kind, self.joined) {
+            Class::Interrupted => {}
+            Class::Blocked => self.blocks = self.blocks.wrapping_add(1),
+            Class::Failed(_) => self.faults = self.faults.wrapping_add(1),
+        }
+    }
+
+    /// A write took no byte of an offer that isn't empty, which is a fault.
+    pub fn none_taken(&mut self)
+        ensures { self.new ≡ fault_more self.old }
+    {
+        self.faults = self.faults.wrapping_add(1);
+    }
+}

@@ -1,0 +1,29 @@
+-- The queue rule: what is true of a queue's items and of what each end has put and taken, between any two steps, in every schedule.
+use Rattle.std.specs.Prelude.{◌≡◌, ℕ, ◌<◌, ◌==◌, nat_lt, if◌then◌else◌, List, ◌++◌, length, All, sum_by}
+use Rattle.std.specs.List.{AllPairs}
+use mathlib.Core.Option.{some}
+use lib.ListN.{get_elem?}
+use Rattle.ready.specs.declared.history.History.{History}
+
+-- 1 for each place below this one, and 0 for the others
+abbrev pub once_below : ℕ → ℕ → ℕ
+once_below count place = if nat_lt place count then 1 else 0
+
+module _ {T : Type 0} where
+  -- how often the place stands among these entries, each a place and an item
+  abbrev pub times : ℕ → List (ℕ × T) → ℕ
+  times place entries = sum_by (λ e. if e.0 == place then 1 else 0) entries
+
+  -- each entry has the item that stands at its place of the line, and the places rise
+  pub record Fits (line : List T) (entries : List (ℕ × T)) : Type 0 where
+    pub there : All (λ e. get_elem? line e.0 ≡ some e.1) entries
+    pub rising : AllPairs (λ a b. a.0 < b.0) entries
+
+  -- A place counts the items that were put before. All that was ever put, in order, is what was taken and then what the queue holds.
+  -- Over all ends each place was put once, and each place below the first that is left was taken once
+  pub record QueueRule (items : List T) (views : List (History T)) : Type 0 where
+    pub gone : List T
+    pub put_once : (place : ℕ) → sum_by (λ v. times place v.put) views ≡ once_below (length (gone ++ items)) place
+    pub taken_once : (place : ℕ) → sum_by (λ v. times place v.taken) views ≡ once_below (length gone) place
+    pub puts_fit : All (λ v. Fits (gone ++ items) v.put) views
+    pub takes_fit : All (λ v. Fits gone v.taken) views

@@ -1,0 +1,88 @@
+// The queue of free slots.
+ghost use Rattle.std.specs.Prelude.{◌≡◌, ◌<◌, ◌≤◌, IfOk, OnOk, IfErr, OnErr, IfSome, IfNone, replicate};
+ghost use Rattle.std.specs.Arc.{arc_value};
+ghost use Rattle.crossbeam_queue.specs.Passes.{view, IsPassOf, ruled_capacity};
+ghost use Rattle.ready.specs.Steps.{fresh, blank, HeldOnce, PutOne, TookOne};
+
+use crate::rule::{Line, LinePass, another, pop, push};
+use crate::ticket::Full;
+use std::alloc::{AllocError, Global};
+use std::marker::Model;
+use std::sync::{Arc, Wait};
+
+/// One thread's end of the queue of free slots. Nobody sleeps on it.
+///
+/// In a clause it is the queue's capacity and the end's history: what it has put and taken, each with its place among
+/// all that was ever put. Only its own calls change that.
+#[derive(Drop)]
+pub struct FreeQueue {
+    line: Arc<Line<usize>>,
+    pass: LinePass<usize>,
+    ghost mine: { IsPassOf (arc_value line) pass },
+}
+
+impl Model for FreeQueue {
+    ghost use Rattle.std.specs.Prelude.{ℕ};
+    ghost use Rattle.std.specs.Arc.{arc_value};
+    ghost use Rattle.crossbeam_queue.specs.Passes.{ruled_capacity};
+    ghost use Rattle.ready.specs.Steps.{EndState};
+
+    ghost Value = { EndState ℕ };
+
+    ghost view = { λ q. record { capacity = ruled_capacity (arc_value q.line); history = q.pass.me.0.client } };
+}
+
+impl FreeQueue {
+    /// Makes a queue that holds the slots 0, 1, and so on, in order, and its ends. This takes all the memory that it
+    /// ever uses.
+    ///
+    /// Fails only where there is no such memory, and then no queue is made.
+    pub fn new(
+        rt: &impl Wait,
+        alloc: Global,
+        slots: usize,
+        ends: usize,
+    ) -> Result<Vec<FreeQueue>, AllocError>
+        requires slots { (1 ≤ slots) × (slots ≤ 32768) }
+        requires ends { (1 ≤ ends) × (ends ≤ 32) }
+        ensures { IfOk result (λ all. all.items ≡ replicate ends (fresh slots)) }
+    {
+        let (line, mut first) = Line::ruled(alloc, slots)?;
+        for slot in 0..slots {
+            if push(rt, &line, &mut first, slot).is_err() {
+                break;
+            }
+        }
+        let line = Arc::new(alloc, line)?;
+        let mut all = Vec::with_capacity(alloc, ends)?;
+        for _end in 0..ends {
+            let line = Arc::try_clone(&line)?;
+            let pass = another(&line, &mut first);
+            all.push(FreeQueue { line, pass })?;
+        }
+        Ok(all)
+    }
+
+    /// Puts a slot at the back.
+    ///
+    /// Full gives the slot back, and nothing has changed.
+    pub fn give(&mut self, rt: &impl Wait, slot: usize) -> Result<(), Full<usize>>
+        ensures put { OnOk result (PutOne self.old.history slot self.new.history) }
+        ensures given_back { IfErr result (λ full. full.0 ≡ slot) }
+        ensures full { OnErr result (HeldOnce self.old.capacity self.old.history) }
+        ensures unchanged { OnErr result (self.new ≡ self.old) }
+        ensures capacity { self.new.capacity ≡ self.old.capacity }
+    {
+        push(rt, &self.line, &mut self.pass, slot)
+    }
+
+    /// Takes the slot at the front. None: the queue was empty at one moment of the call.
+    pub fn try_take(&mut self, rt: &impl Wait) -> Option<usize>
+        ensures taken { IfSome result (λ slot. TookOne self.old.history slot self.new.history) }
+        ensures empty { IfNone result (HeldOnce 0 self.old.history) }
+        ensures unchanged { IfNone result (self.new ≡ self.old) }
+        ensures capacity { self.new.capacity ≡ self.old.capacity }
+    {
+        pop(rt, &self.line, &mut self.pass)
+    }
+}

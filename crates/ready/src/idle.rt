@@ -1,0 +1,91 @@
+// Which ends sleep, and how they are woken.
+ghost use Rattle.std.specs.Prelude.{◌≡◌, ◌<◌, ◌≤◌, vec_len};
+
+use crossbeam_utils::sync::Unparker;
+use std::sync::atomic::Ordering::SeqCst;
+use std::sync::atomic::{AtomicBool, AtomicU64};
+
+/// The ends that are idle, and what wakes each of them.
+#[derive(Drop)]
+pub(crate) struct IdleEnds {
+    // One bit for each end that is about to park or parked, and that nobody has woken yet.
+    idle: AtomicU64,
+    closed: AtomicBool,
+    unparkers: Vec<Unparker>,
+    ghost few: { vec_len unparkers ≤ 32 },
+}
+
+impl IdleEnds {
+    pub(crate) fn new(unparkers: Vec<Unparker>) -> IdleEnds
+        requires { vec_len unparkers ≤ 32 }
+    {
+        IdleEnds {
+            idle: AtomicU64::new(0),
+            closed: AtomicBool::new(false),
+            unparkers,
+        }
+    }
+
+    /// Marks the end as idle. It has to look at the queue once more before it parks.
+    pub(crate) fn announce(&self, end: usize)
+        requires { end < 32 }
+    {
+        // Pairs with the load in `wake_one`. A put pushes and then loads; an end sets its bit and then looks. So one
+        // of the two sees the other's step. With a look first and the bit after it, a put could come between: it would
+        // find no bit, and the end would park beside its ticket.
+        self.idle.fetch_or(1u64 << end, SeqCst);
+    }
+
+    /// Marks the end as awake, after its last look at the queue or its sleep.
+    ///
+    /// Where the look found something, and another put had spent its wake on this end, the wake is passed on.
+    pub(crate) fn withdraw(&self, end: usize, found: bool)
+        requires { end < 32 }
+    {
+        // Pairs with the exchange in `wake_one`: of the two, one alone finds the bit. A load and then a store could
+        // let both find it, and nobody would pass that wake on: the other put's ticket would lie until this end is
+        // back, while a third end sleeps.
+        let bit = 1u64 << end;
+        let was_woken = self.idle.fetch_and(!bit, SeqCst) & bit == 0;
+        if found && was_woken {
+            self.wake_one();
+        }
+    }
+
+    /// Wakes the idle end of the lowest number, if any is idle.
+    pub(crate) fn wake_one(&self) {
+        // Pairs with the step in `announce`. An end whose bit comes after this load looks at the queue after it, and so
+        // finds what was pushed before.
+        let idle = self.idle.load(SeqCst);
+        for (end, unparker) in self.unparkers.iter().enumerate() {
+            let bit = 1u64 << end;
+            // The exchange tells whether this thread was the one to clear the bit. Where another was, that end is
+            // woken for another ticket, and the next is tried: two puts that woke one end would leave a ticket.
+            if idle & bit != 0 && self.idle.fetch_and(!bit, SeqCst) & bit != 0 {
+                unparker.unpark();
+                return;
+            }
+        }
+    }
+
+    /// Whether `close` was called.
+    pub(crate) fn is_closed(&self) -> bool {
+        self.closed.load(SeqCst)
+    }
+
+    /// Sets the mark and wakes every end.
+    pub(crate) fn close(&self) {
+        // Pairs with the load in `is_closed`. The mark comes before the tokens: an end that a token wakes finds it. The
+        // other way round an end could spend its token, find no mark and sleep for good.
+        self.closed.store(true, SeqCst);
+        for unparker in self.unparkers.iter() {
+            unparker.unpark();
+        }
+    }
+
+    /// How many ends are idle, for tests.
+    #[cfg(test)]
+    pub(crate) fn count(&self) -> u32 {
+        self.idle.load(SeqCst).count_ones()
+    }
+}

@@ -1,0 +1,192 @@
+// The queue of tickets.
+ghost use Rattle.std.specs.Prelude.{◌≡◌, ◌<◌, ◌≤◌, IfOk, OnOk, IfErr, OnErr, IfSome, IfNone, replicate, vec_len};
+ghost use Rattle.std.specs.Arc.{arc_value};
+ghost use Rattle.crossbeam_queue.specs.Passes.{view, IsPassOf, ruled_capacity};
+ghost use Rattle.ready.specs.Steps.{fresh, blank, HeldOnce, PutOne, TookOne};
+
+use crate::idle::IdleEnds;
+use crate::rule::{Line, LinePass, another, pop, push};
+use crate::ticket::{Full, Ticket};
+use crossbeam_utils::sync::{Parker, Unparker};
+use std::alloc::{AllocError, Global};
+use std::marker::Model;
+use std::sync::{Arc, Wait};
+
+// What all ends share.
+#[derive(Drop)]
+struct Shared {
+    line: Line<Ticket>,
+    ends: IdleEnds,
+}
+
+/// One thread's end of a queue of tickets.
+///
+/// An end that calls [`ReadyQueue::take`] has to call it again after each ticket that it gave, until it answers none:
+/// its next put counts on that.
+///
+/// In a clause it is the queue's capacity and the end's history: what it has put and taken, each with its place among
+/// all that was ever put. Only its own calls change that.
+#[derive(Drop)]
+pub struct ReadyQueue {
+    shared: Arc<Shared>,
+    number: usize,
+    parker: Parker,
+    pass: LinePass<Ticket>,
+    // The last `take` gave a ticket, and nothing was put since.
+    comes_back: bool,
+    ghost mine: { IsPassOf (arc_value shared).line pass },
+    ghost inside: { number < 32 },
+}
+
+impl Model for ReadyQueue {
+    ghost use Rattle.std.specs.Arc.{arc_value};
+    ghost use Rattle.crossbeam_queue.specs.Passes.{ruled_capacity};
+    ghost use Rattle.ready.specs.declared.ticket.Ticket.{Ticket};
+    ghost use Rattle.ready.specs.Steps.{EndState};
+
+    ghost Value = { EndState Ticket };
+
+    ghost view = { λ q. record { capacity = ruled_capacity (arc_value q.shared).line; history = q.pass.me.0.client } };
+}
+
+impl ReadyQueue {
+    /// Makes a queue for at most `capacity` tickets, and its ends. This takes all the memory that it ever uses.
+    ///
+    /// Fails only where there is no such memory, and then no queue is made.
+    pub fn new(alloc: Global, capacity: usize, ends: usize) -> Result<Vec<ReadyQueue>, AllocError>
+        requires capacity { (1 ≤ capacity) × (capacity ≤ 32768) }
+        requires ends { (1 ≤ ends) × (ends ≤ 32) }
+        ensures { IfOk result (λ all. all.items ≡ replicate ends (fresh capacity)) }
+    {
+        let (mut parkers, unparkers) = signals(alloc, ends)?;
+        let (line, mut first) = Line::ruled(alloc, capacity)?;
+        let shared = Arc::new(
+            alloc,
+            Shared {
+                line,
+                ends: IdleEnds::new(unparkers),
+            },
+        )?;
+        let mut all = Vec::with_capacity(alloc, ends)?;
+        while let Some(parker) = parkers.pop() {
+            let shared = Arc::try_clone(&shared)?;
+            let pass = another(&shared.line, &mut first);
+            all.push(ReadyQueue {
+                shared,
+                number: parkers.len(),
+                parker,
+                pass,
+                comes_back: false,
+            })?;
+        }
+        Ok(all)
+    }
+
+    /// Puts a ticket at the back, and wakes an idle end for it unless this one comes back for it itself.
+    ///
+    /// Full gives the ticket back, and nothing else has changed.
+    pub fn put(&mut self, rt: &impl Wait, ticket: Ticket) -> Result<(), Full<Ticket>>
+        ensures put { OnOk result (PutOne self.old.history ticket self.new.history) }
+        ensures given_back { IfErr result (λ full. full.0 ≡ ticket) }
+        ensures full { OnErr result (HeldOnce self.old.capacity self.old.history) }
+        ensures unchanged { OnErr result (self.new ≡ self.old) }
+        ensures capacity { self.new.capacity ≡ self.old.capacity }
+    {
+        let shared = &*self.shared;
+        push(rt, &shared.line, &mut self.pass, ticket)?;
+        if self.comes_back {
+            self.comes_back = false;
+        } else {
+            shared.ends.wake_one();
+        }
+        Ok(())
+    }
+
+    /// Takes the ticket at the front. None: the queue was empty at one moment of the call.
+    pub fn try_take(&mut self, rt: &impl Wait) -> Option<Ticket>
+        ensures taken { IfSome result (λ ticket. TookOne self.old.history ticket self.new.history) }
+        ensures empty { IfNone result (HeldOnce 0 self.old.history) }
+        ensures unchanged { IfNone result (self.new ≡ self.old) }
+        ensures capacity { self.new.capacity ≡ self.old.capacity }
+    {
+        pop(rt, &self.shared.line, &mut self.pass)
+    }
+
+    /// Takes the ticket at the front, and sleeps until there is one. None: the queue was closed and empty.
+    pub fn take(&mut self, rt: &impl Wait) -> Option<Ticket>
+        ensures taken { IfSome result (λ ticket. TookOne self.old.history ticket self.new.history) }
+        ensures empty { IfNone result (HeldOnce 0 self.old.history) }
+        ensures unchanged { IfNone result (self.new ≡ self.old) }
+        ensures capacity { self.new.capacity ≡ self.old.capacity }
+    {
+        self.comes_back = false;
+        for _ in rt.forever() {
+            // The mark is read before the queue. The other way round a ticket that was put before the close, and after
+            // this end's look, would be left.
+            let closed = self.shared.ends.is_closed();
+            let found = self.try_take(rt);
+            if found.is_some() {
+                self.comes_back = true;
+                return found;
+            }
+            if closed {
+                return None;
+            }
+            let found = self.last_look(rt);
+            if found.is_some() {
+                self.comes_back = true;
+                return found;
+            }
+        }
+        unreachable!()
+    }
+
+    // Announces that this end is idle, looks once more, and parks where there was nothing.
+    fn last_look(&mut self, rt: &impl Wait) -> Option<Ticket>
+        ensures taken { IfSome result (λ ticket. TookOne self.old.history ticket self.new.history) }
+        ensures empty { IfNone result (HeldOnce 0 self.old.history) }
+        ensures unchanged { IfNone result (self.new ≡ self.old) }
+        ensures capacity { self.new.capacity ≡ self.old.capacity }
+    {
+        self.shared.ends.announce(self.number);
+        let found = self.try_take(rt);
+        if found.is_none() {
+            self.parker.park(rt);
+        }
+        self.shared.ends.withdraw(self.number, found.is_some());
+        found
+    }
+
+    #[cfg(test)]
+    pub(crate) fn idle(&self) -> &IdleEnds {
+        &self.shared.ends
+    }
+
+    #[cfg(test)]
+    pub(crate) fn number(&self) -> usize
+        ensures { result < 32 }
+    {
+        self.number
+    }
+
+    /// Lets `take` answer none once the queue is empty, at every end, and wakes all that sleep.
+    pub fn close(&mut self)
+        ensures { self.new ≡ self.old }
+    {
+        self.shared.ends.close();
+    }
+}
+
+// A parker for each end, and what unparks it.
+fn signals(alloc: Global, ends: usize) -> Result<(Vec<Parker>, Vec<Unparker>), AllocError>
+    ensures { IfOk result (λ both. (vec_len both.0 ≡ ends) × (vec_len both.1 ≡ ends)) }
+{
+    let mut parkers = Vec::with_capacity(alloc, ends)?;
+    let mut unparkers = Vec::with_capacity(alloc, ends)?;
+    for _end in 0..ends {
+        let parker = Parker::new(alloc)?;
+        unparkers.push(parker.unparker().clone()?)?;
+        parkers.push(parker)?;
+    }
+    Ok((parkers, unparkers))
+}

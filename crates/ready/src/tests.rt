@@ -1,0 +1,81 @@
+// What single calls answer. The threads are in `tests/threads.rt`.
+use super::*;
+use std::test::Fail;
+
+mod threads;
+
+fn ticket(slot: usize, generation: u64) -> Ticket {
+    Ticket { slot, generation }
+}
+
+#[test]
+fn a_full_queue_gives_the_ticket_back(rt: HostRuntime) -> Result<(), Fail> {
+    let mut ends = ReadyQueue::new(rt.alloc(), 1, 2)?;
+    let (Some(mut mine), Some(mut other)) = (ends.pop(), ends.pop()) else {
+        panic!(rt; "there are not two ends")
+    };
+    assert_eq!(rt; mine.try_take(&rt), None);
+    assert_eq!(rt; mine.put(&rt, ticket(3, 1)), Ok(()));
+    assert_eq!(rt; other.put(&rt, ticket(4, 2)), Err(Full(ticket(4, 2))));
+    assert_eq!(rt; other.try_take(&rt), Some(ticket(3, 1)));
+    assert_eq!(rt; mine.put(&rt, ticket(5, 3)), Ok(()));
+    mine.close();
+    assert_eq!(rt; other.take(&rt), Some(ticket(5, 3)));
+    assert_eq!(rt; other.take(&rt), None);
+    Ok(())
+}
+
+#[test]
+fn free_slots_come_in_order(rt: HostRuntime) -> Result<(), Fail> {
+    let mut ends = FreeQueue::new(&rt, rt.alloc(), 3, 1)?;
+    let Some(mut free) = ends.pop() else {
+        panic!(rt; "there is no end")
+    };
+    assert_eq!(rt; free.give(&rt, 7), Err(Full(7)));
+    for slot in [Some(0), Some(1), Some(2), None] {
+        assert_eq!(rt; free.try_take(&rt), slot);
+    }
+    assert_eq!(rt; free.give(&rt, 1), Ok(()));
+    assert_eq!(rt; free.try_take(&rt), Some(1));
+    Ok(())
+}
+
+#[test]
+fn the_first_put_after_a_take_wakes_nobody(rt: HostRuntime) -> Result<(), Fail> {
+    let mut ends = ReadyQueue::new(rt.alloc(), 4, 2)?;
+    let (Some(mut mine), Some(other)) = (ends.pop(), ends.pop()) else {
+        panic!(rt; "there are not two ends")
+    };
+    let idle = other.idle();
+    // Never took; its first put after a take; its second one.
+    for (step, wakes) in [(0, true), (1, false), (2, true)] {
+        idle.announce(other.number());
+        assert_eq!(rt; mine.put(&rt, ticket(1, 1)), Ok(()));
+        assert_eq!(rt; idle.count() == 0, wakes, "at step {step}");
+        if step == 0 {
+            assert_eq!(rt; mine.take(&rt), Some(ticket(1, 1)));
+        }
+    }
+    Ok(())
+}
+
+#[test]
+fn a_wake_that_is_not_needed_is_passed_on(rt: HostRuntime) -> Result<(), Fail> {
+    let mut ends = ReadyQueue::new(rt.alloc(), 1, 2)?;
+    let Some(end) = ends.pop() else {
+        panic!(rt; "there is no end")
+    };
+    let idle = end.idle();
+    // Whether another thread wakes end 0, whether end 0 finds a ticket, and how many ends stay idle.
+    for (woken, found, left) in [(true, true, 0), (true, false, 1), (false, true, 1)] {
+        idle.announce(0);
+        if woken {
+            idle.wake_one();
+        }
+        idle.announce(1);
+        idle.withdraw(0, found);
+        assert_eq!(rt; idle.count(), left, "woken {woken}, found {found}");
+        idle.withdraw(1, false);
+    }
+    Ok(())
+}

@@ -1,0 +1,17 @@
+-- What a pair is once the borrow of an offer's bytes has ended.
+use Rattle.std.specs.Prelude.{ℕ, List}
+use Rattle.std.specs.Borrow.{MutBor, Fml, Lends, Array, u8}
+use Rattle.token.specs.declared.side.Side.{Side}
+use Rattle.token.specs.Sides.{inward}
+use Rattle.flow.specs.Lending.{with_ring}
+use Rattle.relay_core.specs.Pairs.{Relay, stream_of, with_stream}
+use Rattle.relay_core.specs.contracts.pair.Pair.{the_row}
+
+-- the ring of what is bound for a side holds what now stands in the place of its bytes
+abbrev pub with_offer : Relay → Side → List ℕ → Relay
+with_offer p side bytes = with_stream p (inward side) (with_ring (stream_of p (inward side)) bytes)
+
+-- the pair lends the bytes that are bound for a side: nothing else changes, and they only if they are
+-- written to
+abbrev pub LendsOffer : MutBor Relay → Side → MutBor (List ℕ) → Fml
+LendsOffer p side lent = Lends the_row (Array u8 0) p lent (with_offer p.now side)
