@@ -11,6 +11,11 @@
 //! nobody holds makes a ticket, by which a worker claims the slot. [`World::movable`] tells whether a
 //! connection could move, and [`World::due`] whether it is due to be tried.
 //!
+//! Each event is exactly its definition. What follows from that for every list of events is not proved yet:
+//! that each byte arrives once and in order, that a connection of one generation never meets the reports of
+//! another, and that a connection which could move is due. Nor are there texts of events here, or a slot's
+//! word as one atomic number: a slot has its holder and its notes.
+//!
 //! The definitions stand in `specs/`: slots and workers in `Places.antt`, the whole state in `States.antt`,
 //! a connection's calls in `Calls.antt`, one event in `Steps.antt`, lists of events in `Runs.antt`, and what
 //! could move and what is due in `Due.antt`.
@@ -28,6 +33,8 @@ mod readers;
 mod replaying;
 mod slot;
 mod step;
+#[cfg(test)]
+mod tests;
 mod worker;
 mod working;
 mod world;
