@@ -1,5 +1,5 @@
 -- The connection's next call, made on the kernel, and its reply.
-use Rattle.std.specs.Prelude.{ℕ, Bool, true, false, if◌then◌else◌, List, Option, Some, None, option_map, option_and_then}
+use Rattle.std.specs.Prelude.{ℕ, Bool, if◌then◌else◌, List, Option, Some, None, option_map, option_and_then}
 use Rattle.token.specs.declared.side.Side.{Side}
 use Rattle.token.specs.declared.side.Side.TheVariants.{Client, Target}
 use Rattle.kernel_model.specs.declared.reply.Reply.{Reply}

@@ -1,5 +1,5 @@
 -- What could move, and what is due to be tried. Neither knows of a flag that the pair keeps.
-use Rattle.std.specs.Prelude.{ℕ, ◌==◌, Bool, true, false, not, ◌&&◌, ◌||◌, nat_lt, length, List, Option, Some, None, slice_get}
+use Rattle.std.specs.Prelude.{ℕ, ◌==◌, Bool, false, not, ◌&&◌, ◌||◌, nat_lt, length, Option, Some, None, slice_get}
 use Rattle.std.specs.List.{list_any}
 use Rattle.token.specs.declared.direction.Direction.{Direction}
 use Rattle.token.specs.declared.direction.Direction.TheVariants.{Up, Down}
@@ -14,7 +14,7 @@ use Rattle.relay_core.specs.Order.{is_waiting, is_drained}
 use Rattle.world.specs.declared.connection.Connection.{Connection}
 use Rattle.world.specs.declared.actors.Ticket.{Ticket}
 use Rattle.world.specs.declared.actors.Doing.{Doing}
-use Rattle.world.specs.declared.actors.Doing.TheVariants.{Idle, Tries, Holds, Closed, Retired}
+use Rattle.world.specs.declared.actors.Doing.TheVariants.{Tries}
 use Rattle.world.specs.Places.{Place, Actor, is_by_worker}
 use Rattle.world.specs.States.{State}
 use Rattle.world.specs.Calls.{descriptor}

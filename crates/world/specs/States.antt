@@ -1,5 +1,5 @@
 -- The whole machine.
-use Rattle.std.specs.Prelude.{◌≡◌, ℕ, suc, zero, ◌<◌, ◌≤◌, Bool, true, false, List, [], ◌∷◌, ◌++◌, replicate, Option, None}
+use Rattle.std.specs.Prelude.{ℕ, suc, zero, ◌<◌, ◌≤◌, Bool, true, false, List, [], ◌∷◌, ◌++◌, replicate, None}
 use Rattle.token.specs.declared.name.Name.{Name}
 use Rattle.kernel_model.specs.Kernel.{Watcher, idle}
 use Rattle.world.specs.declared.limits.Limits.{Limits}
