@@ -1,3 +1,5 @@
 pub mod Ends
 pub mod Replies
 pub mod Outcome
+pub mod Names
+pub mod Kernel

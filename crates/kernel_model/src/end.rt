@@ -1,4 +1,4 @@
-ghost use Rattle.std.specs.Prelude.{◌≡◌, Ok, Err, IsErrOf, IsTrue, false, if◌then◌else◌};
+ghost use Rattle.std.specs.Prelude.{◌≡◌, Ok, Err, IsErrOf, IsTrue, IsSome, ◌↔◌, false, if◌then◌else◌};
 ghost use Rattle.std.specs.Option.{option_copied};
 ghost use Rattle.kernel_model.specs.Outcome.{guard, Meets, MeetsAlways, Tells, TellsAlways};
 ghost use Rattle.kernel_model.specs.Ends.{IsTailOf, opened, is_readable, is_writable, arrival, finish, failure, new_room};
@@ -143,6 +143,14 @@ impl End {
         self.room || self.err
     }
 
+    /// Whether these bytes may come from the peer: there are some, and neither the end of input nor an
+    /// error came before.
+    pub fn may_arrive(&self, bytes: &[u8]) -> bool
+        ensures { IsTrue result ↔ IsSome (arrival self.now bytes.now) }
+    {
+        !bytes.is_empty() && !self.fin && !self.err
+    }
+
     /// Bytes come from the peer. Tells whether that is to be reported.
     ///
     /// Refuses with `NotAllowed` where there are none, or behind the end of input or an error, and with
@@ -150,7 +158,7 @@ impl End {
     pub fn arrive(&mut self, bytes: &[u8]) -> Result<bool, Refusal>
         ensures { Tells (arrival self.old bytes.now) self.old self.new result }
     {
-        if bytes.is_empty() || self.fin || self.err {
+        if !self.may_arrive(bytes) {
             return Err(Refusal::NotAllowed);
         }
         self.arrived.extend_from_slice(bytes)?;

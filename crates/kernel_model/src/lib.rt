@@ -1,21 +1,37 @@
-//! The kernel's side of a connection, as a model: what can come to a socket, and which replies a
-//! socket may give to a call.
+//! The kernel's side of connections, as a model: what can come to a socket, which replies a socket may
+//! give to a call, and which reports a readiness queue gives.
 //!
 //! An [`End`] is one stream socket in non-blocking mode, by plain values: every byte that ever came,
-//! those not yet read, every byte that writes took, and a few marks. Nothing here happens by itself.
-//! Each call takes the change or the reply that is to happen and makes it happen, or refuses it with
-//! [`Refusal::NotAllowed`] because no socket could do that (`specs/Ends.antt`, `specs/Replies.antt`),
-//! or with [`Refusal::NoMemory`]; a refused call changes nothing.
+//! those not yet read, every byte that writes took, and a few marks. A [`Kernel`] has the open ends of a
+//! process by descriptor, each with the token under which it is registered, the queue of the names to
+//! report, and a listening socket.
 //!
-//! The rules follow epoll(7), read(2), write(2), shutdown(2) and connect(2).
+//! Nothing here happens by itself. Each call takes the change or the reply that is to happen and makes it
+//! happen, or refuses it with [`Refusal::NotAllowed`] because no kernel could do that (`specs/Ends.antt`,
+//! `specs/Replies.antt`, `specs/Kernel.antt`), or with [`Refusal::NoMemory`]; a refused call changes
+//! nothing.
+//!
+//! The rules follow epoll(7), read(2), write(2), shutdown(2), connect(2) and accept(2). Each call is
+//! exactly its definition. That no report is lost is not stated here as a law of its own.
 #![tactic(auto)]
 
+mod accepting;
+mod both;
+mod connecting;
 mod end;
+mod kernel;
+mod queue;
 mod refusal;
 mod reply;
+mod sockets;
 #[cfg(test)]
 mod tests;
+mod watched;
 
+pub use accepting::Accepting;
+pub use both::{Descriptors, Sockets};
 pub use end::End;
+pub use kernel::{Kernel, MOST_BACKLOG, MOST_POLLED, Open};
 pub use refusal::Refusal;
 pub use reply::Reply;
+pub use watched::Watched;

@@ -1,3 +1,5 @@
+mod kernels;
+
 use super::*;
 use std::alloc::{AllocError, Global};
 use std::process::Abort;

@@ -1,0 +1,172 @@
+-- The kernel of one process that watches its sockets with edge triggering (epoll(7)): the open ends by
+-- descriptor, the names that are queued for the next poll, and the listening socket.
+use Rattle.std.specs.Prelude.{ℕ, ◌+◌, ◌-◌, ◌==◌, Bool, true, false, not, ◌&&◌, ◌||◌, nat_lt, nat_le, if◌then◌else◌, List, [], ◌∷◌, ◌++◌, length, slice_get, slice_set, position, Option, Some, None, option_map, option_and_then, unwrap_or}
+use Rattle.std.specs.Option.{is_none, option_flatten}
+use Rattle.token.specs.declared.name.Name.{Name}
+use Rattle.token.specs.declared.name.Name.TheVariants.{Listener, Waker, End}
+use Rattle.token.specs.Names.{EndName}
+use Rattle.kernel_model.specs.declared.watched.Watched.{Watched}
+use Rattle.kernel_model.specs.declared.watched.Watched.TheVariants as watched
+use Rattle.kernel_model.specs.declared.accepting.Accepting.{Accepting}
+use Rattle.kernel_model.specs.declared.accepting.Accepting.TheVariants.{Accepted, Blocked, Again, Starved}
+use Rattle.kernel_model.specs.declared.reply.Reply.{Reply}
+use Rattle.kernel_model.specs.declared.both.Descriptors.{Descriptors}
+use Rattle.kernel_model.specs.declared.both.Sockets.{Sockets}
+use Rattle.kernel_model.specs.Outcome.{guard, Told}
+use Rattle.kernel_model.specs.Ends.{Endpoint, opened, is_readable, is_writable, arrival, finish, failure, new_room}
+use Rattle.kernel_model.specs.Replies.{after_read, after_write, after_join, after_shut}
+use Rattle.kernel_model.specs.Names.{has, with_name, without_name, without_names, are_distinct, are_among}
+
+-- an end that is open, with the token under which it is registered
+pub record Registered : Type 0 where
+  pub token : EndName
+  pub socket : Endpoint
+
+-- `ends` has a place for each descriptor from 0 on. `queue` are the names that the next poll may report.
+-- `backlog` connections wait at the listener, and `armed` says that the next one is to be reported,
+-- since an accept answered blocked
+pub record Watcher : Type 0 where
+  pub ends : List (Option Registered)
+  pub queue : List Name
+  pub backlog : ℕ
+  pub armed : Bool
+
+-- nothing is open or queued, and nobody waits
+abbrev pub idle : Watcher
+idle = record { ends = []; queue = []; backlog = 0; armed = false }
+
+-- the open end of a descriptor
+abbrev pub end_at : List (Option Registered) → ℕ → Option Registered
+end_at ends descriptor = option_flatten (slice_get ends descriptor)
+
+-- the lowest descriptor that is not open (open(2))
+abbrev pub lowest_free : List (Option Registered) → ℕ
+lowest_free ends = unwrap_or (position is_none ends) (length ends)
+
+-- the ends with an end at a descriptor, which may be the one behind all others
+abbrev pub with_end : List (Option Registered) → ℕ → Registered → List (Option Registered)
+with_end ends descriptor r = if nat_lt descriptor (length ends) then slice_set ends descriptor (Some r) else ends ++ Some r ∷ []
+
+-- an end is opened and registered under its token, at the lowest descriptor, which is told
+abbrev pub open_end : Watcher → EndName → Told Watcher ℕ
+open_end k token = record {
+  value = record k { ends = with_end k.ends (lowest_free k.ends) (record { token = token; socket = opened token.side }) };
+  told = lowest_free k.ends;
+}
+
+-- both ends of a connection are opened, the client's first
+abbrev pub open_both : Watcher → EndName → EndName → Told Watcher Descriptors
+open_both k client target = record {
+  value = (open_end (open_end k client).value target).value;
+  told = record { client = (open_end k client).told; target = (open_end (open_end k client).value target).told };
+}
+
+-- an end is closed (close(2)): its name leaves the queue, and what it was is told
+abbrev pub close : Watcher → ℕ → Option (Told Watcher Endpoint)
+close k descriptor = option_map
+    (λ (r : Registered). record {
+      value = record k { ends = slice_set k.ends descriptor None; queue = without_name (End r.token) k.queue };
+      told = r.socket;
+    })
+    (end_at k.ends descriptor)
+
+-- both ends of a connection are closed
+abbrev pub close_both : Watcher → Descriptors → Option (Told Watcher Sockets)
+close_both k ends = option_and_then
+    (λ (one : Told Watcher Endpoint). option_map
+    (λ (two : Told Watcher Endpoint). record { value = two.value; told = record { client = one.told; target = two.told } })
+    (close one.value ends.target))
+    (close k ends.client)
+
+-- a name is queued where something is to be reported
+abbrev pub reported : List Name → Name → Bool → List Name
+reported queue name true = with_name name queue
+reported queue name false = queue
+
+-- a change of the network at an end, and its report
+abbrev pub changed : Watcher → ℕ → (Endpoint → Option (Told Endpoint Bool)) → Option Watcher
+changed k descriptor change = option_and_then
+    (λ (r : Registered). option_map
+    (λ (t : Told Endpoint Bool). record k {
+      ends = slice_set k.ends descriptor (Some (record r { socket = t.value }));
+      queue = reported k.queue (End r.token) t.told;
+    })
+    (change r.socket))
+    (end_at k.ends descriptor)
+
+abbrev pub arrive : Watcher → ℕ → List ℕ → Option Watcher
+arrive k descriptor bytes = changed k descriptor (λ (e : Endpoint). arrival e bytes)
+
+abbrev pub fin : Watcher → ℕ → Option Watcher
+fin k descriptor = changed k descriptor finish
+
+abbrev pub reset : Watcher → ℕ → Option Watcher
+reset k descriptor = changed k descriptor failure
+
+abbrev pub room : Watcher → ℕ → Option Watcher
+room k descriptor = changed k descriptor new_room
+
+-- a call on an end gets a reply
+abbrev pub called : Watcher → ℕ → (Endpoint → Option Endpoint) → Option Watcher
+called k descriptor call = option_and_then
+    (λ (r : Registered). option_map
+    (λ (e : Endpoint). record k { ends = slice_set k.ends descriptor (Some (record r { socket = e })) })
+    (call r.socket))
+    (end_at k.ends descriptor)
+
+abbrev pub read : Watcher → ℕ → ℕ → Reply → Option Watcher
+read k descriptor most reply = called k descriptor (λ (e : Endpoint). after_read e most reply)
+
+abbrev pub write : Watcher → ℕ → List ℕ → Reply → Option Watcher
+write k descriptor offer reply = called k descriptor (λ (e : Endpoint). after_write e offer reply)
+
+abbrev pub join : Watcher → ℕ → Reply → Option Watcher
+join k descriptor reply = called k descriptor (λ (e : Endpoint). after_join e reply)
+
+abbrev pub shut : Watcher → ℕ → Reply → Option Watcher
+shut k descriptor reply = called k descriptor (λ (e : Endpoint). after_shut e reply)
+
+-- the name of what is watched; a descriptor that is not open has none
+abbrev pub name_of : Watcher → Watched → Option Name
+name_of k watched.Listener = Some Listener
+name_of k watched.Waker = Some Waker
+name_of k (watched.End descriptor) = option_map (λ (r : Registered). End r.token) (end_at k.ends descriptor)
+
+-- neither a read nor a write could do anything; so too where no end is open
+abbrev pub is_quiet_end : Option Registered → Bool
+is_quiet_end None = true
+is_quiet_end (Some r) = not (is_readable r.socket || is_writable r.socket)
+
+-- nothing could be done there now, so that a report would be without cause
+abbrev pub is_quiet : Watcher → Watched → Bool
+is_quiet k watched.Listener = k.backlog == 0
+is_quiet k watched.Waker = true
+is_quiet k (watched.End descriptor) = is_quiet_end (end_at k.ends descriptor)
+
+-- a report comes without cause
+abbrev pub spurious : Watcher → Watched → Option Watcher
+spurious k who = option_map (λ (name : Name). record k { queue = with_name name k.queue }) (name_of k who)
+
+-- a report is taken back, which can happen only while nothing could be done there
+abbrev pub vanish : Watcher → Watched → Option Watcher
+vanish k who = option_and_then
+    (λ (name : Name). guard (has name k.queue && is_quiet k who) (record k { queue = without_name name k.queue }))
+    (name_of k who)
+
+-- a poll hands over some of the queued names, in any order, 256 at most (epoll_wait(2))
+abbrev pub poll : Watcher → List Name → Option Watcher
+poll k names = guard (nat_le (length names) 256 && (are_among k.queue names && are_distinct names))
+    (record k { queue = without_names names k.queue })
+
+-- a client connects and waits at the listener, behind at most 4,095 others (listen(2))
+abbrev pub connect_in : Watcher → Option Watcher
+connect_in k = guard (nat_lt k.backlog 4096)
+    (record k { backlog = k.backlog + 1; queue = reported k.queue Listener k.armed; armed = false })
+
+-- accept(2): it takes the connection that waited longest; it would block, where nobody waits, and the next
+-- connection is to be reported; it is worth another try at once; or what it needs is used up
+abbrev pub accept : Watcher → Accepting → Option Watcher
+accept k Accepted = guard (nat_lt 0 k.backlog) (record k { backlog = k.backlog - 1 })
+accept k Blocked = guard (k.backlog == 0) (record k { armed = true })
+accept k Again = Some k
+accept k Starved = Some k

@@ -1,0 +1,42 @@
+-- The names that a readiness queue holds, as a set: a list in which no two are equal.
+use Rattle.std.specs.Prelude.{◌==◌, Bool, true, false, not, ◌&&◌, if◌then◌else◌, List, [], ◌∷◌, ◌++◌}
+use Rattle.std.specs.List.{list_any, list_all, filter}
+use Rattle.token.specs.declared.name.Name.{Name}
+use Rattle.token.specs.declared.name.Name.TheVariants.{Listener, Waker, End}
+use Rattle.token.specs.Names.{EndName}
+use Rattle.token.specs.Sides.{side_number}
+
+-- the names of one and the same end
+abbrev pub same_end : EndName → EndName → Bool
+same_end a b = a.slot == b.slot && (side_number a.side == side_number b.side && a.generation == b.generation)
+
+abbrev pub same : Name → Name → Bool
+same Listener Listener = true
+same Waker Waker = true
+same (End a) (End b) = same_end a b
+same a b = false
+
+-- whether a name is among these
+abbrev pub has : Name → List Name → Bool
+has name names = list_any (same name) names
+
+-- the names with one more, which stands there once
+abbrev pub with_name : Name → List Name → List Name
+with_name name names = if has name names then names else names ++ name ∷ []
+
+-- the names but one
+abbrev pub without_name : Name → List Name → List Name
+without_name name names = filter (λ other. not (same name other)) names
+
+-- the names but those that were taken
+abbrev pub without_names : List Name → List Name → List Name
+without_names taken names = filter (λ other. not (has other taken)) names
+
+-- no name stands there twice
+abbrev pub are_distinct : List Name → Bool
+are_distinct [] = true
+are_distinct (name ∷ names) = not (has name names) && are_distinct names
+
+-- all of these are among those
+abbrev pub are_among : List Name → List Name → Bool
+are_among those these = list_all (λ name. has name those) these

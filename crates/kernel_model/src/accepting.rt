@@ -1,0 +1,12 @@
+/// What the listening socket replies to accept(2).
+#[derive(Clone, Copy, Debug, PartialEq, Eq)]
+pub enum Accepting {
+    /// The connection that waited longest.
+    Accepted,
+    /// Nobody waits (EAGAIN).
+    Blocked,
+    /// This connection is gone, or a signal came first: another try may do (ECONNABORTED, EINTR).
+    Again,
+    /// Descriptors or memory are used up for now (EMFILE, ENFILE, ENOBUFS, ENOMEM).
+    Starved,
+}

@@ -1,0 +1,15 @@
+use crate::end::End;
+
+/// The descriptors of a connection's two ends.
+#[derive(Clone, Copy, Debug, PartialEq, Eq)]
+pub struct Descriptors {
+    pub client: usize,
+    pub target: usize,
+}
+
+/// A connection's two ends.
+#[derive(Drop)]
+pub struct Sockets {
+    pub client: End,
+    pub target: End,
+}

@@ -1,0 +1,284 @@
+// The kernel of one process: its open ends, its readiness queue and its listener. The calls on single
+// ends stand in `sockets.rt`.
+ghost use Rattle.std.specs.Prelude.{◌≡◌, ◌<◌, vec_len, vec_capacity, Some, IsSome, IsTrue, ◌↔◌, position};
+ghost use Rattle.std.specs.Option.{option_copied, is_none};
+ghost use Rattle.kernel_model.specs.Outcome.{Meets, MeetsAlways, Tells, TellsAlways};
+ghost use Rattle.kernel_model.specs.Names.{has};
+ghost use Rattle.kernel_model.specs.Kernel.{Registered, idle, end_at, lowest_free, open_end, close, name_of, is_quiet, spurious, vanish, poll, connect_in, accept};
+
+use crate::accepting::Accepting;
+use crate::connecting::place;
+use crate::end::End;
+use crate::queue::{add, are_among, are_distinct, has, remove, remove_all};
+use crate::refusal::Refusal;
+use crate::watched::Watched;
+use std::alloc::Global;
+use std::marker::Model;
+use std::mem;
+use token::{Name, Token};
+
+/// The most connections that wait at the listener.
+pub const MOST_BACKLOG: usize = 4_096;
+
+/// The most names that one poll hands over.
+pub const MOST_POLLED: usize = 256;
+
+/// An open end, with the token under which it is registered.
+#[derive(Drop)]
+pub struct Open {
+    pub token: Token,
+    pub socket: End,
+}
+
+impl Model for Open {
+    ghost use Rattle.kernel_model.specs.Kernel.{Registered};
+
+    ghost Value = { Registered };
+
+    ghost view = { λ o. record { token = o.token; socket = o.socket } };
+}
+
+/// A kernel, by plain values.
+#[derive(Drop)]
+pub struct Kernel {
+    pub(crate) alloc: Global,
+    pub(crate) ends: Vec<Option<Open>>,
+    pub(crate) queue: Vec<Name>,
+    backlog: usize,
+    armed: bool,
+}
+
+impl Model for Kernel {
+    ghost use Rattle.kernel_model.specs.Kernel.{Watcher};
+
+    ghost Value = { Watcher };
+
+    ghost view = { λ k. record { ends = k.ends.items; queue = k.queue.items; backlog = k.backlog; armed = k.armed } };
+}
+
+#[tactic(auto, using(std::proofs::lemmas::Option::gets, std::proofs::lemmas::Grind::common_steps))]
+impl Kernel {
+    /// A kernel in which nothing is open or queued. Takes no memory.
+    pub fn new(alloc: Global) -> Kernel
+        ensures { result ≡ idle }
+    {
+        Kernel {
+            alloc,
+            ends: Vec::new(alloc),
+            queue: Vec::new(alloc),
+            backlog: 0,
+            armed: false,
+        }
+    }
+
+    /// The open end of a descriptor.
+    pub fn end(&self, descriptor: usize) -> Option<&Open>
+        ensures { option_copied result ≡ end_at self.now.ends descriptor }
+    {
+        if descriptor < self.ends.len() {
+            self.ends[descriptor].as_ref()
+        } else {
+            None
+        }
+    }
+
+    /// The names that are queued, in the order in which they came.
+    pub fn queue(&self) -> &[Name]
+        ensures { result.now ≡ self.now.queue }
+    {
+        self.queue.as_slice()
+    }
+
+    /// Whether a name is queued.
+    pub fn is_queued(&self, name: &Name) -> bool
+        ensures { result ≡ has name.now self.now.queue }
+    {
+        has(name, self.queue.as_slice())
+    }
+
+    /// How many connections wait at the listener.
+    pub fn backlog(&self) -> usize
+        ensures { result ≡ self.now.backlog }
+    {
+        self.backlog
+    }
+
+    /// Whether the next connection is to be reported, since an accept answered blocked.
+    pub fn is_armed(&self) -> bool
+        ensures { result ≡ self.now.armed }
+    {
+        self.armed
+    }
+
+    /// Opens an end and registers it, for reads and writes, under its token. It gets the lowest
+    /// descriptor that is not open (open(2)), which is told.
+    ///
+    /// Refuses with `NoMemory`, and changes nothing, where the table of descriptors can't grow.
+    pub fn open_end(&mut self, token: Token) -> Result<usize, Refusal>
+        ensures { Tells (Some (open_end self.old token)) self.old self.new result }
+    {
+        self.ends.reserve(1)?;
+        Ok(place(self.alloc, &mut self.ends, token))
+    }
+
+    /// Closes an end, takes its name off the queue, and hands the end out (close(2)).
+    ///
+    /// Refuses with `NotAllowed`, and changes nothing, where the descriptor is not open. Takes no memory.
+    pub fn close(&mut self, descriptor: usize) -> Result<End, Refusal>
+        ensures { TellsAlways (close self.old descriptor) self.old self.new result }
+    {
+        if descriptor >= self.ends.len() {
+            return Err(Refusal::NotAllowed);
+        }
+        match self.ends[descriptor].take() {
+            None => Err(Refusal::NotAllowed),
+            Some(Open { token, socket }) => {
+                remove(&mut self.queue, &Name::End(token));
+                Ok(socket)
+            }
+        }
+    }
+
+    /// A report comes without cause.
+    ///
+    /// Refuses with `NotAllowed` where the descriptor is not open, and with `NoMemory` where the queue
+    /// can't grow. A refusal changes nothing.
+    pub fn spurious(&mut self, who: Watched) -> Result<(), Refusal>
+        ensures { Meets (spurious self.old who) self.old self.new result }
+    {
+        let Some(name) = self.name_of(who) else {
+            return Err(Refusal::NotAllowed);
+        };
+        self.queue.reserve(1)?;
+        add(&mut self.queue, name);
+        Ok(())
+    }
+
+    /// A report is taken back before it was polled.
+    ///
+    /// Refuses with `NotAllowed`, and changes nothing, where it is not queued, or where something could
+    /// be done there: at an end that is readable or writable, or at the listener while somebody waits.
+    /// Takes no memory.
+    pub fn vanish(&mut self, who: Watched) -> Result<(), Refusal>
+        ensures { MeetsAlways (vanish self.old who) self.old self.new result }
+    {
+        let Some(name) = self.name_of(who) else {
+            return Err(Refusal::NotAllowed);
+        };
+        if !self.is_queued(&name) || !self.is_quiet(who) {
+            return Err(Refusal::NotAllowed);
+        }
+        remove(&mut self.queue, &name);
+        Ok(())
+    }
+
+    /// Whether a poll may hand these names over: there are not too many, each is queued, and none stands
+    /// there twice.
+    pub fn may_poll(&self, names: &[Name]) -> bool
+        ensures { IsTrue result ↔ IsSome (poll self.now names.now) }
+    {
+        names.len() <= MOST_POLLED && are_among(self.queue.as_slice(), names) && are_distinct(names)
+    }
+
+    /// A poll hands these names over, and they leave the queue (epoll_wait(2)).
+    ///
+    /// Refuses with `NotAllowed`, and changes nothing, where there are more than [`MOST_POLLED`] names, or
+    /// one that is not queued, or one twice. Takes no memory.
+    pub fn poll(&mut self, names: &[Name]) -> Result<(), Refusal>
+        ensures { MeetsAlways (poll self.old names.now) self.old self.new result }
+    {
+        if !self.may_poll(names) {
+            return Err(Refusal::NotAllowed);
+        }
+        remove_all(&mut self.queue, names);
+        Ok(())
+    }
+
+    /// A client connects, and waits at the listener (listen(2)).
+    ///
+    /// Refuses with `NotAllowed` where [`MOST_BACKLOG`] wait already, and with `NoMemory` where the queue
+    /// can't grow. A refusal changes nothing.
+    pub fn connect_in(&mut self) -> Result<(), Refusal>
+        ensures { Meets (connect_in self.old) self.old self.new result }
+    {
+        if self.backlog >= MOST_BACKLOG {
+            return Err(Refusal::NotAllowed);
+        }
+        self.queue.reserve(1)?;
+        self.backlog += 1;
+        if mem::replace(&mut self.armed, false) {
+            add(&mut self.queue, Name::Listener);
+        }
+        Ok(())
+    }
+
+    /// The listener replies so to accept(2).
+    ///
+    /// Refuses with `NotAllowed`, and changes nothing, an accepted connection where nobody waits, and
+    /// blocked where somebody does. Takes no memory.
+    pub fn accept(&mut self, reply: Accepting) -> Result<(), Refusal>
+        ensures { MeetsAlways (accept self.old reply) self.old self.new result }
+    {
+        match reply {
+            Accepting::Accepted => {
+                if self.backlog == 0 {
+                    return Err(Refusal::NotAllowed);
+                }
+                self.backlog -= 1;
+            }
+            Accepting::Blocked => {
+                if self.backlog > 0 {
+                    return Err(Refusal::NotAllowed);
+                }
+                self.armed = true;
+            }
+            Accepting::Again | Accepting::Starved => {}
+        }
+        Ok(())
+    }
+
+    /// The name of what is watched; a descriptor that is not open has none.
+    fn name_of(&self, who: Watched) -> Option<Name>
+        ensures { result ≡ name_of self.now who }
+    {
+        match who {
+            Watched::Listener => Some(Name::Listener),
+            Watched::Waker => Some(Name::Waker),
+            Watched::End(descriptor) => match self.end(descriptor) {
+                Some(open) => Some(Name::End(open.token)),
+                None => None,
+            },
+        }
+    }
+
+    /// Whether nothing could be done there now.
+    fn is_quiet(&self, who: Watched) -> bool
+        ensures { result ≡ is_quiet self.now who }
+    {
+        match who {
+            Watched::Listener => self.backlog == 0,
+            Watched::Waker => true,
+            Watched::End(descriptor) => match self.end(descriptor) {
+                Some(open) => !open.socket.is_readable() && !open.socket.is_writable(),
+                None => true,
+            },
+        }
+    }
+}
+
+/// The lowest descriptor that is not open.
+pub fn lowest_free(ends: &[Option<Open>]) -> usize
+    ensures { result ≡ lowest_free ends.now }
+{
+    match first_closed(ends) {
+        Some(descriptor) => descriptor,
+        None => ends.len(),
+    }
+}
+
+/// The first descriptor of these that is not open.
+fn first_closed(ends: &[Option<Open>]) -> Option<usize>
+    ensures { result ≡ position is_none ends.now }
+{
+    ends.iter().position(|place| place.is_none())
+}

@@ -1,0 +1,60 @@
+// A set of names, as a list in which no two are equal.
+ghost use Rattle.std.specs.Prelude.{◌≡◌, ◌<◌, vec_len, vec_capacity};
+ghost use Rattle.kernel_model.specs.Names.{same, has, with_name, without_name, without_names, are_distinct, are_among};
+
+use token::Name;
+
+/// Whether two names are equal.
+fn same(a: &Name, b: &Name) -> bool
+    ensures { result ≡ same a.now b.now }
+{
+    *a == *b
+}
+
+/// Whether a name is among these.
+pub fn has(name: &Name, names: &[Name]) -> bool
+    ensures { result ≡ has name.now names.now }
+{
+    names.iter().any(|other| same(name, other))
+}
+
+/// Adds a name where it is not there. The caller has made room.
+pub fn add(names: &mut Vec<Name>, name: Name)
+    requires { vec_len names.old < vec_capacity names.old }
+    ensures { names.new.items ≡ with_name name names.old.items }
+{
+    if !has(&name, names.as_slice()) {
+        names.push(name).unwrap();
+    }
+}
+
+/// Takes a name away where it is there.
+pub fn remove(names: &mut Vec<Name>, name: &Name)
+    ensures { names.new.items ≡ without_name name.now names.old.items }
+{
+    names.retain(|other| !same(name, other));
+}
+
+/// Takes names away.
+pub fn remove_all(names: &mut Vec<Name>, taken: &[Name])
+    ensures { names.new.items ≡ without_names taken.now names.old.items }
+{
+    names.retain(|other| !has(other, taken));
+}
+
+/// Whether no name stands there twice.
+pub fn are_distinct(names: &[Name]) -> bool
+    ensures { result ≡ are_distinct names.now }
+{
+    match names {
+        [] => true,
+        [name, rest @ ..] => !has(name, rest) && are_distinct(rest),
+    }
+}
+
+/// Whether all of these names are among those.
+pub fn are_among(those: &[Name], these: &[Name]) -> bool
+    ensures { result ≡ are_among those.now these.now }
+{
+    these.iter().all(|name| has(name, those))
+}

@@ -1,0 +1,170 @@
+// What comes to the open ends of a kernel, and the calls on them.
+ghost use Rattle.std.specs.Prelude.{◌≡◌, ◌<◌, IsErrOf, IsTrue};
+ghost use Rattle.kernel_model.specs.Outcome.{Meets, MeetsAlways};
+ghost use Rattle.kernel_model.specs.Replies.{needs_memory};
+ghost use Rattle.kernel_model.specs.Kernel.{Registered, arrive, fin, reset, room, read, write, join, shut};
+
+use crate::kernel::Kernel;
+use crate::queue::add;
+use crate::refusal::Refusal;
+use crate::reply::Reply;
+use token::Name;
+
+#[tactic(auto, using(std::proofs::lemmas::Option::gets, std::proofs::lemmas::Grind::common_steps))]
+impl Kernel {
+    /// Bytes come to an end, and are reported where reads are armed there.
+    ///
+    /// Refuses with `NotAllowed` where the descriptor is not open, where there are no bytes, and behind
+    /// the end of input or an error; and with `NoMemory` where a list can't grow. A refusal changes
+    /// nothing.
+    pub fn arrive(&mut self, descriptor: usize, bytes: &[u8]) -> Result<(), Refusal>
+        ensures { Meets (arrive self.old descriptor bytes.now) self.old self.new result }
+    {
+        if !self
+            .end(descriptor)
+            .is_some_and(|open| open.socket.may_arrive(bytes))
+        {
+            return Err(Refusal::NotAllowed);
+        }
+        self.queue.reserve(1)?;
+        if let Some(open) = &mut self.ends[descriptor] {
+            if open.socket.arrive(bytes)? {
+                add(&mut self.queue, Name::End(open.token));
+            }
+        }
+        Ok(())
+    }
+
+    /// The peer's end of input comes to an end, and is reported where reads are armed there.
+    ///
+    /// Refuses with `NotAllowed` where the descriptor is not open, where it has come before, and behind an
+    /// error; and with `NoMemory` where the queue can't grow. A refusal changes nothing.
+    pub fn fin(&mut self, descriptor: usize) -> Result<(), Refusal>
+        ensures { Meets (fin self.old descriptor) self.old self.new result }
+    {
+        if !self
+            .end(descriptor)
+            .is_some_and(|open| !open.socket.has_fin() && !open.socket.has_err())
+        {
+            return Err(Refusal::NotAllowed);
+        }
+        self.queue.reserve(1)?;
+        if let Some(open) = &mut self.ends[descriptor] {
+            if open.socket.fin()? {
+                add(&mut self.queue, Name::End(open.token));
+            }
+        }
+        Ok(())
+    }
+
+    /// An error comes to an end, as a reset by the peer, and is reported where reads or writes are armed
+    /// there.
+    ///
+    /// Refuses with `NotAllowed` where the descriptor is not open, and where one has come before; and with
+    /// `NoMemory` where the queue can't grow. A refusal changes nothing.
+    pub fn reset(&mut self, descriptor: usize) -> Result<(), Refusal>
+        ensures { Meets (reset self.old descriptor) self.old self.new result }
+    {
+        if !self
+            .end(descriptor)
+            .is_some_and(|open| !open.socket.has_err())
+        {
+            return Err(Refusal::NotAllowed);
+        }
+        self.queue.reserve(1)?;
+        if let Some(open) = &mut self.ends[descriptor] {
+            if open.socket.reset()? {
+                add(&mut self.queue, Name::End(open.token));
+            }
+        }
+        Ok(())
+    }
+
+    /// Room for writes comes to an end, and is reported where writes are armed there.
+    ///
+    /// Refuses with `NotAllowed` where the descriptor is not open, where there is room, and behind an
+    /// error; and with `NoMemory` where the queue can't grow. A refusal changes nothing.
+    pub fn room(&mut self, descriptor: usize) -> Result<(), Refusal>
+        ensures { Meets (room self.old descriptor) self.old self.new result }
+    {
+        if !self
+            .end(descriptor)
+            .is_some_and(|open| !open.socket.has_room() && !open.socket.has_err())
+        {
+            return Err(Refusal::NotAllowed);
+        }
+        self.queue.reserve(1)?;
+        if let Some(open) = &mut self.ends[descriptor] {
+            if open.socket.room()? {
+                add(&mut self.queue, Name::End(open.token));
+            }
+        }
+        Ok(())
+    }
+
+    /// A read of at most `most` bytes gets this reply ([`End::read`]).
+    ///
+    /// Refuses with `NotAllowed`, and changes nothing, where the descriptor is not open, or where a read
+    /// may not be answered so. Takes no memory.
+    pub fn read(&mut self, descriptor: usize, most: usize, reply: Reply) -> Result<(), Refusal>
+        ensures { MeetsAlways (read self.old descriptor most reply) self.old self.new result }
+    {
+        if descriptor >= self.ends.len() {
+            return Err(Refusal::NotAllowed);
+        }
+        match &mut self.ends[descriptor] {
+            Some(open) => open.socket.read(most, reply),
+            None => Err(Refusal::NotAllowed),
+        }
+    }
+
+    /// A write of `offer` gets this reply ([`End::write`]).
+    ///
+    /// Refuses with `NotAllowed` where the descriptor is not open, or where a write may not be answered so;
+    /// and with `NoMemory` where the write takes bytes and their list can't grow. A refusal changes
+    /// nothing.
+    pub fn write(&mut self, descriptor: usize, offer: &[u8], reply: Reply) -> Result<(), Refusal>
+        ensures outcome { Meets (write self.old descriptor offer.now reply) self.old self.new result }
+        ensures memory { IsErrOf result Refusal.NoMemory → IsTrue (needs_memory reply) }
+    {
+        if descriptor >= self.ends.len() {
+            return Err(Refusal::NotAllowed);
+        }
+        match &mut self.ends[descriptor] {
+            Some(open) => open.socket.write(offer, reply),
+            None => Err(Refusal::NotAllowed),
+        }
+    }
+
+    /// The question whether the connect has ended gets this reply ([`End::join`]).
+    ///
+    /// Refuses with `NotAllowed`, and changes nothing, where the descriptor is not open, or where the
+    /// question may not be answered so. Takes no memory.
+    pub fn join(&mut self, descriptor: usize, reply: Reply) -> Result<(), Refusal>
+        ensures { MeetsAlways (join self.old descriptor reply) self.old self.new result }
+    {
+        if descriptor >= self.ends.len() {
+            return Err(Refusal::NotAllowed);
+        }
+        match &mut self.ends[descriptor] {
+            Some(open) => open.socket.join(reply),
+            None => Err(Refusal::NotAllowed),
+        }
+    }
+
+    /// A shutdown of sending gets this reply ([`End::shut`]).
+    ///
+    /// Refuses with `NotAllowed`, and changes nothing, where the descriptor is not open, or where a
+    /// shutdown may not be answered so. Takes no memory.
+    pub fn shut(&mut self, descriptor: usize, reply: Reply) -> Result<(), Refusal>
+        ensures { MeetsAlways (shut self.old descriptor reply) self.old self.new result }
+    {
+        if descriptor >= self.ends.len() {
+            return Err(Refusal::NotAllowed);
+        }
+        match &mut self.ends[descriptor] {
+            Some(open) => open.socket.shut(reply),
+            None => Err(Refusal::NotAllowed),
+        }
+    }
+}

@@ -1,0 +1,33 @@
+-- A run with one event more.
+use Rattle.std.proofs.Common.{◌≡◌, ℕ, zero, suc, ◌+◌, List, [], ◌∷◌, take, Option, Some, None, refl, option_and_then, add-one}
+use Rattle.std.specs.Prelude.{slice_get}
+use Rattle.world.specs.declared.event.Event.{Event}
+use Rattle.world.specs.States.{State}
+use Rattle.world.specs.Steps.{step}
+use Rattle.world.specs.Runs.{run}
+
+one_step : (o : Option State) → option_and_then (λ (p : State). Some p) o ≡ o
+one_step None = refl
+one_step (Some p) = refl
+
+further : (q : State) (events : List Event) (i : ℕ) (e : Event)
+    → ((p : State) → run p (take i events) ≡ Some q → run p (take (suc i) events) ≡ step q e)
+    → (o : Option State) → option_and_then (λ (p : State). run p (take i events)) o ≡ Some q
+    → option_and_then (λ (p : State). run p (take (suc i) events)) o ≡ step q e
+further q events i e more None ran = absurd (cc)
+further q events i e more (Some p) ran = more p ran
+
+one_more : (st q : State) (events : List Event) (i : ℕ) (e : Event)
+    → run st (take i events) ≡ Some q → slice_get events i ≡ Some e → run st (take (suc i) events) ≡ step q e
+one_more st q [] i e ran here = absurd (cc)
+one_more st q (f ∷ events) zero e ran here =
+    let same : st ≡ q = cc in
+    let this : f ≡ e = cc in
+    rw (same, this) (one_step (step q e))
+one_more st q (f ∷ events) (suc i) e ran here =
+    further q events i e (λ p ran'. one_more p q events i e ran' here) (step st f) ran
+
+-- after the first i events comes the event at i
+pub run_more : (st q : State) (events : List Event) (i : ℕ) (e : Event)
+    → run st (take i events) ≡ Some q → slice_get events i ≡ Some e → run st (take (i + 1) events) ≡ step q e
+run_more st q events i e ran here = rw add-one (one_more st q events i e ran here)

@@ -1,0 +1,72 @@
+-- The connection's next call, made on the kernel, and its reply.
+use Rattle.std.specs.Prelude.{ℕ, Bool, if◌then◌else◌, List, Option, Some, None, option_map, option_and_then}
+use Rattle.token.specs.declared.side.Side.{Side}
+use Rattle.token.specs.declared.side.Side.TheVariants.{Client, Target}
+use Rattle.kernel_model.specs.declared.reply.Reply.{Reply}
+use Rattle.kernel_model.specs.declared.reply.Reply.TheVariants as reply
+use Rattle.kernel_model.specs.declared.both.Descriptors.{Descriptors}
+use Rattle.kernel_model.specs.Replies.{bytes_read}
+use Rattle.kernel_model.specs.Kernel.{Watcher, Registered, end_at, read, write, join, shut}
+use Rattle.relay_core.specs.declared.call.Call.{Call}
+use Rattle.relay_core.specs.declared.call.Call.TheVariants.{Write, Join, Shut, Read}
+use Rattle.relay_core.specs.Order.{next_call, offer}
+use Rattle.relay_core.specs.Replies.{fits, after}
+use Rattle.relay_core.specs.Replies as answer
+use Rattle.world.specs.declared.connection.Connection.{Connection}
+
+-- the value where the test passes, if there is one
+abbrev pub when : {X : Type 0} → Bool → Option X → Option X
+when allowed o = if allowed then o else None
+
+-- a connection, and the kernel that has its ends
+pub record Line : Type 0 where
+  pub kernel : Watcher
+  pub connection : Connection
+
+-- the descriptor of one side
+abbrev pub descriptor : Descriptors → Side → ℕ
+descriptor ends Client = ends.client
+descriptor ends Target = ends.target
+
+-- how many bytes a reply brings
+abbrev pub bytes_of : Reply → Option ℕ
+bytes_of (reply.Bytes n) = Some n
+bytes_of r = None
+
+-- what the pair is told of a reply that brings no bytes
+abbrev pub plain : Reply → Option answer.Reply
+plain (reply.Bytes n) = None
+plain reply.End = Some answer.End
+plain (reply.Wrote n full) = Some (answer.Wrote n)
+plain reply.Joined = Some answer.Joined
+plain reply.Shut = Some answer.Shut
+plain reply.Blocked = Some answer.Blocked
+plain reply.Interrupted = Some answer.Interrupted
+plain (reply.Failed kind) = Some (answer.Failed kind)
+
+-- what the pair is told of a reply: with the bytes that a read handed over
+abbrev pub told_of : Line → Call → Reply → Option answer.Reply
+told_of l (Read side most) (reply.Bytes n) =
+    option_map (λ (bytes : List ℕ). answer.Bytes bytes)
+    (option_and_then (λ (r : Registered). bytes_read r.socket most n) (end_at l.kernel.ends (descriptor l.connection.ends side)))
+told_of l call r = plain r
+
+-- the kernel after the call, where it may reply so
+abbrev pub made : Line → Call → Reply → Option Watcher
+made l (Read side most) r = read l.kernel (descriptor l.connection.ends side) most r
+made l (Write side) r = write l.kernel (descriptor l.connection.ends side) (offer l.connection.pair side) r
+made l (Join side) r = join l.kernel (descriptor l.connection.ends side) r
+made l (Shut side) r = shut l.kernel (descriptor l.connection.ends side) r
+
+-- one call with its reply: the kernel may reply so, and the pair takes it in
+abbrev pub replied : Line → Call → Reply → Option Line
+replied l call r = option_and_then
+    (λ (t : answer.Reply). when (fits l.connection.pair call t)
+    (option_map
+    (λ (k : Watcher). record { kernel = k; connection = record l.connection { pair = after l.connection.pair call t } })
+    (made l call r)))
+    (told_of l call r)
+
+-- the same for the connection's next call; without one, no reply can come
+unfoldable pub called : Line → Reply → Option Line
+called l r = option_and_then (λ (call : Call). replied l call r) (next_call l.connection.pair)

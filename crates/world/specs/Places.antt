@@ -1,0 +1,32 @@
+-- A slot, and a worker.
+use Rattle.std.specs.Prelude.{ℕ, Bool, true, false, List, Option}
+use Rattle.world.specs.declared.connection.Connection.{Connection}
+use Rattle.world.specs.declared.actors.Ticket.{Ticket}
+use Rattle.world.specs.declared.actors.Holder.{Holder}
+use Rattle.world.specs.declared.actors.Holder.TheVariants.{Nobody, By, Free}
+use Rattle.world.specs.declared.actors.Doing.{Doing}
+
+-- A place for one connection. `generation` says how often it was opened. Each note is a report that was
+-- delivered, by the generation that it was for
+pub record Place : Type 0 where
+  pub generation : ℕ
+  pub connection : Option Connection
+  pub holder : Holder
+  pub notes : List ℕ
+
+-- what the worker is about, and the tickets that it has to put
+pub record Actor : Type 0 where
+  pub doing : Doing
+  pub hand : List Ticket
+
+-- a free slot counts as held
+abbrev pub is_held : Holder → Bool
+is_held Nobody = false
+is_held (By worker) = true
+is_held Free = true
+
+-- a worker holds it
+abbrev pub is_by_worker : Holder → Bool
+is_by_worker Nobody = false
+is_by_worker (By worker) = true
+is_by_worker Free = false

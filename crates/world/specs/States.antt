@@ -1,0 +1,66 @@
+-- The whole machine.
+use Rattle.std.specs.Prelude.{ℕ, suc, zero, ◌<◌, ◌≤◌, Bool, true, false, List, [], ◌∷◌, ◌++◌, replicate, None}
+use Rattle.token.specs.declared.name.Name.{Name}
+use Rattle.kernel_model.specs.Kernel.{Watcher, idle}
+use Rattle.world.specs.declared.limits.Limits.{Limits}
+use Rattle.world.specs.declared.actors.Ticket.{Ticket}
+use Rattle.world.specs.declared.actors.Holder.TheVariants.{Free}
+use Rattle.world.specs.declared.actors.Doing.TheVariants.{Idle}
+use Rattle.world.specs.declared.past.Past.{Past}
+use Rattle.world.specs.Places.{Place, Actor}
+
+-- `kernel` has the ends, the readiness queue and the listener's backlog. The poller has `flag`, which says
+-- that an accept is worth a try, perhaps an `accepted` connection, its `table` of the slots' generations,
+-- the rest of its `batch`, and the tickets in its `hand`. `ready` and `free` are the two queues between the
+-- poller and the workers, and `past` are the closed connections, in order
+pub record State : Type 0 where
+  pub limits : Limits
+  pub kernel : Watcher
+  pub flag : Bool
+  pub accepted : Bool
+  pub table : List ℕ
+  pub batch : List Name
+  pub hand : List Ticket
+  pub ready : List Ticket
+  pub free : List ℕ
+  pub slots : List Place
+  pub workers : List Actor
+  pub past : List Past
+
+-- the sizes that a world may have
+pub record IsWithinLimits (l : Limits) : Type 0 where
+  pub slots : (1 ≤ l.slots) × (l.slots ≤ 64)
+  pub workers : (1 ≤ l.workers) × (l.workers ≤ 16)
+  pub ring : (1 ≤ l.ring) × (l.ring ≤ 65536)
+  pub budget : (1 ≤ l.budget) × (l.budget ≤ 1024)
+  pub generation : l.generation < 140737488355327
+
+-- the numbers below n, in order
+abbrev pub numbers_below : ℕ → List ℕ
+numbers_below zero = []
+numbers_below (suc n) = numbers_below n ++ n ∷ []
+
+-- a slot in which no connection lies
+abbrev pub unused : ℕ → Place
+unused generation = record { generation = generation; connection = None; holder = Free; notes = [] }
+
+-- a worker with nothing to do
+abbrev pub resting : Actor
+resting = record { doing = Idle; hand = [] }
+
+-- the world as it begins
+abbrev pub opening : Limits → State
+opening l = record {
+  limits = l;
+  kernel = idle;
+  flag = true;
+  accepted = false;
+  table = replicate l.slots l.generation;
+  batch = [];
+  hand = [];
+  ready = [];
+  free = numbers_below l.slots;
+  slots = replicate l.slots (unused l.generation);
+  workers = replicate l.workers resting;
+  past = [];
+}

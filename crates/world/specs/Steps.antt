@@ -1,0 +1,347 @@
+-- One event of the machine. Each choice stands in the event, so a step has one result or, where the event
+-- is not allowed, none.
+use Rattle.std.specs.Prelude.{ℕ, ◌+◌, ◌-◌, ◌==◌, Bool, true, false, not, ◌&&◌, ◌||◌, nat_lt, nat_le, if◌then◌else◌, List, [], ◌∷◌, ◌++◌, length, slice_get, slice_set, drop, Option, Some, None, option_map, option_and_then}
+use Rattle.std.specs.Option.{is_none}
+use Rattle.token.specs.declared.side.Side.{Side}
+use Rattle.token.specs.declared.side.Side.TheVariants.{Client, Target}
+use Rattle.token.specs.declared.name.Name.{Name}
+use Rattle.token.specs.declared.name.Name.TheVariants as name
+use Rattle.token.specs.Names.{EndName}
+use Rattle.kernel_model.specs.declared.reply.Reply.{Reply}
+use Rattle.kernel_model.specs.declared.watched.Watched.{Watched}
+use Rattle.kernel_model.specs.declared.watched.Watched.TheVariants as watched
+use Rattle.kernel_model.specs.declared.accepting.Accepting.{Accepting}
+use Rattle.kernel_model.specs.declared.accepting.Accepting.TheVariants.{Accepted, Blocked, Again, Starved}
+use Rattle.kernel_model.specs.declared.both.Descriptors.{Descriptors}
+use Rattle.kernel_model.specs.declared.both.Sockets.{Sockets}
+use Rattle.kernel_model.specs.Outcome.{guard, Told}
+use Rattle.kernel_model.specs.Kernel as kernel
+use Rattle.kernel_model.specs.Kernel.{Watcher}
+use Rattle.relay_core.specs.Pairs.{fresh, noted, verdict, is_live}
+use Rattle.relay_core.specs.Order.{next_call}
+use Rattle.world.specs.declared.connection.Connection.{Connection}
+use Rattle.world.specs.declared.actors.Ticket.{Ticket}
+use Rattle.world.specs.declared.actors.Holder.TheVariants.{Nobody, By, Free as IsFree}
+use Rattle.world.specs.declared.actors.Doing.{Doing}
+use Rattle.world.specs.declared.actors.Doing.TheVariants.{Idle, Tries, Holds, Closed, Retired}
+use Rattle.world.specs.declared.event.Event.{Event}
+use Rattle.world.specs.declared.event.Event.TheVariants as event
+use Rattle.world.specs.declared.event.Change.{Change}
+use Rattle.world.specs.declared.event.Change.TheVariants.{Arrive, Fin, Reset, Room}
+use Rattle.world.specs.declared.event.Reported.{Reported}
+use Rattle.world.specs.declared.event.Reported.TheVariants as reported
+use Rattle.world.specs.declared.event.Listening.{Listening}
+use Rattle.world.specs.declared.event.Listening.TheVariants as listening
+use Rattle.world.specs.declared.event.Polling.{Polling}
+use Rattle.world.specs.declared.event.Polling.TheVariants as polling
+use Rattle.world.specs.declared.event.Act.{Act}
+use Rattle.world.specs.declared.event.Act.TheVariants as act
+use Rattle.world.specs.Places.{Place, Actor, is_held}
+use Rattle.world.specs.States.{State}
+use Rattle.world.specs.Calls.{when, Line, descriptor, called}
+
+-- some generations, notes
+abbrev pub is_nonempty : List ℕ → Bool
+is_nonempty xs = nat_lt 0 (length xs)
+
+-- the connection in a slot
+abbrev pub connection_at : State → ℕ → Option Connection
+connection_at st s = option_and_then (λ (p : Place). p.connection) (slice_get st.slots s)
+
+-- the same state over another kernel
+abbrev pub over_kernel : State → Option Watcher → Option State
+over_kernel st k = option_map (λ (q : Watcher). record st { kernel = q }) k
+
+-- The network
+
+-- at most 1,024 bytes come at once
+abbrev pub change_at : Watcher → ℕ → Change → Option Watcher
+change_at k d (Arrive bytes) = when (nat_le (length bytes.items) 1024) (kernel.arrive k d bytes.items)
+change_at k d Fin = kernel.fin k d
+change_at k d Reset = kernel.reset k d
+change_at k d Room = kernel.room k d
+
+abbrev pub network : State → ℕ → Side → Change → Option State
+network st s side change = option_and_then
+    (λ (c : Connection). over_kernel st (change_at st.kernel (descriptor c.ends side) change))
+    (connection_at st s)
+
+-- what a report is about, as the kernel knows it; a slot without a connection has no end
+abbrev pub watched_of : State → Reported → Option Watched
+watched_of st reported.Listener = Some watched.Listener
+watched_of st reported.Waker = Some watched.Waker
+watched_of st (reported.End s side) = option_map (λ (c : Connection). watched.End (descriptor c.ends side)) (connection_at st s)
+
+abbrev pub spurious : State → Reported → Option State
+spurious st who = option_and_then (λ (w : Watched). over_kernel st (kernel.spurious st.kernel w)) (watched_of st who)
+
+abbrev pub vanish : State → Reported → Option State
+vanish st who = option_and_then (λ (w : Watched). over_kernel st (kernel.vanish st.kernel w)) (watched_of st who)
+
+-- The listener
+
+-- some slots
+abbrev pub some_free : List ℕ → Bool
+some_free slots = is_nonempty slots
+
+-- the poller accepts only with a slot to open, and one connection at a time
+abbrev pub may_accept : State → Bool
+may_accept st = st.flag && (not st.accepted && some_free st.free)
+
+-- what the poller makes of the reply: only blocked clears the flag
+abbrev pub after_accept : State → Accepting → State
+after_accept st Accepted = record st { accepted = true }
+after_accept st Blocked = record st { flag = false }
+after_accept st Again = st
+after_accept st Starved = st
+
+abbrev pub listen : State → Listening → Option State
+listen st listening.Connect = over_kernel st (kernel.connect_in st.kernel)
+listen st (listening.Accept reply) = when (may_accept st) (over_kernel (after_accept st reply) (kernel.accept st.kernel reply))
+listen st listening.Drop = guard st.accepted (record st { accepted = false })
+
+-- The poller
+
+-- the token of one end in a slot, where slot and generation have one
+abbrev pub token_of : ℕ → Side → ℕ → Option EndName
+token_of s side g = guard (nat_le s 32767 && (nat_le 1 g && nat_le g 140737488355327)) (record { slot = s; side = side; generation = g })
+
+-- a slot with its fresh connection, and the note of its opening
+abbrev pub opened_place : ℕ → ℕ → ℕ → Descriptors → Place
+opened_place s g ring ends = record { generation = g; connection = Some (record { pair = fresh s g ring; ends = ends }); holder = Nobody; notes = g ∷ [] }
+
+-- the world once both ends are open
+abbrev pub opened_world : State → ℕ → ℕ → Told Watcher Descriptors → State
+opened_world st s g t = record st {
+  kernel = t.value;
+  accepted = false;
+  table = slice_set st.table s g;
+  hand = st.hand ++ record { slot = s; generation = g } ∷ [];
+  free = drop 1 st.free;
+  slots = slice_set st.slots s (opened_place s g st.limits.ring t.told);
+}
+
+-- a slot is opened for the generation after the table's; its old notes are thrown away
+abbrev pub opening_of : State → ℕ → Option State
+opening_of st s = option_and_then
+    (λ (p : Place). option_and_then
+    (λ (g : ℕ). option_and_then
+    (λ (client : EndName). option_map
+    (λ (target : EndName). opened_world st s (g + 1) (kernel.open_both st.kernel client target))
+    (token_of s Target (g + 1)))
+    (token_of s Client (g + 1)))
+    (slice_get st.table s))
+    (slice_get st.slots s)
+
+-- a note is added
+abbrev pub with_note : Place → ℕ → Place
+with_note p g = record p { notes = p.notes ++ g ∷ [] }
+
+-- does a note bring a ticket: it is the first, and nobody holds the slot
+abbrev pub wakes : Place → Bool
+wakes p = not (is_held p.holder || is_nonempty p.notes)
+
+-- the hand with the ticket that was made, if one was
+abbrev pub with_ticket : Bool → ℕ → ℕ → List Ticket → List Ticket
+with_ticket true s g hand = hand ++ record { slot = s; generation = g } ∷ []
+with_ticket false s g hand = hand
+
+-- the poller posts to a slot
+abbrev pub posted : State → ℕ → ℕ → Place → State
+posted st s g p = record st {
+  slots = slice_set st.slots s (with_note p g);
+  hand = with_ticket (wakes p) s g st.hand;
+}
+
+abbrev pub post_at : State → ℕ → ℕ → Option State
+post_at st s g = option_map (λ (p : Place). posted st s g p) (slice_get st.slots s)
+
+-- a report of an end: only where its generation is the table's
+abbrev pub delivered_at : State → EndName → Option ℕ → Option State
+delivered_at st n None = Some st
+delivered_at st n (Some g) = if g == n.generation then post_at st n.slot g else Some st
+
+abbrev pub delivered : State → Name → Option State
+delivered st name.Listener = Some (record st { flag = true })
+delivered st name.Waker = Some st
+delivered st (name.End n) = delivered_at st n (slice_get st.table n.slot)
+
+-- the first name of the batch is delivered, and leaves it
+abbrev pub deliver : State → Option State
+deliver st = option_and_then
+    (λ (n : Name). option_map (λ (q : State). record q { batch = drop 1 st.batch }) (delivered st n))
+    (slice_get st.batch 0)
+
+-- the first of the poller's tickets goes to the end of the ready queue
+abbrev pub put_by_poller : State → List Ticket → Option State
+put_by_poller st [] = None
+put_by_poller st (t ∷ rest) = Some (record st { hand = rest; ready = st.ready ++ t ∷ [] })
+
+-- these names become the batch
+abbrev pub batched : State → List Name → Option State
+batched st names = when (length st.batch == 0) (over_kernel (record st { batch = names }) (kernel.poll st.kernel names))
+
+abbrev pub polled : State → Polling → Option State
+polled st polling.Open = when st.accepted (option_and_then (λ (s : ℕ). opening_of st s) (slice_get st.free 0))
+polled st (polling.Poll names) = batched st names.items
+polled st polling.Deliver = deliver st
+polled st polling.Put = put_by_poller st st.hand
+
+-- A worker, by its number w and as it is, k
+
+-- what becomes of the world where the worker is there
+abbrev pub of_worker : State → ℕ → (Actor → Option State) → Option State
+of_worker st w f = option_and_then f (slice_get st.workers w)
+
+abbrev pub with_worker : State → ℕ → Actor → State
+with_worker st w k = record st { workers = slice_set st.workers w k }
+
+abbrev pub with_place : State → ℕ → Place → State
+with_place st s p = record st { slots = slice_set st.slots s p }
+
+-- it does something else
+abbrev pub doing : State → ℕ → Actor → Doing → State
+doing st w k d = with_worker st w (record k { doing = d })
+
+-- its first ticket goes to the end of the ready queue
+abbrev pub put_by_worker : State → ℕ → Actor → List Ticket → Option State
+put_by_worker st w k [] = None
+put_by_worker st w k (t ∷ rest) = Some (with_worker (record st { ready = st.ready ++ t ∷ [] }) w (record k { hand = rest }))
+
+-- with nothing to put, it takes the first ticket of the ready queue
+abbrev pub popped : State → ℕ → Actor → List Ticket → Option State
+popped st w k [] = None
+popped st w k (t ∷ rest) = Some (doing (record st { ready = rest }) w k (Tries t))
+
+abbrev pub pop : State → ℕ → Actor → Doing → Option State
+pop st w k Idle = when (length k.hand == 0) (popped st w k st.ready)
+pop st w k d = None
+
+-- it holds its ticket's slot with a whole budget, or drops the ticket where the slot is held
+abbrev pub claimed : State → ℕ → Actor → ℕ → Place → State
+claimed st w k s p =
+    if is_held p.holder then doing st w k Idle
+    else doing (with_place st s (record p { holder = By w })) w k (Holds s st.limits.budget)
+
+abbrev pub claim : State → ℕ → Actor → Doing → Option State
+claim st w k (Tries t) = option_map (λ (p : Place). claimed st w k t.slot p) (slice_get st.slots t.slot)
+claim st w k d = None
+
+-- all notes leave the slot; if there was one, every call is worth a try again
+abbrev pub heard : Connection → List ℕ → Connection
+heard c notes = if is_nonempty notes then record c { pair = noted c.pair } else c
+
+abbrev pub noted_place : Place → Option Place
+noted_place p = option_map (λ (c : Connection). record p { notes = []; connection = Some (heard c p.notes) }) p.connection
+
+abbrev pub take : State → Doing → Option State
+take st (Holds s left) = option_and_then
+    (λ (p : Place). option_map (λ (q : Place). with_place st s q) (noted_place p))
+    (slice_get st.slots s)
+take st d = None
+
+-- a slot, and the kernel that has the ends of its connection
+pub record Lodging : Type 0 where
+  pub kernel : Watcher
+  pub place : Place
+
+-- its connection's next call gets a reply
+unfoldable pub lodged_call : Lodging → Reply → Option Lodging
+lodged_call l r = option_and_then
+    (λ (c : Connection). option_map
+    (λ (line : Line). record { kernel = line.kernel; place = record l.place { connection = Some line.connection } })
+    (called (record { kernel = l.kernel; connection = c }) r))
+    l.place.connection
+
+abbrev pub call : State → ℕ → Actor → Doing → Reply → Option State
+call st w k (Holds s left) r = when (nat_lt 0 left) (option_and_then
+    (λ (p : Place). option_map
+    (λ (l : Lodging). doing (with_place (record st { kernel = l.kernel }) s l.place) w k (Holds s (left - 1)))
+    (lodged_call (record { kernel = st.kernel; place = p }) r))
+    (slice_get st.slots s))
+call st w k d r = None
+
+-- it posts to its slot, which it holds: so no ticket
+abbrev pub post : State → Doing → Option State
+post st (Holds s left) = option_and_then
+    (λ (p : Place). option_and_then
+    (λ (c : Connection). guard (is_live (verdict c.pair)) (with_place st s (with_note p c.pair.generation)))
+    p.connection)
+    (slice_get st.slots s)
+post st d = None
+
+-- it may let a live connection go once there is nothing to try, or a note to try again for
+unfoldable pub may_release : Connection → Bool → Bool
+may_release c has_note = is_live (verdict c.pair) && (is_none (next_call c.pair) || has_note)
+
+-- with notes in the slot, it takes their ticket in hand
+abbrev pub release : State → ℕ → Actor → Doing → Option State
+release st w k (Holds s left) = option_and_then
+    (λ (p : Place). option_and_then
+    (λ (c : Connection). guard (may_release c (is_nonempty p.notes))
+    (with_worker (with_place st s (record p { holder = Nobody })) w
+    (record { doing = Idle; hand = with_ticket (is_nonempty p.notes) s p.generation k.hand })))
+    p.connection)
+    (slice_get st.slots s)
+release st w k d = None
+
+-- both ends of a connection that is done or failed are closed, and it is kept as it was
+abbrev pub closed_world : State → ℕ → Actor → ℕ → Place → Connection → Told Watcher Sockets → State
+closed_world st w k s p c t =
+    doing (with_place (record st {
+      kernel = t.value;
+      past = st.past ++ record { slot = s; generation = c.pair.generation; verdict = verdict c.pair; ends = t.told } ∷ [];
+    }) s (record p { connection = None })) w k (Closed s)
+
+abbrev pub close : State → ℕ → Actor → Doing → Option State
+close st w k (Holds s left) = option_and_then
+    (λ (p : Place). option_and_then
+    (λ (c : Connection). when (not (is_live (verdict c.pair)))
+    (option_map (λ (t : Told Watcher Sockets). closed_world st w k s p c t) (kernel.close_both st.kernel c.ends)))
+    p.connection)
+    (slice_get st.slots s)
+close st w k d = None
+
+-- the slot is free
+abbrev pub retire : State → ℕ → Actor → Doing → Option State
+retire st w k (Closed s) = option_map
+    (λ (p : Place). doing (with_place st s (record p { holder = IsFree })) w k (Retired s))
+    (slice_get st.slots s)
+retire st w k d = None
+
+-- a slot whose last generation was used is not opened again
+abbrev pub is_worn : ℕ → Bool
+is_worn g = nat_le 140737488355327 g
+
+abbrev pub freed : List ℕ → ℕ → Place → List ℕ
+freed slots s p = if is_worn p.generation then slots else slots ++ s ∷ []
+
+abbrev pub free : State → ℕ → Actor → Doing → Option State
+free st w k (Retired s) = option_map
+    (λ (p : Place). doing (record st { free = freed st.free s p }) w k Idle)
+    (slice_get st.slots s)
+free st w k d = None
+
+abbrev pub acted : State → ℕ → Actor → Act → Option State
+acted st w k act.Put = put_by_worker st w k k.hand
+acted st w k act.Pop = pop st w k k.doing
+acted st w k act.Claim = claim st w k k.doing
+acted st w k act.Take = take st k.doing
+acted st w k (act.Call r) = call st w k k.doing r
+acted st w k act.Post = post st k.doing
+acted st w k act.Release = release st w k k.doing
+acted st w k act.Close = close st w k k.doing
+acted st w k act.Retire = retire st w k k.doing
+acted st w k act.Free = free st w k k.doing
+
+abbrev pub worked : State → ℕ → Act → Option State
+worked st w a = of_worker st w (λ (k : Actor). acted st w k a)
+
+-- One event
+abbrev pub step : State → Event → Option State
+step st (event.Network s side change) = network st s side change
+step st (event.Spurious who) = spurious st who
+step st (event.Vanish who) = vanish st who
+step st (event.Listen l) = listen st l
+step st (event.Poll p) = polled st p
+step st (event.Work w a) = worked st w a

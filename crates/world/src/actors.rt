@@ -1,0 +1,30 @@
+/// The right to try a slot, for the connection of one generation.
+#[derive(Clone, Copy, Debug, PartialEq, Eq)]
+pub struct Ticket {
+    pub slot: usize,
+    pub generation: u64,
+}
+
+/// Who holds a slot.
+#[derive(Clone, Copy, Debug, PartialEq, Eq)]
+pub enum Holder {
+    Nobody,
+    /// The worker of this number.
+    By(usize),
+    /// Nobody may hold it, since no connection lies in it. It counts as held.
+    Free,
+}
+
+/// What a worker is about.
+#[derive(Clone, Copy, Debug, PartialEq, Eq)]
+pub enum Doing {
+    Idle,
+    /// It took this ticket off the ready queue.
+    Tries(Ticket),
+    /// It holds a slot, with so many calls left in its turn.
+    Holds(usize, usize),
+    /// It closed the connection of a slot, which it still holds.
+    Closed(usize),
+    /// It gave a slot up, which is to be put into the free queue.
+    Retired(usize),
+}

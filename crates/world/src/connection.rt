@@ -1,0 +1,192 @@
+ghost use Rattle.std.specs.Prelude.{◌≡◌, Some, IsNone, IsSome, ◌↔◌, option_map};
+ghost use Rattle.relay_core.specs.Order.{next_call};
+ghost use Rattle.relay_core.specs.Answers.{reply_of};
+ghost use Rattle.world.specs.Calls.{bytes_of, plain};
+
+use crate::working::is_live;
+use kernel_model::{Descriptors, Kernel, Refusal, Reply};
+use relay_core::{Answer, Call, Pair};
+use token::Side;
+
+/// A connection as a slot keeps it: the pair, and the descriptors of its two ends.
+#[derive(Drop)]
+pub struct Connection {
+    pub pair: Pair,
+    pub ends: Descriptors,
+}
+
+#[tactic(auto, using(std::proofs::lemmas::Option::gets, std::proofs::lemmas::Grind::common_steps))]
+impl Connection {
+    ghost use Rattle.std.specs.Prelude.{◌≡◌, if◌then◌else◌};
+    ghost use Rattle.relay_core.specs.Pairs.{noted};
+    ghost use Rattle.kernel_model.specs.Outcome.{Meets};
+    ghost use Rattle.relay_core.specs.Answers.{reply_of};
+    ghost use Rattle.world.specs.Calls.{descriptor, Line, replied, called};
+    ghost use Rattle.world.specs.Steps.{may_release};
+
+    /// The descriptor of one side's end.
+    pub fn descriptor(&self, side: Side) -> usize
+        ensures { result ≡ descriptor self.now.ends side }
+    {
+        match side {
+            Side::Client => self.ends.client,
+            Side::Target => self.ends.target,
+        }
+    }
+
+    /// Is told whether a report came: then every call is worth a try again.
+    pub fn hear(&mut self, any: bool)
+        ensures { self.new ≡ (if any then record self.old { pair = noted self.old.pair } else self.old) }
+    {
+        if any {
+            self.pair.note();
+        }
+    }
+
+    /// Whether a worker may hold it no more: it is live, and there is nothing to try, or a note to try again
+    /// for.
+    #[tactic(auto, unfolding(crate::specs::Steps::may_release))]
+    pub fn may_release(&self, noted: bool) -> bool
+        ensures { result ≡ may_release self.now noted }
+    {
+        is_live(self.pair.verdict()) && (self.pair.next().is_none() || noted)
+    }
+
+    /// Makes the next call on the kernel's end, which gets this reply.
+    ///
+    /// Refuses with `NotAllowed` where there is no next call, or where it may not be answered so, and with
+    /// `NoMemory` where the kernel has none for the bytes that a write takes. A refusal changes nothing.
+    #[tactic(auto, unfolding(crate::specs::Calls::called))]
+    pub fn call(&mut self, kernel: &mut Kernel, reply: Reply) -> Result<(), Refusal>
+        ensures { Meets (called (record { kernel = kernel.old; connection = self.old }) reply) (record { kernel = kernel.old; connection = self.old }) (record { kernel = kernel.new; connection = self.new }) result }
+    {
+        match self.pair.next() {
+            None => Err(Refusal::NotAllowed),
+            Some(Call::Read(side, most)) => self.read(kernel, side, most, reply),
+            Some(Call::Write(side)) => self.write(kernel, side, reply),
+            Some(Call::Join(side)) => self.join(kernel, side, reply),
+            Some(Call::Shut(side)) => self.shut(kernel, side, reply),
+        }
+    }
+
+    /// A read, where it is the next call.
+    fn read(
+        &mut self,
+        kernel: &mut Kernel,
+        side: Side,
+        most: usize,
+        reply: Reply,
+    ) -> Result<(), Refusal>
+        requires { next_call self.old.pair ≡ Some (Call.Read side most) }
+        ensures { Meets (replied (record { kernel = kernel.old; connection = self.old }) (Call.Read side most) reply) (record { kernel = kernel.old; connection = self.old }) (record { kernel = kernel.new; connection = self.new }) result }
+    {
+        let call = Call::Read(side, most);
+        let descriptor = self.descriptor(side);
+        let Reply::Bytes(count) = reply else {
+            return self.read_none(kernel, side, most, reply);
+        };
+        let Some(open) = kernel.end(descriptor) else {
+            return Err(Refusal::NotAllowed);
+        };
+        let Some(bytes) = open.socket.bytes_read(most, count) else {
+            return Err(Refusal::NotAllowed);
+        };
+        if !self.pair.fits(call, Answer::Bytes(bytes)) {
+            return Err(Refusal::NotAllowed);
+        }
+        self.pair.answer(call, Answer::Bytes(bytes));
+        kernel.read(descriptor, most, reply)
+    }
+
+    /// The same for a reply without bytes.
+    fn read_none(
+        &mut self,
+        kernel: &mut Kernel,
+        side: Side,
+        most: usize,
+        reply: Reply,
+    ) -> Result<(), Refusal>
+        requires next { next_call self.old.pair ≡ Some (Call.Read side most) }
+        requires no_bytes { IsNone (bytes_of reply) }
+        ensures { Meets (replied (record { kernel = kernel.old; connection = self.old }) (Call.Read side most) reply) (record { kernel = kernel.old; connection = self.old }) (record { kernel = kernel.new; connection = self.new }) result }
+    {
+        let call = Call::Read(side, most);
+        let Some(answer) = plain(reply) else {
+            return Err(Refusal::NotAllowed);
+        };
+        if !self.pair.fits(call, answer) {
+            return Err(Refusal::NotAllowed);
+        }
+        kernel.read(self.descriptor(side), most, reply)?;
+        self.pair.answer(call, answer);
+        Ok(())
+    }
+
+    /// A write of all that is offered, where it is the next call.
+    fn write(&mut self, kernel: &mut Kernel, side: Side, reply: Reply) -> Result<(), Refusal>
+        requires { next_call self.old.pair ≡ Some (Call.Write side) }
+        ensures { Meets (replied (record { kernel = kernel.old; connection = self.old }) (Call.Write side) reply) (record { kernel = kernel.old; connection = self.old }) (record { kernel = kernel.new; connection = self.new }) result }
+    {
+        let call = Call::Write(side);
+        let Some(answer) = plain(reply) else {
+            return Err(Refusal::NotAllowed);
+        };
+        if !self.pair.fits(call, answer) {
+            return Err(Refusal::NotAllowed);
+        }
+        let descriptor = self.descriptor(side);
+        kernel.write(descriptor, self.pair.offer(side), reply)?;
+        self.pair.answer(call, answer);
+        Ok(())
+    }
+
+    /// The question whether the connect has ended, where it is the next call.
+    fn join(&mut self, kernel: &mut Kernel, side: Side, reply: Reply) -> Result<(), Refusal>
+        requires { next_call self.old.pair ≡ Some (Call.Join side) }
+        ensures { Meets (replied (record { kernel = kernel.old; connection = self.old }) (Call.Join side) reply) (record { kernel = kernel.old; connection = self.old }) (record { kernel = kernel.new; connection = self.new }) result }
+    {
+        let call = Call::Join(side);
+        let Some(answer) = plain(reply) else {
+            return Err(Refusal::NotAllowed);
+        };
+        if !self.pair.fits(call, answer) {
+            return Err(Refusal::NotAllowed);
+        }
+        kernel.join(self.descriptor(side), reply)?;
+        self.pair.answer(call, answer);
+        Ok(())
+    }
+
+    /// A shutdown of sending, where it is the next call.
+    fn shut(&mut self, kernel: &mut Kernel, side: Side, reply: Reply) -> Result<(), Refusal>
+        requires { next_call self.old.pair ≡ Some (Call.Shut side) }
+        ensures { Meets (replied (record { kernel = kernel.old; connection = self.old }) (Call.Shut side) reply) (record { kernel = kernel.old; connection = self.old }) (record { kernel = kernel.new; connection = self.new }) result }
+    {
+        let call = Call::Shut(side);
+        let Some(answer) = plain(reply) else {
+            return Err(Refusal::NotAllowed);
+        };
+        if !self.pair.fits(call, answer) {
+            return Err(Refusal::NotAllowed);
+        }
+        kernel.shut(self.descriptor(side), reply)?;
+        self.pair.answer(call, answer);
+        Ok(())
+    }
+}
+
+/// What the pair is told of a reply that brings no bytes.
+fn plain(reply: Reply) -> Option<Answer<'static>>
+    ensures { option_map reply_of result ≡ plain reply }
+{
+    match reply {
+        Reply::Bytes(_) => None,
+        Reply::End => Some(Answer::End),
+        Reply::Wrote(count, _) => Some(Answer::Wrote(count)),
+        Reply::Joined => Some(Answer::Joined),
+        Reply::Shut => Some(Answer::Shut),
+        Reply::Blocked => Some(Answer::Blocked),
+        Reply::Interrupted => Some(Answer::Interrupted),
+        Reply::Failed(kind) => Some(Answer::Failed(kind)),
+    }
+}

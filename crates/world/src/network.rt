@@ -1,0 +1,138 @@
+// What comes from outside: the network's changes, reports, and connections at the listener.
+ghost use Rattle.kernel_model.specs.Outcome.{Meets};
+ghost use Rattle.world.specs.Steps.{change_at};
+
+use crate::connection::Connection;
+use crate::event::{Change, Listening, Reported};
+use crate::world::World;
+use kernel_model::{Accepting, Kernel, Refusal, Watched};
+use token::Side;
+
+/// The most bytes that one arrival brings.
+pub const MOST_BYTES: usize = 1_024;
+
+#[tactic(auto, using(std::proofs::lemmas::Option::gets, std::proofs::lemmas::Grind::common_steps))]
+impl World {
+    ghost use Rattle.std.specs.Prelude.{◌≡◌};
+    ghost use Rattle.std.specs.Option.{option_copied};
+    ghost use Rattle.kernel_model.specs.Outcome.{Meets};
+    ghost use Rattle.world.specs.Steps.{connection_at, network, watched_of, spurious, vanish, may_accept, listen};
+
+    /// The connection that lies in a slot.
+    pub fn connection(&self, slot: usize) -> Option<&Connection>
+        ensures { option_copied result ≡ connection_at self.now slot }
+    {
+        if slot < self.slots.len() {
+            self.slots[slot].connection()
+        } else {
+            None
+        }
+    }
+
+    /// The network changes something at one end of the connection in a slot.
+    pub(crate) fn network(
+        &mut self,
+        slot: usize,
+        side: Side,
+        change: &Change,
+    ) -> Result<(), Refusal>
+        ensures { Meets (network self.old slot side change.now) self.old self.new result }
+    {
+        let Some(connection) = self.connection(slot) else {
+            return Err(Refusal::NotAllowed);
+        };
+        let descriptor = connection.descriptor(side);
+        change_at(&mut self.kernel, descriptor, change)
+    }
+
+    /// A report comes without cause.
+    pub(crate) fn spurious(&mut self, who: Reported) -> Result<(), Refusal>
+        ensures { Meets (spurious self.old who) self.old self.new result }
+    {
+        match self.watched(who) {
+            Some(watched) => self.kernel.spurious(watched),
+            None => Err(Refusal::NotAllowed),
+        }
+    }
+
+    /// A report is taken back.
+    pub(crate) fn vanish(&mut self, who: Reported) -> Result<(), Refusal>
+        ensures { Meets (vanish self.old who) self.old self.new result }
+    {
+        match self.watched(who) {
+            Some(watched) => self.kernel.vanish(watched),
+            None => Err(Refusal::NotAllowed),
+        }
+    }
+
+    /// Something happens at the listener.
+    pub(crate) fn listen(&mut self, event: Listening) -> Result<(), Refusal>
+        ensures { Meets (listen self.old event) self.old self.new result }
+    {
+        match event {
+            Listening::Connect => self.kernel.connect_in(),
+            Listening::Accept(reply) => self.accept(reply),
+            Listening::Drop => {
+                if !self.accepted {
+                    return Err(Refusal::NotAllowed);
+                }
+                self.accepted = false;
+                Ok(())
+            }
+        }
+    }
+
+    fn accept(&mut self, reply: Accepting) -> Result<(), Refusal>
+        ensures { Meets (listen self.old (Listening.Accept reply)) self.old self.new result }
+    {
+        if !self.may_accept() {
+            return Err(Refusal::NotAllowed);
+        }
+        self.kernel.accept(reply)?;
+        match reply {
+            Accepting::Accepted => self.accepted = true,
+            Accepting::Blocked => self.flag = false,
+            Accepting::Again | Accepting::Starved => {}
+        }
+        Ok(())
+    }
+
+    /// Whether the poller may call accept(2): the flag is up, no accepted connection is in hand, and there
+    /// is a slot to open.
+    fn may_accept(&self) -> bool
+        ensures { result ≡ may_accept self.now }
+    {
+        self.flag && !self.accepted && !self.free.is_empty()
+    }
+
+    /// What a report is about, as the kernel knows it.
+    fn watched(&self, who: Reported) -> Option<Watched>
+        ensures { result ≡ watched_of self.now who }
+    {
+        match who {
+            Reported::Listener => Some(Watched::Listener),
+            Reported::Waker => Some(Watched::Waker),
+            Reported::End(slot, side) => match self.connection(slot) {
+                Some(connection) => Some(Watched::End(connection.descriptor(side))),
+                None => None,
+            },
+        }
+    }
+}
+
+/// The network changes something at the end of a descriptor.
+fn change_at(kernel: &mut Kernel, descriptor: usize, change: &Change) -> Result<(), Refusal>
+    ensures { Meets (change_at kernel.old descriptor change.now) kernel.old kernel.new result }
+{
+    match change {
+        Change::Arrive(bytes) => {
+            if bytes.len() > MOST_BYTES {
+                return Err(Refusal::NotAllowed);
+            }
+            kernel.arrive(descriptor, bytes.as_slice())
+        }
+        Change::Fin => kernel.fin(descriptor),
+        Change::Reset => kernel.reset(descriptor),
+        Change::Room => kernel.room(descriptor),
+    }
+}

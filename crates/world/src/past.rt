@@ -1,0 +1,11 @@
+use kernel_model::Sockets;
+use relay_core::Verdict;
+
+/// A connection that was closed: where it lay, how it ended, and its two ends as they were.
+#[derive(Drop)]
+pub struct Past {
+    pub slot: usize,
+    pub generation: u64,
+    pub verdict: Verdict,
+    pub ends: Sockets,
+}

@@ -1,0 +1,195 @@
+// The poller's events.
+ghost use Rattle.std.specs.Prelude.{◌≡◌};
+ghost use Rattle.world.specs.Steps.{token_of};
+
+use crate::actors::{Holder, Ticket};
+use crate::connection::Connection;
+use crate::event::Polling;
+use crate::slot::Slot;
+use crate::world::World;
+use kernel_model::Refusal;
+use relay_core::Pair;
+use token::{MAX_GEN, Name, Side, Token};
+
+#[tactic(auto, using(std::proofs::lemmas::Option::gets, std::proofs::lemmas::Grind::common_steps))]
+impl World {
+    ghost use Rattle.std.specs.Prelude.{◌≡◌, ◌<◌, true, length, slice_get, Some};
+    ghost use Rattle.kernel_model.specs.Outcome.{Meets};
+    ghost use Rattle.kernel_model.specs.Kernel.{open_both};
+    ghost use Rattle.world.specs.Steps.{opened_world, delivered, delivered_at, deliver, batched, put_by_poller, post_at, polled};
+
+    /// The poller does something.
+    pub(crate) fn poll(&mut self, event: &Polling) -> Result<(), Refusal>
+        ensures { Meets (polled self.old event.now) self.old self.new result }
+    {
+        match event {
+            Polling::Open => self.open(),
+            Polling::Poll(names) => self.take_batch(names.as_slice()),
+            Polling::Deliver => self.deliver(),
+            Polling::Put => self.put_by_poller(),
+        }
+    }
+
+    /// It opens the first free slot for the connection that it accepted.
+    fn open(&mut self) -> Result<(), Refusal>
+        ensures { Meets (polled self.old Polling.Open) self.old self.new result }
+    {
+        if !self.accepted || self.free.is_empty() {
+            return Err(Refusal::NotAllowed);
+        }
+        let slot = self.free[0];
+        if slot >= self.slots.len() || slot >= self.table.len() {
+            return Err(Refusal::NotAllowed);
+        }
+        let old = self.table[slot];
+        if old >= MAX_GEN {
+            return Err(Refusal::NotAllowed);
+        }
+        self.open_at(slot, old)
+    }
+
+    /// It opens this slot for the generation after the old one.
+    fn open_at(&mut self, slot: usize, old: u64) -> Result<(), Refusal>
+        requires accepted { self.old.accepted ≡ true }
+        requires first { slice_get self.old.free 0 ≡ Some slot }
+        requires inside { slot < length self.old.slots }
+        requires inside_table { slot < length self.old.table }
+        requires before { slice_get self.old.table slot ≡ Some old }
+        requires next { old < 140737488355327 }
+        ensures { Meets (polled self.old Polling.Open) self.old self.new result }
+    {
+        let generation = old + 1;
+        let Some(client) = token_of(slot, Side::Client, generation) else {
+            return Err(Refusal::NotAllowed);
+        };
+        let Some(target) = token_of(slot, Side::Target, generation) else {
+            return Err(Refusal::NotAllowed);
+        };
+        self.open_with(slot, generation, client, target)
+    }
+
+    /// It opens this slot, for this generation, under these tokens.
+    fn open_with(
+        &mut self,
+        slot: usize,
+        generation: u64,
+        client: Token,
+        target: Token,
+    ) -> Result<(), Refusal>
+        requires first { slice_get self.old.free 0 ≡ Some slot }
+        requires inside { slot < length self.old.slots }
+        requires inside_table { slot < length self.old.table }
+        ensures { Meets (Some (opened_world self.old slot generation (open_both self.old.kernel client target))) self.old self.new result }
+    {
+        let pair = Pair::new(self.alloc, slot, generation, self.limits.ring)?;
+        let notes = vec![in self.alloc; generation; 1]?;
+        self.hand.reserve(1)?;
+        let ends = self.kernel.open_both(client, target)?;
+        self.slots[slot] = Slot {
+            generation,
+            connection: Some(Connection { pair, ends }),
+            holder: Holder::Nobody,
+            notes,
+        };
+        self.accepted = false;
+        self.table[slot] = generation;
+        self.free.remove(0);
+        self.hand.push(Ticket { slot, generation }).unwrap();
+        Ok(())
+    }
+
+    /// It takes these names off the queue as its batch.
+    fn take_batch(&mut self, names: &[Name]) -> Result<(), Refusal>
+        ensures { Meets (batched self.old names.now) self.old self.new result }
+    {
+        if !self.batch.is_empty() || !self.kernel.may_poll(names) {
+            return Err(Refusal::NotAllowed);
+        }
+        self.batch.extend_from_slice(names)?;
+        self.kernel.poll(names)
+    }
+
+    /// It delivers the first name of its batch.
+    fn deliver(&mut self) -> Result<(), Refusal>
+        ensures { Meets (deliver self.old) self.old self.new result }
+    {
+        let Some(name) = self.batch.first() else {
+            return Err(Refusal::NotAllowed);
+        };
+        let name = *name;
+        self.deliver_name(name)?;
+        self.batch.remove(0);
+        Ok(())
+    }
+
+    /// It delivers this name.
+    fn deliver_name(&mut self, name: Name) -> Result<(), Refusal>
+        ensures { Meets (delivered self.old name) self.old self.new result }
+    {
+        match name {
+            Name::Listener => {
+                self.flag = true;
+                Ok(())
+            }
+            Name::Waker => Ok(()),
+            Name::End(token) => self.deliver_end(token),
+        }
+    }
+
+    /// It posts to the slot of a token, unless the token is of another generation than the table's.
+    fn deliver_end(&mut self, token: Token) -> Result<(), Refusal>
+        ensures { Meets (delivered_at self.old token (slice_get self.old.table token.slot)) self.old self.new result }
+    {
+        match self.table_entry(token.slot()) {
+            Some(generation) if generation == token.generation() => {
+                self.post_at(token.slot(), generation)
+            }
+            Some(_) | None => Ok(()),
+        }
+    }
+
+    /// The generation that its table has for a slot.
+    pub fn table_entry(&self, slot: usize) -> Option<u64>
+        ensures { result ≡ slice_get self.now.table slot }
+    {
+        self.table.get(slot).copied()
+    }
+
+    /// It posts to a slot, and takes the ticket in hand that this may bring.
+    fn post_at(&mut self, slot: usize, generation: u64) -> Result<(), Refusal>
+        ensures { Meets (post_at self.old slot generation) self.old self.new result }
+    {
+        if slot >= self.slots.len() {
+            return Err(Refusal::NotAllowed);
+        }
+        self.hand.reserve(1)?;
+        let quiet = self.slots[slot].is_held() || self.slots[slot].has_notes();
+        if self.slots[slot].note(generation).is_err() {
+            return Err(Refusal::NoMemory);
+        }
+        if !quiet {
+            self.hand.push(Ticket { slot, generation }).unwrap();
+        }
+        Ok(())
+    }
+
+    /// It puts the first ticket of its hand into the ready queue.
+    fn put_by_poller(&mut self) -> Result<(), Refusal>
+        ensures { Meets (put_by_poller self.old self.old.hand) self.old self.new result }
+    {
+        if self.hand.is_empty() {
+            return Err(Refusal::NotAllowed);
+        }
+        self.ready.reserve(1)?;
+        let ticket = self.hand.remove(0);
+        self.ready.push(ticket).unwrap();
+        Ok(())
+    }
+}
+
+/// The token of one end in a slot, where slot and generation have one.
+fn token_of(slot: usize, side: Side, generation: u64) -> Option<Token>
+    ensures { result ≡ token_of slot side generation }
+{
+    Token::pack(slot, side, generation).ok()
+}

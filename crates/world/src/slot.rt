@@ -1,0 +1,127 @@
+// A slot: a place for one connection.
+use crate::actors::Holder;
+use crate::connection::Connection;
+use kernel_model::{Kernel, Refusal, Reply};
+use std::alloc::{AllocError, Global};
+use std::marker::Model;
+
+/// A place for one connection.
+#[derive(Drop)]
+pub struct Slot {
+    pub(crate) generation: u64,
+    pub(crate) connection: Option<Connection>,
+    pub(crate) holder: Holder,
+    pub(crate) notes: Vec<u64>,
+}
+
+impl Model for Slot {
+    ghost use Rattle.world.specs.Places.{Place};
+
+    ghost Value = { Place };
+
+    ghost view = { λ p. record { generation = p.generation; connection = p.connection; holder = p.holder; notes = p.notes.items } };
+}
+
+#[tactic(auto, using(std::proofs::lemmas::Option::gets, std::proofs::lemmas::Grind::common_steps))]
+impl Slot {
+    ghost use Rattle.std.specs.Prelude.{◌≡◌, OnOk, OnErr};
+    ghost use Rattle.std.specs.Option.{option_copied};
+    ghost use Rattle.kernel_model.specs.Outcome.{Meets, MeetsAlways};
+    ghost use Rattle.world.specs.Places.{is_held};
+    ghost use Rattle.world.specs.States.{unused};
+    ghost use Rattle.world.specs.Steps.{is_nonempty, with_note, noted_place, Lodging, lodged_call};
+
+    /// A slot in which no connection lies. Takes no memory.
+    pub fn new(alloc: Global, generation: u64) -> Slot
+        ensures { result ≡ unused generation }
+    {
+        Slot {
+            generation,
+            connection: None,
+            holder: Holder::Free,
+            notes: Vec::new(alloc),
+        }
+    }
+
+    /// How often it was opened.
+    pub fn generation(&self) -> u64
+        ensures { result ≡ self.now.generation }
+    {
+        self.generation
+    }
+
+    /// The connection that lies in it.
+    pub fn connection(&self) -> Option<&Connection>
+        ensures { option_copied result ≡ self.now.connection }
+    {
+        self.connection.as_ref()
+    }
+
+    /// Who holds it.
+    pub fn holder(&self) -> Holder
+        ensures { result ≡ self.now.holder }
+    {
+        self.holder
+    }
+
+    /// Its notes, each by the generation that it was for, in the order in which they came.
+    pub fn notes(&self) -> &[u64]
+        ensures { result.now ≡ self.now.notes }
+    {
+        self.notes.as_slice()
+    }
+
+    /// Whether it is free or held by a worker.
+    pub fn is_held(&self) -> bool
+        ensures { result ≡ is_held self.now.holder }
+    {
+        match self.holder {
+            Holder::Nobody => false,
+            Holder::By(_) | Holder::Free => true,
+        }
+    }
+
+    /// Whether it has a note.
+    pub fn has_notes(&self) -> bool
+        ensures { result ≡ is_nonempty self.now.notes }
+    {
+        !self.notes.is_empty()
+    }
+
+    /// Adds a note. Without memory for it nothing changes.
+    pub fn note(&mut self, generation: u64) -> Result<(), AllocError>
+        ensures noted { OnOk result (self.new ≡ with_note self.old generation) }
+        ensures kept { OnErr result (self.new ≡ self.old) }
+    {
+        self.notes.push(generation)?;
+        Ok(())
+    }
+
+    /// Takes away all notes. If there was one, every call is worth a try again.
+    ///
+    /// Refuses with `NotAllowed`, and changes nothing, where no connection lies here.
+    pub fn take_notes(&mut self) -> Result<(), Refusal>
+        ensures { MeetsAlways (noted_place self.old) self.old self.new result }
+    {
+        let any = self.has_notes();
+        match &mut self.connection {
+            Some(connection) => connection.hear(any),
+            None => return Err(Refusal::NotAllowed),
+        }
+        self.notes.clear();
+        Ok(())
+    }
+
+    /// Makes the connection's next call, which gets this reply ([`Connection::call`]).
+    ///
+    /// Refuses with `NotAllowed`, and changes nothing, where no connection lies here either.
+    #[tactic(auto, unfolding(crate::specs::Steps::lodged_call))]
+    pub fn call(&mut self, kernel: &mut Kernel, reply: Reply) -> Result<(), Refusal>
+        ensures { Meets (lodged_call (record { kernel = kernel.old; place = self.old }) reply) (record { kernel = kernel.old; place = self.old }) (record { kernel = kernel.new; place = self.new }) result }
+    {
+        match &mut self.connection {
+            Some(connection) => connection.call(kernel, reply),
+            None => Err(Refusal::NotAllowed),
+        }
+    }
+}

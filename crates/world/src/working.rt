@@ -1,0 +1,221 @@
+// The workers' events.
+ghost use Rattle.std.specs.Prelude.{◌≡◌};
+ghost use Rattle.relay_core.specs.Pairs.{is_live};
+
+use crate::actors::{Doing, Holder, Ticket};
+use crate::event::Act;
+use crate::past::Past;
+use crate::world::World;
+use kernel_model::{Refusal, Reply};
+use relay_core::Verdict;
+use token::MAX_GEN;
+
+/// Whether a connection is neither done nor failed.
+pub fn is_live(verdict: Verdict) -> bool
+    ensures { result ≡ is_live verdict }
+{
+    match verdict {
+        Verdict::Live => true,
+        Verdict::Done | Verdict::Failed(_) => false,
+    }
+}
+
+#[tactic(auto, using(std::proofs::lemmas::Option::gets, std::proofs::lemmas::Grind::common_steps))]
+impl World {
+    ghost use Rattle.std.specs.Prelude.{◌≡◌, ◌<◌, length};
+    ghost use Rattle.kernel_model.specs.Outcome.{Meets};
+    ghost use Rattle.world.specs.Places.{Actor};
+    ghost use Rattle.world.specs.Steps.{of_worker, claim, take, call, post, release, close, retire, free, pop, worked};
+
+    /// A worker does something.
+    pub(crate) fn work(&mut self, worker: usize, act: Act) -> Result<(), Refusal>
+        ensures { Meets (worked self.old worker act) self.old self.new result }
+    {
+        if worker >= self.workers.len() {
+            return Err(Refusal::NotAllowed);
+        }
+        match (act, self.workers[worker].doing()) {
+            (Act::Put, _) => self.put_by_worker(worker),
+            (Act::Pop, Doing::Idle) => self.pop(worker),
+            (Act::Claim, Doing::Tries(ticket)) => self.claim(worker, ticket),
+            (Act::Take, Doing::Holds(slot, left)) => self.take(slot, left),
+            (Act::Call(reply), Doing::Holds(slot, left)) => self.call(worker, slot, left, reply),
+            (Act::Post, Doing::Holds(slot, left)) => self.post(slot, left),
+            (Act::Release, Doing::Holds(slot, left)) => self.release(worker, slot, left),
+            (Act::Close, Doing::Holds(slot, left)) => self.close(worker, slot, left),
+            (Act::Retire, Doing::Closed(slot)) => self.retire(worker, slot),
+            (Act::Free, Doing::Retired(slot)) => self.free(worker, slot),
+            _ => Err(Refusal::NotAllowed),
+        }
+    }
+
+    /// It puts the first ticket of its hand into the ready queue.
+    fn put_by_worker(&mut self, worker: usize) -> Result<(), Refusal>
+        requires { worker < length self.old.workers }
+        ensures { Meets (worked self.old worker Act.Put) self.old self.new result }
+    {
+        if self.workers[worker].hand.is_empty() {
+            return Err(Refusal::NotAllowed);
+        }
+        self.ready.reserve(1)?;
+        let ticket = self.workers[worker].hand.remove(0);
+        self.ready.push(ticket).unwrap();
+        Ok(())
+    }
+
+    /// With nothing to put, it takes the first ticket off the ready queue.
+    fn pop(&mut self, worker: usize) -> Result<(), Refusal>
+        requires { worker < length self.old.workers }
+        ensures { Meets (of_worker self.old worker (λ (k : Actor). pop self.old worker k Doing.Idle)) self.old self.new result }
+    {
+        if !self.workers[worker].hand.is_empty() || self.ready.is_empty() {
+            return Err(Refusal::NotAllowed);
+        }
+        let ticket = self.ready.remove(0);
+        self.workers[worker].doing = Doing::Tries(ticket);
+        Ok(())
+    }
+
+    /// It holds its ticket's slot, or drops the ticket where the slot is held.
+    fn claim(&mut self, worker: usize, ticket: Ticket) -> Result<(), Refusal>
+        requires { worker < length self.old.workers }
+        ensures { Meets (of_worker self.old worker (λ (k : Actor). claim self.old worker k (Doing.Tries ticket))) self.old self.new result }
+    {
+        if ticket.slot >= self.slots.len() {
+            return Err(Refusal::NotAllowed);
+        }
+        if self.slots[ticket.slot].is_held() {
+            self.workers[worker].doing = Doing::Idle;
+        } else {
+            self.slots[ticket.slot].holder = Holder::By(worker);
+            self.workers[worker].doing = Doing::Holds(ticket.slot, self.limits.budget);
+        }
+        Ok(())
+    }
+
+    /// It takes the notes of its slot.
+    fn take(&mut self, slot: usize, left: usize) -> Result<(), Refusal>
+        ensures { Meets (take self.old (Doing.Holds slot left)) self.old self.new result }
+    {
+        if slot >= self.slots.len() {
+            return Err(Refusal::NotAllowed);
+        }
+        self.slots[slot].take_notes()?;
+        Ok(())
+    }
+
+    /// It makes the connection's next call, and gets this reply.
+    fn call(&mut self, worker: usize, slot: usize, left: usize, reply: Reply) -> Result<(), Refusal>
+        requires { worker < length self.old.workers }
+        ensures { Meets (of_worker self.old worker (λ (k : Actor). call self.old worker k (Doing.Holds slot left) reply)) self.old self.new result }
+    {
+        if left == 0 || slot >= self.slots.len() {
+            return Err(Refusal::NotAllowed);
+        }
+        match self.slots[slot].call(&mut self.kernel, reply) {
+            Ok(()) => {
+                self.workers[worker].doing = Doing::Holds(slot, left - 1);
+                Ok(())
+            }
+            Err(Refusal::NotAllowed) => Err(Refusal::NotAllowed),
+            Err(Refusal::NoMemory) => Err(Refusal::NoMemory),
+        }
+    }
+
+    /// It posts a note to its own slot.
+    fn post(&mut self, slot: usize, left: usize) -> Result<(), Refusal>
+        ensures { Meets (post self.old (Doing.Holds slot left)) self.old self.new result }
+    {
+        let Some(connection) = self.connection(slot) else {
+            return Err(Refusal::NotAllowed);
+        };
+        if !is_live(connection.pair.verdict()) {
+            return Err(Refusal::NotAllowed);
+        }
+        let generation = connection.pair.generation();
+        if self.slots[slot].note(generation).is_err() {
+            return Err(Refusal::NoMemory);
+        }
+        Ok(())
+    }
+
+    /// It holds its slot no more, and takes the ticket in hand that the notes make.
+    fn release(&mut self, worker: usize, slot: usize, left: usize) -> Result<(), Refusal>
+        requires { worker < length self.old.workers }
+        ensures { Meets (of_worker self.old worker (λ (k : Actor). release self.old worker k (Doing.Holds slot left))) self.old self.new result }
+    {
+        let Some(connection) = self.connection(slot) else {
+            return Err(Refusal::NotAllowed);
+        };
+        let noted = self.slots[slot].has_notes();
+        if !connection.may_release(noted) {
+            return Err(Refusal::NotAllowed);
+        }
+        let generation = self.slots[slot].generation();
+        if self.workers[worker]
+            .release(noted, slot, generation)
+            .is_err()
+        {
+            return Err(Refusal::NoMemory);
+        }
+        self.slots[slot].holder = Holder::Nobody;
+        Ok(())
+    }
+
+    /// It closes the connection of its slot, which is done or failed.
+    fn close(&mut self, worker: usize, slot: usize, left: usize) -> Result<(), Refusal>
+        requires { worker < length self.old.workers }
+        ensures { Meets (of_worker self.old worker (λ (k : Actor). close self.old worker k (Doing.Holds slot left))) self.old self.new result }
+    {
+        let Some(connection) = self.connection(slot) else {
+            return Err(Refusal::NotAllowed);
+        };
+        let verdict = connection.pair.verdict();
+        let generation = connection.pair.generation();
+        let ends = connection.ends;
+        if is_live(verdict) || !self.kernel.may_close_both(ends) {
+            return Err(Refusal::NotAllowed);
+        }
+        self.past.reserve(1)?;
+        let ends = self.kernel.close_both(ends)?;
+        let past = Past {
+            slot,
+            generation,
+            verdict,
+            ends,
+        };
+        self.past.push(past).unwrap();
+        self.slots[slot].connection = None;
+        self.workers[worker].doing = Doing::Closed(slot);
+        Ok(())
+    }
+
+    /// It gives up its slot, which is free from now on.
+    fn retire(&mut self, worker: usize, slot: usize) -> Result<(), Refusal>
+        requires { worker < length self.old.workers }
+        ensures { Meets (of_worker self.old worker (λ (k : Actor). retire self.old worker k (Doing.Closed slot))) self.old self.new result }
+    {
+        if slot >= self.slots.len() {
+            return Err(Refusal::NotAllowed);
+        }
+        self.slots[slot].holder = Holder::Free;
+        self.workers[worker].doing = Doing::Retired(slot);
+        Ok(())
+    }
+
+    /// It puts the slot that it gave up into the free queue, unless the slot's last generation was used.
+    fn free(&mut self, worker: usize, slot: usize) -> Result<(), Refusal>
+        requires { worker < length self.old.workers }
+        ensures { Meets (of_worker self.old worker (λ (k : Actor). free self.old worker k (Doing.Retired slot))) self.old self.new result }
+    {
+        if slot >= self.slots.len() {
+            return Err(Refusal::NotAllowed);
+        }
+        if self.slots[slot].generation() < MAX_GEN {
+            self.free.reserve(1)?;
+            self.free.push(slot).unwrap();
+        }
+        self.workers[worker].doing = Doing::Idle;
+        Ok(())
+    }
+}
