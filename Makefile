@@ -1,6 +1,6 @@
 # Thin targets over the toolchain's command `rt`. See README.md.
 
-.PHONY: run sim test bench bench-turn
+.PHONY: run sim test test-relay bench bench-turn
 
 # The settings file of `make run`.
 CONFIG ?= examples/relayd.toml
@@ -20,6 +20,11 @@ sim:
 # runs the tests and the program.
 test:
 	rt ci
+
+# Runs the built relay as its users do, on loopback. No part of the gate; it needs Python 3.
+test-relay:
+	@.ci/build relayd
+	@tests/relay crates/relayd/out/relayd
 
 # Measures the relay beside other forwarders. No part of the gate; docs/BENCHMARKS.md says what it needs.
 bench:
