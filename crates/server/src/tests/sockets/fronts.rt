@@ -59,24 +59,18 @@ fn wake<F: Front>(_front: &F, waker: &F::Waker) {
     F::wake(waker);
 }
 
-// A target that no route leads to, and a client that is registered already.
+// A client that is registered already.
 #[test]
 fn unopened(rt: HostRuntime) -> Result<(), Fail> {
     let listener = listener(&rt)?;
-    let nowhere = SocketAddr::from(([255, 255, 255, 255], 9));
-    for (target, again) in [
-        (nowhere, Unopened::Connect),
-        (listener.local_addr()?, Unopened::Register),
-    ] {
-        let (mut front, _waker, address) = front(&rt, target)?;
-        let _peer = TcpStream::connect(&rt, address)?;
-        reports(rt.alloc(), &mut front, &[0])?;
-        let mut client = front.accept()?;
-        let (near, far) = (token(Side::Client)?, token(Side::Target)?);
-        let _first = front.open(&rt, &mut client, near, far);
-        let second = front.open(&rt, &mut client, near, far);
-        assert_eq!(rt; second.err(), Some(again));
-    }
+    let (mut front, _waker, address) = front(&rt, listener.local_addr()?)?;
+    let _peer = TcpStream::connect(&rt, address)?;
+    reports(rt.alloc(), &mut front, &[0])?;
+    let mut client = front.accept()?;
+    let (near, far) = (token(Side::Client)?, token(Side::Target)?);
+    let _first = front.open(&rt, &mut client, near, far);
+    let second = front.open(&rt, &mut client, near, far);
+    assert_eq!(rt; second.err(), Some(Unopened::Register));
     Ok(())
 }
 
