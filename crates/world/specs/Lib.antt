@@ -4,3 +4,6 @@ pub mod Calls
 pub mod Steps
 pub mod Runs
 pub mod Due
+pub mod Given
+pub mod Headline
+pub mod Words

@@ -11,20 +11,25 @@
 //! nobody holds makes a ticket, by which a worker claims the slot. [`World::movable`] tells whether a
 //! connection could move, and [`World::due`] whether it is due to be tried.
 //!
-//! Each event is exactly its definition. What follows from that for every list of events is not proved yet:
-//! that each byte arrives once and in order, that a connection of one generation never meets the reports of
-//! another, and that a connection which could move is due. Nor are there texts of events here, or a slot's
-//! word as one atomic number: a slot has its holder and its notes.
+//! Each event is exactly its definition ([`World::step`]), and moves the claim word of its slot as the table of
+//! the words' steps says. Of the world after every list of events [`replay`] promises more: the bytes of each
+//! connection keep their order and none is lost, an end is passed on after every byte, no connection is tried on
+//! a report for another generation, a connection fails only after a failed call, and whatever could move is due
+//! to be tried. There are no texts of events here, nor is a slot's word one atomic number: a slot has its holder
+//! and its notes.
 //!
 //! The definitions stand in `specs/`: slots and workers in `Places.antt`, the whole state in `States.antt`,
-//! a connection's calls in `Calls.antt`, one event in `Steps.antt`, lists of events in `Runs.antt`, and what
-//! could move and what is due in `Due.antt`.
+//! a connection's calls in `Calls.antt`, one event in `Steps.antt`, lists of events in `Runs.antt`, what could
+//! move and what is due in `Due.antt`, the bytes that came in `Given.antt`, what holds after every list of events
+//! in `Headline.antt`, and the claim words in `Words.antt`. The lemmas stand in `proofs/`: `Turns*.antt` of who has
+//! a slot, its notes and its tickets, and `Ends*.antt` of the bytes, the ends and the flags.
 #![tactic(auto)]
 
 mod actors;
 mod connection;
 mod due;
 mod event;
+pub mod laws;
 mod limits;
 mod network;
 mod past;

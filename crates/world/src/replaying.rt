@@ -2,6 +2,7 @@
 ghost use Rattle.std.specs.Prelude.{◌≡◌, IfOk, IfErr, Some};
 ghost use Rattle.world.specs.States.{IsWithinLimits, opening};
 ghost use Rattle.world.specs.Runs.{run, Fails};
+ghost use Rattle.world.specs.Headline.{BytesAndEndsHold, ClosedHold, DueHolds, EdgesHold, FailuresHold, ListenerHolds, RestHolds, TableHolds, Throughout, TicketsHold, TriedOnOwn};
 
 use crate::event::Event;
 use crate::limits::Limits;
@@ -14,10 +15,36 @@ use std::alloc::{AllocError, Global};
 /// Where not all of them can be, it tells the first that fails, by its index, and why: with `NotAllowed`
 /// the events before it can happen and this one can't happen after them, and with `NoMemory` a growth was
 /// refused at it or, for index 0, in making the world.
+///
+/// Of the world after every list of events:
+///
+/// - In each direction of a connection that lies in a slot, the bytes that came are those that were sent, then
+///   those in the ring, then those that are unread; and where its end was passed on, that came after every byte
+///   (`bytes`). What a closed connection sent is a beginning of what came for it, and all of that if it was done
+///   (`closed`).
+/// - No connection was tried on a note or a ticket of another generation (`own`).
+/// - A connection failed only after a failed call (`failures`).
+/// - A connection that could move is due to be tried (`due`). While the accept flag is down, nobody waits at the
+///   listener or its name is queued or in the batch (`listener`).
+///
+/// And what that rests on: a slot with notes that is neither held nor free has one ticket, and every other none
+/// (`tickets`); a connection that nobody holds and that has no notes has no call to make (`rest`); the poller's
+/// table tells each slot's generation (`table`); and where the pair holds a call not worth a try, its end is
+/// armed for it and not ready, or it is ready and a report of it is queued, in the batch or noted (`edges`).
 #[tactic(auto, using(crate::proofs::Runs::run_more, std::proofs::lemmas::Option::gets, std::proofs::lemmas::Grind::common_steps))]
 pub fn replay(alloc: Global, limits: Limits, events: &[Event]) -> Result<World, (usize, Refusal)>
     requires { IsWithinLimits limits }
     ensures world { IfOk result (λ world. run (opening limits) events.now ≡ Some world) }
+    ensures bytes { IfOk result (λ world. BytesAndEndsHold (opening limits) world events.now) }
+    ensures closed { IfOk result (λ world. ClosedHold (opening limits) world events.now) }
+    ensures own { IfOk result (λ _. Throughout TriedOnOwn (opening limits) events.now) }
+    ensures failures { IfOk result (λ world. FailuresHold (opening limits) world events.now) }
+    ensures due { IfOk result (λ world. DueHolds world) }
+    ensures listener { IfOk result (λ world. ListenerHolds world) }
+    ensures tickets { IfOk result (λ world. TicketsHold world) }
+    ensures rest { IfOk result (λ world. RestHolds world) }
+    ensures table { IfOk result (λ world. TableHolds world) }
+    ensures edges { IfOk result (λ world. EdgesHold world) }
     ensures fails { IfErr result (λ e. Fails limits events.now e.0 e.1) }
 {
     let mut world = match World::new(alloc, limits) {

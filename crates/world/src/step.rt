@@ -5,13 +5,25 @@ use kernel_model::Refusal;
 
 impl World {
     ghost use Rattle.kernel_model.specs.Outcome.{Meets};
+    ghost use Rattle.std.specs.Prelude.{IfOk};
     ghost use Rattle.world.specs.Steps.{step};
+    ghost use Rattle.world.specs.Words.{WordsMoveInRuns};
 
     /// One event happens.
     ///
     /// Refuses with `NotAllowed` where it can't happen now, and with `NoMemory` where a list can't grow. A
     /// refusal changes nothing.
+    ///
+    /// In a world that a run reaches, the event moves the claim word of its slot by the steps of the event's
+    /// kinds in order, and no other slot's, and a ticket is made exactly where a step answers so (`words`).
     pub fn step(&mut self, event: &Event) -> Result<(), Refusal>
+        ensures event { Meets (step self.old event.now) self.old self.new result }
+        ensures words { IfOk result (λ _. WordsMoveInRuns self.old event.now self.new) }
+    {
+        self.happen(event)
+    }
+
+    fn happen(&mut self, event: &Event) -> Result<(), Refusal>
         ensures { Meets (step self.old event.now) self.old self.new result }
     {
         match event {

@@ -1,0 +1,155 @@
+-- A worker's call: the kernel changes at the end on which it is made, and the pair takes the answer in.
+use Rattle.std.proofs.Common.{◌≡◌, ℕ, ◌-◌, Bool, true, false, ◌||◌, List, Option, Some, None, refl, sym, ap, ◌∙◌, subst, option_map}
+use Rattle.std.specs.Prelude.{slice_get, slice_set, nat_lt}
+use Rattle.token.specs.declared.side.Side.{Side}
+use Rattle.token.specs.Names.{EndName}
+use Rattle.kernel_model.specs.declared.both.Sockets.{Sockets}
+use Rattle.kernel_model.specs.declared.reply.Reply.{Reply}
+use Rattle.kernel_model.specs.declared.reply.Reply.TheVariants as reply
+use Rattle.kernel_model.specs.Ends.{Endpoint}
+use Rattle.kernel_model.specs.Replies.{after_read, after_write, after_join, after_shut}
+use Rattle.kernel_model.specs.Kernel.{Watcher, end_at}
+use Rattle.relay_core.specs.declared.call.Call.{Call}
+use Rattle.relay_core.specs.declared.call.Call.TheVariants.{Write, Join, Shut, Read}
+use Rattle.relay_core.specs.Order.{next_call, offer}
+use Rattle.relay_core.specs.Replies.{fits, after}
+use Rattle.relay_core.specs.Replies as answer
+use Rattle.world.specs.declared.connection.Connection.{Connection}
+use Rattle.world.specs.declared.actors.Doing.{Doing}
+use Rattle.world.specs.declared.actors.Doing.TheVariants.{Idle, Tries, Holds, Closed, Retired}
+use Rattle.world.specs.Places.{Place, Actor}
+use Rattle.world.specs.States.{State}
+use Rattle.world.specs.Calls.{Line, descriptor, plain, told_of, replied, called}
+use Rattle.world.specs.Steps.{is_nonempty, Lodging, lodged_call, call, doing, with_place}
+use Rattle.world.specs.Headline.{socket_of}
+use Rattle.world.proofs.EndsHeld.{History, token_at, is_pending, registered, PairOk, ConnectionOk, SlotOk, AllOk}
+use Rattle.world.proofs.EndsPairs.{with_socket}
+use Rattle.world.proofs.EndsKernel.{end_kept}
+use Rattle.world.proofs.EndsFrame.{keep_place, pair_more, Kept, kept_then, kept_when, kept_at, kept_map_from}
+use Rattle.world.proofs.EndsQueue.{Quiet}
+use Rattle.world.proofs.EndsNetwork.{ends_there}
+use Rattle.world.proofs.EndsAnswers.{IsAsked, asked, AnswerOk, Answered, told_read, read_keeps, write_keeps, join_keeps, shut_keeps}
+
+-- the kernel with another end at one side of a connection
+abbrev pub with_answer : Watcher → ℕ → ℕ → Connection → Side → Endpoint → Watcher
+with_answer k s g c side e = record k { ends = slice_set k.ends (descriptor c.ends side) (Some (registered s g side e)) }
+
+-- after a call one end has changed in the kernel, and the pair is in order
+pub record LineOk (h : Side → List ℕ) (r : Side → Bool) (k : Watcher) (s g : ℕ) (c : Connection) (ends : Sockets) (line : Line) : Type 0 where
+  pub side : Side
+  pub socket : Endpoint
+  pub kernel : line.kernel ≡ with_answer k s g c side socket
+  pub descriptors : line.connection.ends ≡ c.ends
+  pub answered : AnswerOk h r c.pair line.connection.pair (with_socket ends side socket)
+
+abbrev pub EndsThere : Watcher → ℕ → ℕ → Connection → Sockets → Type 0
+EndsThere k s g c ends = (side : Side) → end_at k.ends (descriptor c.ends side) ≡ Some (registered s g side (socket_of ends side))
+
+line_ok : (h : Side → List ℕ) (r : Side → Bool) (k : Watcher) (s g : ℕ) (c : Connection) (ends : Sockets) (call : Call) (side : Side) (t : answer.Reply) (replies : Option Endpoint)
+    → ((e : Endpoint) → replies ≡ Some e → Answered h r c.pair ends call side t e)
+    → Kept (LineOk h r k s g c ends) (option_map (λ (q : Watcher). record { kernel = q; connection = record c { pair = after c.pair call t } })
+    (option_map (λ (e : Endpoint). with_answer k s g c side e) replies))
+line_ok h r k s g c ends call side t None f = record { kept = tt }
+line_ok h r k s g c ends call side t (Some e) f = record { kept = record { side = side; socket = e; kernel = refl; descriptors = refl; answered = f e refl } }
+
+told_is : (k : Watcher) (s g : ℕ) (c : Connection) (ends : Sockets) (side : Side) (most : ℕ) (said : Reply) → EndsThere k s g c ends
+    → told_of (record { kernel = k; connection = c }) (Read side most) said ≡ told_read (socket_of ends side) most said
+told_is k s g c ends side most (reply.Bytes n) there = rw (there side) refl
+told_is k s g c ends side most reply.End there = refl
+told_is k s g c ends side most (reply.Wrote n full) there = refl
+told_is k s g c ends side most reply.Joined there = refl
+told_is k s g c ends side most reply.Shut there = refl
+told_is k s g c ends side most reply.Blocked there = refl
+told_is k s g c ends side most reply.Interrupted there = refl
+told_is k s g c ends side most (reply.Failed kind) there = refl
+
+pub replied_keeps : (h : Side → List ℕ) (r : Side → Bool) (k : Watcher) (s g : ℕ) (c : Connection) (ends : Sockets) (call : Call) (said : Reply)
+    → EndsThere k s g c ends → IsAsked c.pair call → PairOk h r c.pair ends → Kept (LineOk h r k s g c ends) (replied (record { kernel = k; connection = c }) call said)
+replied_keeps h r k s g c ends (Read side most) said there up ok =
+    kept_then (LineOk h r k s g c ends) _ (told_of (record { kernel = k; connection = c }) (Read side most) said) (λ t told.
+    kept_when (LineOk h r k s g c ends) (fits c.pair (Read side most) t) _ (λ fit.
+    rw (there side) (line_ok h r k s g c ends (Read side most) side t (after_read (socket_of ends side) most said)
+    (λ e is. read_keeps h r c.pair ends side most said t e up (sym (told_is k s g c ends side most said there) ∙ told) is ok))))
+replied_keeps h r k s g c ends (Write side) said there up ok =
+    kept_then (LineOk h r k s g c ends) _ (plain said) (λ t told.
+    kept_when (LineOk h r k s g c ends) (fits c.pair (Write side) t) _ (λ fit.
+    rw (there side) (line_ok h r k s g c ends (Write side) side t (after_write (socket_of ends side) (offer c.pair side) said)
+    (λ e is. write_keeps h r c.pair ends side said t e up told is ok))))
+replied_keeps h r k s g c ends (Join side) said there up ok =
+    kept_then (LineOk h r k s g c ends) _ (plain said) (λ t told.
+    kept_when (LineOk h r k s g c ends) (fits c.pair (Join side) t) _ (λ fit.
+    rw (there side) (line_ok h r k s g c ends (Join side) side t (after_join (socket_of ends side) said)
+    (λ e is. join_keeps h r c.pair ends side said t e told is ok))))
+replied_keeps h r k s g c ends (Shut side) said there drained ok =
+    kept_then (LineOk h r k s g c ends) _ (plain said) (λ t told.
+    kept_when (LineOk h r k s g c ends) (fits c.pair (Shut side) t) _ (λ fit.
+    rw (there side) (line_ok h r k s g c ends (Shut side) side t (after_shut (socket_of ends side) said)
+    (λ e is. shut_keeps h r c.pair ends side said t e drained told is ok))))
+
+pub called_keeps : (h : Side → List ℕ) (r : Side → Bool) (k : Watcher) (s g : ℕ) (c : Connection) (ends : Sockets) (said : Reply)
+    → EndsThere k s g c ends → PairOk h r c.pair ends → Kept (LineOk h r k s g c ends) (called (record { kernel = k; connection = c }) said)
+unfolding called
+called_keeps h r k s g c ends said there ok = kept_then (LineOk h r k s g c ends) _ (next_call c.pair) (λ call next.
+    replied_keeps h r k s g c ends call said there (kept_at (IsAsked c.pair) (next_call c.pair) call next (asked c.pair)) ok)
+
+-- the state after it: all but the kernel and the slot is as it was, for these facts
+call_lands : (past next : History) (st q : State) (s : ℕ) (p place : Place) (c : Connection) (line : Line) → Quiet past next → slice_get st.slots s ≡ Some p → (ok : ConnectionOk past st s p.generation p.notes c)
+    → LineOk (past s p.generation) (λ side. is_pending st (token_at s side p.generation) || is_nonempty p.notes) st.kernel s p.generation c ok.ends line
+    → q.table ≡ st.table → q.limits ≡ st.limits → q.batch ≡ st.batch → q.kernel ≡ line.kernel → q.slots ≡ slice_set st.slots s place → place ≡ record p { connection = Some line.connection }
+    → AllOk past st → AllOk next q
+call_lands past next st q s p place c line quiet here ok l table limits batch kernel slots lands all =
+    let queue : q.kernel.queue ≡ st.kernel.queue = rw (kernel, l.kernel) refl in
+    let ends : q.kernel.ends ≡ slice_set st.kernel.ends (descriptor c.ends l.side) (Some (registered s p.generation l.side l.socket)) = rw (kernel, l.kernel) refl in
+    let pending : (n : EndName) → is_pending st n ≡ true → is_pending q n ≡ true = λ n h. rw (queue, batch) h in
+    let slot : SlotOk past st s p = all.each s p here in
+    keep_place past next st q s p place here slots
+    (λ i differ. record {
+      history = λ g side. quiet i g side;
+      table = rw table refl;
+      ring = rw limits refl;
+      ends = λ d b there of_i. rw ends (end_kept st.kernel.ends (descriptor c.ends l.side) d (registered s p.generation l.side (socket_of ok.ends l.side)) b _ (ok.there l.side) there
+          (λ same. differ (let slots_of : b.token.slot ≡ s = ap (λ (n : EndName). n.slot) same in cc)));
+      pending = λ side g entry h. pending (token_at i side g) h;
+    })
+    (rw lands (record {
+      entry = rw table (slot.entry);
+      later = λ g side before. quiet s g side ∙ slot.later g side before;
+      connection = λ b is. (let this : line.connection ≡ b = cc in subst (λ (d : Connection). ConnectionOk next q s p.generation p.notes d) this (record {
+        generation = l.answered.generation ∙ ok.generation;
+        up = l.answered.up ∙ (ok.up ∙ rw limits refl);
+        down = l.answered.down ∙ (ok.down ∙ rw limits refl);
+        ends = with_socket ok.ends l.side l.socket;
+        there = λ side. rw (l.descriptors, ends) (ends_there st s p.generation c ok.ends l.side (record { value = l.socket; told = false }) ok.there side);
+        pair = pair_more (past s p.generation) (next s p.generation) _ _ line.connection.pair (with_socket ok.ends l.side l.socket) (λ side. quiet s p.generation side)
+            (λ side h. rw (queue, batch) h) l.answered.pair;
+      }));
+    }))
+    all
+
+-- what a lodging is after a call
+pub record LodgingOk (past : History) (st : State) (s : ℕ) (p : Place) (l : Lodging) : Type 0 where
+  pub connection : Connection
+  pub lying : p.connection ≡ Some connection
+  pub ok : ConnectionOk past st s p.generation p.notes connection
+  pub line : Line
+  pub kernel : l.kernel ≡ line.kernel
+  pub place : l.place ≡ record p { connection = Some line.connection }
+  pub goes : LineOk (past s p.generation) (λ side. is_pending st (token_at s side p.generation) || is_nonempty p.notes) st.kernel s p.generation connection ok.ends line
+
+lodged_keeps : (past : History) (st : State) (s : ℕ) (p : Place) (said : Reply) → SlotOk past st s p → Kept (LodgingOk past st s p) (lodged_call (record { kernel = st.kernel; place = p }) said)
+unfolding lodged_call
+lodged_keeps past st s p said slot = kept_then (LodgingOk past st s p) _ p.connection (λ c lying.
+    (let ok : ConnectionOk past st s p.generation p.notes c = slot.connection c lying in
+    kept_map_from (LineOk (past s p.generation) (λ side. is_pending st (token_at s side p.generation) || is_nonempty p.notes) st.kernel s p.generation c ok.ends) (LodgingOk past st s p) _ _
+    (called_keeps (past s p.generation) _ st.kernel s p.generation c ok.ends said ok.there ok.pair)
+    (λ line l. record { connection = c; lying = lying; ok = ok; line = line; kernel = refl; place = refl; goes = l })))
+
+pub call_keeps : (past next : History) (st : State) (w : ℕ) (k : Actor) (d : Doing) (said : Reply) → Quiet past next → AllOk past st → Kept (AllOk next) (call st w k d said)
+call_keeps past next st w k (Holds s left) said quiet all = kept_when (AllOk next) (nat_lt 0 left) _ (λ some.
+    kept_then (AllOk next) _ (slice_get st.slots s) (λ p here.
+    kept_map_from (LodgingOk past st s p) (AllOk next) _ _ (lodged_keeps past st s p said (all.each s p here))
+    (λ l lodging. call_lands past next st (doing (with_place (record st { kernel = l.kernel }) s l.place) w k (Holds s (left - 1))) s p l.place lodging.connection lodging.line quiet here lodging.ok lodging.goes refl refl refl lodging.kernel refl lodging.place all)))
+call_keeps past next st w k Idle said quiet all = record { kept = tt }
+call_keeps past next st w k (Tries t) said quiet all = record { kept = tt }
+call_keeps past next st w k (Closed s) said quiet all = record { kept = tt }
+call_keeps past next st w k (Retired s) said quiet all = record { kept = tt }

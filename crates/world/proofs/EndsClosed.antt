@@ -1,0 +1,217 @@
+-- Of each closed connection: what was sent is a beginning of what was given, and all of it where it was done.
+-- Nothing more is given for its generation, since its slot has none of that generation any more.
+use Rattle.std.proofs.Common.{◌≡◌, ℕ, ◌<◌, ◌≤◌, Bool, true, false, ◌&&◌, ◌⊎◌, inl, inr, List, [], ◌∷◌, ◌++◌, Option, Some, None, refl, sym, ap, ◌∙◌, subst, append-nil, append_assoc, option_map, option_and_then, unwrap_or, eqb-true, eq-eqb, ne_eqb, arith, le_refl, ⊎_elim}
+use Rattle.std.specs.Prelude.{slice_get, slice_set, if◌then◌else◌, ◌==◌}
+use Rattle.std.specs.Cmp.{first_so, second_so}
+use Rattle.token.specs.declared.side.Side.{Side}
+use Rattle.token.specs.declared.direction.Direction.{Direction}
+use Rattle.token.specs.declared.direction.Direction.TheVariants.{Up, Down}
+use Rattle.token.specs.Sides.{source, destination, side_number}
+use Rattle.flow.specs.Stream.{Stream}
+use Rattle.kernel_model.specs.declared.both.Sockets.{Sockets}
+use Rattle.kernel_model.specs.Ends.{Endpoint}
+use Rattle.kernel_model.specs.Outcome.{Told}
+use Rattle.kernel_model.specs.Kernel as kernel
+use Rattle.kernel_model.specs.Kernel.{Watcher}
+use Rattle.relay_core.specs.declared.verdict.Fault.{Fault}
+use Rattle.relay_core.specs.declared.verdict.Verdict.TheVariants.{Done}
+use Rattle.relay_core.specs.Pairs.{Relay, stream_of, verdict_of, verdict}
+use Rattle.world.specs.declared.connection.Connection.{Connection}
+use Rattle.world.specs.declared.past.Past.{Past}
+use Rattle.world.specs.declared.limits.Limits.{Limits}
+use Rattle.world.specs.declared.event.Event.{Event}
+use Rattle.world.specs.declared.event.Event.TheVariants as event
+use Rattle.world.specs.declared.event.Change.TheVariants.{Arrive, Fin, Reset, Room}
+use Rattle.world.specs.Places.{Place}
+use Rattle.world.specs.States.{State, opening}
+use Rattle.world.specs.Steps.{connection_at, step}
+use Rattle.world.specs.Runs.{run}
+use Rattle.world.specs.Given.{brought, given}
+use Rattle.world.specs.Headline.{socket_of, ClosedHold}
+use Rattle.world.proofs.EndsHeld.{History, DirectionOk, ConnectionOk, SlotOk, AllOk}
+use Rattle.world.proofs.EndsLists.{set_same, set_other, Yes, No, tell, Before, ThisOne, last_of}
+use Rattle.world.proofs.EndsFrame.{Kept}
+use Rattle.world.proofs.EndsNetwork.{Lies, lies}
+use Rattle.world.proofs.EndsWorkers.{without_both, closes}
+use Rattle.world.proofs.EndsShapes.{Shape, Same, Changed, Opened, Ended}
+use Rattle.world.proofs.EndsSteps.{after_event, after_run, no_history, step_keeps, opening_ok}
+use Rattle.world.proofs.EndsFailures.{step_shape}
+
+pub record ClosedOk (past : History) (st : State) (e : Past) : Type 0 where
+  pub older : (p : Place) → slice_get st.slots e.slot ≡ Some p → e.generation ≤ p.generation
+  pub over : (p : Place) (c : Connection) → slice_get st.slots e.slot ≡ Some p → p.connection ≡ Some c → e.generation < p.generation
+  pub beginning : (d : Direction) → (rest : List ℕ) × (past e.slot e.generation (source d) ≡ (socket_of e.ends (destination d)).taken ++ rest)
+  pub all : e.verdict ≡ Done → (d : Direction) → past e.slot e.generation (source d) ≡ (socket_of e.ends (destination d)).taken
+
+pub record AllClosed (past : History) (st : State) : Type 0 where
+  pub each : (i : ℕ) (e : Past) → slice_get st.past i ≡ Some e → ClosedOk past st e
+
+-- with the same bytes, in slots that are no younger
+aged : (past next : History) (st q : State) (e : Past) → ((side : Side) → next e.slot e.generation side ≡ past e.slot e.generation side)
+    → ((p : Place) → slice_get q.slots e.slot ≡ Some p → e.generation ≤ p.generation)
+    → ((p : Place) (c : Connection) → slice_get q.slots e.slot ≡ Some p → p.connection ≡ Some c → e.generation < p.generation)
+    → ClosedOk past st e → ClosedOk next q e
+aged past next st q e same older over ok = record {
+  older = older;
+  over = over;
+  beginning = λ d. (let first : (rest : List ℕ) × (past e.slot e.generation (source d) ≡ (socket_of e.ends (destination d)).taken ++ rest) = ok.beginning d in (first.0, same (source d) ∙ first.1));
+  all = λ done d. same (source d) ∙ ok.all done d;
+}
+
+still_closed : (past next : History) (st : State) (e : Past) → ((side : Side) → next e.slot e.generation side ≡ past e.slot e.generation side) → ClosedOk past st e → ClosedOk next st e
+still_closed past next st e same ok = aged past next st st e same ok.older ok.over ok
+
+-- one slot changed, and is no younger
+slot_aged : (past next : History) (st q : State) (e : Past) (s : ℕ) (old new : Place) → ((side : Side) → next e.slot e.generation side ≡ past e.slot e.generation side)
+    → slice_get st.slots s ≡ Some old → q.slots ≡ slice_set st.slots s new → old.generation ≤ new.generation
+    → ((c : Connection) → new.connection ≡ Some c → ((b : Connection) × (old.connection ≡ Some b)) ⊎ (old.generation < new.generation))
+    → ClosedOk past st e → ClosedOk next q e
+slot_aged past next st q e s old new same was set grows comes ok = elim (tell (e.slot == s)) [
+  | Yes h ↦ (let here : e.slot ≡ s = eqb-true e.slot s h in
+      let there : slice_get st.slots e.slot ≡ Some old = rw here was in
+      let new_there : (p : Place) → slice_get q.slots e.slot ≡ Some p → p ≡ new = (λ p stands. (let is : slice_get (slice_set st.slots s new) s ≡ Some new = set_same st.slots s new old was in
+      let at_s : slice_get (slice_set st.slots s new) s ≡ Some p = rw (here, set) at stands in cc)) in
+      let before : e.generation ≤ old.generation = ok.older old there in
+      aged past next st q e same
+      (λ p stands. (let is : p ≡ new = new_there p stands in rw is (omega arith)))
+      (λ p c stands lying. (let is : p ≡ new = new_there p stands in rw is (⊎_elim (λ b. (let less : e.generation < old.generation = ok.over old b.0 there b.1 in omega arith)) (λ less. omega arith) (comes c (ap (λ (r : Place). r.connection) (sym is) ∙ lying)))))
+      ok)
+  | No h ↦ (let differ : e.slot ≡ s → ⊥ = λ same. (let is : (s == s) ≡ false = rw same at h in let is_not : (s == s) ≡ true = eq-eqb s s refl in absurd (cc)) in
+      aged past next st q e same
+      (λ p stands. ok.older p (sym (set_other st.slots s e.slot new differ) ∙ (rw set at stands)))
+      (λ p c stands lying. ok.over p c (sym (set_other st.slots s e.slot new differ) ∙ (rw set at stands)) lying)
+      ok)
+]
+
+-- An event brings nothing to a closed connection
+
+goes_in : {X : Type 0} (o : Option X) (f : X → Option State) (q : State) → option_and_then f o ≡ Some q → (x : X) × (o ≡ Some x)
+goes_in None f q h = absurd (cc)
+goes_in (Some x) f q h = (x, refl)
+
+off_if : (b : Bool) (bytes : List ℕ) → b ≡ false → (if b then bytes else []) ≡ []
+off_if true bytes h = absurd (cc)
+off_if false bytes h = refl
+
+left_off : (a b c : Bool) → a ≡ false → ((a && b) && c) ≡ false
+left_off true b c h = absurd (cc)
+left_off false b c h = refl
+
+right_off : (a b : Bool) → b ≡ false → (a && b) ≡ false
+right_off true b h = h
+right_off false b h = refl
+
+none_brought : (past : History) (st q : State) (ev : Event) (e : Past) (side : Side) → step st ev ≡ Some q → ClosedOk past st e → brought st e.slot e.generation side ev ≡ []
+none_brought past st q (event.Network s other (Arrive bytes)) e side goes ok = elim (tell (s == e.slot)) [
+  | Yes h ↦ (let same : s ≡ e.slot = eqb-true s e.slot h in
+      let in_it : (c : Connection) × (connection_at st s ≡ Some c) = goes_in (connection_at st s) _ q goes in
+      let l : Lies (slice_get st.slots s) in_it.0 = lies (slice_get st.slots s) in_it.0 in_it.1 in
+      let there : slice_get st.slots e.slot ≡ Some l.place = subst (λ (i : ℕ). slice_get st.slots i ≡ Some l.place) same l.there in
+      let less : e.generation < l.place.generation = ok.over l.place in_it.0 there l.connection in
+      off_if _ bytes.items (right_off (s == e.slot && side_number other == side_number side) _ (rw there (ne_eqb l.place.generation e.generation (λ is. omega arith)))))
+  | No h ↦ off_if _ bytes.items (left_off (s == e.slot) _ _ h)
+]
+none_brought past st q (event.Network s other Fin) e side goes ok = refl
+none_brought past st q (event.Network s other Reset) e side goes ok = refl
+none_brought past st q (event.Network s other Room) e side goes ok = refl
+none_brought past st q (event.Spurious who) e side goes ok = refl
+none_brought past st q (event.Vanish who) e side goes ok = refl
+none_brought past st q (event.Listen l) e side goes ok = refl
+none_brought past st q (event.Poll p) e side goes ok = refl
+none_brought past st q (event.Work w a) e side goes ok = refl
+
+same_bytes : (past : History) (st q : State) (ev : Event) (e : Past) → step st ev ≡ Some q → ClosedOk past st e → (side : Side) → after_event past st ev e.slot e.generation side ≡ past e.slot e.generation side
+same_bytes past st q ev e goes ok side =
+    ap (λ (bytes : List ℕ). past e.slot e.generation side ++ bytes) (none_brought past st q ev e side goes ok) ∙ append-nil (past e.slot e.generation side)
+
+-- A connection is closed
+
+done_when : (o : Option Fault) (b : Bool) → verdict_of o b ≡ Done → b ≡ true
+done_when None true h = refl
+done_when None false h = absurd (cc)
+done_when (Some fault) b h = absurd (cc)
+
+both_shut : (p : Relay) → verdict p ≡ Done → (d : Direction) → (stream_of p d).shut ≡ true
+both_shut p done Up = first_so p.up.shut p.down.shut (done_when p.failure (p.up.shut && p.down.shut) done)
+both_shut p done Down = second_so p.up.shut p.down.shut (done_when p.failure (p.up.shut && p.down.shut) done)
+
+wholly_sent : (gave : List ℕ) (s : Stream) (x y : Endpoint) → DirectionOk gave s x y → s.shut ≡ true → gave ≡ y.taken
+wholly_sent gave s x y ok shut =
+    let empty : s.ring ≡ [] = ok.last.empty shut in
+    let read : x.unread ≡ [] = ok.read (ok.last.ended shut) in
+    ok.bytes ∙ rw (empty, read) (append-nil y.taken)
+
+same_value : (x y : Told Watcher Sockets) → Some x ≡ Some y → x ≡ y
+same_value x y e = cc
+
+ended_ok : (past : History) (st q : State) (s : ℕ) (old : Place) (c : Connection) (ends : Sockets) (k : Watcher) → slice_get st.slots s ≡ Some old → old.connection ≡ Some c → q.slots ≡ slice_set st.slots s (record old { connection = None })
+    → kernel.close_both st.kernel c.ends ≡ Some (record { value = k; told = ends }) → SlotOk past st s old
+    → ClosedOk past q (record { slot = s; generation = c.pair.generation; verdict = verdict c.pair; ends = ends })
+ended_ok past st q s old c ends k was lying set closing slot =
+    let ok : ConnectionOk past st s old.generation old.notes c = slot.connection c lying in
+    let here : Told Watcher Sockets = record { value = k; told = ends } in
+    let there : Told Watcher Sockets = record { value = without_both st.kernel s old.generation c; told = ok.ends } in
+    let both : ◌≡◌ {A = Option (Told Watcher Sockets)} (Some there) (Some here) = sym (closes past st s old.generation old.notes c ok) ∙ closing in
+    let are : ok.ends ≡ ends = ap (λ (t : Told Watcher Sockets). t.told) (same_value there here both) in
+    let stands : (p : Place) → slice_get q.slots s ≡ Some p → p ≡ record old { connection = None } = (λ p here. (let is : slice_get (slice_set st.slots s (record old { connection = None })) s ≡ Some (record old { connection = None }) = set_same st.slots s (record old { connection = None }) old was in
+    let at_s : slice_get (slice_set st.slots s (record old { connection = None })) s ≡ Some p = rw set at here in cc)) in
+    rw (ok.generation, ← are) (record {
+      older = λ p here. (let is : p ≡ record old { connection = None } = stands p here in rw is (omega arith));
+      over = λ p b here lies_there. (let is : p ≡ record old { connection = None } = stands p here in let none : p.connection ≡ None = ap (λ (r : Place). r.connection) is in absurd (cc));
+      beginning = λ d. ((stream_of c.pair d).ring ++ (socket_of ok.ends (source d)).unread, (ok.pair.directions d).bytes);
+      all = λ done d. wholly_sent (past s old.generation (source d)) (stream_of c.pair d) (socket_of ok.ends (source d)) (socket_of ok.ends (destination d)) (ok.pair.directions d) (both_shut c.pair done d);
+    })
+
+-- One event, and lists of them
+
+shape_closes : (past : History) (st q : State) (ev : Event) → step st ev ≡ Some q → AllOk past st → AllClosed past st → Shape st ev q → AllClosed (after_event past st ev) q
+shape_closes past st q ev goes all closed (Same slots over) = record {
+  each = λ i e here. (let ok : ClosedOk past st e = closed.each i e (rw over at here) in
+      aged past (after_event past st ev) st q e (same_bytes past st q ev e goes ok) (λ p stands. ok.older p (rw slots at stands)) (λ p c stands lying. ok.over p c (rw slots at stands) lying) ok);
+}
+shape_closes past st q ev goes all closed (Changed s old new was set over stays) = record {
+  each = λ i e here. (let ok : ClosedOk past st e = closed.each i e (rw over at here) in
+      slot_aged past (after_event past st ev) st q e s old new (same_bytes past st q ev e goes ok) was set (let is : new.generation ≡ old.generation = stays.generation in omega arith)
+      (λ c is. inl ((stays.connection c is).0, (stays.connection c is).1)) ok);
+}
+shape_closes past st q ev goes all closed (Opened s g old new was entry set over generation live) = record {
+  each = λ i e here. (let ok : ClosedOk past st e = closed.each i e (rw over at here) in
+      let is : slice_get st.table s ≡ Some old.generation = (all.each s old was).entry in
+      let same : old.generation ≡ g = cc in
+      slot_aged past (after_event past st ev) st q e s old new (same_bytes past st q ev e goes ok) was set (omega arith) (λ c is. inr (omega arith)) ok);
+}
+shape_closes past st q ev goes all closed (Ended s old c ends k was lying set over closing brings) = record {
+  each = λ i e here.
+      elim (last_of st.past i (record { slot = s; generation = c.pair.generation; verdict = verdict c.pair; ends = ends }) e (rw over at here)) [
+        | Before h ↦ (let ok : ClosedOk past st e = closed.each i e h in
+            slot_aged past (after_event past st ev) st q e s old (record old { connection = None }) (same_bytes past st q ev e goes ok) was set (le_refl old.generation) (λ b is. absurd (cc)) ok)
+        | ThisOne h ↦ subst (λ (r : Past). ClosedOk (after_event past st ev) q r) h
+            (still_closed past (after_event past st ev) q (record { slot = s; generation = c.pair.generation; verdict = verdict c.pair; ends = ends })
+            (λ side. ap (λ (bytes : List ℕ). past s c.pair.generation side ++ bytes) (brings s c.pair.generation side) ∙ append-nil (past s c.pair.generation side))
+            (ended_ok past st q s old c ends k was lying set closing (all.each s old was)))
+      ];
+}
+
+renamed_closed : (past next : History) (st : State) → ((s g : ℕ) (side : Side) → next s g side ≡ past s g side) → AllClosed past st → AllClosed next st
+renamed_closed past next st same closed = record { each = λ i e here. still_closed past next st e (λ side. same e.slot e.generation side) (closed.each i e here) }
+
+further_closes : (past : History) (st q : State) (e : Event) (events : List Event) (o : Option State) → step st e ≡ o
+    → ((m : State) → AllOk (after_event past st e) m → AllClosed (after_event past st e) m → run m events ≡ Some q → AllClosed (after_run (after_event past st e) m events) q)
+    → AllOk past st → AllClosed past st → Kept (Shape st e) o → Kept (AllOk (after_event past st e)) o → option_and_then (λ (m : State). run m events) o ≡ Some q
+    → AllClosed (λ s g side. past s g side ++ (brought st s g side e ++ unwrap_or (option_map (λ (m : State). given m events s g side) o) [])) q
+further_closes past st q e events None now rest all closed shape kept ran = absurd (cc)
+further_closes past st q e events (Some m) now rest all closed shape kept ran = renamed_closed (after_run (after_event past st e) m events) _ q
+    (λ s g side. sym (append_assoc (past s g side) (brought st s g side e) (given m events s g side)))
+    (rest m kept.kept (shape_closes past st m e now all closed shape.kept) ran)
+
+run_closes : (past : History) (st q : State) (events : List Event) → AllOk past st → AllClosed past st → run st events ≡ Some q → AllClosed (after_run past st events) q
+run_closes past st q [] all closed ran = let same : st ≡ q = cc in subst (λ (m : State). AllClosed (after_run past st []) m) same (renamed_closed past _ st (λ s g side. append-nil (past s g side)) closed)
+run_closes past st q (e ∷ events) all closed ran = further_closes past st q e events (step st e) refl (λ m ok later rest. run_closes (after_event past st e) m q events ok later rest) all closed (step_shape st e) (step_keeps past st e all) ran
+
+opening_closed : (l : Limits) → AllClosed no_history (opening l)
+opening_closed l = record { each = λ i e here. absurd (cc) }
+
+pub closed_hold : (l : Limits) (events : List Event) (st : State) → run (opening l) events ≡ Some st → ClosedHold (opening l) st events
+closed_hold l events st ran i p here =
+    let ok : ClosedOk (given (opening l) events) st p = (run_closes no_history (opening l) st events (opening_ok l) (opening_closed l) ran).each i p here in
+    record { beginning = ok.beginning; all = ok.all }

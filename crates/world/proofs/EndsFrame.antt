@@ -1,0 +1,129 @@
+-- What a slot keeps while the rest of the machine changes.
+use Rattle.std.proofs.Common.{◌≡◌, ℕ, Bool, true, false, ◌||◌, List, Option, Some, None, refl, sym, ◌∙◌, subst, option_map, option_and_then, IfSome, eqb-true, eq-eqb}
+use Rattle.std.specs.Prelude.{slice_get, slice_set, ◌==◌}
+use Rattle.token.specs.declared.side.Side.{Side}
+use Rattle.token.specs.Sides.{source, destination}
+use Rattle.token.specs.declared.name.Name.TheVariants as name
+use Rattle.token.specs.Names.{EndName}
+use Rattle.kernel_model.specs.Names.{has}
+use Rattle.kernel_model.specs.declared.both.Sockets.{Sockets}
+use Rattle.kernel_model.specs.Outcome.{guard}
+use Rattle.kernel_model.specs.Kernel.{Registered, end_at}
+use Rattle.relay_core.specs.Pairs.{Relay, stream_of, flags_of}
+use Rattle.world.specs.declared.connection.Connection.{Connection}
+use Rattle.world.specs.Places.{Place}
+use Rattle.world.specs.States.{State}
+use Rattle.world.specs.Calls.{when, descriptor}
+use Rattle.world.specs.Steps.{is_nonempty}
+use Rattle.world.specs.Headline.{socket_of}
+use Rattle.world.proofs.EndsHeld.{History, token_at, is_pending, registered, PairOk, ConnectionOk, SlotOk, AllOk}
+use Rattle.world.proofs.EndsCovered.{end_more}
+use Rattle.world.proofs.EndsPairs.{same_gave}
+use Rattle.world.proofs.EndsLists.{set_same, set_other, Yes, No, tell}
+use Rattle.world.proofs.EndsNames.{or_left, or_right, or_then}
+
+-- the rest of the machine has at least as much for slot s
+pub record Better (past next : History) (st q : State) (s : ℕ) : Type 0 where
+  pub history : (g : ℕ) (side : Side) → next s g side ≡ past s g side
+  pub table : slice_get q.table s ≡ slice_get st.table s
+  pub ring : q.limits.ring ≡ st.limits.ring
+  pub ends : (d : ℕ) (r : Registered) → end_at st.kernel.ends d ≡ Some r → r.token.slot ≡ s → end_at q.kernel.ends d ≡ Some r
+  pub pending : (side : Side) (g : ℕ) → slice_get st.table s ≡ Some g → is_pending st (token_at s side g) ≡ true → is_pending q (token_at s side g) ≡ true
+
+pub pair_more : (h i : Side → List ℕ) (r q : Side → Bool) (p : Relay) (ends : Sockets) → ((side : Side) → i side ≡ h side) → ((side : Side) → r side ≡ true → q side ≡ true)
+    → PairOk h r p ends → PairOk i q p ends
+pair_more h i r q p ends same more ok = record {
+  covered = λ side. end_more (flags_of p side) (socket_of ends side) (r side) (q side) (more side) (ok.covered side);
+  directions = λ d. same_gave (h (source d)) (i (source d)) (stream_of p d) (socket_of ends (source d)) (socket_of ends (destination d)) (same (source d)) (ok.directions d);
+}
+
+-- each report of an end stays where it stood
+pub pending_more : (st q : State) (n : EndName) → (has (name.End n) st.kernel.queue ≡ true → has (name.End n) q.kernel.queue ≡ true)
+    → (has (name.End n) st.batch ≡ true → has (name.End n) q.batch ≡ true) → is_pending st n ≡ true → is_pending q n ≡ true
+pending_more st q n queue batch h = or_then (has (name.End n) st.kernel.queue) (has (name.End n) st.batch) (is_pending q n)
+    (λ k. or_left (has (name.End n) q.kernel.queue) (has (name.End n) q.batch) (queue k))
+    (λ k. or_right (has (name.End n) q.kernel.queue) (has (name.End n) q.batch) (batch k)) h
+
+pub or_more : (a b c : Bool) → (a ≡ true → b ≡ true) → (a || c) ≡ true → (b || c) ≡ true
+or_more a b c more h = or_then a c (b || c) (λ k. or_left b c (more k)) (λ k. or_right b c k) h
+
+connection_better : (past next : History) (st q : State) (s g : ℕ) (notes : List ℕ) (c : Connection) → Better past next st q s → slice_get st.table s ≡ Some g
+    → ConnectionOk past st s g notes c → ConnectionOk next q s g notes c
+connection_better past next st q s g notes c f entry ok = record {
+  generation = ok.generation;
+  up = ok.up ∙ sym f.ring;
+  down = ok.down ∙ sym f.ring;
+  ends = ok.ends;
+  there = λ side. f.ends (descriptor c.ends side) (registered s g side (socket_of ok.ends side)) (ok.there side) refl;
+  pair = pair_more (past s g) (next s g) _ _ c.pair ok.ends (f.history g) (λ side. or_more _ _ (is_nonempty notes) (f.pending side g entry)) ok.pair;
+}
+
+pub better : (past next : History) (st q : State) (s : ℕ) (p : Place) → Better past next st q s → SlotOk past st s p → SlotOk next q s p
+better past next st q s p f ok = record {
+  entry = f.table ∙ ok.entry;
+  later = λ g side before. f.history g side ∙ ok.later g side before;
+  connection = λ c here. connection_better past next st q s p.generation p.notes c f ok.entry (ok.connection c here);
+}
+
+-- slot s is in order, and every other has at least what it had
+pub keep_but : (past next : History) (st q : State) (s : ℕ)
+    → ((i : ℕ) (p : Place) → (i ≡ s → ⊥) → slice_get q.slots i ≡ Some p → slice_get st.slots i ≡ Some p)
+    → ((i : ℕ) → (i ≡ s → ⊥) → Better past next st q i)
+    → ((p : Place) → slice_get q.slots s ≡ Some p → SlotOk next q s p)
+    → AllOk past st → AllOk next q
+keep_but past next st q s others f this all = record {
+  each = λ i p here. elim (tell (i == s)) [
+    | Yes h ↦ (let same : i ≡ s = eqb-true i s h in rw same (this p (rw same at here)))
+    | No h ↦ (let differ : i ≡ s → ⊥ = λ same. (let is : (s == s) ≡ false = rw same at h in let is_not : (s == s) ≡ true = eq-eqb s s refl in absurd (cc)) in
+        better past next st q i p (f i differ) (all.each i p (others i p differ here)))
+  ];
+}
+
+-- slot s becomes p, which is in order
+pub keep_place : (past next : History) (st q : State) (s : ℕ) (old p : Place)
+    → slice_get st.slots s ≡ Some old → q.slots ≡ slice_set st.slots s p
+    → ((i : ℕ) → (i ≡ s → ⊥) → Better past next st q i)
+    → SlotOk next q s p → AllOk past st → AllOk next q
+keep_place past next st q s old p was set f this all = keep_but past next st q s
+    (λ i r differ here. sym (set_other st.slots s i p differ) ∙ (rw set at here))
+    f
+    (λ r here. let is : slice_get (slice_set st.slots s p) s ≡ Some p = set_same st.slots s p old was in
+    let stands : slice_get (slice_set st.slots s p) s ≡ Some r = rw set at here in
+    let same : p ≡ r = cc in
+    subst (λ (place : Place). SlotOk next q s place) same this)
+    all
+
+-- no slot changes, and each has at least what it had
+pub keep_all : (past next : History) (st q : State) → q.slots ≡ st.slots → ((i : ℕ) → Better past next st q i) → AllOk past st → AllOk next q
+keep_all past next st q same f all = record { each = λ i p here. better past next st q i p (f i) (all.each i p (rw same at here)) }
+
+-- Going into a step, which may be refused
+
+pub record Kept {X : Type 0} (P : X → Type 0) (o : Option X) : Type 0 where
+  pub kept : IfSome o P
+
+pub kept_then : {X Y : Type 0} (P : Y → Type 0) (f : X → Option Y) (o : Option X) → ((x : X) → o ≡ Some x → Kept P (f x)) → Kept P (option_and_then f o)
+kept_then P f None h = record { kept = tt }
+kept_then P f (Some x) h = h x refl
+
+pub kept_map : {X Y : Type 0} (P : Y → Type 0) (f : X → Y) (o : Option X) → ((x : X) → o ≡ Some x → P (f x)) → Kept P (option_map f o)
+kept_map P f None h = record { kept = tt }
+kept_map P f (Some x) h = record { kept = h x refl }
+
+pub kept_guard : {X : Type 0} (P : X → Type 0) (b : Bool) (q : X) → (b ≡ true → P q) → Kept P (guard b q)
+kept_guard P true q h = record { kept = h refl }
+kept_guard P false q h = record { kept = tt }
+
+pub kept_when : {X : Type 0} (P : X → Type 0) (b : Bool) (o : Option X) → (b ≡ true → Kept P o) → Kept P (when b o)
+kept_when P true o h = h refl
+kept_when P false o h = record { kept = tt }
+
+-- what is kept holds of the value
+pub kept_at : {X : Type 0} (P : X → Type 0) (o : Option X) (x : X) → o ≡ Some x → Kept P o → P x
+kept_at P None x e k = absurd (cc)
+kept_at P (Some y) x e k = let same : y ≡ x = cc in subst P same k.kept
+
+-- going from one fact to another
+pub kept_map_from : {X Y : Type 0} (P : X → Type 0) (Q : Y → Type 0) (f : X → Y) (o : Option X) → Kept P o → ((x : X) → P x → Q (f x)) → Kept Q (option_map f o)
+kept_map_from P Q f None k h = record { kept = tt }
+kept_map_from P Q f (Some x) k h = record { kept = h x k.kept }

@@ -1,0 +1,68 @@
+-- What the machine keeps of each connection's two ends in the kernel, after every event.
+use Rattle.std.proofs.Common.{◌≡◌, ℕ, ◌<◌, Bool, true, ◌||◌, List, [], Some}
+use Rattle.std.specs.Prelude.{slice_get}
+use Rattle.token.specs.declared.side.Side.{Side}
+use Rattle.token.specs.declared.direction.Direction.{Direction}
+use Rattle.token.specs.declared.name.Name.TheVariants as name
+use Rattle.token.specs.Names.{EndName}
+use Rattle.token.specs.Sides.{source, destination}
+use Rattle.flow.specs.Stream.{Stream}
+use Rattle.kernel_model.specs.declared.both.Sockets.{Sockets}
+use Rattle.kernel_model.specs.Ends.{Endpoint}
+use Rattle.kernel_model.specs.Names.{has}
+use Rattle.kernel_model.specs.Kernel.{Registered}
+use Rattle.relay_core.specs.Pairs.{Relay, stream_of, flags_of}
+use Rattle.relay_core.specs.Laws.{IsClosedLast}
+use Rattle.world.specs.declared.connection.Connection.{Connection}
+use Rattle.world.specs.Places.{Place}
+use Rattle.world.specs.States.{State}
+use Rattle.world.specs.Steps.{is_nonempty}
+use Rattle.world.specs.Headline.{KeepsBytes, socket_of, end_of, EndCovered}
+
+-- the bytes that came so far, by slot, generation and side
+abbrev pub History : Type 0
+History = ℕ → ℕ → Side → List ℕ
+
+-- a direction: the bytes keep their order, the end that was seen was the source's last word, and it was
+-- passed on only after every byte
+pub record DirectionOk (gave : List ℕ) (stream : Stream) (x y : Endpoint) : Type 0 where
+  pub bytes : KeepsBytes gave stream x y
+  pub ended : stream.end_seen ≡ true → x.fin ≡ true
+  pub read : stream.end_seen ≡ true → x.unread ≡ []
+  pub last : IsClosedLast stream
+
+-- a pair and its two ends, whatever is reported of them
+pub record PairOk (history : Side → List ℕ) (reported : Side → Bool) (pair : Relay) (ends : Sockets) : Type 0 where
+  pub covered : (side : Side) → EndCovered (flags_of pair side) (socket_of ends side) (reported side)
+  pub directions : (d : Direction) → DirectionOk (history (source d)) (stream_of pair d) (socket_of ends (source d)) (socket_of ends (destination d))
+
+-- the token of one side of the connection in slot s of generation g
+abbrev pub token_at : ℕ → Side → ℕ → EndName
+token_at s side g = record { slot = s; side = side; generation = g }
+
+-- a report of that end is queued or in the batch
+abbrev pub is_pending : State → EndName → Bool
+is_pending st n = has (name.End n) st.kernel.queue || has (name.End n) st.batch
+
+-- an end that is open under that token
+abbrev pub registered : ℕ → ℕ → Side → Endpoint → Registered
+registered s g side e = record { token = token_at s side g; socket = e }
+
+-- the connection in slot s, of generation g and with these notes: both of its ends are open under its
+-- tokens, and the pair fits them
+pub record ConnectionOk (past : History) (st : State) (s g : ℕ) (notes : List ℕ) (c : Connection) : Type 0 where
+  pub generation : c.pair.generation ≡ g
+  pub up : c.pair.up.capacity ≡ st.limits.ring
+  pub down : c.pair.down.capacity ≡ st.limits.ring
+  pub ends : Sockets
+  pub there : (side : Side) → end_of st c side ≡ Some (registered s g side (socket_of ends side))
+  pub pair : PairOk (past s g) (λ side. is_pending st (token_at s side g) || is_nonempty notes) c.pair ends
+
+-- a slot: the poller's table tells its generation, nothing came for a later one, and its connection is in order
+pub record SlotOk (past : History) (st : State) (s : ℕ) (p : Place) : Type 0 where
+  pub entry : slice_get st.table s ≡ Some p.generation
+  pub later : (g : ℕ) (side : Side) → p.generation < g → past s g side ≡ []
+  pub connection : (c : Connection) → p.connection ≡ Some c → ConnectionOk past st s p.generation p.notes c
+
+pub record AllOk (past : History) (st : State) : Type 0 where
+  pub each : (s : ℕ) (p : Place) → slice_get st.slots s ≡ Some p → SlotOk past st s p

@@ -1,0 +1,205 @@
+-- What each event does to the slots and to the closed connections: it leaves them, it changes one slot and keeps
+-- its connection, it opens one, or it closes a connection.
+use Rattle.std.proofs.Common.{◌≡◌, ℕ, ◌+◌, Bool, true, false, not, ◌⊎◌, inl, List, [], ◌∷◌, ◌++◌, length, Option, Some, None, refl, sym, ◌∙◌, subst, option_map}
+use Rattle.std.specs.Prelude.{slice_get, slice_set, if◌then◌else◌, ◌==◌}
+use Rattle.token.specs.declared.side.Side.{Side}
+use Rattle.token.specs.declared.side.Side.TheVariants.{Client, Target}
+use Rattle.token.specs.declared.name.Name.{Name}
+use Rattle.token.specs.declared.name.Name.TheVariants as name
+use Rattle.kernel_model.specs.declared.both.Descriptors.{Descriptors}
+use Rattle.kernel_model.specs.declared.both.Sockets.{Sockets}
+use Rattle.kernel_model.specs.declared.accepting.Accepting.TheVariants.{Accepted, Blocked, Again, Starved}
+use Rattle.kernel_model.specs.Kernel as kernel
+use Rattle.kernel_model.specs.Kernel.{Watcher}
+use Rattle.relay_core.specs.declared.verdict.Fault.{Fault}
+use Rattle.relay_core.specs.declared.verdict.Verdict.TheVariants.{Live, Failed}
+use Rattle.relay_core.specs.Pairs.{verdict, is_live, noted, fresh}
+use Rattle.world.specs.declared.connection.Connection.{Connection}
+use Rattle.world.specs.declared.actors.Ticket.{Ticket}
+use Rattle.world.specs.declared.actors.Doing.{Doing}
+use Rattle.world.specs.declared.actors.Doing.TheVariants.{Idle, Tries, Holds, Closed, Retired}
+use Rattle.world.specs.declared.event.Event.{Event}
+use Rattle.world.specs.declared.event.Listening.{Listening}
+use Rattle.world.specs.declared.event.Listening.TheVariants as listening
+use Rattle.world.specs.declared.event.Polling.{Polling}
+use Rattle.world.specs.declared.event.Polling.TheVariants as polling
+use Rattle.world.specs.Places.{Place, Actor, is_held}
+use Rattle.world.specs.States.{State}
+use Rattle.world.specs.Steps
+use Rattle.world.specs.Steps.{over_kernel, is_nonempty, connection_at, watched_of, change_at, may_accept, after_accept, token_of, opened_world, with_note, posted, post_at, delivered_at, delivered, put_by_poller, put_by_worker, popped, heard, noted_place, with_place, Lodging, lodged_call, may_release, closed_world, doing, step}
+use Rattle.world.specs.Given.{brought}
+use Rattle.world.specs.Headline.{FailsBy}
+use Rattle.world.proofs.EndsFrame.{Kept, kept_then, kept_map, kept_guard, kept_when, kept_map_from}
+use Rattle.world.proofs.EndsPlaces.{behind, kept_map_if, kept_map_map}
+
+-- a connection that was there before, and fails by this event if it did not fail already
+pub record Continues (st : State) (e : Event) (s : ℕ) (old new : Connection) : Type 0 where
+  pub generation : new.pair.generation ≡ old.pair.generation
+  pub fails : (fault : Fault) → verdict new.pair ≡ Failed fault → (verdict old.pair ≡ Failed fault) ⊎ FailsBy st s old.pair.generation fault e
+
+-- a slot keeps its connection, or has none afterwards
+pub record Stays (st : State) (e : Event) (s : ℕ) (old new : Place) : Type 0 where
+  pub generation : new.generation ≡ old.generation
+  pub connection : (c : Connection) → new.connection ≡ Some c → (b : Connection) × (old.connection ≡ Some b) × Continues st e s b c
+
+pub data Shape (st : State) (e : Event) (q : State) : Type 0 where
+  Same : q.slots ≡ st.slots → q.past ≡ st.past → Shape st e q
+  Changed : (s : ℕ) (old new : Place) → slice_get st.slots s ≡ Some old → q.slots ≡ slice_set st.slots s new → q.past ≡ st.past → Stays st e s old new → Shape st e q
+  Opened : (s g : ℕ) (old new : Place) → slice_get st.slots s ≡ Some old → slice_get st.table s ≡ Some g → q.slots ≡ slice_set st.slots s new → q.past ≡ st.past
+      → new.generation ≡ g + 1 → ((c : Connection) → new.connection ≡ Some c → verdict c.pair ≡ Live) → Shape st e q
+  Ended : (s : ℕ) (old : Place) (c : Connection) (ends : Sockets) (k : Watcher) → slice_get st.slots s ≡ Some old → old.connection ≡ Some c → q.slots ≡ slice_set st.slots s (record old { connection = None })
+      → q.past ≡ st.past ++ record { slot = s; generation = c.pair.generation; verdict = verdict c.pair; ends = ends } ∷ []
+      → kernel.close_both st.kernel c.ends ≡ Some (record { value = k; told = ends }) → ((i g : ℕ) (side : Side) → brought st i g side e ≡ []) → Shape st e q
+
+same_connection : (st : State) (e : Event) (s : ℕ) (old new : Place) → new.generation ≡ old.generation → new.connection ≡ old.connection → Stays st e s old new
+same_connection st e s old new generation connection = record {
+  generation = generation;
+  connection = λ c here. (c, sym connection ∙ here, record { generation = refl; fails = λ fault failed. inl failed });
+}
+
+pub over_same : (st m : State) (e : Event) (o : Option Watcher) → m.slots ≡ st.slots → m.past ≡ st.past → Kept (Shape st e) (over_kernel m o)
+over_same st m e None slots past = record { kept = tt }
+over_same st m e (Some k) slots past = record { kept = Same slots past }
+
+pub listen_shape : (st : State) (e : Event) (l : Listening) → Kept (Shape st e) (Steps.listen st l)
+listen_shape st e listening.Connect = over_same st st e _ refl refl
+listen_shape st e (listening.Accept Accepted) = kept_when (Shape st e) (may_accept st) _ (λ may. over_same st (after_accept st Accepted) e _ refl refl)
+listen_shape st e (listening.Accept Blocked) = kept_when (Shape st e) (may_accept st) _ (λ may. over_same st (after_accept st Blocked) e _ refl refl)
+listen_shape st e (listening.Accept Again) = kept_when (Shape st e) (may_accept st) _ (λ may. over_same st (after_accept st Again) e (kernel.accept st.kernel Again) refl refl)
+listen_shape st e (listening.Accept Starved) = kept_when (Shape st e) (may_accept st) _ (λ may. over_same st (after_accept st Starved) e (kernel.accept st.kernel Starved) refl refl)
+listen_shape st e listening.Drop = kept_guard (Shape st e) st.accepted _ (λ some. Same refl refl)
+
+delivered_shape : (st : State) (e : Event) (m : Name) → Kept (Shape st e) (option_map (behind st) (delivered st m))
+delivered_shape st e name.Listener = record { kept = Same refl refl }
+delivered_shape st e name.Waker = record { kept = Same refl refl }
+delivered_shape st e (name.End n) = elim (slice_get st.table n.slot) as (λ o. Kept (Shape st e) (option_map (behind st) (delivered_at st n o))) [
+  | None ↦ record { kept = Same refl refl }
+  | Some g ↦ kept_map_if (Shape st e) (behind st) (g == n.generation) (post_at st n.slot g) (Some st)
+      (λ same. kept_map_map (Shape st e) (behind st) (λ (p : Place). posted st n.slot g p) (slice_get st.slots n.slot) (λ p here.
+      Changed n.slot p (with_note p g) here refl refl (same_connection st e n.slot p (with_note p g) refl refl)))
+      (λ other. record { kept = Same refl refl })
+]
+
+put_by_poller_shape : (st : State) (e : Event) (hand : List Ticket) → Kept (Shape st e) (put_by_poller st hand)
+put_by_poller_shape st e [] = record { kept = tt }
+put_by_poller_shape st e (t ∷ rest) = record { kept = Same refl refl }
+
+fresh_is_live : (s g ring : ℕ) (ends : Descriptors) (c : Connection) → Some (record { pair = fresh s g ring; ends = ends }) ≡ Some c → verdict c.pair ≡ Live
+fresh_is_live s g ring ends c is = let same : record { pair = fresh s g ring; ends = ends } ≡ c = cc in subst (λ (b : Connection). verdict b.pair ≡ Live) same refl
+
+open_shape : (st : State) (e : Event) (s : ℕ) → Kept (Shape st e) (Steps.opening_of st s)
+open_shape st e s =
+    kept_then (Shape st e) _ (slice_get st.slots s) (λ p here.
+    kept_then (Shape st e) _ (slice_get st.table s) (λ g entry.
+    kept_then (Shape st e) _ (token_of s Client (g + 1)) (λ client is_client.
+    kept_map (Shape st e) _ (token_of s Target (g + 1)) (λ target is_target.
+    Opened s g p _ here entry refl refl refl (λ c is. fresh_is_live s (g + 1) st.limits.ring _ c is)))))
+
+pub polled_shape : (st : State) (e : Event) (p : Polling) → Kept (Shape st e) (Steps.polled st p)
+polled_shape st e polling.Open = kept_when (Shape st e) st.accepted _ (λ some. kept_then (Shape st e) _ (slice_get st.free 0) (λ s first. open_shape st e s))
+polled_shape st e (polling.Poll names) = kept_when (Shape st e) (length st.batch == 0) _ (λ none. over_same st (record st { batch = names.items }) e _ refl refl)
+polled_shape st e polling.Deliver = kept_then (Shape st e) _ (slice_get st.batch 0) (λ m first. delivered_shape st e m)
+polled_shape st e polling.Put = put_by_poller_shape st e st.hand
+
+-- The workers
+
+pub put_shape : (st : State) (e : Event) (w : ℕ) (k : Actor) (hand : List Ticket) → Kept (Shape st e) (put_by_worker st w k hand)
+put_shape st e w k [] = record { kept = tt }
+put_shape st e w k (t ∷ rest) = record { kept = Same refl refl }
+
+popped_shape : (st : State) (e : Event) (w : ℕ) (k : Actor) (ready : List Ticket) → Kept (Shape st e) (popped st w k ready)
+popped_shape st e w k [] = record { kept = tt }
+popped_shape st e w k (t ∷ rest) = record { kept = Same refl refl }
+
+pub pop_shape : (st : State) (e : Event) (w : ℕ) (k : Actor) (d : Doing) → Kept (Shape st e) (Steps.pop st w k d)
+pop_shape st e w k Idle = kept_when (Shape st e) (length k.hand == 0) _ (λ none. popped_shape st e w k st.ready)
+pop_shape st e w k (Tries t) = record { kept = tt }
+pop_shape st e w k (Holds s left) = record { kept = tt }
+pop_shape st e w k (Closed s) = record { kept = tt }
+pop_shape st e w k (Retired s) = record { kept = tt }
+
+either_way : (P : State → Type 0) (b : Bool) (q r : State) → P q → P r → P (if b then q else r)
+either_way P true q r this that = this
+either_way P false q r this that = that
+
+pub claim_shape : (st : State) (e : Event) (w : ℕ) (k : Actor) (d : Doing) → Kept (Shape st e) (Steps.claim st w k d)
+claim_shape st e w k (Tries t) = kept_map (Shape st e) _ (slice_get st.slots t.slot) (λ p here.
+    either_way (Shape st e) (is_held p.holder) _ _ (Same refl refl) (Changed t.slot p _ here refl refl (same_connection st e t.slot p _ refl refl)))
+claim_shape st e w k Idle = record { kept = tt }
+claim_shape st e w k (Holds s left) = record { kept = tt }
+claim_shape st e w k (Closed s) = record { kept = tt }
+claim_shape st e w k (Retired s) = record { kept = tt }
+
+heard_generation : (c : Connection) (b : Bool) → (if b then record c { pair = noted c.pair } else c).pair.generation ≡ c.pair.generation
+heard_generation c true = refl
+heard_generation c false = refl
+
+heard_verdict : (c : Connection) (b : Bool) → verdict (if b then record c { pair = noted c.pair } else c).pair ≡ verdict c.pair
+heard_verdict c true = refl
+heard_verdict c false = refl
+
+noted_stays : (st : State) (e : Event) (s : ℕ) (p : Place) (o : Option Connection) → p.connection ≡ o → Kept (Stays st e s p) (option_map (λ (c : Connection). record p { notes = []; connection = Some (heard c p.notes) }) o)
+noted_stays st e s p None lying = record { kept = tt }
+noted_stays st e s p (Some c) lying = record {
+  kept = record {
+    generation = refl;
+    connection = λ b here. (let is : heard c p.notes ≡ b = cc in (
+      c,
+      lying,
+      subst (λ (d : Connection). Continues st e s c d) is (record {
+        generation = heard_generation c (is_nonempty p.notes);
+        fails = λ fault failed. inl (sym (heard_verdict c (is_nonempty p.notes)) ∙ failed);
+      }),
+    ));
+  };
+}
+
+pub take_shape : (st : State) (e : Event) (d : Doing) → Kept (Shape st e) (Steps.take st d)
+take_shape st e (Holds s left) = kept_then (Shape st e) _ (slice_get st.slots s) (λ p here.
+    kept_map_from (Stays st e s p) (Shape st e) (λ (q : Place). with_place st s q) (noted_place p) (noted_stays st e s p p.connection refl) (λ q stays. Changed s p q here refl refl stays))
+take_shape st e Idle = record { kept = tt }
+take_shape st e (Tries t) = record { kept = tt }
+take_shape st e (Closed s) = record { kept = tt }
+take_shape st e (Retired s) = record { kept = tt }
+
+pub post_shape : (st : State) (e : Event) (d : Doing) → Kept (Shape st e) (Steps.post st d)
+post_shape st e (Holds s left) = kept_then (Shape st e) _ (slice_get st.slots s) (λ p here.
+    kept_then (Shape st e) _ p.connection (λ c lying.
+    kept_guard (Shape st e) (is_live (verdict c.pair)) _ (λ live. Changed s p (with_note p c.pair.generation) here refl refl (same_connection st e s p _ refl refl))))
+post_shape st e Idle = record { kept = tt }
+post_shape st e (Tries t) = record { kept = tt }
+post_shape st e (Closed s) = record { kept = tt }
+post_shape st e (Retired s) = record { kept = tt }
+
+pub release_shape : (st : State) (e : Event) (w : ℕ) (k : Actor) (d : Doing) → Kept (Shape st e) (Steps.release st w k d)
+release_shape st e w k (Holds s left) = kept_then (Shape st e) _ (slice_get st.slots s) (λ p here.
+    kept_then (Shape st e) _ p.connection (λ c lying.
+    kept_guard (Shape st e) (may_release c (is_nonempty p.notes)) _ (λ may. Changed s p _ here refl refl (same_connection st e s p _ refl refl))))
+release_shape st e w k Idle = record { kept = tt }
+release_shape st e w k (Tries t) = record { kept = tt }
+release_shape st e w k (Closed s) = record { kept = tt }
+release_shape st e w k (Retired s) = record { kept = tt }
+
+pub retire_shape : (st : State) (e : Event) (w : ℕ) (k : Actor) (d : Doing) → Kept (Shape st e) (Steps.retire st w k d)
+retire_shape st e w k (Closed s) = kept_map (Shape st e) _ (slice_get st.slots s) (λ p here. Changed s p _ here refl refl (same_connection st e s p _ refl refl))
+retire_shape st e w k Idle = record { kept = tt }
+retire_shape st e w k (Tries t) = record { kept = tt }
+retire_shape st e w k (Holds s left) = record { kept = tt }
+retire_shape st e w k (Retired s) = record { kept = tt }
+
+pub free_shape : (st : State) (e : Event) (w : ℕ) (k : Actor) (d : Doing) → Kept (Shape st e) (Steps.free st w k d)
+free_shape st e w k (Retired s) = kept_map (Shape st e) _ (slice_get st.slots s) (λ p here. Same refl refl)
+free_shape st e w k Idle = record { kept = tt }
+free_shape st e w k (Tries t) = record { kept = tt }
+free_shape st e w k (Holds s left) = record { kept = tt }
+free_shape st e w k (Closed s) = record { kept = tt }
+
+pub close_shape : (st : State) (e : Event) (w : ℕ) (k : Actor) (d : Doing) → ((i g : ℕ) (side : Side) → brought st i g side e ≡ []) → Kept (Shape st e) (Steps.close st w k d)
+close_shape st e w k (Holds s left) brings = kept_then (Shape st e) _ (slice_get st.slots s) (λ p here.
+    kept_then (Shape st e) _ p.connection (λ c lying.
+    kept_when (Shape st e) (not (is_live (verdict c.pair))) _ (λ over.
+    kept_map (Shape st e) _ (kernel.close_both st.kernel c.ends) (λ t is. Ended s p c t.told t.value here lying refl refl is brings))))
+close_shape st e w k Idle brings = record { kept = tt }
+close_shape st e w k (Tries t) brings = record { kept = tt }
+close_shape st e w k (Closed s) brings = record { kept = tt }
+close_shape st e w k (Retired s) brings = record { kept = tt }

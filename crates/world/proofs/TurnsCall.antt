@@ -1,0 +1,48 @@
+-- A connection's call with its reply leaves it what it is: the same slot, generation and rings.
+use Rattle.std.proofs.Common.{◌≡◌, Some, refl, option_map}
+use Rattle.kernel_model.specs.declared.reply.Reply.{Reply}
+use Rattle.kernel_model.specs.Kernel.{Watcher}
+use Rattle.relay_core.specs.declared.call.Call.{Call}
+use Rattle.relay_core.specs.Order.{next_call}
+use Rattle.relay_core.specs.Replies.{fits, after}
+use Rattle.relay_core.specs.Laws.{place_of}
+use Rattle.relay_core.proofs.Events.{answers_keep_place}
+use Rattle.world.specs.declared.connection.Connection.{Connection}
+use Rattle.world.specs.Places.{Place}
+use Rattle.world.specs.Calls.{Line, told_of, made, replied, called}
+use Rattle.world.specs.Steps.{Lodging, lodged_call}
+use Rattle.world.proofs.TurnsKept.{Kept, kept_bind, kept_map, kept_when, kept_then}
+
+abbrev StandsAs : Connection → Line → Type 0
+StandsAs c line = place_of line.connection.pair ≡ place_of c.pair
+
+replied_stands : (l : Line) (call : Call) (r : Reply) → Kept (StandsAs l.connection) (replied l call r)
+replied_stands l call r = kept_bind _ (told_of l call r) (λ t is. kept_when (fits l.connection.pair call t) (option_map (λ (k : Watcher). record { kernel = k; connection = record l.connection { pair = after l.connection.pair call t } }) (made l call r)) (λ fit. kept_map _ (made l call r) (λ k done. answers_keep_place l.connection.pair call t)))
+
+called_stands : (l : Line) (r : Reply) → Kept (StandsAs l.connection) (called l r)
+unfolding called
+called_stands l r = kept_bind _ (next_call l.connection.pair) (λ call next. replied_stands l call r)
+
+-- the slot keeps all but the connection, and the connection what it is
+pub record StaysIn (p q : Place) : Type 0 where
+  pub generation : q.generation ≡ p.generation
+  pub holder : q.holder ≡ p.holder
+  pub notes : q.notes ≡ p.notes
+  pub old : Connection
+  pub new : Connection
+  pub was : p.connection ≡ Some old
+  pub is : q.connection ≡ Some new
+  pub stands : place_of new.pair ≡ place_of old.pair
+
+pub lodged_stays : (l : Lodging) (r : Reply) → Kept (λ (m : Lodging). StaysIn l.place m.place) (lodged_call l r)
+unfolding lodged_call
+lodged_stays l r = kept_bind _ l.place.connection (λ c is. kept_then _ (called (record { kernel = l.kernel; connection = c }) r) (λ line same. record {
+  generation = refl;
+  holder = refl;
+  notes = refl;
+  old = c;
+  new = line.connection;
+  was = is;
+  is = refl;
+  stands = same;
+}) (called_stands (record { kernel = l.kernel; connection = c }) r))

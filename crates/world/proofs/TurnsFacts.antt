@@ -1,0 +1,246 @@
+-- Who has a slot: what the rest of the machine has of it, as numbers, and what a slot has to do with them.
+use Rattle.std.proofs.Common.{◌≡◌, ◌≢◌, ◌⊎◌, inl, inr, ◌∙◌, ℕ, ◌+◌, ◌≤◌, ◌==◌, Bool, true, false, not, ◌&&◌, List, [], slice_get, slice_set, Option, Some, None, is_some, refl, ap, sym, arith, ne_eqb, eq-eqb}
+use Rattle.std.proofs.lemmas.Bool.{cases_eq}
+use Rattle.std.specs.List.{list_all}
+use Rattle.relay_core.specs.Pairs.{verdict, is_live}
+use Rattle.relay_core.specs.Order.{next_call}
+use Rattle.relay_core.specs.Laws.{Place as Standing, place_of}
+use Rattle.world.specs.declared.connection.Connection.{Connection}
+use Rattle.world.specs.declared.actors.Ticket.{Ticket}
+use Rattle.world.specs.declared.actors.Holder.{Holder}
+use Rattle.world.specs.declared.actors.Holder.TheVariants.{Nobody, By, Free}
+use Rattle.world.specs.declared.actors.Doing.{Doing}
+use Rattle.world.specs.declared.actors.Doing.TheVariants.{Idle, Tries, Holds, Closed, Retired}
+use Rattle.world.specs.Places.{Place, Actor, is_held, is_by_worker}
+use Rattle.world.specs.States.{State}
+use Rattle.world.specs.Steps.{is_nonempty}
+use Rattle.world.specs.Due.{is_ticket}
+pub use Rattle.world.specs.Words.{is_free}
+use Rattle.world.specs.Headline.{one, total, of_slot, tried, worker_tickets, tickets}
+use Rattle.world.proofs.TurnsTotals.{total-set, get-set_same, get-set_other}
+
+-- the numbers of slot s, one actor or ticket or free slot at a time
+
+abbrev pub names : ℕ → ℕ → Ticket → ℕ
+names s g t = one (is_ticket s g t)
+
+abbrev pub tried_right : ℕ → ℕ → Doing → ℕ
+tried_right s g (Tries t) = names s g t
+tried_right s g d = 0
+
+abbrev pub worker_right : ℕ → ℕ → Actor → ℕ
+worker_right s g k = tried_right s g k.doing + total (names s g) k.hand
+
+abbrev pub holds : ℕ → Doing → ℕ
+holds s (Holds t left) = one (t == s)
+holds s d = 0
+
+abbrev pub closes : ℕ → Doing → ℕ
+closes s (Closed t) = one (t == s)
+closes s d = 0
+
+abbrev pub retires : ℕ → Doing → ℕ
+retires s (Retired t) = one (t == s)
+retires s d = 0
+
+abbrev pub worker_holds : ℕ → Actor → ℕ
+worker_holds s k = holds s k.doing
+
+abbrev pub worker_closes : ℕ → Actor → ℕ
+worker_closes s k = closes s k.doing
+
+abbrev pub worker_retires : ℕ → Actor → ℕ
+worker_retires s k = retires s k.doing
+
+abbrev pub is_number : ℕ → ℕ → ℕ
+is_number s t = one (t == s)
+
+-- what the rest of the machine has of a slot of one generation: its entry in the table, its tickets, those
+-- that name the generation, the workers that hold it, those that closed it, and those that retired it with
+-- its places in the free queue
+pub record Facts : Type 0 where
+  pub ring : ℕ
+  pub slot : ℕ
+  pub entry : Option ℕ
+  pub tickets : ℕ
+  pub right : ℕ
+  pub holding : ℕ
+  pub closing : ℕ
+  pub gone : ℕ
+
+abbrev pub right_tickets : State → ℕ → ℕ → ℕ
+right_tickets st s g = total (names s g) st.ready + (total (names s g) st.hand + total (worker_right s g) st.workers)
+
+abbrev pub facts : State → ℕ → ℕ → Facts
+facts st s g = record {
+  ring = st.limits.ring;
+  slot = s;
+  entry = slice_get st.table s;
+  tickets = tickets st s;
+  right = right_tickets st s g;
+  holding = total (worker_holds s) st.workers;
+  closing = total (worker_closes s) st.workers;
+  gone = total (worker_retires s) st.workers + total (is_number s) st.free;
+}
+
+-- a slot that nobody holds has a connection, and a free one has none
+abbrev pub is_shaped : Holder → Bool → Bool
+is_shaped Nobody has = has
+is_shaped (By w) has = true
+is_shaped Free has = not has
+
+abbrev pub standing : Facts → ℕ → Standing
+standing f g = record { slot = f.slot; generation = g; up_capacity = f.ring; down_capacity = f.ring }
+
+-- the connection in a slot is the slot's own, and while nobody holds the slot it is live, and without a
+-- note it has no call to make
+pub record ConnectionOk (f : Facts) (p : Place) (c : Connection) : Type 0 where
+  pub stands : place_of c.pair ≡ standing f p.generation
+  pub live : p.holder ≡ Nobody → is_live (verdict c.pair) ≡ true
+  pub rest : p.holder ≡ Nobody → p.notes ≡ [] → next_call c.pair ≡ None
+
+abbrev pub are_own : ℕ → List ℕ → Bool
+are_own g notes = list_all (λ (n : ℕ). n == g) notes
+
+pub record SlotOk (f : Facts) (p : Place) : Type 0 where
+  pub entry : f.entry ≡ Some p.generation
+  pub notes : are_own p.generation p.notes ≡ true
+  pub tickets : f.tickets ≡ one (not (is_held p.holder) && is_nonempty p.notes)
+  pub right : f.right ≡ f.tickets
+  pub holding : f.holding ≡ one (is_by_worker p.holder && is_some p.connection)
+  pub closing : f.closing ≡ one (is_by_worker p.holder && not (is_some p.connection))
+  pub gone : f.gone ≤ one (is_free p.holder)
+  pub shape : is_shaped p.holder (is_some p.connection) ≡ true
+  pub connection : (c : Connection) → p.connection ≡ Some c → ConnectionOk f p c
+
+-- each slot has what it has to
+pub record Turns (st : State) : Type 0 where
+  pub each : (s : ℕ) (p : Place) → slice_get st.slots s ≡ Some p → SlotOk (facts st s p.generation) p
+
+-- the same numbers, but for those that are gone, which may be fewer
+pub record Same (f g : Facts) : Type 0 where
+  pub ring : f.ring ≡ g.ring
+  pub slot : f.slot ≡ g.slot
+  pub entry : f.entry ≡ g.entry
+  pub tickets : f.tickets ≡ g.tickets
+  pub right : f.right ≡ g.right
+  pub holding : f.holding ≡ g.holding
+  pub closing : f.closing ≡ g.closing
+  pub gone : g.gone ≤ f.gone
+
+pub same_self : (f : Facts) → Same f f
+same_self f = record { ring = refl; slot = refl; entry = refl; tickets = refl; right = refl; holding = refl; closing = refl; gone = omega arith }
+
+same_connection : (f g : Facts) (p : Place) (c : Connection) → Same f g → ConnectionOk f p c → ConnectionOk g p c
+same_connection f g p c m ok = record {
+  stands = rw (← m.ring, ← m.slot) ok.stands;
+  live = ok.live;
+  rest = ok.rest;
+}
+
+pub same_ok : (f g : Facts) (p : Place) → Same f g → SlotOk f p → SlotOk g p
+same_ok f g p m ok = record {
+  entry = rw (← m.entry) ok.entry;
+  notes = ok.notes;
+  tickets = rw (← m.tickets) ok.tickets;
+  right = rw (← m.tickets, ← m.right) ok.right;
+  holding = rw (← m.holding) ok.holding;
+  closing = rw (← m.closing) ok.closing;
+  gone = let was : f.gone ≤ one (is_free p.holder) = ok.gone in let less : g.gone ≤ f.gone = m.gone in omega arith;
+  shape = ok.shape;
+  connection = λ c is. same_connection f g p c m (ok.connection c is);
+}
+
+-- an event that changes no slot
+pub keep_slots : (st next : State) → next.slots ≡ st.slots → ((s g : ℕ) → Same (facts st s g) (facts next s g)) → Turns st → Turns next
+keep_slots st next all same turns = record {
+  each = λ s p there. same_ok (facts st s p.generation) (facts next s p.generation) p (same s p.generation) (turns.each s p (rw all at there));
+}
+
+other_slot : (st next : State) (s i : ℕ) (old new p : Place) → (s ≡ i) ⊎ (s ≢ i) → slice_get st.slots s ≡ Some old → next.slots ≡ slice_set st.slots s new
+    → ((j : ℕ) (q : Place) → s ≢ j → slice_get st.slots j ≡ Some q → Same (facts st j q.generation) (facts next j q.generation))
+    → SlotOk (facts next s new.generation) new → Turns st → slice_get next.slots i ≡ Some p → SlotOk (facts next i p.generation) p
+other_slot st next s i old new p (inl same) there all others ok turns here =
+    let set : slice_get (slice_set st.slots s new) s ≡ Some p = rw (← all, same) here in
+    let is : new ≡ p = let one : slice_get (slice_set st.slots s new) s ≡ Some new = get-set_same st.slots s old new there in (cc) in
+    rw (← same, ← is) ok
+other_slot st next s i old new p (inr apart) there all others ok turns here =
+    let set : slice_get (slice_set st.slots s new) i ≡ Some p = rw (← all) here in
+    let was : slice_get st.slots i ≡ Some p = sym (get-set_other st.slots s i new apart) ∙ set in
+    same_ok (facts st i p.generation) (facts next i p.generation) p (others i p apart was) (turns.each i p was)
+
+-- an event that changes one slot, s
+pub keep_others : (st next : State) (s : ℕ) (old new : Place) → slice_get st.slots s ≡ Some old → next.slots ≡ slice_set st.slots s new
+    → ((j : ℕ) (q : Place) → s ≢ j → slice_get st.slots j ≡ Some q → Same (facts st j q.generation) (facts next j q.generation))
+    → SlotOk (facts next s new.generation) new → Turns st → Turns next
+keep_others st next s old new there all others ok turns = record {
+  each = λ i p here. other_slot st next s i old new p (cases_eq s i) there all others ok turns here;
+}
+
+-- the numbers of a slot where one worker is replaced
+pub record Replaced (st : State) (w : ℕ) (k j : Actor) (s g : ℕ) : Type 0 where
+  pub tickets : total (worker_tickets s) (slice_set st.workers w j) + worker_tickets s k ≡ total (worker_tickets s) st.workers + worker_tickets s j
+  pub right : total (worker_right s g) (slice_set st.workers w j) + worker_right s g k ≡ total (worker_right s g) st.workers + worker_right s g j
+  pub holding : total (worker_holds s) (slice_set st.workers w j) + worker_holds s k ≡ total (worker_holds s) st.workers + worker_holds s j
+  pub closing : total (worker_closes s) (slice_set st.workers w j) + worker_closes s k ≡ total (worker_closes s) st.workers + worker_closes s j
+  pub gone : total (worker_retires s) (slice_set st.workers w j) + worker_retires s k ≡ total (worker_retires s) st.workers + worker_retires s j
+
+pub replaced : (st : State) (w : ℕ) (k j : Actor) (s g : ℕ) → slice_get st.workers w ≡ Some k → Replaced st w k j s g
+replaced st w k j s g there = record {
+  tickets = total-set (worker_tickets s) st.workers w k j there;
+  right = total-set (worker_right s g) st.workers w k j there;
+  holding = total-set (worker_holds s) st.workers w k j there;
+  closing = total-set (worker_closes s) st.workers w k j there;
+  gone = total-set (worker_retires s) st.workers w k j there;
+}
+
+pub one_same : (s : ℕ) → one (s == s) ≡ 1
+one_same s = rw (eq-eqb s s refl) refl
+
+pub one_other : (s i : ℕ) → s ≢ i → one (s == i) ≡ 0
+one_other s i apart = rw (ne_eqb s i apart) refl
+
+one_left : (a b : Bool) → one (a && b) ≤ one a
+one_left true true = omega arith
+one_left true false = omega arith
+one_left false b = omega arith
+
+pub names_of_slot : (s g : ℕ) (t : Ticket) → names s g t ≤ of_slot s t
+names_of_slot s g t = one_left (t.slot == s) (t.generation == g)
+
+pub names_other : (s g : ℕ) (t : Ticket) → t.slot ≢ s → names s g t ≡ 0
+names_other s g t apart = rw (ne_eqb t.slot s apart) refl
+
+pub names_own : (s g : ℕ) → names s g (record { slot = s; generation = g }) ≡ 1
+names_own s g = rw (eq-eqb s s refl, eq-eqb g g refl) refl
+
+pub tried_less : (s g : ℕ) (d : Doing) → tried_right s g d ≤ tried s d
+tried_less s g Idle = omega arith
+tried_less s g (Tries t) = names_of_slot s g t
+tried_less s g (Holds t left) = omega arith
+tried_less s g (Closed t) = omega arith
+tried_less s g (Retired t) = omega arith
+
+-- the numbers of a slot where one worker, that does d, goes on to e
+pub record Turned (st : State) (w : ℕ) (k : Actor) (d e : Doing) (s g : ℕ) : Type 0 where
+  pub tickets : total (worker_tickets s) (slice_set st.workers w (record k { doing = e })) + tried s d ≡ total (worker_tickets s) st.workers + tried s e
+  pub right : total (worker_right s g) (slice_set st.workers w (record k { doing = e })) + tried_right s g d ≡ total (worker_right s g) st.workers + tried_right s g e
+  pub holding : total (worker_holds s) (slice_set st.workers w (record k { doing = e })) + holds s d ≡ total (worker_holds s) st.workers + holds s e
+  pub closing : total (worker_closes s) (slice_set st.workers w (record k { doing = e })) + closes s d ≡ total (worker_closes s) st.workers + closes s e
+  pub gone : total (worker_retires s) (slice_set st.workers w (record k { doing = e })) + retires s d ≡ total (worker_retires s) st.workers + retires s e
+
+pub turned : (st : State) (w : ℕ) (k : Actor) (d e : Doing) (s g : ℕ) → slice_get st.workers w ≡ Some k → k.doing ≡ d → Turned st w k d e s g
+turned st w k d e s g there does =
+    let r : Replaced st w k (record k { doing = e }) s g = replaced st w k (record k { doing = e }) s g there in
+    let a : tried s k.doing ≡ tried s d = ap (tried s) does in
+    let b : tried_right s g k.doing ≡ tried_right s g d = ap (tried_right s g) does in
+    let c : holds s k.doing ≡ holds s d = ap (holds s) does in
+    let f : closes s k.doing ≡ closes s d = ap (closes s) does in
+    let h : retires s k.doing ≡ retires s d = ap (retires s) does in
+    record {
+      tickets = omega arith;
+      right = omega arith;
+      holding = omega arith;
+      closing = omega arith;
+      gone = omega arith;
+    }
