@@ -1,2 +1,3 @@
+pub mod Insertions
 pub mod Steps
 pub mod Runs

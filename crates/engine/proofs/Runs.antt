@@ -15,9 +15,7 @@ use Rattle.relay_core.specs.Pairs.{Relay, verdict}
 use Rattle.relay_core.specs.Order.{next_call}
 use Rattle.relay_core.specs.Replies.{Reply, Bytes, End, Wrote, Joined, Shut, Blocked, Interrupted, Failed, fits, after}
 use Rattle.relay_core.specs.Runs.{answered, over}
-use Rattle.relay_core.specs.Laws.{TellsOf}
-use Rattle.relay_core.proofs.Over.{Step, step_of}
-use Rattle.relay_core.proofs.Faults.{asked_while_live, fails_by_call}
+use Rattle.relay_core.specs.Laws.{TellsOf, IsAnswerOf, AnswersAreToNextCalls, CallsComeWhileLive, FailuresAreTold}
 use Rattle.relay_core.specs.Moved.{brought, carried, or_nothing, all_brought, all_carried}
 use Rattle.engine.specs.Asked.{Asked, Given}
 use Rattle.engine.specs.Wires.{Told, Rises}
@@ -271,56 +269,62 @@ goes_on told does told_b does_b made p m q a b c t u v r s = record {
 abbrev pub LastFailed : List Reply → Fault → Type 0
 LastFailed replies fault = (front : List Reply) × (replies ≡ front ++ Failed fault.kind ∷ [])
 
-failed_at_once : (p x q : Relay) (first : Reply) (fault : Fault) → Step p first x → x ≡ q → verdict q ≡ verdict.Failed fault → LastFailed (first ∷ []) fault
-failed_at_once p x q first fault s same failed =
-    let here : verdict x ≡ verdict.Failed fault = rw same failed in
-    let t : TellsOf s.call first fault = (fails_by_call p s.call first x s.next s.is fault).0 here in
+-- the laws of the core that this rests on
+pub record Laws : Type 0 where
+  pub answers : AnswersAreToNextCalls
+  pub calls : CallsComeWhileLive
+  pub failures : FailuresAreTold
+
+failed_at_once : (laws : Laws) (p x q : Relay) (first : Reply) (fault : Fault) → IsAnswerOf p first x → x ≡ q → verdict q ≡ verdict.Failed fault → LastFailed (first ∷ []) fault
+failed_at_once laws p x q first fault s same failed =
+    let here : verdict (after p s.call first) ≡ verdict.Failed fault = sym (ap verdict s.after_it) ∙ (ap verdict same ∙ failed) in
+    let t : TellsOf s.call first fault = (laws.failures p s.call first fault s.answers).0 here in
     ([], ap (λ (r : Reply). r ∷ []) t.kind)
 
-failed_later : (x q : Relay) (first second : Reply) (rest : List Reply) (fault : Fault) →
+failed_later : (laws : Laws) (x q : Relay) (first second : Reply) (rest : List Reply) (fault : Fault) →
     ((y : Relay) → verdict y ≡ verdict.Live → over y (second ∷ rest) ≡ Some q → LastFailed (second ∷ rest) fault) →
     (o : Option Relay) → answered x second ≡ o → option_and_then (λ (y : Relay). over y rest) o ≡ Some q → over x (second ∷ rest) ≡ Some q → LastFailed (first ∷ second ∷ rest) fault
-failed_later x q first second rest fault below None e h whole = absurd (cc)
-failed_later x q first second rest fault below (Some y) e h whole =
-    let s : Step x second y = step_of x second y e in
-    let last : LastFailed (second ∷ rest) fault = below x (asked_while_live x s.call s.next) whole in
+failed_later laws x q first second rest fault below None e h whole = absurd (cc)
+failed_later laws x q first second rest fault below (Some y) e h whole =
+    let s : IsAnswerOf x second y = laws.answers x y second e in
+    let last : LastFailed (second ∷ rest) fault = below x (laws.calls x s.call s.answers.next) whole in
     (first ∷ last.0, ap (λ (xs : List Reply). first ∷ xs) last.1)
 
-failed_from : (p q : Relay) (first : Reply) (fault : Fault) (replies : List Reply) →
+failed_from : (laws : Laws) (p q : Relay) (first : Reply) (fault : Fault) (replies : List Reply) →
     ((y : Relay) → verdict y ≡ verdict.Live → over y replies ≡ Some q → LastFailed replies fault) → verdict q ≡ verdict.Failed fault →
     (o : Option Relay) → answered p first ≡ o → option_and_then (λ (x : Relay). over x replies) o ≡ Some q → LastFailed (first ∷ replies) fault
-failed_from p q first fault replies below failed None e h = absurd (cc)
-failed_from p q first fault [] below failed (Some x) e h = failed_at_once p x q first fault (step_of p first x e) (cc) failed
-failed_from p q first fault (second ∷ rest) below failed (Some x) e h = failed_later x q first second rest fault below (answered x second) refl h h
+failed_from laws p q first fault replies below failed None e h = absurd (cc)
+failed_from laws p q first fault [] below failed (Some x) e h = failed_at_once laws p x q first fault (laws.answers p x first e) (cc) failed
+failed_from laws p q first fault (second ∷ rest) below failed (Some x) e h = failed_later laws x q first second rest fault below (answered x second) refl h h
 
-pub fails_last : (q : Relay) (fault : Fault) → verdict q ≡ verdict.Failed fault → (replies : List Reply) (p : Relay) → verdict p ≡ verdict.Live → over p replies ≡ Some q → LastFailed replies fault
-fails_last q fault failed [] p live h = let same : p ≡ q = cc in let other : verdict q ≡ verdict.Live = rw same at live in absurd (cc)
-fails_last q fault failed (first ∷ replies) p live h = failed_from p q first fault replies (λ y l e. fails_last q fault failed replies y l e) failed (answered p first) refl h
+pub fails_last : (laws : Laws) (q : Relay) (fault : Fault) → verdict q ≡ verdict.Failed fault → (replies : List Reply) (p : Relay) → verdict p ≡ verdict.Live → over p replies ≡ Some q → LastFailed replies fault
+fails_last laws q fault failed [] p live h = let same : p ≡ q = cc in let other : verdict q ≡ verdict.Live = rw same at live in absurd (cc)
+fails_last laws q fault failed (first ∷ replies) p live h = failed_from laws p q first fault replies (λ y l e. fails_last laws q fault failed replies y l e) failed (answered p first) refl h
 
 on_some : {T : Type 0} {P : Type 0} (o : Option T) → P → OnSome o P
 on_some None h = tt
 on_some (Some x) h = h
 
 -- the budget is spent
-pub spent : (budget made : ℕ) (p q : Relay) (client target : Side → Relay → List Reply → Type 0) → made ≡ budget → Runs made p q client target → IsTurn budget p q client target
-spent budget made p q client target all r = record {
+pub spent : (laws : Laws) (budget made : ℕ) (p q : Relay) (client target : Side → Relay → List Reply → Type 0) → made ≡ budget → Runs made p q client target → IsTurn budget p q client target
+spent laws budget made p q client target all r = record {
   replies = r.replies;
   few = omega (arith, r.many, all);
   run = r.run;
   whole = on_some (next_call q) (r.many ∙ all);
-  failed_last = λ fault live failed. fails_last q fault failed r.replies p live r.run;
+  failed_last = λ fault live failed. fails_last laws q fault failed r.replies p live r.run;
   by_client = r.by_client;
   by_target = r.by_target;
 }
 
 -- no call is left
-pub stopped : (budget made : ℕ) (p q : Relay) (client target : Side → Relay → List Reply → Type 0) → made ≤ budget → next_call q ≡ None → Runs made p q client target → IsTurn budget p q client target
-stopped budget made p q client target few none r = record {
+pub stopped : (laws : Laws) (budget made : ℕ) (p q : Relay) (client target : Side → Relay → List Reply → Type 0) → made ≤ budget → next_call q ≡ None → Runs made p q client target → IsTurn budget p q client target
+stopped laws budget made p q client target few none r = record {
   replies = r.replies;
   few = omega (arith, few, r.many);
   run = r.run;
   whole = rw none tt;
-  failed_last = λ fault live failed. fails_last q fault failed r.replies p live r.run;
+  failed_last = λ fault live failed. fails_last laws q fault failed r.replies p live r.run;
   by_client = r.by_client;
   by_target = r.by_target;
 }

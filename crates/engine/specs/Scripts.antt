@@ -1,9 +1,11 @@
 -- A wire over memory that plays answers, as its callers see it.
-use Rattle.std.specs.Prelude.{◌≡◌, ℕ, ◌+◌, ◌&&◌, nat_eq, nat_lt, nat_le, if◌then◌else◌, Bool, false, List, [], ◌∷◌, ◌++◌, length, take, drop}
+use Rattle.std.specs.Prelude.{◌≡◌, ℕ, ◌+◌, ◌&&◌, nat_eq, nat_lt, nat_le, if◌then◌else◌, Bool, false, List, [], ◌∷◌, ◌++◌, length, take, drop, insert}
 use Rattle.std.specs.declared.io.ErrorKind.TheVariants.{WouldBlock}
 use Rattle.relay_core.specs.declared.Side.TheVariants.{Target}
 use Rattle.relay_core.specs.declared.call.Call.{Call}
 use Rattle.relay_core.specs.declared.call.Call.TheVariants as call
+use Rattle.engine.specs.declared.script_wire.PlayList.{PlayList}
+use Rattle.engine.specs.declared.script_wire.PlayList.TheVariants as list
 use Rattle.engine.specs.Classes.{class_of}
 use Rattle.engine.specs.Asked.{Asked, Read, Write, Join, Shut, Given, Took, Done, Refused}
 use Rattle.engine.specs.Cues.{Cue, Bytes, bytes_in, read_by, written_by, joined_by, shut_by, connects}
@@ -26,6 +28,18 @@ bytes_of (cue ∷ cues) = bytes_in cue ++ bytes_of cues
 -- the plays that were not used
 abbrev pub plays_left : Script → ℕ
 plays_left s = length s.reads + length s.writes + length s.closings
+
+-- the plays of one list
+abbrev pub plays_of : PlayList → Script → List Cue
+plays_of list.Reads s = s.reads
+plays_of list.Writes s = s.writes
+plays_of list.Closings s = s.closings
+
+-- the wire with one play more, before the one at this index of a list
+abbrev pub disturbed : PlayList → ℕ → Cue → Script → Script
+disturbed list.Reads i cue s = record s { reads = insert s.reads i cue }
+disturbed list.Writes i cue s = record s { writes = insert s.writes i cue }
+disturbed list.Closings i cue s = record s { closings = insert s.closings i cue }
 
 -- what the first play gives, or what an empty list does
 abbrev pub first_by : Given → (Cue → Given) → List Cue → Given

@@ -27,7 +27,7 @@ mod wire;
 pub use class::{Class, class_of, pending};
 pub use ending::Turn;
 pub use play::Play;
-pub use script_wire::ScriptWire;
+pub use script_wire::{PlayList, ScriptWire};
 pub use tally::Tally;
 pub use turning::turn;
 pub use wire::Wire;

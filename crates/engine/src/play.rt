@@ -1,5 +1,5 @@
 ghost use Rattle.std.specs.Prelude.{◌≡◌};
-ghost use Rattle.engine.specs.Cues.{cue_of, error_of, error_of_kind, written_by, connects};
+ghost use Rattle.engine.specs.Cues.{cue_of, error_of, error_of_kind, written_by, most_taken, connects};
 ghost use Rattle.engine.specs.Playing.{took};
 
 use relay_core::Kind;
@@ -50,6 +50,16 @@ impl Play {
             Play::Take(most) => Ok(offered.min(*most)),
             Play::Zero => Ok(0),
             _ => Err(self.error()),
+        }
+    }
+
+    /// The most bytes that a write takes by it.
+    pub(crate) fn most_taken(&self) -> usize
+        ensures { result ≡ most_taken (cue_of self.now) }
+    {
+        match self {
+            Play::Take(most) => *most,
+            _ => 0,
         }
     }
 

@@ -1,7 +1,9 @@
-ghost use Rattle.std.specs.Prelude.{◌≡◌, ◌≤◌, ◌∷◌, [], map, length, drop, IsNone, IfSome};
+ghost use Rattle.std.specs.Prelude.{◌≡◌, ◌≤◌, ◌∷◌, [], map, length, drop, insert, IsNone, IfSome, IfOk, IfErr};
 ghost use Rattle.engine.specs.Cues.{cue_of};
+ghost use Rattle.engine.specs.Playing.{first_bytes, trimmed};
 
 use crate::play::Play;
+use std::alloc::AllocError;
 use std::marker::Model;
 
 /// A list of plays, used from the front without moving any.
@@ -50,5 +52,38 @@ impl Plays {
         ensures { self.new ≡ drop 1 self.old }
     {
         self.used += 1;
+    }
+
+    /// Those that are left.
+    pub(crate) fn rest(&self) -> &[Play]
+        ensures { map cue_of result.now ≡ self.now }
+    {
+        &self.plays[self.used..]
+    }
+
+    /// Drops the first `n` bytes of the one that comes next.
+    pub(crate) fn trim(&mut self, n: usize)
+        requires { n ≤ length (first_bytes self.old) }
+        ensures { self.new ≡ trimmed n self.old }
+    {
+        if self.used == self.plays.len() {
+            return;
+        }
+        if let Play::Bytes(bytes) = &mut self.plays[self.used] {
+            bytes.copy_within(n.., 0);
+            bytes.truncate(bytes.len() - n);
+        }
+    }
+
+    /// Puts one before the one at this index; or there is no memory for it, and it is dropped.
+    pub(crate) fn insert(&mut self, index: usize, play: Play) -> Result<(), AllocError>
+        requires { index ≤ length self.old }
+        ensures done { IfOk result (λ x. self.new ≡ insert self.old index (cue_of play)) }
+        ensures refused { IfErr result (λ x. self.new ≡ self.old) }
+    {
+        match self.plays.insert(self.used + index, play) {
+            Ok(()) => Ok(()),
+            Err(_) => Err(AllocError),
+        }
     }
 }

@@ -1,4 +1,4 @@
-ghost use Rattle.std.specs.Prelude.{◌≡◌, ◌≤◌, min, map, length, take, IfOk};
+ghost use Rattle.std.specs.Prelude.{◌≡◌, ◌≤◌, min, map, length, take, insert, IfOk, IfErr};
 ghost use Rattle.std.specs.declared.io.ErrorKind.TheVariants.{WouldBlock};
 ghost use Rattle.engine.specs.Asked.{Refused};
 ghost use Rattle.engine.specs.Cues.{cue_of, read_by};
@@ -7,6 +7,7 @@ ghost use Rattle.engine.specs.Playing.{brought};
 
 use crate::play::Play;
 use crate::plays::Plays;
+use std::alloc::AllocError;
 use std::io::ErrorKind;
 use std::marker::Model;
 
@@ -76,6 +77,18 @@ impl Reads {
                 Err(kind)
             }
         }
+    }
+
+    /// Puts a play before the one at this index; or there is no memory for it, and it is dropped. Before the
+    /// first it comes before what is left of that.
+    pub(crate) fn insert(&mut self, index: usize, play: Play) -> Result<(), AllocError>
+        requires { index ≤ length self.old }
+        ensures done { IfOk result (λ x. self.new ≡ insert self.old index (cue_of play)) }
+        ensures refused { IfErr result (λ x. self.new ≡ self.old) }
+    {
+        self.plays.trim(self.given);
+        self.given = 0;
+        self.plays.insert(index, play)
     }
 }
 

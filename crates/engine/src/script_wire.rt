@@ -1,9 +1,9 @@
-ghost use Rattle.std.specs.Prelude.{◌≡◌, ◌-◌, ◌^◌, min, Some, [], map, length, take, sum_by, IfOk, IfSome};
+ghost use Rattle.std.specs.Prelude.{◌≡◌, ◌≤◌, ◌-◌, ◌^◌, min, Some, [], map, length, take, sum_by, IfOk, IfErr, IfSome};
 ghost use Rattle.std.specs.IoError.{error_kind};
 ghost use Rattle.relay_core.specs.Calls.{side_of};
 ghost use Rattle.engine.specs.Classes.{class_of};
 ghost use Rattle.engine.specs.Cues.{cue_of, most_taken};
-ghost use Rattle.engine.specs.Scripts.{bytes_of, plays_left, IsPlayed};
+ghost use Rattle.engine.specs.Scripts.{bytes_of, plays_left, plays_of, disturbed, IsPlayed};
 ghost use Rattle.engine.specs.Tallies.{tally, counted};
 
 use crate::play::Play;
@@ -16,6 +16,17 @@ use std::alloc::{AllocError, Global};
 use std::io;
 use std::io::ErrorKind;
 use std::marker::Model;
+
+/// One of the three lists of answers that a [`ScriptWire`] plays.
+#[derive(Clone, Copy, Debug, PartialEq, Eq)]
+pub enum PlayList {
+    /// Those to reads.
+    Reads,
+    /// Those to writes.
+    Writes,
+    /// Those to the questions whether the socket is connected, and to shutdowns.
+    Closings,
+}
 
 /// A wire over memory that plays lists of answers: one for reads, one for writes, and one for
 /// [`Wire::joined`] and [`Wire::shut_write`].
@@ -71,6 +82,28 @@ impl ScriptWire {
         })
     }
 
+    /// Puts a play before the one at `index` of a list, 0 for the one that comes next. Where a read has given
+    /// the first bytes of a Bytes, what is left of it counts as that play.
+    ///
+    /// This takes the memory for the play and, in the list of writes, for a Take's bytes. [`AllocError`] where
+    /// there is not so much: then the play is dropped, and the wire is as it was.
+    pub fn disturb(&mut self, list: PlayList, index: usize, play: Play) -> Result<(), AllocError>
+        requires { index ≤ length (plays_of list self.old) }
+        ensures done { IfOk result (λ x. self.new ≡ disturbed list index (cue_of play) self.old) }
+        ensures refused { IfErr result (λ x. self.new ≡ self.old) }
+    {
+        match list {
+            PlayList::Reads => self.reads.insert(index, play),
+            PlayList::Closings => self.closings.insert(index, play),
+            PlayList::Writes => {
+                let room = room_for(self.writes.rest()).ok_or(AllocError)?;
+                let room = room.checked_add(play.most_taken()).ok_or(AllocError)?;
+                self.taken.reserve(room)?;
+                self.writes.insert(index, play)
+            }
+        }
+    }
+
     /// The bytes that writes took.
     pub fn written(&self) -> &[u8]
         ensures { result.now ≡ self.now.written }
@@ -86,6 +119,17 @@ impl ScriptWire {
             .len()
             .saturating_add(self.writes.len())
             .saturating_add(self.closings.len())
+    }
+
+    /// How many plays of one list were not used.
+    pub fn left_of(&self, list: PlayList) -> usize
+        ensures { result ≡ length (plays_of list self.now) }
+    {
+        match list {
+            PlayList::Reads => self.reads.len(),
+            PlayList::Writes => self.writes.len(),
+            PlayList::Closings => self.closings.len(),
+        }
     }
 
     /// An error of a call, which is counted.

@@ -8,6 +8,8 @@ use std::io::{self, ErrorKind};
 use std::process::Abort;
 use std::test::Fail;
 
+mod disturbed;
+
 // The helpers below promise nothing, so that what a test says is told by its run alone.
 
 /// A play as a test writes it down.

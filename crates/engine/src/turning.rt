@@ -1,13 +1,13 @@
 ghost use Rattle.std.specs.Prelude.{◌≡◌, ◌≤◌, Some};
 ghost use Rattle.relay_core.specs.Order.{next_call};
-ghost use Rattle.relay_core.specs.Laws.{IsPossible};
+ghost use Rattle.relay_core.specs.Laws.{IsPossible, AnswersAreToNextCalls, CallsComeWhileLive, FailuresAreTold};
 ghost use Rattle.engine.specs.Steps.{IsMove};
 ghost use Rattle.engine.specs.Turns.{ending_of, IsServed, IsTurn};
 
 use crate::ending::Turn;
 use crate::step::step;
 use crate::wire::Wire;
-use relay_core::{Call, Pair, READ_MOST, Side, Verdict};
+use relay_core::{Call, Pair, READ_MOST, Side, Verdict, laws};
 
 /// Makes the calls that a pair asks for, at most `budget` of them (1 to 1,024), each on the wire of its
 /// side, and hands the pair their answers. A pair that is done or has failed asks for none. It takes no
@@ -30,6 +30,7 @@ pub fn turn<A: Wire, B: Wire>(
     ensures ending { result ≡ ending_of pair.new }
     ensures run { IsTurn budget pair.old pair.new (IsServed A.told A.does client.old client.new) (IsServed B.told B.does target.old target.new) }
 {
+    rests_on_laws();
     let mut buffer = [0; READ_MOST];
     for _calls in 0..budget {
         let Some(call) = pair.next() else {
@@ -38,6 +39,17 @@ pub fn turn<A: Wire, B: Wire>(
         advance(pair, call, client, target, &mut buffer);
     }
     ending(pair)
+}
+
+/// What the core says of every pair, by which a pair that was live fails only by its last answer.
+fn rests_on_laws()
+    ensures answers { AnswersAreToNextCalls }
+    ensures calls { CallsComeWhileLive }
+    ensures failures { FailuresAreTold }
+{
+    laws::answers_are_to_next_calls();
+    laws::calls_come_while_live();
+    laws::failures_are_told();
 }
 
 /// Makes the call that comes next on the wire of its side.

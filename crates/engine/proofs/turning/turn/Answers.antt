@@ -12,7 +12,7 @@ loop-calls-preserved g c = goes_on _ _ _ _ _ _ _ _ _ _ _ _ _ _ c.loop-calls.inva
 pub returns-in_default-clause-run : goal.returns-in_default-clause-run
 returns-in_default-clause-run g c =
     let none : next_call c.loop-calls.pair ≡ None = cc in
-    stopped _ _ _ _ _ _ (omega arith) none c.loop-calls.invariant
+    stopped (record { answers = c.rests_on_laws.ensures.answers; calls = c.rests_on_laws.ensures.calls; failures = c.rests_on_laws.ensures.failures }) _ _ _ _ _ _ (omega arith) none c.loop-calls.invariant
 
 pub returns-clause-run : goal.returns-clause-run
-returns-clause-run g c = spent _ _ _ _ _ _ (omega arith) c.loop-calls.invariant
+returns-clause-run g c = spent (record { answers = c.rests_on_laws.ensures.answers; calls = c.rests_on_laws.ensures.calls; failures = c.rests_on_laws.ensures.failures }) _ _ _ _ _ _ (omega arith) c.loop-calls.invariant
