@@ -1,4 +1,4 @@
-// One seat, two slots, and what the place of a held slot answers.
+// One seat that holds two slots, and what their places answer.
 use super::*;
 use claims::Claims;
 use relay_core::Pair;
@@ -26,7 +26,9 @@ fn a_place_holds_one_berth(rt: HostRuntime) -> Result<(), Fail> {
     let Some(mut seat) = seats.pop() else {
         panic!(rt; "there is no seat")
     };
+    let _adopted = claims.adopt(&mut seat, 0);
     let _adopted = claims.adopt(&mut seat, 1);
+    assert!(rt; seat.holds(0));
     assert!(rt; seat.holds(1));
     let berths = Berths::new(rt.alloc(), 2)?;
     assert_eq!(rt; berths.slots(), 2);
@@ -35,7 +37,10 @@ fn a_place_holds_one_berth(rt: HostRuntime) -> Result<(), Fail> {
     let refused = berths.put_in(&rt, &seat, 1, berth(rt.alloc(), 2)?).err();
     let given_back = refused.map(|Occupied(berth)| berth);
     assert_eq!(rt; told(given_back), Some((2, 7, 't')));
+    // The other slot has a place of its own.
+    assert!(rt; berths.put_in(&rt, &seat, 0, berth(rt.alloc(), 3)?).is_ok());
     assert_eq!(rt; told(berths.take_out(&rt, &seat, 1)), Some((1, 7, 't')));
     assert_eq!(rt; told(berths.take_out(&rt, &seat, 1)), None);
+    assert_eq!(rt; told(berths.take_out(&rt, &seat, 0)), Some((3, 7, 't')));
     Ok(())
 }

@@ -2,10 +2,10 @@ use crate::{
     Cause, done_text, drop_text, fail_text, log_done, log_drop, log_fail, log_open, log_peer,
     open_text, peer_text,
 };
-use log::sink::Memory;
+use log::sink::{Lines, Memory};
 use log::{Level, Log, Logged};
 use relay_core::{CallKind, Fault, Kind, Side};
-use std::alloc::Global;
+use std::alloc::{AllocError, Global};
 use std::test::Fail;
 
 /// A write to the target that met a closed reading end.
@@ -83,4 +83,132 @@ fn levels(rt: HostRuntime) {
         assert!(rt; lines.next().is_none(), "another line at {level:?}");
     }
     assert!(rt; missing <= 1, "{missing} messages are missing");
+}
+
+/// Slots with generations: the first connection of the first slot, one whose generation has over 32 bits, and the
+/// last of the last slot.
+const NAMES: [(usize, u64); 3] = [(0, 1), (3, 4_294_967_297), (32_767, 140_737_488_355_327)];
+
+/// Counts of bytes up and down, on either side of 32 bits and up to the most.
+const COUNTS: [(u64, u64); 4] = [
+    (0, 1),
+    (4_294_967_295, 4_294_967_296),
+    (4_294_967_297, 0),
+    (18_446_744_073_709_551_614, 18_446_744_073_709_551_615),
+];
+
+const SIDES: [(Side, &str); 2] = [(Side::Client, "client"), (Side::Target, "target")];
+
+const CALLS: [(CallKind, &str); 4] = [
+    (CallKind::Write, "write"),
+    (CallKind::Join, "join"),
+    (CallKind::Shut, "shut"),
+    (CallKind::Read, "read"),
+];
+
+const KINDS: [(Kind, &str); 8] = [
+    (Kind::Reset, "reset"),
+    (Kind::Pipe, "pipe"),
+    (Kind::Aborted, "aborted"),
+    (Kind::Refused, "refused"),
+    (Kind::NotConnected, "notconnected"),
+    (Kind::TimedOut, "timedout"),
+    (Kind::Zero, "zero"),
+    (Kind::Other, "other"),
+];
+
+const CAUSES: [(Cause, &str); 3] = [
+    (Cause::Memory, "memory"),
+    (Cause::Connect, "connect"),
+    (Cause::Register, "register"),
+];
+
+/// Logs each failure of a connection.
+fn log_each_failure(log: &impl Log, alloc: Global, slot: usize, generation: u64) {
+    for (side, _) in SIDES {
+        for (call, _) in CALLS {
+            for (kind, _) in KINDS {
+                log_fail(log, alloc, slot, generation, Fault { side, call, kind });
+            }
+        }
+    }
+}
+
+/// Logs every message over the tables.
+fn log_all(log: &impl Log, alloc: Global) {
+    for (slot, generation) in NAMES {
+        log_peer(log, alloc, slot, generation, &"192.0.2.7:50000");
+        log_open(log, alloc, slot, generation);
+        for (up, down) in COUNTS {
+            log_done(log, alloc, slot, generation, up, down);
+        }
+        log_each_failure(log, alloc, slot, generation);
+    }
+    for (cause, _) in CAUSES {
+        log_drop(log, alloc, cause);
+    }
+}
+
+/// The lines of each failure of a connection whose name prints so.
+fn add_failures(alloc: Global, lines: &mut Vec<String>, name: &str) -> Result<(), AllocError> {
+    for (_, side) in SIDES {
+        for (_, call) in CALLS {
+            for (_, kind) in KINDS {
+                let line = format!(in alloc;
+                    "[WARN  relayd] fail {name} side={side} call={call} kind={kind}"
+                )?;
+                lines.push(line)?;
+            }
+        }
+    }
+    Ok(())
+}
+
+/// The lines of every message over the tables.
+fn lines_of_all(alloc: Global) -> Result<Vec<String>, AllocError> {
+    let mut lines = Vec::new(alloc);
+    for (slot, generation) in NAMES {
+        let name = format!(in alloc; "s={slot} g={generation}")?;
+        lines.push(format!(in alloc; "[DEBUG relayd] peer {name} from=192.0.2.7:50000")?)?;
+        lines.push(format!(in alloc; "[INFO  relayd] open {name}")?)?;
+        for (up, down) in COUNTS {
+            lines.push(format!(in alloc; "[INFO  relayd] done {name} up={up} down={down}")?)?;
+        }
+        add_failures(alloc, &mut lines, name.as_str())?;
+    }
+    for (_, cause) in CAUSES {
+        lines.push(format!(in alloc; "[WARN  relayd] drop kind={cause}")?)?;
+    }
+    Ok(lines)
+}
+
+/// How many of the wanted lines are missing; none where there is another line, or one out of order.
+fn missing_of(lines: &Lines, wanted: &[String]) -> Option<usize> {
+    let mut lines = lines.as_slice().iter().peekable();
+    let mut missing = 0usize;
+    for text in wanted {
+        if lines
+            .next_if(|line| line.as_str() == text.as_str())
+            .is_none()
+        {
+            missing = missing.saturating_add(1);
+        }
+    }
+    if lines.next().is_some() {
+        return None;
+    }
+    Some(missing)
+}
+
+// Each message as it is handed over, of every kind, side, call and cause, and with the largest numbers. Where a growth
+// is refused, as above, at most one is missing.
+#[test]
+fn hands_over_each_message(rt: HostRuntime) -> Result<(), Fail> {
+    let sink = Memory::new(rt.alloc());
+    log_all(&Logged::new(&rt, Level::Trace, &sink), rt.alloc());
+    let lines = sink.into_lines();
+    let wanted = lines_of_all(rt.alloc())?;
+    let missing = missing_of(&lines, wanted.as_slice());
+    assert!(rt; matches!(missing, Some(0 | 1)), "missing: {missing:?}");
+    Ok(())
 }
