@@ -120,32 +120,7 @@ one_exchange generations number t old new is step =
     omega arith
 
 module _ {generations : List ℕ} {number : ℕ} where
-  -- a report for no connection
-  pub delivered_nothing : {s : SeatState} {h : HandState} → reported generations number ≡ None → Delivered generations (number ∷ []) s s h h
-  delivered_nothing {s} {h} is =
-      let all : all_reported generations (number ∷ []) ≡ [] = ap (λ (o : Option Ticket). cons_option o []) is in
-      record {
-        woke = [];
-        in_order = subst (λ (ts : List Ticket). IsSubsequence [] ts) (sym all) refl;
-        table = refl;
-        accounts = λ slot. subst (λ (ts : List Ticket). account_at s slot ≡ raised (at_slot slot ts) 0 (account_at s slot)) (sym all) (raised_none (account_at s slot));
-        exchanges = let none = ap (λ (ts : List Ticket). length ts) all in omega arith;
-        hand = none_in_hand h;
-      }
-
   module _ {t : Ticket} {old new : SeatState} {h : HandState} (is : reported generations number ≡ Some t) (not_held : HoldsNot old t.slot) where
-    -- a report that woke
-    pub delivered_wake : Changed t.slot old new (after_post true (account_at old t.slot)) → Delivered generations (number ∷ []) old new h (record h { tickets = h.tickets ++ t ∷ [] })
-    delivered_wake changed = record {
-      woke = t ∷ [];
-      in_order = subst (λ (ts : List Ticket). IsSubsequence (t ∷ []) ts) (sym (one_reported generations number t is)) (inr ([], refl, refl));
-      table = changed.table;
-      accounts = λ slot. subst (λ (ts : List Ticket). account_at new slot ≡ raised (at_slot slot ts) (at_slot slot (t ∷ [])) (account_at old slot)) (sym (one_reported generations number t is))
-          (posted_one t true (t ∷ []) old new not_held changed (one_at t) (none_at t) slot);
-      exchanges = one_exchange generations number t old new is changed.steps;
-      hand = refl;
-    }
-
     -- a report that did not wake
     pub delivered_quiet : Changed t.slot old new (after_post false (account_at old t.slot)) → Delivered generations (number ∷ []) old new h h
     delivered_quiet changed = record {

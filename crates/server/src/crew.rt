@@ -67,10 +67,22 @@ pub(crate) fn work<F: Front, G: Gate, R: Wait + Log>(
     requires { own.seat ≡ fresh shared.now.claims }
 {
     if let Err(fault) = run_turns(rt, alloc, gate, note, shared, &mut own) {
-        note.write(rt, number, fault);
-        own.ready.close();
-        F::wake(&shared.waker);
+        end_all(rt, note, shared, number, &mut own.ready, fault);
     }
+}
+
+/// Notes a worker's fault, by which all other threads end: workers that sleep are woken, and so is the poller.
+pub(crate) fn end_all<F: Front, R: Wait>(
+    rt: &R,
+    note: &Note,
+    shared: &Shared<F>,
+    number: usize,
+    ready: &mut ReadyQueue,
+    fault: ServerFault,
+) {
+    note.write(rt, number, fault);
+    ready.close();
+    F::wake(&shared.waker);
 }
 
 fn run_turns<F: Front, G: Gate, R: Wait + Log>(

@@ -1,8 +1,10 @@
 //! Putting tickets and free slots into the queues, and keeping in hand what a queue refuses.
 ghost use Rattle.std.specs.Prelude.{◌≡◌, ◌<◌, ◌≤◌, length};
+ghost use Rattle.claims.specs.Seats.{HoldsNot};
 ghost use Rattle.server.specs.Hands.{HasRoom, Shrank};
 
 use crate::hand::Hand;
+use crate::shared::Own;
 use ready::{FreeQueue, Full, ReadyQueue, Ticket};
 use std::sync::Wait;
 
@@ -36,20 +38,26 @@ pub(crate) fn give_slots<R: Wait>(rt: &R, free: &mut FreeQueue, hand: &mut Hand)
     }
 }
 
-/// Puts a ticket, which stays in hand if the queue is full.
-pub(crate) fn put_ticket<R: Wait>(rt: &R, ready: &mut ReadyQueue, hand: &mut Hand, ticket: Ticket)
-    requires { length hand.old.tickets < hand.old.capacity }
+/// Puts the ticket of a slot that was released, which stays in hand if the queue is full. One that were put before
+/// the release could be taken at once, find its slot held, and be lost.
+pub(crate) fn put_ticket<R: Wait>(rt: &R, own: &mut Own, ticket: Ticket)
+    requires released { HoldsNot own.old.seat ticket.slot }
+    requires room { length own.old.hand.tickets < own.old.hand.capacity }
+    ensures seat { own.new.seat ≡ own.old.seat }
 {
-    if let Err(Full(ticket)) = ready.put(rt, ticket) {
-        hand.keep_ticket(ticket);
+    if let Err(Full(ticket)) = own.ready.put(rt, ticket) {
+        own.hand.keep_ticket(ticket);
     }
 }
 
-/// Gives a slot back, which stays in hand if the queue is full.
-pub(crate) fn give_slot<R: Wait>(rt: &R, free: &mut FreeQueue, hand: &mut Hand, slot: usize)
-    requires { length hand.old.slots < hand.old.capacity }
+/// Gives a slot back that was retired, which stays in hand if the queue is full. One that were given back before it
+/// is free could be found not free by the poller, and be used no more.
+pub(crate) fn give_slot<R: Wait>(rt: &R, own: &mut Own, slot: usize)
+    requires retired { HoldsNot own.old.seat slot }
+    requires room { length own.old.hand.slots < own.old.hand.capacity }
+    ensures seat { own.new.seat ≡ own.old.seat }
 {
-    if let Err(Full(slot)) = free.give(rt, slot) {
-        hand.keep_slot(slot);
+    if let Err(Full(slot)) = own.free.give(rt, slot) {
+        own.hand.keep_slot(slot);
     }
 }

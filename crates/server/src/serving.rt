@@ -97,16 +97,21 @@ fn opened(
 }
 
 /// Starts the workers, and polls until the server ends.
-fn run_threads<G: Gate + Sync, R: Net + Wait + Threads + Log + Sync>(
+pub(crate) fn run_threads<F, G: Gate + Sync, R: Net + Wait + Threads + Log + Sync>(
     rt: &R,
     alloc: Global,
     gate: &G,
-    shared: &Shared<Sockets>,
+    shared: &Shared<F>,
     mut parts: Parts,
-    poller: Poller<Sockets>,
+    poller: Poller<F>,
     workers: usize,
     poller_works: bool,
 ) -> Result<(), ServerFault>
+where
+    F: Front + Drop + Send,
+    F::Client: Send,
+    F::Target: Send,
+    F::Waker: Sync,
     requires few { workers ≤ 16 }
     requires seats { AreFresh shared.now.claims parts.seats.items }
     requires sized { length poller.table ≡ shared.now.claims.words }
@@ -167,7 +172,7 @@ fn lead<F: Front + Drop, G: Gate, R: Net + Wait + Log>(
     own.ready.close();
 }
 
-fn run_rounds<F: Front, G: Gate, R: Net + Wait + Log>(
+pub(crate) fn run_rounds<F: Front, G: Gate, R: Net + Wait + Log>(
     rt: &R,
     alloc: Global,
     gate: &G,

@@ -1,6 +1,9 @@
 mod fake;
+mod faults;
 mod holding;
+mod parts;
 mod poller;
 mod serving;
+mod settling;
 mod sockets;
 mod worker;

@@ -2,7 +2,7 @@
 ghost use Rattle.std.specs.Prelude.{◌≡◌, ◌+◌, ◌<◌, ◌≤◌, length, Ok};
 ghost use Rattle.claims.specs.Seats.{account_at, HoldsNothing, OnlyAt};
 ghost use Rattle.server.specs.Hands.{HasRoom};
-ghost use Rattle.server.specs.Turns.{TurnChange, exchanges, HoldsOnly, Released as ReleasedHere};
+ghost use Rattle.server.specs.Turns.{TurnChange, Rose, exchanges, HoldsOnly, Released as ReleasedHere};
 
 use crate::faults::ServerFault;
 use crate::front::{Front, Line};
@@ -10,7 +10,7 @@ use crate::gate::Gate;
 use crate::putting::{give_slot, give_slots, put_ticket, put_tickets};
 use crate::shared::{Own, Shared};
 use berths::Berth;
-use claims::{Claimed, Posted, Released};
+use claims::{ClaimSeat, Claimed, Posted, Released};
 use engine::{Turn, turn};
 use log::Log;
 use ready::Ticket;
@@ -140,18 +140,7 @@ fn run<F: Front, G: Gate, R: Wait + Log>(
     ensures change { TurnChange (account_at own.old.seat ticket.slot) result (account_at own.new.seat ticket.slot) }
     ensures exchanges { own.new.seat.steps + 1 ≡ own.old.seat.steps + exchanges result }
 {
-    if shared.claims.take(&mut own.seat, ticket.slot) > 0 {
-        berth.pair.note();
-    }
-    gate.before_turn(ticket.slot);
-    let ending = turn(
-        &mut berth.pair,
-        &mut berth.client,
-        &mut berth.target,
-        shared.budget,
-    );
-    gate.after_turn(ticket.slot);
-    match ending {
+    match play(shared, &mut own.seat, gate, ticket.slot, &mut berth) {
         Turn::Done | Turn::Failed => {
             end(rt, alloc, shared, own, ticket, berth);
             Ok(Worked::Ended)
@@ -168,6 +157,37 @@ fn run<F: Front, G: Gate, R: Wait + Log>(
             Ok(Worked::Quiet)
         }
     }
+}
+
+/// Tells a connection whose slot is held of the notes that wait there, and runs it on its two wires. It is handed
+/// neither an allocator nor what may wait, so it makes nothing new in memory and waits for no lock.
+fn play<F: Front, G: Gate>(
+    shared: &Shared<F>,
+    seat: &mut ClaimSeat,
+    gate: &G,
+    slot: usize,
+    berth: &mut Berth<F::Client, F::Target>,
+) -> Turn
+    requires same { seat.old.table ≡ shared.now.claims }
+    requires inside { slot < shared.now.claims.words }
+    requires holder { HoldsOnly slot seat.old }
+    ensures holder { HoldsOnly slot seat.new }
+    ensures only { OnlyAt slot seat.old seat.new }
+    ensures account { Rose 0 0 (account_at seat.old slot) (account_at seat.new slot) }
+    ensures exchanges { seat.new.steps ≡ seat.old.steps + 1 }
+{
+    if shared.claims.take(seat, slot) > 0 {
+        berth.pair.note();
+    }
+    gate.before_turn(slot);
+    let ending = turn(
+        &mut berth.pair,
+        &mut berth.client,
+        &mut berth.target,
+        shared.budget,
+    );
+    gate.after_turn(slot);
+    ending
 }
 
 /// Puts a connection back into its place. A place that is not empty, which no run meets, keeps what it has, and the
@@ -223,7 +243,7 @@ fn leave<F: Front, R: Wait>(rt: &R, shared: &Shared<F>, own: &mut Own, ticket: T
     ensures released { ReleasedHere (account_at own.old.seat ticket.slot) (account_at own.new.seat ticket.slot) }
 {
     if shared.claims.release(&mut own.seat, ticket.slot) == Released::Wake {
-        put_ticket(rt, &mut own.ready, &mut own.hand, ticket);
+        put_ticket(rt, own, ticket);
     }
 }
 
@@ -250,7 +270,7 @@ fn end<F: Front, R: Wait + Log>(
     shared.claims.retire(&mut own.seat, ticket.slot);
     // No connection can be opened in a slot after its last generation.
     if ticket.generation < MAX_GEN {
-        give_slot(rt, &mut own.free, &mut own.hand, ticket.slot);
+        give_slot(rt, own, ticket.slot);
     }
     F::wake(&shared.waker);
 }

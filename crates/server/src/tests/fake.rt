@@ -6,9 +6,10 @@ use crate::front::{Front, Line, MAX_BATCH, Unopened};
 use engine::{Play, ScriptWire};
 use log::Log;
 use std::alloc::{AllocError, Global};
-use std::cell::Cell;
 use std::io::{self, ErrorKind};
 use std::net::{Net, SocketAddr};
+use std::sync::atomic::AtomicU64;
+use std::sync::atomic::Ordering::SeqCst;
 use token::Token;
 
 impl Line for ScriptWire {
@@ -31,7 +32,10 @@ pub(crate) struct Fake {
     batches: Vec<Vec<u64>>,
     accepts: Vec<Option<ErrorKind>>,
     opens: Vec<Option<Unopened>>,
-    polled: usize,
+    /// How each poll fails, if it does.
+    pub(crate) failing: Option<ErrorKind>,
+    /// How often poll was called.
+    pub(crate) polled: usize,
     /// How often accept was called.
     pub(crate) accepted: usize,
     opened: usize,
@@ -50,6 +54,7 @@ impl Fake {
             batches,
             accepts: script.accepts.to_vec(alloc)?,
             opens: script.opens.to_vec(alloc)?,
+            failing: None,
             polled: 0,
             accepted: 0,
             opened: 0,
@@ -84,14 +89,18 @@ impl Front for Fake {
 
     type Target = ScriptWire;
 
-    type Waker = Cell<u32>;
+    type Waker = AtomicU64;
 
     fn poll(&mut self, batch: &mut Vec<u64>) -> io::Result<()> {
         batch.clear();
-        if let Some(numbers) = self.batches.get(self.polled) {
+        let number = self.polled;
+        self.polled = number.saturating_add(1);
+        if let Some(kind) = self.failing {
+            return Err(io::Error::from(kind));
+        }
+        if let Some(numbers) = self.batches.get(number) {
             fill(batch, numbers.as_slice());
         }
-        self.polled = self.polled.saturating_add(1);
         Ok(())
     }
 
@@ -126,8 +135,8 @@ impl Front for Fake {
         reset_wire(self.alloc).map_err(|_| Unopened::Connect)
     }
 
-    fn wake(waker: &Cell<u32>) {
-        waker.set(waker.get().saturating_add(1));
+    fn wake(waker: &AtomicU64) {
+        waker.fetch_add(1, SeqCst);
     }
 
     fn peer(_client: &ScriptWire) -> Option<SocketAddr> {

@@ -1,22 +1,22 @@
 // The poller's rounds over a fake front: what no clause says of words, tickets, calls of accept and log lines.
-ghost use Rattle.std.specs.Prelude.{◌≡◌, ◌≤◌, length};
+ghost use Rattle.std.specs.Prelude.{◌≡◌, ◌≤◌, length, IfOk};
 ghost use Rattle.claims.specs.Seats.{fresh, HoldsNothing};
 
 use super::fake::{Fake, Script};
-use crate::crew::{Parts, next_own};
+use super::parts::parts_of;
+use crate::crew::next_own;
 use crate::{
     MAX_BATCH, OpenGate, Own, Poller, Shared, Unopened, Worked, poller_round, worker_turn,
 };
-use berths::Berths;
-use claims::Claims;
 use log::sink::Memory;
 use log::{Level, Log, Logged};
-use ready::{FreeQueue, ReadyQueue, Ticket};
+use ready::Ticket;
 use std::alloc::{AllocError, Global};
-use std::cell::Cell;
 use std::io::ErrorKind;
 use std::net::Net;
 use std::sync::Wait;
+use std::sync::atomic::AtomicU64;
+use std::sync::atomic::Ordering::SeqCst;
 use std::test::Fail;
 
 /// A server of two threads, the poller and one worker, which both run in the test's own.
@@ -58,7 +58,7 @@ impl Stage {
     }
 }
 
-/// A server whose front plays this script. Rings have four bytes.
+/// A server whose front plays this script.
 fn staged(
     rt: &impl Wait,
     alloc: Global,
@@ -68,20 +68,8 @@ fn staged(
 ) -> Result<Stage, AllocError>
     requires { (1 ≤ slots) × (slots ≤ 4096) }
 {
-    let Ok((claims, seats)) = Claims::open(alloc, slots, 2) else {
-        return Err(AllocError);
-    };
-    let shared = Shared {
-        claims,
-        berths: Berths::new(alloc, slots)?,
-        waker: Cell::new(0),
-        budget: 64,
-    };
-    let mut parts = Parts {
-        seats,
-        ready: ReadyQueue::new(alloc, slots, 2)?,
-        free: FreeQueue::new(rt, alloc, slots, 2)?,
-    };
+    let waker = AtomicU64::new(0);
+    let (shared, mut parts) = parts_of::<Fake>(rt, alloc, waker, slots, slots, 2, 64)?;
     let capacity = 2 * slots + 2 * MAX_BATCH;
     let (Some(own), Some(worker)) = (
         next_own(alloc, &shared, &mut parts, capacity)?,
@@ -89,8 +77,21 @@ fn staged(
     ) else {
         return Err(AllocError);
     };
-    let poller = Poller::new(alloc, Fake::new(alloc, script)?, slots, 4, stop_after)?;
+    let poller = poller_of(alloc, slots, stop_after, script)?;
     Ok(stage_of(shared, poller, own, worker))
+}
+
+/// A poller whose front plays this script. Rings have four bytes.
+pub(crate) fn poller_of(
+    alloc: Global,
+    slots: usize,
+    stop_after: u32,
+    script: Script,
+) -> Result<Poller<Fake>, AllocError>
+    ensures { IfOk result (λ poller. length poller.table ≡ slots) }
+{
+    let front = Fake::new(alloc, script)?;
+    Poller::new(alloc, front, slots, 4, stop_after)
 }
 
 fn stage_of(shared: Shared<Fake>, poller: Poller<Fake>, own: Own, worker: Own) -> Stage
@@ -126,7 +127,7 @@ fn an_opening_throws_old_notes_away(rt: HostRuntime) -> Result<(), Fail> {
     assert_eq!(rt; stage.word(0), Some(4));
     assert_eq!(rt; stage.work(&log, alloc), Some(Worked::Ended));
     assert_eq!(rt; stage.word(0), Some(3));
-    assert_eq!(rt; stage.shared.waker.get(), 1);
+    assert_eq!(rt; stage.shared.waker.load(SeqCst), 1);
     assert!(rt; stage.round(&log, alloc));
     assert_eq!(rt; stage.word(0), Some(4));
     assert_eq!(rt; stage.own.hand.take_ticket(), ticket(0, 2));
@@ -194,9 +195,11 @@ fn a_failed_opening_leaves_its_slot_as_it_was(rt: HostRuntime) -> Result<(), Fai
     Ok(())
 }
 
-/// Answers of accept, the calls of accept in each of three rounds, and how many errors are logged. The third round's
+/// Answers of accept, the calls of accept in each of three rounds, and how many errors are logged, at a server of so
+/// many slots. The third round's
 /// batch reports the listener.
 struct Row {
+    slots: usize,
     accepts: &'static [Option<ErrorKind>],
     calls: [usize; 3],
     errors: usize,
@@ -204,44 +207,52 @@ struct Row {
 
 const AGAIN: [Option<ErrorKind>; 300] = [Some(ErrorKind::Interrupted); 300];
 
-const ROWS: [Row; 9] = [
+const ROWS: [Row; 10] = [
     Row {
+        slots: 1,
         accepts: &AGAIN,
         calls: [256, 45, 1],
         errors: 0,
     },
     Row {
+        slots: 1,
         accepts: &[Some(ErrorKind::ConnectionAborted)],
         calls: [2, 0, 1],
         errors: 0,
     },
     Row {
+        slots: 1,
         accepts: &[Some(ErrorKind::NetworkDown)],
         calls: [2, 0, 1],
         errors: 0,
     },
     Row {
+        slots: 1,
         accepts: &[Some(ErrorKind::NetworkUnreachable)],
         calls: [2, 0, 1],
         errors: 0,
     },
     Row {
+        slots: 1,
         accepts: &[Some(ErrorKind::HostUnreachable)],
         calls: [2, 0, 1],
         errors: 0,
     },
     Row {
+        slots: 1,
         accepts: &[Some(ErrorKind::WouldBlock)],
         calls: [1, 0, 1],
         errors: 0,
     },
     // Starved twice is logged once.
     Row {
+        slots: 1,
         accepts: &[Some(ErrorKind::Other), Some(ErrorKind::OutOfMemory)],
         calls: [1, 1, 1],
         errors: 1,
     },
     Row {
+        slots: 1,
         accepts: &[
             Some(ErrorKind::Other),
             Some(ErrorKind::WouldBlock),
@@ -251,9 +262,22 @@ const ROWS: [Row; 9] = [
         errors: 2,
     },
     Row {
+        slots: 1,
         accepts: &[None],
         calls: [1, 0, 0],
         errors: 0,
+    },
+    // With descriptors again it accepts again, and the next time that there are none is logged again.
+    Row {
+        slots: 2,
+        accepts: &[
+            Some(ErrorKind::Other),
+            Some(ErrorKind::Other),
+            None,
+            Some(ErrorKind::Other),
+        ],
+        calls: [1, 1, 2],
+        errors: 2,
     },
 ];
 
@@ -268,7 +292,7 @@ fn each_answer_of_accept_is_obeyed(rt: HostRuntime) -> Result<(), Fail> {
             accepts: row.accepts,
             opens: &[],
         };
-        let mut stage = staged(&rt, alloc, 1, 0, script)?;
+        let mut stage = staged(&rt, alloc, row.slots.clamp(1, 2), 0, script)?;
         for calls in row.calls {
             let before = stage.poller.front.accepted;
             assert!(rt; stage.round(&log, alloc));

@@ -1,11 +1,12 @@
 // A worker's turn over wires in memory: what no clause says of words, tickets, free slots, wakes and log lines. The
 // helpers promise nothing that a turn does not need, so that what a test says is told by its run alone.
-ghost use Rattle.std.specs.Prelude.{◌≡◌, ◌≤◌, ◌<◌, IfOk};
+ghost use Rattle.std.specs.Prelude.{◌≡◌, ◌≤◌};
 ghost use Rattle.claims.specs.Seats.{fresh, HoldsNothing};
-ghost use Rattle.server.specs.Crews.{AreFresh};
 
 use super::holding::Holding;
-use crate::crew::{Parts, next_own, work};
+use super::parts::parts_of;
+use super::settling::Settling;
+use crate::crew::{next_own, work};
 use crate::front::{Front, Unopened};
 use crate::gate::{Gate, OpenGate};
 use crate::note::Note;
@@ -14,17 +15,16 @@ use crate::putting::put_tickets;
 use crate::shared::{Own, Shared};
 use crate::worker::{Worked, worker_turn};
 use berths::{Berth, Berths};
-use claims::Claims;
+use claims::Claimed;
 use engine::{Play, ScriptWire};
 use log::sink::{Discard, Memory};
 use log::{Level, Log, Logged};
-use ready::{FreeQueue, ReadyQueue, Ticket};
+use ready::Ticket;
 use relay_core::{Kind, Pair};
 use std::alloc::{AllocError, Global};
 use std::cell::Cell;
 use std::io::{self, ErrorKind};
 use std::net::{Net, SocketAddr};
-use std::process::Abort;
 use std::sync::Wait;
 use std::sync::atomic::AtomicU64;
 use std::sync::atomic::Ordering::SeqCst;
@@ -65,13 +65,32 @@ impl Stage {
         &mut self,
         rt: &impl Wait,
         ticket: Ticket,
-        berth: Berth<ScriptWire, ScriptWire>,
+        berth: Berth<Settling, Settling>,
     ) -> Option<Ticket> {
         if !self.own.hand.has_room() || ticket.slot >= self.shared.claims.slots() {
             return None;
         }
         placed(rt, &self.shared, &mut self.own, ticket, berth).ok()?;
         self.own.hand.take_ticket()
+    }
+
+    /// How often each wire of the connection in a slot was settled. None where the slot has no connection.
+    fn settled(self, rt: &impl Wait, slot: usize) -> Option<(u32, u32)> {
+        let Stage {
+            shared,
+            mut own,
+            ..
+        } = self;
+        if slot >= shared.claims.slots() {
+            return None;
+        }
+        match shared.claims.claim(&mut own.seat, slot) {
+            Claimed::Busy => None,
+            Claimed::Held => shared
+                .berths
+                .take_out(rt, &own.seat, slot)
+                .map(|berth| (berth.client.settled, berth.target.settled)),
+        }
     }
 
     /// The word of a slot, as far as there is one.
@@ -88,9 +107,9 @@ impl Stage {
 struct Still;
 
 impl Front for Still {
-    type Client = ScriptWire;
+    type Client = Settling;
 
-    type Target = ScriptWire;
+    type Target = Settling;
 
     type Waker = AtomicU64;
 
@@ -99,17 +118,17 @@ impl Front for Still {
         Ok(())
     }
 
-    fn accept(&mut self) -> io::Result<ScriptWire> {
+    fn accept(&mut self) -> io::Result<Settling> {
         Err(io::Error::from(ErrorKind::WouldBlock))
     }
 
     fn open<N: Net + Log>(
         &mut self,
         _rt: &N,
-        _client: &mut ScriptWire,
+        _client: &mut Settling,
         _client_token: Token,
         _target_token: Token,
-    ) -> Result<ScriptWire, Unopened> {
+    ) -> Result<Settling, Unopened> {
         Err(Unopened::Connect)
     }
 
@@ -117,7 +136,7 @@ impl Front for Still {
         waker.fetch_add(1, SeqCst);
     }
 
-    fn peer(_client: &ScriptWire) -> Option<SocketAddr> {
+    fn peer(_client: &Settling) -> Option<SocketAddr> {
         None
     }
 }
@@ -152,7 +171,7 @@ enum Scene {
     Reset,
 }
 
-fn wires(alloc: Global, scene: Scene) -> Result<(ScriptWire, ScriptWire), AllocError> {
+fn wires(alloc: Global, scene: Scene) -> Result<(Settling, Settling), AllocError> {
     let (mut given, mut sent, mut taken) = (Vec::new(alloc), Vec::new(alloc), Vec::new(alloc));
     match scene {
         Scene::Silent => {}
@@ -172,7 +191,11 @@ fn wires(alloc: Global, scene: Scene) -> Result<(ScriptWire, ScriptWire), AllocE
     let none = Vec::new(alloc);
     let client = ScriptWire::new(alloc, true, given, Vec::new(alloc), none)?;
     let target = ScriptWire::new(alloc, false, sent, taken, Vec::new(alloc))?;
-    Ok((client, target))
+    Ok((unsettled(client), unsettled(target)))
+}
+
+fn unsettled(wire: ScriptWire) -> Settling {
+    Settling { wire, settled: 0 }
 }
 
 /// A connection with rings of four bytes.
@@ -180,46 +203,13 @@ fn berth(
     alloc: Global,
     ticket: Ticket,
     scene: Scene,
-) -> Result<Berth<ScriptWire, ScriptWire>, AllocError> {
+) -> Result<Berth<Settling, Settling>, AllocError> {
     let (client, target) = wires(alloc, scene)?;
     Ok(Berth {
         pair: Pair::new(alloc, ticket.slot, ticket.generation, 4)?,
         client,
         target,
     })
-}
-
-/// A server without connections, and what its threads are made of. Each slot is free, and its queue of tickets has
-/// room for `room`.
-fn parts_of(
-    rt: &impl Wait,
-    alloc: Global,
-    slots: usize,
-    room: usize,
-    threads: usize,
-    budget: usize,
-) -> Result<(Shared<Still>, Parts), AllocError>
-    requires slots { (1 ≤ slots) × (slots ≤ 4096) }
-    requires room { (1 ≤ room) × (room ≤ 4096) }
-    requires threads { (1 ≤ threads) × (threads ≤ 17) }
-    requires budget { (1 ≤ budget) × (budget ≤ 1024) }
-    ensures { IfOk result (λ made. AreFresh made.0.claims made.1.seats.items) }
-{
-    let Ok((claims, seats)) = Claims::open(alloc, slots, threads) else {
-        return Err(AllocError);
-    };
-    let shared = Shared {
-        claims,
-        berths: Berths::new(alloc, slots)?,
-        waker: AtomicU64::new(0),
-        budget,
-    };
-    let parts = Parts {
-        seats,
-        ready: ReadyQueue::new(alloc, room, threads)?,
-        free: FreeQueue::new(rt, alloc, slots, threads)?,
-    };
-    Ok((shared, parts))
 }
 
 /// A server of one thread.
@@ -235,7 +225,15 @@ fn staged(
     requires room { (1 ≤ room) × (room ≤ 4096) }
     requires budget { (1 ≤ budget) × (budget ≤ 1024) }
 {
-    let (shared, mut parts) = parts_of(rt, alloc, slots, room, 1, budget)?;
+    let (shared, mut parts) = parts_of::<Still>(
+        rt,
+        alloc,
+        AtomicU64::new(0),
+        slots,
+        room,
+        1,
+        budget,
+    )?;
     match next_own(alloc, &shared, &mut parts, HAND)? {
         Some(own) => Ok(Stage { shared, own }),
         None => Err(AllocError),
@@ -247,9 +245,9 @@ fn ticket(slot: usize, generation: u64) -> Ticket {
 }
 
 /// One turn at a server of one slot whose only connection was just opened. What is wanted of it stands behind its
-/// answer: the slot's word, the tickets in the queue, the slots that were given back, the turns of the engine, and the
-/// wakes.
-#[derive(Clone, Copy)]
+/// answer: the slot's word, the tickets in the queue, the slots that were given back, the turns of the engine that began
+/// and ended, the wakes, and how often each wire of the connection was settled.
+#[derive(Clone, Copy, Debug, PartialEq, Eq)]
 struct Row {
     opened: Option<(u64, Scene)>,
     /// Whether the connection is lost from its place.
@@ -257,14 +255,14 @@ struct Row {
     /// The slot and the generation of the turn's ticket.
     ticket: (usize, u64),
     budget: usize,
-    before: u64,
-    worked: Worked,
-    after: u64,
+    before: Option<u64>,
+    worked: Option<Worked>,
+    after: Option<u64>,
     put: Option<Ticket>,
     given: Option<usize>,
-    turns: u32,
+    turns: (u32, u32),
     wakes: u64,
-    line: Option<&'static str>,
+    settled: Option<(u32, u32)>,
 }
 
 /// A turn that finds its slot free.
@@ -273,131 +271,159 @@ const BUSY: Row = Row {
     lost: false,
     ticket: (0, 1),
     budget: 64,
-    before: 3,
-    worked: Worked::Busy,
-    after: 3,
+    before: Some(3),
+    worked: Some(Worked::Busy),
+    after: Some(3),
     put: None,
     given: None,
-    turns: 0,
+    turns: (0, 0),
     wakes: 0,
-    line: None,
+    settled: None,
 };
 
 /// A turn that finds no call worth a try.
 const QUIET: Row = Row {
     opened: Some((1, Scene::Silent)),
-    before: 4,
-    worked: Worked::Quiet,
-    after: 0,
-    turns: 1,
+    before: Some(4),
+    worked: Some(Worked::Quiet),
+    after: Some(0),
+    turns: (1, 1),
+    settled: Some((1, 1)),
     ..BUSY
 };
 
 /// A turn that finds no connection of its ticket.
 const GONE: Row = Row {
-    worked: Worked::Gone,
-    turns: 0,
+    worked: Some(Worked::Gone),
+    turns: (0, 0),
+    settled: Some((0, 0)),
     ..QUIET
 };
 
 /// A turn whose connection fails.
 const FAILED: Row = Row {
     opened: Some((1, Scene::Reset)),
-    worked: Worked::Ended,
-    after: 3,
+    worked: Some(Worked::Ended),
+    after: Some(3),
     given: Some(0),
     wakes: 1,
-    line: Some("[WARN  relayd] fail s=0 g=1 side=client call=read kind=reset"),
+    settled: None,
     ..QUIET
 };
 
-const ROWS: [Row; 9] = [
-    BUSY,
-    QUIET,
-    Row { lost: true, ..GONE },
-    Row {
-        ticket: (0, 2),
-        ..GONE
-    },
+/// Each with the line that is logged.
+const ROWS: [(Row, Option<&str>); 9] = [
+    (BUSY, None),
+    (QUIET, None),
+    (
+        Row {
+            lost: true,
+            settled: None,
+            ..GONE
+        },
+        None,
+    ),
+    (
+        Row {
+            ticket: (0, 2),
+            ..GONE
+        },
+        None,
+    ),
     // A slot that is not there: nothing is done, also at the slot that is.
-    Row {
-        ticket: (1, 1),
-        after: 4,
-        ..GONE
-    },
-    Row {
-        opened: Some((1, Scene::Through)),
-        line: Some("[INFO  relayd] done s=0 g=1 up=3 down=0"),
-        ..FAILED
-    },
-    FAILED,
+    (
+        Row {
+            ticket: (1, 1),
+            after: Some(4),
+            ..GONE
+        },
+        None,
+    ),
+    (
+        Row {
+            opened: Some((1, Scene::Through)),
+            ..FAILED
+        },
+        Some("[INFO  relayd] done s=0 g=1 up=3 down=0"),
+    ),
+    (
+        FAILED,
+        Some("[WARN  relayd] fail s=0 g=1 side=client call=read kind=reset"),
+    ),
     // A slot whose last generation has ended is not given back.
-    Row {
-        opened: Some((MAX_GEN, Scene::Reset)),
-        ticket: (0, MAX_GEN),
-        given: None,
-        line: Some("[WARN  relayd] fail s=0 g=140737488355327 side=client call=read kind=reset"),
-        ..FAILED
-    },
-    Row {
-        opened: Some((1, Scene::Stuck)),
-        budget: 3,
-        worked: Worked::Again,
-        after: 4,
-        put: Some(Ticket {
-            slot: 0,
-            generation: 1,
-        }),
-        ..QUIET
-    },
+    (
+        Row {
+            opened: Some((MAX_GEN, Scene::Reset)),
+            ticket: (0, MAX_GEN),
+            given: None,
+            ..FAILED
+        },
+        Some("[WARN  relayd] fail s=0 g=140737488355327 side=client call=read kind=reset"),
+    ),
+    (
+        Row {
+            opened: Some((1, Scene::Stuck)),
+            budget: 3,
+            worked: Some(Worked::Again),
+            after: Some(4),
+            put: Some(Ticket {
+                slot: 0,
+                generation: 1,
+            }),
+            settled: Some((0, 0)),
+            ..QUIET
+        },
+        None,
+    ),
 ];
 
-/// Plays a row.
-fn play<R: Wait + Abort>(
-    rt: &R,
-    alloc: Global,
-    number: usize,
-    row: &Row,
-) -> Result<(), AllocError> {
-    let sink = Memory::new(alloc);
-    let log = Logged::new(rt, Level::Info, &sink);
-    let gate = Counting {
-        began: Cell::new(0),
-        ended: Cell::new(0),
-    };
+/// A server whose connection is as a row has it, with its one free slot taken.
+fn opened(rt: &impl Wait, alloc: Global, row: &Row) -> Result<Stage, AllocError> {
     let mut stage = staged(rt, alloc, 1, 1, row.budget.clamp(1, 1024))?;
-    assert_eq!(rt; stage.own.free.try_take(rt), Some(0));
+    let _free = stage.own.free.try_take(rt);
     if let Some((generation, scene)) = row.opened {
         let ticket = ticket(0, generation);
         let berth = berth(alloc, ticket, scene)?;
-        assert_eq!(rt; stage.open(rt, ticket, berth), Some(ticket));
+        let _due = stage.open(rt, ticket, berth);
     }
     if row.lost {
         stage.shared.berths = Berths::new(alloc, stage.shared.claims.slots())?;
     }
-    assert_eq!(rt; stage.word(0), Some(row.before), "in row {number}");
-    let worked = stage.turn(&log, alloc, &gate, ticket(row.ticket.0, row.ticket.1));
-    assert_eq!(rt; worked, Some(row.worked), "in row {number}");
-    assert_eq!(rt; stage.word(0), Some(row.after), "in row {number}");
-    assert_eq!(rt; stage.own.ready.try_take(rt), row.put, "in row {number}");
-    assert_eq!(rt; stage.own.free.try_take(rt), row.given, "in row {number}");
-    let turns = (gate.began.get(), gate.ended.get());
-    assert_eq!(rt; turns, (row.turns, row.turns), "in row {number}");
-    assert_eq!(rt;
-        stage.shared.waker.load(SeqCst),
-        row.wakes,
-        "in row {number}"
-    );
-    let lines = sink.into_lines();
-    let line = lines.as_slice().first().map(|line| line.as_str());
-    assert_eq!(rt; line, row.line, "in row {number}");
-    Ok(())
+    Ok(stage)
+}
+
+/// Runs a row's turn. Answers the row as it came out.
+fn play<R: Wait + Log>(rt: &R, alloc: Global, mut stage: Stage, row: &Row) -> Row {
+    let gate = Counting {
+        began: Cell::new(0),
+        ended: Cell::new(0),
+    };
+    let before = stage.word(0);
+    let worked = stage.turn(rt, alloc, &gate, ticket(row.ticket.0, row.ticket.1));
+    Row {
+        before,
+        worked,
+        after: stage.word(0),
+        put: stage.own.ready.try_take(rt),
+        given: stage.own.free.try_take(rt),
+        turns: (gate.began.get(), gate.ended.get()),
+        wakes: stage.shared.waker.load(SeqCst),
+        settled: stage.settled(rt, 0),
+        ..*row
+    }
 }
 
 #[test]
 fn each_way_out_of_a_turn(rt: HostRuntime) -> Result<(), Fail> {
-    for (number, row) in ROWS.iter().enumerate() {
-        play(&rt, rt.alloc(), number, row)?;
+    let alloc = rt.alloc();
+    for (number, (row, line)) in ROWS.iter().enumerate() {
+        let sink = Memory::new(alloc);
+        let log = Logged::new(&rt, Level::Info, &sink);
+        let stage = opened(&rt, alloc, row)?;
+        assert_eq!(rt; play(&log, alloc, stage, row), *row, "in row {number}");
+        let lines = sink.into_lines();
+        let first = lines.as_slice().first().map(|line| line.as_str());
+        assert_eq!(rt; first, *line, "in row {number}");
     }
     Ok(())
 }
@@ -531,7 +557,7 @@ fn put_silent<R: Wait>(
 fn two_turns_run_at_once(rt: HostRuntime) -> Result<(), Fail> {
     let alloc = rt.alloc();
     let log = Logged::new(&rt, Level::Error, Discard);
-    let (shared, mut parts) = parts_of(&rt, alloc, 2, 2, 3, 64)?;
+    let (shared, mut parts) = parts_of::<Still>(&rt, alloc, AtomicU64::new(0), 2, 2, 3, 64)?;
     let (Some(mut opener), Some(first), Some(second)) = (
         next_own(alloc, &shared, &mut parts, HAND)?,
         next_own(alloc, &shared, &mut parts, HAND)?,
