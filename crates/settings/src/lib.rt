@@ -2,21 +2,25 @@
 //!
 //! `parse` reads a text. `Settings` has one field for each key and prints as `KEY=VALUE` lines, and
 //! `SettingsFault` prints as the line that a person sees. The table of the keys, with kinds, ranges
-//! and defaults, stands in `specs/Table.antt`.
+//! and defaults, stands in `specs/Table.antt`. `cause` says of a fault what a person wants to know beside it.
 #![tactic(auto)]
 
 mod addresses;
+mod causes;
 mod faults;
 mod fields;
 mod keys;
 mod levels;
+mod one_line;
 mod read;
 #[cfg(test)]
 mod tests;
 
 pub use addresses::Address;
+pub use causes::cause;
 pub use faults::{KeyText, SettingsFault};
 pub use fields::Settings;
 pub use keys::Key;
 pub use levels::LogLevel;
+pub use one_line::OneLine;
 pub use read::parse;

@@ -1,0 +1,136 @@
+//! What a person is told beside a fault: where it stands, what stands there, and what is wanted.
+
+use crate::{Key, OneLine, SettingsFault};
+use std::alloc::{AllocError, Global};
+use toml::Table;
+
+/// The most lines that are looked at for a key.
+const MAX_LOOKS: usize = 64;
+
+/// The cause of a fault, for a person: the line, what stands there, and what is wanted. None where there is no memory
+/// for it. `bytes` is the text that has the fault.
+pub fn cause(alloc: Global, bytes: &[u8], fault: &SettingsFault) -> Option<String> {
+    let text = match std::str::from_utf8(bytes) {
+        Ok(text) => text,
+        Err(error) => {
+            let line = line_at(bytes, error.valid_up_to());
+            return format!(in alloc; "line {line}: this is not UTF-8").ok();
+        }
+    };
+    match fault {
+        SettingsFault::NotToml => not_toml(alloc, text),
+        SettingsFault::UnknownKey(name) => unknown(alloc, text, name.as_str()),
+        SettingsFault::Missing(key) => missing(alloc, *key).ok(),
+        SettingsFault::WrongKind(key)
+        | SettingsFault::OutOfRange(key)
+        | SettingsFault::BadAddress(key) => refused(alloc, text, *key),
+        SettingsFault::NoMemory => None,
+    }
+}
+
+/// The line, from 1, of the byte at this index.
+fn line_at(bytes: &[u8], index: usize) -> usize {
+    let mut line = 1usize;
+    for byte in bytes.iter().take(index) {
+        if *byte == b'\n' {
+            line = line.saturating_add(1);
+        }
+    }
+    line
+}
+
+/// Where a text is no TOML, and what its reader says.
+fn not_toml(alloc: Global, text: &str) -> Option<String> {
+    let Err(error) = toml::table_from_str(alloc, text) else {
+        return None;
+    };
+    let span = error.span()?;
+    let line = line_at(text.as_bytes(), span.start);
+    let message = error.message();
+    format!(in alloc; "line {line}: {message}").ok()
+}
+
+/// That a key is none, and which there are.
+fn unknown(alloc: Global, text: &str, name: &str) -> Option<String> {
+    let place = place_of(alloc, text, name).ok()?;
+    let name = OneLine(name);
+    format!(in alloc;
+        "{place}{name}: one of listen, target, ring, budget, workers, slots, stop_after and log is wanted"
+    ).ok()
+}
+
+/// That a key is required, and what it takes.
+fn missing(alloc: Global, key: Key) -> Result<String, AllocError> {
+    let wanted = wanted(key);
+    format!(in alloc; "{key}: {wanted}")
+}
+
+/// The value that a key may not have, and what it takes.
+fn refused(alloc: Global, text: &str, key: Key) -> Option<String> {
+    let place = place_of(alloc, text, key.name()).ok()?;
+    let document = toml::table_from_str(alloc, text).ok()?;
+    let value = document.get(key.name())?;
+    let value = format!(in alloc; "{value}").ok()?;
+    let value = OneLine(value.as_str());
+    let wanted = wanted(key);
+    format!(in alloc; "{place}{key} = {value}: {wanted}").ok()
+}
+
+/// What a key takes.
+fn wanted(key: Key) -> &'static str {
+    match key {
+        Key::Listen => "four numbers and a port, as \"127.0.0.1:7000\", are wanted",
+        Key::Target => "four numbers and a port from 1 up, as \"127.0.0.1:7001\", are wanted",
+        Key::Ring => "a whole number from 1 to 65536 is wanted",
+        Key::Budget => "a whole number from 1 to 1024 is wanted",
+        Key::Workers => "a whole number from 1 to 16 is wanted",
+        Key::Slots => "a whole number from 1 to 4096 is wanted",
+        Key::StopAfter => "a whole number from 0 to 4294967295 is wanted",
+        Key::Log => "\"off\", \"error\", \"warn\", \"info\", \"debug\" or \"trace\" is wanted",
+    }
+}
+
+/// The words `line N: ` for the line that sets a key, or none where it is not found.
+fn place_of(alloc: Global, text: &str, name: &str) -> Result<String, AllocError> {
+    match line_of(alloc, text, name) {
+        Some(line) => format!(in alloc; "line {line}: "),
+        None => Ok(String::new(alloc)),
+    }
+}
+
+/// The first line, from 1, by whose end the text sets a key. Only lines that have the name in plain letters are looked
+/// at, and not too many of them.
+fn line_of(alloc: Global, text: &str, name: &str) -> Option<usize> {
+    let mut looks = 0usize;
+    let mut start = 0usize;
+    let mut number = 0usize;
+    for (index, byte) in text.as_bytes().iter().enumerate() {
+        if *byte == b'\n' || index == text.len() - 1 {
+            number = number.saturating_add(1);
+            let has_name = text
+                .get(start..index + 1)
+                .is_some_and(|line| line.contains(name));
+            start = index + 1;
+            if has_name && looks < MAX_LOOKS {
+                looks = looks.saturating_add(1);
+                if sets(alloc, text.get(..start)?, name) {
+                    return Some(number);
+                }
+            }
+        }
+    }
+    None
+}
+
+/// Whether a text is TOML that has this name at its top level.
+fn sets(alloc: Global, text: &str, name: &str) -> bool {
+    match toml::table_from_str(alloc, text) {
+        Ok(document) => is_in(&document, name),
+        Err(_) => false,
+    }
+}
+
+/// Whether a document has this name at its top level.
+fn is_in(document: &Table, name: &str) -> bool {
+    document.get(name).is_some()
+}
