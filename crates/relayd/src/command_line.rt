@@ -3,6 +3,9 @@
 use clap::{Arg, ArgMatches, Command, Error};
 use std::alloc::{AllocError, Global};
 
+/// The version that `--version` tells.
+const VERSION: &str = "0.1.0";
+
 /// What the command line asks for.
 #[derive(Clone, Copy)]
 pub enum Asked<'a> {
@@ -37,6 +40,7 @@ fn chosen<'a>(matches: &ArgMatches<'a>) -> Asked<'a> {
 /// The program's command line.
 fn relayd<'a>(alloc: Global) -> Result<Command<'a>, AllocError> {
     Command::new(alloc, "relayd")
+        .version(VERSION)
         .about("A TCP port forwarder on edge-triggered readiness, and its simulator")
         .after_help(
             "Without a command, relayd does what `relayd sim` does.\n\nExamples:\n  relayd run --config examples/relayd.toml\n  relayd sim < examples/one-direction.flow\n\nrelayd(1) tells more, and relayd.toml(5) describes the settings.",
@@ -82,6 +86,7 @@ fn check<'a>(alloc: Global) -> Result<Command<'a>, AllocError> {
 /// The argument that names the settings file.
 fn config<'a>(alloc: Global) -> Arg<'a> {
     Arg::new(alloc, "config")
+        .short('c')
         .long("config")
         .value_name("FILE")
         .required(true)

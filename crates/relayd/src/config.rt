@@ -1,37 +1,111 @@
 //! The settings file.
-ghost use Rattle.std.specs.Prelude.{◌≡◌, ◌<◌, ◌≤◌, Err, IfOk, IfSome, length, vec_len};
+ghost use Rattle.std.specs.Prelude.{◌≡◌, ◌<◌, ◌≤◌, Err, IfOk, IfErr, IfSome, length, vec_len};
+ghost use Rattle.relayd.specs.Files.{FileSets, HasFault};
 
 use crate::faults::ProgramFault;
 use input::{InputFault, read_front};
-use settings::Settings;
+use log::{Log, error};
+use settings::{OneLine, Settings, SettingsFault};
 use std::alloc::Global;
 use std::fs::File;
-use std::io::Read;
+use std::io::{self, Read};
 use std::rt::Files;
 
 /// The most bytes of a settings file.
 const MOST_BYTES: usize = 65_536;
 
-/// The settings of a file.
-pub fn load<R: AllocGlobal + Files>(rt: &R, path: &str) -> Result<Settings, ProgramFault> {
-    let Ok(mut file) = File::open(rt, path) else {
-        return Err(ProgramFault::ConfigRead);
+/// The settings of a file. Where it has a fault, what the system or the reader of settings says of it is logged.
+pub fn load<R: AllocGlobal + Files, L: Log>(
+    rt: &R,
+    log: &L,
+    path: &str,
+) -> Result<Settings, ProgramFault> {
+    let mut file = match File::open(rt, path) {
+        Ok(file) => Noting {
+            reader: file,
+            error: None,
+        },
+        Err(error) => {
+            log_unread(log, path, error);
+            return Err(ProgramFault::ConfigRead);
+        }
     };
-    let text = read(rt.alloc(), &mut file)?;
-    settings::parse(rt.alloc(), text.as_slice()).map_err(ProgramFault::Settings)
+    let settings = read(log, rt.alloc(), &mut file);
+    if let Some(error) = file.error {
+        log_unread(log, path, error);
+    }
+    settings
+}
+
+/// Logs why a file could not be opened or read.
+fn log_unread(log: &impl Log, path: &str, error: io::Error) {
+    let path = OneLine(path);
+    error!(log; target: "relayd", "config: {path}: {error}");
+}
+
+/// The settings that a file's bytes are, all of them, or the fault of the file. One that is too long is told so,
+/// whatever it says. The cause of a fault of its text is logged.
+pub fn read<F: Read, L: Log>(log: &L, alloc: Global, file: &mut F) -> Result<Settings, ProgramFault>
+    ensures settings { IfOk result (λ s. IfSome (F.remaining file.old) (λ bytes. FileSets bytes s)) }
+    ensures fault { IfErr result (λ fault. IfSome (F.remaining file.old) (λ bytes. HasFault bytes fault)) }
+{
+    let text = read_whole(alloc, file)?;
+    match settings::parse(alloc, text.as_slice()) {
+        Ok(settings) => Ok(settings),
+        Err(fault) => {
+            log_cause(log, alloc, text.as_slice(), &fault);
+            Err(ProgramFault::from(fault))
+        }
+    }
+}
+
+/// Logs where a fault of a text stands, and what is wanted there.
+fn log_cause(log: &impl Log, alloc: Global, text: &[u8], fault: &SettingsFault) {
+    if let Some(cause) = settings::cause(alloc, text, fault) {
+        error!(log; target: "relayd", "settings: {cause}");
+    }
+}
+
+/// A reader that keeps the error of a read that failed.
+#[derive(Drop)]
+struct Noting<R> {
+    reader: R,
+    error: Option<io::Error>,
+}
+
+impl<R: Read> Read for Noting<R> {
+    ghost remaining = { λ noting. R.remaining noting.reader };
+
+    fn read(&mut self, buffer: &mut [u8]) -> io::Result<usize> {
+        let answer = self.reader.read(buffer);
+        if let Err(error) = answer {
+            self.error = Some(error);
+        }
+        answer
+    }
 }
 
 /// All bytes of a file, which is read to its end or one byte past the most that it may have: with that
 /// byte it is too long.
-fn read<F: Read>(alloc: Global, file: &mut F) -> Result<Vec<u8>, ProgramFault>
+fn read_whole<F: Read>(alloc: Global, file: &mut F) -> Result<Vec<u8>, ProgramFault>
     ensures most { IfOk result (λ text. vec_len text ≤ 65536) }
     ensures whole { IfOk result (λ text. IfSome (F.remaining file.old) (λ bytes. text.items ≡ bytes)) }
-    ensures long { result ≡ Err ProgramFault.ConfigLong → IfSome (F.remaining file.old) (λ bytes. 65536 < length bytes) }
+    ensures fault { IfErr result (λ fault. IfSome (F.remaining file.old) (λ bytes. HasFault bytes fault)) }
 {
     match read_front(alloc, file, MOST_BYTES + 1) {
         Ok(text) if text.len() > MOST_BYTES => Err(ProgramFault::ConfigLong),
         Ok(text) => Ok(text),
-        Err(InputFault::Unreadable) => Err(ProgramFault::ConfigRead),
-        Err(InputFault::NoMemory) => Err(ProgramFault::NoMemory),
+        Err(fault) => Err(not_read(fault)),
+    }
+}
+
+/// The fault of a settings file that was not read.
+fn not_read(fault: InputFault) -> ProgramFault
+    ensures unreadable { fault ≡ InputFault.Unreadable → result ≡ ProgramFault.ConfigRead }
+    ensures memory { fault ≡ InputFault.NoMemory → result ≡ ProgramFault.NoMemory }
+{
+    match fault {
+        InputFault::Unreadable => ProgramFault::ConfigRead,
+        InputFault::NoMemory => ProgramFault::NoMemory,
     }
 }

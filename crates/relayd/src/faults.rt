@@ -1,9 +1,15 @@
 //! What the program tells on standard error.
+ghost use Rattle.std.specs.Prelude.{◌≡◌};
+ghost use Rattle.std.specs.IoError.{error_kind};
+ghost use Rattle.relayd.specs.Words.{words_fault};
+ghost use Rattle.relayd.specs.Files.{settings_fault};
+ghost use Rattle.relayd.specs.declared.faults.ProgramFault.TheVariants.{NoMemory};
 
 use script::ScriptFault;
 use server::ServerFault;
 use settings::SettingsFault;
 use std::alloc::AllocError;
+use std::io;
 use thiserror::Error;
 
 /// A fault of the program. Its text is what a person sees behind `relayd: `.
@@ -42,7 +48,43 @@ pub enum WordsFault {
 }
 
 impl From<AllocError> for ProgramFault {
+    ghost from_gives = { λ _ fault. fault ≡ NoMemory };
+
     fn from(_error: AllocError) -> ProgramFault {
         ProgramFault::NoMemory
+    }
+}
+
+// Memory that ran out is one fault, wherever it did.
+impl From<SettingsFault> for ProgramFault {
+    ghost from_gives = { λ fault told. told ≡ settings_fault fault };
+
+    fn from(fault: SettingsFault) -> ProgramFault {
+        match fault {
+            SettingsFault::NoMemory => ProgramFault::NoMemory,
+            fault => ProgramFault::Settings(fault),
+        }
+    }
+}
+
+impl From<AllocError> for WordsFault {
+    ghost use Rattle.relayd.specs.declared.faults.WordsFault.TheVariants.{NoMemory};
+
+    ghost from_gives = { λ _ fault. fault ≡ NoMemory };
+
+    fn from(_error: AllocError) -> WordsFault {
+        WordsFault::NoMemory
+    }
+}
+
+// The words are asked for from the system, which has them as bytes.
+impl From<io::Error> for WordsFault {
+    ghost from_gives = { λ error fault. fault ≡ words_fault (error_kind error) };
+
+    fn from(error: io::Error) -> WordsFault {
+        match error.kind() {
+            io::ErrorKind::OutOfMemory => WordsFault::NoMemory,
+            _ => WordsFault::NotText,
+        }
     }
 }

@@ -1,5 +1,6 @@
 //! What the program does, from its words to its status.
-ghost use Rattle.std.specs.Prelude.{◌≡◌, IfSome, Ok};
+ghost use Rattle.std.specs.Prelude.{◌≡◌, ◌≢◌, ◌⊎◌, IfSome, Ok};
+ghost use Rattle.clap.specs.Values.{kind_of};
 ghost use Rattle.script.specs.Runs.{WritesReport, WritesFault};
 
 use crate::command_line::{Asked, read_words};
@@ -28,19 +29,16 @@ const USAGE: u8 = 2;
 
 /// The words of the command line, the program's own name first.
 pub fn words<R: AllocGlobal + Env>(rt: &R) -> Result<Vec<String>, WordsFault> {
-    match env::args(rt) {
-        Ok(words) => match words.collect(rt.alloc()) {
-            Ok(words) => Ok(words),
-            Err(_) => Err(WordsFault::NoMemory),
-        },
-        Err(error) if error.kind() == io::ErrorKind::OutOfMemory => Err(WordsFault::NoMemory),
-        Err(_) => Err(WordsFault::NotText),
-    }
+    let words = env::args(rt)?;
+    Ok(words.collect(rt.alloc())?)
 }
 
 /// Tells to `errors` why there are no words, and answers the exit status: 1 where memory ran out, and
 /// 2 where a word is not UTF-8, which refuses the command line.
-pub fn refuse<E: Write>(errors: &mut E, fault: WordsFault) -> u8 {
+pub fn refuse<E: Write>(errors: &mut E, fault: WordsFault) -> u8
+    ensures memory { fault ≡ WordsFault.NoMemory → result ≡ 1 }
+    ensures not_text { fault ≡ WordsFault.NotText → result ≡ 2 }
+{
     match fault {
         WordsFault::NoMemory => told(errors, ProgramFault::NoMemory),
         WordsFault::NotText => {
@@ -114,15 +112,25 @@ fn simulate<I: Read, O: Write>(
 }
 
 /// Prints what a settings file sets.
-fn check<R: AllocGlobal + Files, O: Write>(
+fn check<R: AllocGlobal + Files + Eprint + Copy + Drop, O: Write>(
     rt: &R,
     path: &str,
     writer: &mut O,
 ) -> Result<u8, ProgramFault> {
-    let settings = config::load(rt, path)?;
+    let settings = load(rt, path)?;
     let text = format!(in rt.alloc(); "{settings}")?;
     write(writer, text.as_str())?;
     Ok(DONE)
+}
+
+/// The settings of a file. Causes of its faults go to the process's own standard error: what it says of `log` is not
+/// known by then.
+fn load<R: AllocGlobal + Files + Eprint + Copy + Drop>(
+    rt: &R,
+    path: &str,
+) -> Result<Settings, ProgramFault> {
+    let logged = Logged::new(*rt, LevelFilter::Error, Console(*rt));
+    config::load(rt, &logged, path)
 }
 
 /// Listens by a settings file, tells where, and serves.
@@ -132,7 +140,7 @@ where
     S: Fn(Settings, Bound) -> Result<(), ServerFault>,
     requires { S.IsAlwaysCallable serve.now }
 {
-    let settings = config::load(rt, path)?;
+    let settings = load(rt, path)?;
     let logged = Logged::new(*rt, most_logged(settings.log), Console(*rt));
     let bound = server::bind(&logged, &settings).map_err(ProgramFault::Server)?;
     let address = bound.text();
@@ -163,7 +171,11 @@ fn write(writer: &mut impl Write, text: &str) -> Result<(), ProgramFault> {
 }
 
 /// Answers a command line that asked for help, or was refused.
-fn answered<O: Write, E: Write>(error: &clap::Error, writer: &mut O, errors: &mut E) -> u8 {
+fn answered<O: Write, E: Write>(error: &clap::Error, writer: &mut O, errors: &mut E) -> u8
+    ensures memory { kind_of error.now ≡ ErrorKind.OutOfMemory → result ≡ 1 }
+    ensures help { (kind_of error.now ≡ ErrorKind.DisplayHelp) ⊎ (kind_of error.now ≡ ErrorKind.DisplayVersion) → (result ≡ 0) ⊎ (result ≡ 1) }
+    ensures refused { kind_of error.now ≢ ErrorKind.OutOfMemory → kind_of error.now ≢ ErrorKind.DisplayHelp → kind_of error.now ≢ ErrorKind.DisplayVersion → result ≡ 2 }
+{
     if error.kind() == ErrorKind::OutOfMemory {
         return told(errors, ProgramFault::NoMemory);
     }
@@ -179,7 +191,9 @@ fn answered<O: Write, E: Write>(error: &clap::Error, writer: &mut O, errors: &mu
 }
 
 /// Tells a fault, and answers its status.
-fn told(errors: &mut impl Write, fault: ProgramFault) -> u8 {
+fn told(errors: &mut impl Write, fault: ProgramFault) -> u8
+    ensures { result ≡ 1 }
+{
     // Where not even this can be written, the status is all that is left to tell.
     let _ = writeln!(errors, "relayd: {fault}");
     FAULT

@@ -5,6 +5,7 @@ mod checks;
 mod ends;
 mod growths;
 mod helps;
+mod words;
 
 use crate::program::act;
 use ends::{Sink, Source};
@@ -42,7 +43,17 @@ fn play<R: AllocGlobal + Files + Eprint + Net + Copy + Drop>(
     source: &mut Source<'_>,
     room: usize,
 ) -> Result<Told, Fail> {
-    let mut sink = Sink::failing_after(rt.alloc(), room)?;
+    let sink = Sink::failing_after(rt.alloc(), room)?;
+    play_into(rt, words, source, sink)
+}
+
+/// Runs the program with these words on a reader and this writer.
+fn play_into<R: AllocGlobal + Files + Eprint + Net + Copy + Drop>(
+    rt: &R,
+    words: &[String],
+    source: &mut Source<'_>,
+    mut sink: Sink,
+) -> Result<Told, Fail> {
     let mut errors = Vec::with_capacity(rt.alloc(), ROOM)?;
     let status = act(
         rt,
@@ -123,11 +134,6 @@ fn rows(rt: HostRuntime) -> Result<(), Fail> {
             "line 7: not allowed: fin\n",
         ),
         ("#", 1, "no world\n"),
-        (
-            "world slots=1 workers=1 ring=4 budget=64",
-            1,
-            "line 1: malformed\n",
-        ),
     ] {
         let script = lines(rt.alloc(), steps)?;
         let run = play_script(&rt, script.as_slice())?;
@@ -308,10 +314,24 @@ fn first_untold<R: AllocGlobal + Files + Eprint + Net + Copy + Drop>(
     Ok(None)
 }
 
+/// Whether the fault of writing is told where a writer takes this text and its flush fails.
+fn tells_a_failed_flush<R: AllocGlobal + Files + Eprint + Net + Copy + Drop>(
+    rt: &R,
+    words: &[String],
+    script: &[u8],
+    text: &[u8],
+) -> Result<bool, Fail> {
+    let sink = Sink::failing_at_its_flush(rt.alloc(), ROOM)?;
+    let run = play_into(rt, words, &mut Source::whole(script), sink)?;
+    let is_told = run.errors.as_slice() == b"relayd: output: cannot be written\n".as_slice();
+    Ok(run.status == 1 && is_told && run.output.as_slice() == text)
+}
+
 #[test]
 fn a_writer_that_fails(rt: HostRuntime) -> Result<(), Fail> {
     let script = lines(rt.alloc(), WHOLE)?;
     let report = b"up sent=616263 ring=- unread=- end=yes shut=yes\n";
     assert_eq!(rt; first_untold(&rt, &[], script.as_slice(), report)?, None);
+    assert!(rt; tells_a_failed_flush(&rt, &[], script.as_slice(), report)?);
     Ok(())
 }

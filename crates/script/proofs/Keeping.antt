@@ -11,7 +11,7 @@ use Rattle.script.specs.declared.step.Step.TheVariants.{Arrive, Fin, Room, Read,
 use Rattle.script.specs.declared.step.NumberedStep.{NumberedStep}
 use Rattle.script.specs.declared.transfer.Transfer.{Transfer}
 use Rattle.script.specs.Faults.{and_then}
-use Rattle.script.specs.Scripts.{Plan}
+use Rattle.script.specs.Plans.{FlowPlan}
 use Rattle.script.specs.Transfers.{opening, stepped, read_size, or_not_allowed, carried}
 use Rattle.script.specs.Laws.{brought, given, is_fin, has_ended, KeepsBytes, KeepsEnd}
 
@@ -202,12 +202,12 @@ comes t (s ∷ ss) v z is = step_on t s ss v (stepped t s.step) (goes t s.step z
 opening_sound : (ring : ℕ) → Sound (opening ring)
 opening_sound ring = record { bytes = refl; ended = λ seen. absurd (cc); shut = λ closed. absurd (cc) }
 
-pub keeps_bytes : (plan : Plan) → KeepsBytes plan
+pub keeps_bytes : (plan : FlowPlan) → KeepsBytes plan
 keeps_bytes plan t is =
     let all = comes (opening plan.ring) plan.steps t (opening_sound plan.ring) is in
     sym all.came ∙ all.sound.bytes
 
-pub keeps_end : (plan : Plan) → KeepsEnd plan
+pub keeps_end : (plan : FlowPlan) → KeepsEnd plan
 keeps_end plan t is closed =
     let all = comes (opening plan.ring) plan.steps t (opening_sound plan.ring) is in
     let left = all.sound.shut closed in

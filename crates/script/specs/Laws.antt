@@ -4,7 +4,7 @@ use Rattle.script.specs.declared.step.Step.{Step}
 use Rattle.script.specs.declared.step.Step.TheVariants.{Arrive, Fin}
 use Rattle.script.specs.declared.step.NumberedStep.{NumberedStep}
 use Rattle.script.specs.declared.transfer.Transfer.{Transfer}
-use Rattle.script.specs.Scripts.{Plan}
+use Rattle.script.specs.Plans.{FlowPlan}
 use Rattle.script.specs.Transfers.{run_of}
 
 -- the bytes that a step brings to the source
@@ -27,7 +27,7 @@ has_ended [] = false
 has_ended (s ∷ ss) = is_fin s.step || has_ended ss
 
 -- The bytes that arrived are the sent bytes, then the ring, then the unread bytes.
-abbrev pub KeepsBytes : Plan → Type 0
+abbrev pub KeepsBytes : FlowPlan → Type 0
 KeepsBytes plan = (t : Transfer) → run_of plan ≡ Ok t → given plan.steps ≡ t.destination.taken ++ (t.flow.ring ++ t.source.unread)
 
 -- The source has ended, no byte is on its way, and what was sent is all that arrived.
@@ -38,5 +38,5 @@ pub record IsComplete (steps : List NumberedStep) (t : Transfer) : Type 0 where
   pub sent : t.destination.taken ≡ given steps
 
 -- The end is passed on only after every byte.
-abbrev pub KeepsEnd : Plan → Type 0
+abbrev pub KeepsEnd : FlowPlan → Type 0
 KeepsEnd plan = (t : Transfer) → run_of plan ≡ Ok t → t.flow.shut ≡ true → IsComplete plan.steps t

@@ -1,8 +1,14 @@
 pub mod Texts
 pub mod Faults
 pub mod Steps
+pub mod Events
+pub mod Words
+pub mod Plans
+pub mod Headers
 pub mod Scripts
 pub mod Transfers
+pub mod Plays
 pub mod Reports
+pub mod WorldReports
 pub mod Laws
 pub mod Runs

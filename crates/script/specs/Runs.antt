@@ -1,33 +1,58 @@
 -- What a run leaves at its writer, by what its reader had.
 use Rattle.std.specs.Prelude.{◌≡◌, ◌⊎◌, ℕ, List, Option, Result, Ok, Err}
 use Rattle.std.specs.Io.KnownBytes.{Appends}
+use Rattle.world.specs.States.{State}
+use Rattle.world.specs.Headline.{HeadlineHolds}
 use Rattle.script.specs.declared.fault.Fault.{Fault}
 use Rattle.script.specs.declared.fault.Fault.TheVariants.{NoMemory}
 use Rattle.script.specs.declared.running.Outcome.{Outcome}
 use Rattle.script.specs.declared.running.Outcome.TheVariants.{Report, Refused}
-use Rattle.script.specs.declared.transfer.Transfer.{Transfer}
-use Rattle.script.specs.Scripts.{Plan, parsed}
-use Rattle.script.specs.Reports.{report, fault_line, outcome_of}
+use Rattle.script.specs.declared.script.Script.{Script}
+use Rattle.script.specs.declared.script.Script.TheVariants as script
+use Rattle.script.specs.declared.script.Reached.{Reached}
+use Rattle.script.specs.declared.script.Reached.TheVariants.{Flow, World}
+use Rattle.script.specs.Plans.{FlowPlan, WorldPlan, events_in}
+use Rattle.script.specs.Scripts.{FlowOf, parsed, said_by}
+use Rattle.script.specs.Plays.{reached_by, world_of}
+use Rattle.script.specs.Reports.{report, fault_line}
+use Rattle.script.specs.WorldReports.{world_report}
 use Rattle.script.specs.Laws.{KeepsBytes, KeepsEnd}
+
+-- what is written of a state
+abbrev pub report_of : Reached → List ℕ
+report_of (Flow transfer) = report transfer
+report_of (World state) = world_report state
+
+-- What a text leads to: the state after the whole script that it is, or its first fault. The whole text is
+-- parsed before the first step is made. Or memory ran out, which says nothing of the text.
+abbrev pub LeadsTo : List ℕ → Result Reached Fault → Type 0
+LeadsTo text (Ok reached) = (script : Script) × ((parsed text ≡ Ok (said_by script)) × (reached_by script ≡ Ok reached))
+LeadsTo text (Err NoMemory) = Unit {0}
+LeadsTo text (Err fault) = (parsed text ≡ Err fault) ⊎ ((script : Script) × ((parsed text ≡ Ok (said_by script)) × (reached_by script ≡ Err fault)))
 
 -- the report of the state after the whole script, and nothing else
 abbrev pub WritesReport : List ℕ → Option (List ℕ) → Option (List ℕ) → Type 0
-WritesReport text old new = (t : Transfer) × ((outcome_of text ≡ Ok t) × Appends old new (report t))
+WritesReport text old new = (reached : Reached) × (LeadsTo text (Ok reached) × Appends old new (report_of reached))
 
 -- the line of the script's first fault, or that memory ran out, and nothing else
 abbrev pub WritesFault : List ℕ → Option (List ℕ) → Option (List ℕ) → Type 0
-WritesFault text old new = ((fault : Fault) × ((outcome_of text ≡ Err fault) × Appends old new (fault_line fault))) ⊎ Appends old new (fault_line NoMemory)
+WritesFault text old new = (fault : Fault) × (LeadsTo text (Err fault) × Appends old new (fault_line fault))
 
 -- what was written of an outcome: its line, or that memory ran out
-abbrev pub Tells : Result Transfer Fault → Outcome → Option (List ℕ) → Option (List ℕ) → Type 0
-Tells (Ok t) Report old new = Appends old new (report t)
-Tells (Ok t) Refused old new = Appends old new (fault_line NoMemory)
+abbrev pub Tells : Result Reached Fault → Outcome → Option (List ℕ) → Option (List ℕ) → Type 0
+Tells (Ok reached) Report old new = Appends old new (report_of reached)
+Tells (Ok reached) Refused old new = Appends old new (fault_line NoMemory)
 Tells (Err fault) Report old new = ⊥
 Tells (Err fault) Refused old new = Appends old new (fault_line fault) ⊎ Appends old new (fault_line NoMemory)
 
--- the two laws, of the script that a text is
+-- the two laws, of the script of one direction that a text is
 abbrev pub EveryByte : List ℕ → Type 0
-EveryByte text = (plan : Plan) → parsed text ≡ Ok plan → KeepsBytes plan
+EveryByte text = (plan : FlowPlan) → parsed text ≡ Ok (FlowOf plan) → KeepsBytes plan
 
 abbrev pub EveryEnd : List ℕ → Type 0
-EveryEnd text = (plan : Plan) → parsed text ≡ Ok plan → KeepsEnd plan
+EveryEnd text = (plan : FlowPlan) → parsed text ≡ Ok (FlowOf plan) → KeepsEnd plan
+
+-- the headline, of the script of a world that a text is
+abbrev pub EveryRun : List ℕ → Type 0
+EveryRun text = (plan : WorldPlan) (st : State) → parsed text ≡ Ok (said_by (script.World plan)) → world_of plan ≡ Ok st
+    → HeadlineHolds plan.limits (events_in plan.events) st

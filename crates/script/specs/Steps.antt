@@ -1,8 +1,8 @@
 -- The steps of a script of one direction, and the lines that say them.
 use Rattle.std.specs.Prelude.{ℕ, true, false, ◌&&◌, if◌then◌else◌, List, [], ◌∷◌, codes, Option, Some, None, option_map}
 use Rattle.std.specs.Str.{bytes_eq}
-use Rattle.script.specs.declared.step.Word.{Word}
-use Rattle.script.specs.declared.step.Word.TheVariants as word
+use Rattle.script.specs.declared.word.Word.{Word}
+use Rattle.script.specs.declared.word.Word.TheVariants as word
 use Rattle.script.specs.declared.step.Step.{Step}
 use Rattle.script.specs.declared.step.Step.TheVariants.{Arrive, Fin, Room, Read, End, Wrote, Shut}
 use Rattle.script.specs.Texts.{words_of, number_of, bytes_of}

@@ -1,6 +1,7 @@
 -- How the lines and words of a script are cut, and what numbers and bytes look like in it.
-use Rattle.std.specs.Prelude.{ℕ, ◌+◌, ◌-◌, ◌*◌, ◌^◌, ◌==◌, nat_lt, nat_le, Bool, true, false, not, ◌&&◌, ◌||◌, if◌then◌else◌, List, [], ◌∷◌, length, fold, Option, Some, None}
+use Rattle.std.specs.Prelude.{ℕ, ◌+◌, ◌-◌, ◌*◌, ◌^◌, ◌==◌, nat_lt, nat_le, Bool, true, false, not, ◌&&◌, ◌||◌, if◌then◌else◌, List, [], ◌∷◌, length, fold, Option, Some, None, take, drop, option_and_then}
 use Rattle.std.specs.List.{slice_split, list_all}
+use Rattle.std.specs.Str.{bytes_eq}
 use Rattle.std.specs.Result.{result_ok}
 use Rattle.hex.specs.Hex.{decode_of}
 
@@ -59,6 +60,14 @@ is_plain (digit ∷ next ∷ digits) = not (digit == 48)
 abbrev pub number_of : List ℕ → Option ℕ
 number_of text =
     if is_plain text && (list_all is_digit text && nat_lt (value_of text) (2 ^ 64)) then Some (value_of text) else None
+
+-- the same, if it is below a bound too
+abbrev pub number_below : ℕ → List ℕ → Option ℕ
+number_below bound text = option_and_then (λ n. if nat_lt n bound then Some n else None) (number_of text)
+
+-- the number that stands behind a key, which ends with its =
+abbrev pub value_after : List ℕ → List ℕ → Option ℕ
+value_after key word = if bytes_eq (take (length key) word) key then number_of (drop (length key) word) else None
 
 -- digits of lower-case hexadecimal
 abbrev pub is_lower_hex : ℕ → Bool

@@ -11,22 +11,36 @@
 //! written, and `Laws` for what every script keeps.
 #![tactic(auto)]
 
+mod event;
+mod event_parts;
+mod events;
 mod fault;
+mod flow_script;
+mod header;
 mod lines;
 mod parsing;
 mod report;
 mod running;
 mod script;
 mod step;
+mod steps;
 #[cfg(test)]
 mod tests;
 mod transfer;
 mod values;
+mod word;
+mod world_report;
+mod world_script;
 
+pub use event::{NumberedEvent, word_of};
 pub use fault::Fault;
+pub use flow_script::FlowScript;
 pub use parsing::parse;
-pub use report::{fault_line, print};
+pub use report::{fault_line, print_transfer};
 pub use running::{Outcome, ScriptFault, run};
-pub use script::Script;
-pub use step::{Bytes, NumberedStep, Step, Word};
+pub use script::{Reached, Script};
+pub use step::{Bytes, NumberedStep, Step};
 pub use transfer::Transfer;
+pub use word::Word;
+pub use world_report::print;
+pub use world_script::WorldScript;

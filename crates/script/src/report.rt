@@ -1,20 +1,59 @@
-ghost use Rattle.std.specs.Prelude.{◌≡◌, ◌++◌, string_bytes, IfOk};
-ghost use Rattle.script.specs.Reports.{report, shown_bytes, yes_or_no, fault_line};
+ghost use Rattle.std.specs.Prelude.{◌≡◌, ◌++◌, codes, string_bytes, IfOk};
+ghost use Rattle.script.specs.Reports.{report, stream_text, shown_bytes, yes_or_no, fault_line};
+ghost use Rattle.script.specs.Runs.{report_of};
 
-use crate::{Fault, Transfer};
+use crate::world_report::print;
+use crate::{Fault, Reached, Transfer};
 use std::alloc::{AllocError, Global};
 
-/// The report of a state, one line: `up sent=H ring=H unread=H end=yes|no shut=yes|no`. Bytes are shown
-/// in lower-case hexadecimal, `-` for none; sent is what the destination took. Or memory for it ran out.
-pub fn print(alloc: Global, transfer: &Transfer) -> Result<String, AllocError>
+impl Reached {
+    /// The report of the state: [`print`] of a world, and [`print_transfer`] of one direction. Or memory for
+    /// it ran out.
+    pub fn report(&self, alloc: Global) -> Result<String, AllocError>
+        ensures { IfOk result (λ text. string_bytes text ≡ report_of self.now) }
+    {
+        match self {
+            Reached::Flow(transfer) => print_transfer(alloc, transfer),
+            Reached::World(world) => print(alloc, world),
+        }
+    }
+}
+
+/// The report of one direction, one line: `up sent=H ring=H unread=H end=yes|no shut=yes|no`. Bytes are
+/// shown in lower-case hexadecimal, `-` for none; sent is what the destination took. Or memory for it ran
+/// out.
+pub fn print_transfer(alloc: Global, transfer: &Transfer) -> Result<String, AllocError>
     ensures { IfOk result (λ text. string_bytes text ≡ report transfer.now) }
 {
-    let sent = shown_bytes(alloc, transfer.destination.taken())?;
-    let ring = shown_bytes(alloc, transfer.flow.to_vec(alloc)?.as_slice())?;
-    let unread = shown_bytes(alloc, transfer.source.unread())?;
-    let end = yes_or_no(transfer.flow.end_seen());
-    let shut = yes_or_no(transfer.flow.is_shut());
-    format!(in alloc; "up sent={sent} ring={ring} unread={unread} end={end} shut={shut}\n")
+    let ring = transfer.flow.to_vec(alloc)?;
+    let stream = stream_text(
+        alloc,
+        transfer.destination.taken(),
+        ring.as_slice(),
+        transfer.source.unread(),
+        transfer.flow.end_seen(),
+        transfer.flow.is_shut(),
+    )?;
+    format!(in alloc; "up{stream}")
+}
+
+/// One direction behind its name: the bytes that were sent, those in the ring, those that wait unread;
+/// whether the end was read, and whether it was passed on.
+pub(crate) fn stream_text(
+    alloc: Global,
+    sent: &[u8],
+    ring: &[u8],
+    unread: &[u8],
+    ended: bool,
+    shut: bool,
+) -> Result<String, AllocError>
+    ensures { IfOk result (λ text. string_bytes text ≡ stream_text sent.now ring.now unread.now ended shut) }
+{
+    let sent = shown_bytes(alloc, sent)?;
+    let ring = shown_bytes(alloc, ring)?;
+    let unread = shown_bytes(alloc, unread)?;
+    let (end, shut) = (yes_or_no(ended), yes_or_no(shut));
+    format!(in alloc; " sent={sent} ring={ring} unread={unread} end={end} shut={shut}\n")
 }
 
 /// The line of a fault, or memory for it ran out.
@@ -25,7 +64,7 @@ pub fn fault_line(alloc: Global, fault: Fault) -> Result<String, AllocError>
 }
 
 /// Bytes as a report shows them.
-fn shown_bytes(alloc: Global, bytes: &[u8]) -> Result<String, AllocError>
+pub(crate) fn shown_bytes(alloc: Global, bytes: &[u8]) -> Result<String, AllocError>
     ensures { IfOk result (λ text. string_bytes text ≡ shown_bytes bytes.now) }
 {
     if bytes.is_empty() {
@@ -36,7 +75,7 @@ fn shown_bytes(alloc: Global, bytes: &[u8]) -> Result<String, AllocError>
 }
 
 /// A mark as a report shows it.
-fn yes_or_no(is_so: bool) -> &'static str
+pub(crate) fn yes_or_no(is_so: bool) -> &'static str
     ensures { result.now ≡ yes_or_no is_so }
 {
     if is_so { "yes" } else { "no" }

@@ -1,18 +1,17 @@
 ghost use Rattle.std.specs.Prelude.{◌≡◌, ◌+◌, IfOk, IfErr, IfSome, Ok, Err};
 ghost use Rattle.std.specs.Io.KnownBytes.{Appends};
-ghost use Rattle.script.specs.Faults.{Gives};
 ghost use Rattle.script.specs.Scripts.{most_bytes};
-ghost use Rattle.script.specs.Reports.{outcome_of};
 ghost use Rattle.input.specs.Fronts.{TakesAtMost};
-ghost use Rattle.script.specs.Runs.{Tells, WritesReport, WritesFault, EveryByte, EveryEnd};
+ghost use Rattle.script.specs.Runs.{LeadsTo, Tells, WritesReport, WritesFault, EveryByte, EveryEnd, EveryRun};
 
 use crate::parsing::MOST_BYTES;
-use crate::report::{fault_line, print};
-use crate::{Fault, Transfer, parse};
+use crate::report::fault_line;
+use crate::{Fault, Reached, parse};
 use input::InputFault;
 use std::alloc::Global;
 use std::io::{Read, Write};
 use thiserror::Error;
+use world::laws::every_run_holds;
 
 /// What a run wrote.
 #[derive(Clone, Copy, Debug, PartialEq, Eq)]
@@ -55,18 +54,22 @@ pub fn run<R: Read, W: Write>(
     // At most one byte past the most that a script may have is taken from the reader.
     ensures taken { TakesAtMost (most_bytes + 1) (R.remaining reader.old) (R.remaining reader.new) }
 
-    // In every script, the bytes that arrived are the sent bytes, then the ring, then the unread bytes;
+    // In every script of one direction, the bytes that arrived are the sent bytes, then the ring, then the unread bytes;
     // and the end is passed on only after every byte.
     ensures every_byte { IfSome (R.remaining reader.old) EveryByte }
     ensures every_end { IfSome (R.remaining reader.old) EveryEnd }
+
+    // In every script of a world, the headline holds of its events and of the world after them.
+    ensures every_run { IfSome (R.remaining reader.old) EveryRun }
 {
+    every_run_holds();
     let outcome = play(alloc, reader)?;
     tell(alloc, writer, outcome)
 }
 
 /// Reads a script, and computes the state after it or its fault. An `Err` is that it was not read.
-fn play<R: Read>(alloc: Global, reader: &mut R) -> Result<Result<Transfer, Fault>, ScriptFault>
-    ensures ok { IfOk result (λ outcome. IfSome (R.remaining reader.old) (λ text. Gives (outcome_of text) outcome)) }
+fn play<R: Read>(alloc: Global, reader: &mut R) -> Result<Result<Reached, Fault>, ScriptFault>
+    ensures ok { IfOk result (λ outcome. IfSome (R.remaining reader.old) (λ text. LeadsTo text outcome)) }
     ensures taken { TakesAtMost (most_bytes + 1) (R.remaining reader.old) (R.remaining reader.new) }
     ensures err { IfErr result (λ fault. fault ≡ ScriptFault.Read) }
 {
@@ -78,8 +81,8 @@ fn play<R: Read>(alloc: Global, reader: &mut R) -> Result<Result<Transfer, Fault
 }
 
 /// The state after the script that a text is, or its fault.
-fn compute(alloc: Global, text: &[u8]) -> Result<Transfer, Fault>
-    ensures { Gives (outcome_of text.now) result }
+fn compute(alloc: Global, text: &[u8]) -> Result<Reached, Fault>
+    ensures { LeadsTo text.now result }
 {
     parse(alloc, text)?.carry_out(alloc)
 }
@@ -88,13 +91,13 @@ fn compute(alloc: Global, text: &[u8]) -> Result<Transfer, Fault>
 fn tell<W: Write>(
     alloc: Global,
     writer: &mut W,
-    outcome: Result<Transfer, Fault>,
+    outcome: Result<Reached, Fault>,
 ) -> Result<Outcome, ScriptFault>
     ensures ok { IfOk result (λ told. Tells outcome told (W.contents writer.old) (W.contents writer.new)) }
     ensures err { IfErr result (λ fault. fault ≡ ScriptFault.Write) }
 {
     match outcome {
-        Ok(transfer) => match print(alloc, &transfer) {
+        Ok(reached) => match reached.report(alloc) {
             Ok(report) => write(writer, report.as_bytes(), Outcome::Report),
             Err(_) => write(writer, NO_MEMORY, Outcome::Refused),
         },

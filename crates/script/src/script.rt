@@ -1,61 +1,38 @@
-ghost use Rattle.std.specs.Prelude.{◌≡◌, ◌≤◌};
+ghost use Rattle.std.specs.Prelude.{◌≡◌};
 ghost use Rattle.script.specs.Faults.{Gives};
-ghost use Rattle.script.specs.Transfers.{run_of};
+ghost use Rattle.script.specs.Plays.{reached_by};
 
-use crate::{Fault, NumberedStep, Transfer};
+use crate::{Fault, FlowScript, Transfer, WorldScript};
 use std::alloc::Global;
-use std::marker::Model;
+use world::World;
 
-/// A script of one direction: the most bytes of its ring, and its steps.
-#[derive(Debug, Drop)]
-pub struct Script {
-    ring: usize,
-    steps: Vec<NumberedStep>,
+/// A script, by what it is of.
+#[derive(Drop)]
+pub enum Script {
+    /// One direction of a connection.
+    Flow(FlowScript),
+    /// The whole relay.
+    World(WorldScript),
 }
 
-impl Model for Script {
-    ghost use Rattle.std.specs.Prelude.{◌≤◌};
-    ghost use Rattle.script.specs.Scripts.{Plan};
-
-    ghost Value = { Plan };
-
-    ghost view = { λ s. record { ring = s.ring; steps = s.steps.items } };
-
-    ghost invariant = { λ s. (1 ≤ s.ring) × (s.ring ≤ 65536) };
+/// The state that a script leads to.
+#[derive(Drop)]
+pub enum Reached {
+    /// One direction of a connection.
+    Flow(Transfer),
+    /// The whole relay.
+    World(World),
 }
 
 impl Script {
-    /// A script of these steps. Takes no memory.
-    pub fn new(ring: usize, steps: Vec<NumberedStep>) -> Script
-        requires least { 1 ≤ ring }
-        requires most { ring ≤ 65536 }
-        ensures { result ≡ record { ring = ring; steps = steps.items } }
+    /// The state after the whole script, or the fault of the first line that is not allowed, or that memory
+    /// ran out.
+    pub fn carry_out(&self, alloc: Global) -> Result<Reached, Fault>
+        ensures { Gives (reached_by self.now) result }
     {
-        Script { ring, steps }
-    }
-
-    /// The most bytes of the ring, 1 to 65,536.
-    pub fn ring(&self) -> usize
-        ensures { result ≡ self.now.ring }
-    {
-        self.ring
-    }
-
-    /// The steps, in order.
-    pub fn steps(&self) -> &[NumberedStep]
-        ensures { result.now ≡ self.now.steps }
-    {
-        self.steps.as_slice()
-    }
-
-    /// The state after all steps, or the fault of the first that is not allowed, or that memory ran out.
-    pub fn carry_out(&self, alloc: Global) -> Result<Transfer, Fault>
-        ensures { Gives (run_of self.now) result }
-    {
-        let mut transfer = Transfer::new(alloc, self.ring)?;
-        for numbered in &self.steps {
-            transfer.carry_out(numbered)?;
+        match self {
+            Script::Flow(script) => Ok(Reached::Flow(script.carry_out(alloc)?)),
+            Script::World(script) => Ok(Reached::World(script.carry_out(alloc)?)),
         }
-        Ok(transfer)
     }
 }

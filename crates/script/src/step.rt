@@ -1,8 +1,7 @@
 ghost use Rattle.std.specs.Prelude.{◌≡◌};
-ghost use Rattle.script.specs.Faults.{word_text};
 ghost use Rattle.script.specs.Steps.{word_of};
 
-use std::fmt;
+use crate::Word;
 use std::marker::Model;
 
 /// The bytes that a step brings.
@@ -32,6 +31,13 @@ impl Bytes {
         ensures { result.now ≡ self.now }
     {
         self.bytes.as_slice()
+    }
+
+    /// The same bytes as a vector. Takes no memory.
+    pub fn into_vec(self) -> Vec<u8>
+        ensures { result.items ≡ self }
+    {
+        self.bytes
     }
 }
 
@@ -63,25 +69,6 @@ pub struct NumberedStep {
     pub step: Step,
 }
 
-/// The first word of a step, by which a fault names it.
-#[derive(Clone, Copy, Debug, PartialEq, Eq)]
-pub enum Word {
-    /// `arrive`.
-    Arrive,
-    /// `fin`.
-    Fin,
-    /// `room`.
-    Room,
-    /// `read`.
-    Read,
-    /// `end`.
-    End,
-    /// `wrote`, with `full` or without.
-    Wrote,
-    /// `shut`.
-    Shut,
-}
-
 impl Step {
     /// The first word of the step.
     pub fn word(&self) -> Word
@@ -96,33 +83,5 @@ impl Step {
             Step::Wrote(..) => Word::Wrote,
             Step::Shut => Word::Shut,
         }
-    }
-}
-
-impl Word {
-    /// The word as it stands in a script.
-    pub fn text(self) -> &'static str
-        ensures { result.now ≡ word_text self }
-    {
-        match self {
-            Word::Arrive => "arrive",
-            Word::Fin => "fin",
-            Word::Room => "room",
-            Word::Read => "read",
-            Word::End => "end",
-            Word::Wrote => "wrote",
-            Word::Shut => "shut",
-        }
-    }
-}
-
-impl fmt::Display for Word {
-    ghost use Rattle.std.specs.Prelude.{Some};
-    ghost use Rattle.script.specs.Faults.{word_text};
-
-    ghost output = { λ word. Some (word_text word) };
-
-    fn fmt<W: fmt::Write>(&self, f: &mut fmt::Formatter<W>) -> fmt::Result {
-        f.write_str(self.text())
     }
 }

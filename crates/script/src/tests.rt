@@ -3,6 +3,7 @@ use kernel_model::Refusal;
 use std::alloc::{AllocError, Global};
 use std::process::Abort;
 use std::test::Fail;
+use world::Limits;
 
 /// One direction from its first byte to its shutdown, with lines between that say nothing.
 const WHOLE: &[u8] =
@@ -12,7 +13,9 @@ const REPORT: &[u8] = b"up sent=616263 ring=- unread=- end=yes shut=yes\n";
 
 #[test]
 fn parses_a_script_into_its_steps(rt: HostRuntime) -> Result<(), Fail> {
-    let script = parse(rt.alloc(), WHOLE)?;
+    let Script::Flow(script) = parse(rt.alloc(), WHOLE)? else {
+        return Err(Fail::from(AllocError));
+    };
     assert_eq!(rt; script.ring(), 4);
     let told = [
         (3, Word::Arrive),
@@ -49,8 +52,8 @@ fn carries_out_steps_and_prints_their_report(rt: HostRuntime) -> Result<(), Fail
     for (line, step) in [(7, Step::Arrive(bytes)), (8, Step::Read(1)), (9, Step::Fin)] {
         steps.push(NumberedStep { line, step })?;
     }
-    let mut transfer = Script::new(1, steps).carry_out(rt.alloc())?;
-    let report = print(rt.alloc(), &transfer)?;
+    let mut transfer = FlowScript::new(1, steps).carry_out(rt.alloc())?;
+    let report = print_transfer(rt.alloc(), &transfer)?;
     assert_eq!(rt;
         report.as_str(),
         "up sent=- ring=00 unread=ff end=no shut=no\n"
@@ -58,7 +61,7 @@ fn carries_out_steps_and_prints_their_report(rt: HostRuntime) -> Result<(), Fail
     transfer.step(&Step::Room)?;
     transfer.step(&Step::Wrote(1, false))?;
     assert_eq!(rt; transfer.step(&Step::Shut), Err(Refusal::NotAllowed));
-    let report = print(rt.alloc(), &transfer)?;
+    let report = print_transfer(rt.alloc(), &transfer)?;
     assert_eq!(rt;
         report.as_str(),
         "up sent=00 ring=- unread=ff end=no shut=no\n"
@@ -88,13 +91,32 @@ fn each_fault_has_its_line(rt: HostRuntime) -> Result<(), Fail> {
 #[test]
 fn words_are_told_as_scripts_have_them(rt: HostRuntime) -> Result<(), Fail> {
     for (word, text) in [
+        (Word::Accept, "accept"),
         (Word::Arrive, "arrive"),
-        (Word::Fin, "fin"),
-        (Word::Room, "room"),
-        (Word::Read, "read"),
+        (Word::Call, "call"),
+        (Word::Claim, "claim"),
+        (Word::Close, "close"),
+        (Word::Connect, "connect"),
+        (Word::Deliver, "deliver"),
+        (Word::Drop, "drop"),
         (Word::End, "end"),
-        (Word::Wrote, "wrote"),
+        (Word::Fin, "fin"),
+        (Word::Free, "free"),
+        (Word::Open, "open"),
+        (Word::Poll, "poll"),
+        (Word::Pop, "pop"),
+        (Word::Post, "post"),
+        (Word::Put, "put"),
+        (Word::Read, "read"),
+        (Word::Release, "release"),
+        (Word::Reset, "reset"),
+        (Word::Retire, "retire"),
+        (Word::Room, "room"),
         (Word::Shut, "shut"),
+        (Word::Spurious, "spurious"),
+        (Word::Take, "take"),
+        (Word::Vanish, "vanish"),
+        (Word::Wrote, "wrote"),
     ] {
         assert_eq!(rt; word.text(), text);
         assert_eq!(rt; word.to_string(rt.alloc())?.as_str(), text);
@@ -143,20 +165,83 @@ fn bytes_keep_their_order_round_a_ring(rt: HostRuntime) -> Result<(), Fail> {
     Ok(())
 }
 
-// One growth is refused under `rt try --test --fail-alloc N`, and none otherwise: the writer takes no
-// memory, so that each growth is the run's own.
+/// A connection whose client sends three bytes and ends, after a slot that was used six times.
+const SESSION: &[u8] =
+    b"world slots=1 workers=1 ring=4 budget=64 gen=6\nconnect\naccept ok\nopen\nput poller\npop 0\nclaim 0\ntake 0\narrive 0 client 616263\nroom 0 target\nfin 0 client\ncall 0 read 3\ncall 0 blocked\ncall 0 wrote 3\ncall 0 end\ncall 0 shut\nrelease 0\n";
+
+const SESSION_REPORT: &[u8] =
+    b"listener backlog=0 flag=up\nqueue\nbatch\nready\nfree\npoller\nworker 0 idle\nslot 0 live gen=7 fds=0,1 notes=0 holder=none due=no movable=no\n0 up sent=616263 ring=- unread=- end=yes shut=yes\n0 down sent=- ring=- unread=- end=no shut=no\n";
+
+/// Every form of a line that says an event.
+const FORMS: &[u8] =
+    b"world slots=64 workers=16 ring=65536 budget=1024\nconnect\narrive 63 client 00ff\nfin 0 target\nreset 0 client\nroom 0 target\nspurious listener\nspurious 0 client\nvanish waker\nvanish 0 target\naccept ok\naccept blocked\naccept again\naccept starved\ndrop\nopen\npoll\npoll waker listener 0.140737488355327.client\ndeliver\nput poller\nput 15\npop 0\nclaim 0\ntake 0\ncall 0 read 1\ncall 0 end\ncall 0 wrote 1\ncall 0 wrote 1 full\ncall 0 joined\ncall 0 shut\ncall 0 blocked\ncall 0 interrupted\ncall 0 failed reset\ncall 0 failed pipe\ncall 0 failed aborted\ncall 0 failed refused\ncall 0 failed notconnected\ncall 0 failed timedout\ncall 0 failed zero\ncall 0 failed other\npost 0\nrelease 0\nclose 0\nretire 0\nfree 0";
+
+const LIMITS: Limits = Limits {
+    slots: 64,
+    workers: 16,
+    ring: 65_536,
+    budget: 1_024,
+    generation: 0,
+};
+
+#[test]
+fn every_form_of_an_event(rt: HostRuntime) -> Result<(), Fail> {
+    let Script::World(script) = parse(rt.alloc(), FORMS)? else {
+        return Err(Fail::from(AllocError));
+    };
+    assert_eq!(rt; script.limits(), LIMITS);
+    let texts = FORMS.split(|byte| *byte == b'\n').skip(1);
+    let mut line = 1u64;
+    for (numbered, text) in script.events().iter().zip(texts) {
+        line = line.saturating_add(1u64);
+        assert_eq!(rt; numbered.line, line);
+        assert!(rt;
+            text.starts_with(word_of(&numbered.event).text().as_bytes()),
+            "{line}"
+        );
+    }
+    assert_eq!(rt; line, 45);
+    Ok(())
+}
+
+#[test]
+fn plays_a_world_and_prints_it(rt: HostRuntime) -> Result<(), Fail> {
+    let world = WorldScript::new(LIMITS, Vec::new(rt.alloc())).carry_out(rt.alloc())?;
+    let report = print(rt.alloc(), &world)?;
+    assert!(rt; report.as_str().starts_with("listener backlog=0 flag=up\n"));
+    let reached = parse(rt.alloc(), SESSION)?.carry_out(rt.alloc())?;
+    assert_eq!(rt; reached.report(rt.alloc())?.as_bytes(), SESSION_REPORT);
+    let (outcome, written) = ran(rt.alloc(), SESSION)?;
+    assert_eq!(rt; outcome, Outcome::Report);
+    assert_eq!(rt; written.get(2..), Some(SESSION_REPORT));
+    let (outcome, written) = ran(rt.alloc(), b"world slots=1 workers=1 ring=1 budget=1\nopen")?;
+    assert_eq!(rt; outcome, Outcome::Refused);
+    assert_eq!(rt;
+        written.get(2..),
+        Some(b"line 2: not allowed: open\n".as_slice())
+    );
+    Ok(())
+}
+
+/// Whether a run of a text wrote this report, or that memory ran out and nothing else. The writer takes no
+/// memory, so that each growth is the run's own.
+fn tells_or_lacks_memory(alloc: Global, text: &[u8], report: &[u8]) -> bool {
+    let mut reader = text;
+    let mut room = [0u8; 300];
+    let mut writer = room.as_mut_slice();
+    let told = run(alloc, &mut reader, &mut writer);
+    let left = writer.len();
+    let written = room.get(..300usize.saturating_sub(left));
+    match told {
+        Ok(Outcome::Report) => written == Some(report),
+        Ok(Outcome::Refused) => written == Some(b"out of memory\n".as_slice()),
+        Err(_) => false,
+    }
+}
+
+// One growth is refused under `rt try --test --fail-alloc N`, and none otherwise.
 #[test]
 fn a_refused_growth_is_told_and_nothing_else(rt: HostRuntime) {
-    let mut reader = WHOLE;
-    let mut room = [0u8; 100];
-    let mut writer = room.as_mut_slice();
-    let told = run(rt.alloc(), &mut reader, &mut writer);
-    let left = writer.len();
-    let written = room.get(..100usize.saturating_sub(left));
-    if told == Ok(Outcome::Report) {
-        assert_eq!(rt; written, Some(REPORT));
-    } else {
-        assert_eq!(rt; told, Ok(Outcome::Refused));
-        assert_eq!(rt; written, Some(b"out of memory\n".as_slice()));
-    }
+    assert!(rt; tells_or_lacks_memory(rt.alloc(), WHOLE, REPORT));
+    assert!(rt; tells_or_lacks_memory(rt.alloc(), SESSION, SESSION_REPORT));
 }

@@ -1,6 +1,6 @@
 ghost use Rattle.std.specs.Prelude.{◌≡◌, IfOk};
 ghost use Rattle.std.specs.List.{list_all};
-ghost use Rattle.script.specs.Texts.{number_of, bytes_of, is_digit, is_lower_hex, is_hex_text, is_plain};
+ghost use Rattle.script.specs.Texts.{number_of, number_below, value_after, bytes_of, is_digit, is_lower_hex, is_hex_text, is_plain};
 
 use crate::Bytes;
 use std::alloc::{AllocError, Global};
@@ -22,6 +22,21 @@ pub(crate) fn number(text: &[u8]) -> Option<usize>
             .checked_add(usize::from(*byte - b'0'))?;
     }
     Some(value)
+}
+
+/// The same, if it is below a bound too.
+pub(crate) fn number_below(bound: usize, text: &[u8]) -> Option<usize>
+    ensures { result ≡ number_below bound text.now }
+{
+    let value = number(text)?;
+    if value < bound { Some(value) } else { None }
+}
+
+/// The number behind a key, which ends with its `=`.
+pub(crate) fn value_after(key: &[u8], word: &[u8]) -> Option<usize>
+    ensures { result ≡ value_after key.now word.now }
+{
+    number(word.strip_prefix(key)?)
 }
 
 /// Whether a byte is a decimal digit.

@@ -1,7 +1,7 @@
 //! The command line, and the check of a settings file.
 
 use super::ends::Source;
-use super::{ROOM, Told, first_untold, play};
+use super::{ROOM, Told, first_untold, play, tells_a_failed_flush};
 use std::alloc::{AllocError, Global};
 use std::io::Eprint;
 use std::net::Net;
@@ -82,6 +82,11 @@ fn a_writer_that_fails(rt: HostRuntime) -> Result<(), Fail> {
     let untold = first_untold(&rt, words.as_slice(), b"", DEFAULTS.as_bytes());
     let removed = fs::remove_file(&rt, path.as_str());
     assert_eq!(rt; untold?, None);
+    removed?;
+    fs::write(&rt, path.as_str(), NEEDED.as_bytes())?;
+    let is_told = tells_a_failed_flush(&rt, words.as_slice(), b"", DEFAULTS.as_bytes());
+    let removed = fs::remove_file(&rt, path.as_str());
+    assert!(rt; is_told?);
     removed?;
     Ok(())
 }

@@ -68,11 +68,12 @@ impl Read for Source<'_> {
     }
 }
 
-/// A writer into memory that fails after so many bytes. It has the memory for them from the start.
+/// A writer into memory that fails after so many bytes, or at its flush. It has the memory for them from the start.
 #[derive(Drop)]
 pub(super) struct Sink {
     taken: Vec<u8>,
     left: usize,
+    is_flushed: bool,
 }
 
 impl Sink {
@@ -81,6 +82,16 @@ impl Sink {
         Ok(Sink {
             taken: Vec::with_capacity(alloc, length)?,
             left: length,
+            is_flushed: true,
+        })
+    }
+
+    /// Takes so many bytes, and fails when they are to be handed on.
+    pub(super) fn failing_at_its_flush(alloc: Global, length: usize) -> Result<Sink, AllocError> {
+        Ok(Sink {
+            taken: Vec::with_capacity(alloc, length)?,
+            left: length,
+            is_flushed: false,
         })
     }
 
@@ -102,6 +113,10 @@ impl Write for Sink {
     }
 
     fn flush(&mut self) -> io::Result<()> {
-        Ok(())
+        if self.is_flushed {
+            Ok(())
+        } else {
+            Err(io::Error::from(ErrorKind::StorageFull))
+        }
     }
 }

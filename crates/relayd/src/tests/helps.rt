@@ -1,7 +1,7 @@
 //! The help, and how a command line is refused.
 
 use super::checks::{play_words, words};
-use super::{ROOM, first_untold};
+use super::{ROOM, first_untold, tells_a_failed_flush};
 use crate::faults::WordsFault;
 use crate::program;
 use std::env::{Env, FillError};
@@ -19,7 +19,8 @@ Commands:
   help   Print this message or the help of the given subcommand(s)
 
 Options:
-  -h, --help  Print help
+  -h, --help     Print help
+  -V, --version  Print version
 
 Without a command, relayd does what `relayd sim` does.
 
@@ -54,7 +55,7 @@ const HELP_OF_CHECK: &str = r#"Reads a settings file and prints every setting, o
 Usage: relayd check --config <FILE>
 
 Options:
-      --config <FILE>  The settings file, at most 65,536 bytes of TOML
+  -c, --config <FILE>  The settings file, at most 65,536 bytes of TOML
   -h, --help           Print help
 
 Prints a line KEY=VALUE for each setting, defaults included. Where the file is not as it
@@ -72,7 +73,7 @@ const HELP_OF_RUN: &str = r#"Forwards connections by a settings file
 Usage: relayd run --config <FILE>
 
 Options:
-      --config <FILE>  The settings file, at most 65,536 bytes of TOML
+  -c, --config <FILE>  The settings file, at most 65,536 bytes of TOML
   -h, --help           Print help
 
 Listens at the file's `listen` address, and forwards each connection to `target`. Prints
@@ -138,6 +139,7 @@ fn a_writer_that_fails(rt: HostRuntime) -> Result<(), Fail> {
     let words = words(rt.alloc(), "relayd --help")?;
     let untold = first_untold(&rt, words.as_slice(), b"", HELP.as_bytes())?;
     assert_eq!(rt; untold, None);
+    assert!(rt; tells_a_failed_flush(&rt, words.as_slice(), b"", HELP.as_bytes())?);
     Ok(())
 }
 

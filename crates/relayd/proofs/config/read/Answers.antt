@@ -1,11 +1,7 @@
 use Rattle.std.proofs.Common.{arith}
-use Rattle.relayd.proofs.Fronts.{short_front_of, long_front_of}
+use Rattle.relayd.proofs.Files.{has_fault_of}
 use Rattle.relayd.proofs.config.read.Goals as goal
 
-pub returns-in-Ok-2-clause-whole : goal.returns-in-Ok-2-clause-whole
-returns-in-Ok-2-clause-whole g c =
-    short_front_of 65537 c.in-Ok.text.items _ (omega (arith, c.in-Ok.text.ok, c.if-len-gt-MOST_BYTES.false, c.len.ensures)) c.in-Ok.ensures.text
-
-pub returns-in-Ok-clause-long : goal.returns-in-Ok-clause-long
-returns-in-Ok-clause-long g c long =
-    long_front_of 65536 c.in-Ok.text.items _ (omega (arith, c.in-Ok.text.ok, c.if-len-gt-MOST_BYTES.true, c.len.ensures)) c.in-Ok.ensures.text
+pub returns-clause-fault : goal.returns-clause-fault
+returns-clause-fault g c =
+    has_fault_of _ c.in_ok-text.text.items c.as_slice.result.now c.in-Err.fault _ c.in_ok-text.ensures.whole (omega (arith, c.in_ok-text.text.ok, c.in_ok-text.ensures.most)) c.as_slice.ensures.value c.in-Err.ensures.fault c.from.ensures

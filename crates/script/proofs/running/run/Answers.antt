@@ -1,4 +1,5 @@
 use Rattle.script.proofs.Telling.{refuses, every_byte, every_end}
+use Rattle.script.proofs.Headline.{every_run}
 use Rattle.script.proofs.running.run.Goals as goal
 
 pub returns-in_err-outcome-clause-every_byte : goal.returns-in_err-outcome-clause-every_byte
@@ -15,3 +16,9 @@ returns-clause-every_byte g c = every_byte (g.R.Read.remaining c.args.reader.now
 
 pub returns-clause-every_end : goal.returns-clause-every_end
 returns-clause-every_end g c = every_end (g.R.Read.remaining c.args.reader.now)
+
+pub returns-in_err-outcome-clause-every_run : goal.returns-in_err-outcome-clause-every_run
+returns-in_err-outcome-clause-every_run g c = every_run c.every_run_holds.ensures (g.R.Read.remaining c.args.reader.now)
+
+pub returns-clause-every_run : goal.returns-clause-every_run
+returns-clause-every_run g c = every_run c.every_run_holds.ensures (g.R.Read.remaining c.args.reader.now)

@@ -1,0 +1,26 @@
+-- A settings fault of a text is the fault of the file that has the text.
+use Rattle.std.proofs.Common.{◌≡◌, ◌≢◌, ℕ, ◌≤◌, List, length, Option, Some, None, sym, subst}
+use Rattle.std.specs.Prelude.{IfSome}
+use Rattle.settings.specs.Text.{IsFaultOf}
+use Rattle.settings.specs.declared.faults.SettingsFault.{SettingsFault}
+use Rattle.settings.specs.declared.faults.SettingsFault.TheVariants as settings
+use Rattle.relayd.specs.Files.{most_bytes, HasFault, settings_fault}
+use Rattle.relayd.specs.declared.faults.ProgramFault.{ProgramFault}
+
+abbrev IsMemory : SettingsFault → Type 0
+IsMemory settings.NoMemory = Unit {0}
+IsMemory _ = ⊥
+
+has_fault : (text : List ℕ) (fault : SettingsFault) → length text ≤ most_bytes → (fault ≢ settings.NoMemory → IsFaultOf text fault) → HasFault text (settings_fault fault)
+has_fault text settings.NoMemory few is = tt
+has_fault text settings.NotToml few is = (few, is (λ e. subst IsMemory (sym e) tt))
+has_fault text (settings.UnknownKey name) few is = (few, is (λ e. subst IsMemory (sym e) tt))
+has_fault text (settings.Missing key) few is = (few, is (λ e. subst IsMemory (sym e) tt))
+has_fault text (settings.WrongKind key) few is = (few, is (λ e. subst IsMemory (sym e) tt))
+has_fault text (settings.OutOfRange key) few is = (few, is (λ e. subst IsMemory (sym e) tt))
+has_fault text (settings.BadAddress key) few is = (few, is (λ e. subst IsMemory (sym e) tt))
+
+-- the same of a text that was read into a slice
+pub has_fault_of : (left : Option (List ℕ)) (text slice : List ℕ) (fault : SettingsFault) (told : ProgramFault) → IfSome left (λ bytes. text ≡ bytes) → length text ≤ most_bytes → slice ≡ text → (fault ≢ settings.NoMemory → IsFaultOf slice fault) → told ≡ settings_fault fault → IfSome left (λ bytes. HasFault bytes told)
+has_fault_of None text slice fault told same few all is by = tt
+has_fault_of (Some bytes) text slice fault told same few all is by = rw (by, ← same, ← all) (has_fault slice fault (rw all few) is)

@@ -1,0 +1,11 @@
+use Rattle.std.proofs.Common.{◌≡◌, ◌++◌, length, Ok}
+use Rattle.script.specs.Faults.{and_then}
+use Rattle.script.specs.Scripts.{events_of, said_lines}
+use Rattle.script.proofs.parsing.events.Given as goal
+
+-- the events so far, and those of the lines that are left, are the events of all lines
+abbrev pub invariant-loop-line : goal.invariant-loop-line
+invariant-loop-line l = events_of l.fn.lines ≡ and_then (λ rest. Ok (said_lines l.events.items ++ rest)) (events_of l.lines)
+
+abbrev pub decreases-loop-line : goal.decreases-loop-line
+decreases-loop-line l = length l.lines

@@ -1,0 +1,62 @@
+-- The first line of a script that says something: what the script is of, and its sizes.
+use Rattle.std.specs.Prelude.{ℕ, ◌≤◌, nat_lt, nat_le, ◌&&◌, if◌then◌else◌, List, [], ◌∷◌, codes, Option, Some, None, option_map, option_and_then}
+use Rattle.std.specs.Str.{bytes_eq}
+use Rattle.world.specs.declared.limits.Limits.{Limits}
+use Rattle.world.specs.States.{IsWithinLimits}
+use Rattle.script.specs.declared.header.Header.{Header}
+use Rattle.script.specs.declared.header.Header.TheVariants.{Flow, World}
+use Rattle.script.specs.Texts.{NumberedLine, words_of, value_after}
+
+-- `KEY=N` with N from 1 to the most
+abbrev pub size_of : List ℕ → ℕ → List ℕ → Option ℕ
+size_of key most word = option_and_then (λ n. if nat_lt 0 n && nat_le n most then Some n else None) (value_after key word)
+
+-- `gen=G` with G from 0 to 2^47 - 2
+abbrev pub generation_of : List ℕ → Option ℕ
+generation_of word = option_and_then (λ n. if nat_lt n 140737488355327 then Some n else None) (value_after (codes "gen=") word)
+
+-- `ring=R`, the bytes of a ring
+abbrev pub ring_of : List ℕ → Option ℕ
+ring_of word = size_of (codes "ring=") 65536 word
+
+-- the bytes that a ring may have
+abbrev pub IsRing : ℕ → Type 0
+IsRing n = (1 ≤ n) × (n ≤ 65536)
+
+-- what is of a size that it may have
+abbrev pub IsWithin : Header → Type 0
+IsWithin (Flow ring) = IsRing ring
+IsWithin (World limits) = IsWithinLimits limits
+
+-- `slots=S workers=W ring=R budget=B`, for slots that have had this generation
+abbrev pub limits_with : ℕ → List ℕ → List ℕ → List ℕ → List ℕ → Option Limits
+limits_with generation slots workers ring budget =
+    option_and_then (λ s. option_and_then (λ w. option_and_then (λ r. option_map (λ b.
+    record { slots = s; workers = w; ring = r; budget = b; generation = generation })
+    (size_of (codes "budget=") 1024 budget)) (ring_of ring)) (size_of (codes "workers=") 16 workers)) (size_of (codes "slots=") 64 slots)
+
+-- the same with ` gen=G` behind it, or without: then the slots have had no generation
+abbrev pub limits_of : List (List ℕ) → Option Limits
+limits_of (slots ∷ workers ∷ ring ∷ budget ∷ []) = limits_with 0 slots workers ring budget
+limits_of (slots ∷ workers ∷ ring ∷ budget ∷ generation ∷ []) = option_and_then (λ g. limits_with g slots workers ring budget) (generation_of generation)
+limits_of _ = None
+
+abbrev pub lone_ring : List (List ℕ) → Option ℕ
+lone_ring (ring ∷ []) = ring_of ring
+lone_ring _ = None
+
+-- `flow ring=R`, or `world` and its limits
+abbrev pub header_of_words : List (List ℕ) → Option Header
+header_of_words [] = None
+header_of_words (name ∷ words) =
+    if bytes_eq name (codes "flow") then option_map Flow (lone_ring words)
+    else if bytes_eq name (codes "world") then option_map World (limits_of words)
+    else None
+
+abbrev pub header_of : List ℕ → Option Header
+header_of line = header_of_words (words_of line)
+
+-- the header of a text, whose lines that say something are these
+abbrev pub first_header : List NumberedLine → Option Header
+first_header [] = None
+first_header (l ∷ ls) = header_of l.text

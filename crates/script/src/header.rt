@@ -1,0 +1,115 @@
+// The first line of a script that says something.
+ghost use Rattle.std.specs.Prelude.{◌≡◌, ◌≤◌, ◌<◌, IfSome};
+ghost use Rattle.world.specs.States.{IsWithinLimits};
+ghost use Rattle.script.specs.Headers.{size_of, generation_of, ring_of, limits_with, limits_of, lone_ring, header_of, IsRing, IsWithin};
+
+use crate::lines::Pieces;
+use crate::values::value_after;
+use flow::Flow;
+use world::Limits;
+
+/// What a script is of, and its sizes.
+#[derive(Clone, Copy, Debug, PartialEq, Eq)]
+pub enum Header {
+    /// One direction, with a ring of so many bytes.
+    Flow(usize),
+    /// A world of these sizes.
+    World(Limits),
+}
+
+/// The header that a line is, if it is one.
+pub(crate) fn read_header(line: &[u8]) -> Option<Header>
+    ensures value { result ≡ header_of line.now }
+    ensures range { IfSome result IsWithin }
+{
+    let mut words = Pieces::new(line, b' ');
+    let name = words.next()?;
+    if name == b"flow".as_slice() {
+        Some(Header::Flow(lone_ring(words)?))
+    } else if name == b"world".as_slice() {
+        Some(Header::World(limits(words)?))
+    } else {
+        None
+    }
+}
+
+/// `ring=R` and no more.
+fn lone_ring(mut words: Pieces) -> Option<usize>
+    ensures value { result ≡ lone_ring words.entry }
+    ensures range { IfSome result IsRing }
+{
+    let (word, more) = (words.next()?, words.next());
+    if more.is_some() {
+        return None;
+    }
+    ring(word)
+}
+
+/// The sizes of a world: `slots=S workers=W ring=R budget=B`, and perhaps `gen=G`.
+fn limits(mut words: Pieces) -> Option<Limits>
+    ensures value { result ≡ limits_of words.entry }
+    ensures range { IfSome result IsWithinLimits }
+{
+    let (slots, workers) = (words.next()?, words.next()?);
+    let (ring, budget) = (words.next()?, words.next()?);
+    match (words.next(), words.next()) {
+        (None, _) => limits_with(0, slots, workers, ring, budget),
+        (Some(word), None) => limits_with(generation(word)?, slots, workers, ring, budget),
+        (Some(_), Some(_)) => None,
+    }
+}
+
+/// The sizes of a world whose slots have had this generation.
+fn limits_with(
+    generation: u64,
+    slots: &[u8],
+    workers: &[u8],
+    ring_size: &[u8],
+    budget: &[u8],
+) -> Option<Limits>
+    requires { generation < 140737488355327 }
+    ensures value { result ≡ limits_with generation slots.now workers.now ring_size.now budget.now }
+    ensures range { IfSome result IsWithinLimits }
+{
+    Some(Limits {
+        slots: size(b"slots=", 64, slots)?,
+        workers: size(b"workers=", 16, workers)?,
+        ring: ring(ring_size)?,
+        budget: size(b"budget=", 1024, budget)?,
+        generation,
+    })
+}
+
+/// `ring=R`, 1 to 65,536 bytes.
+fn ring(word: &[u8]) -> Option<usize>
+    ensures value { result ≡ ring_of word.now }
+    ensures range { IfSome result IsRing }
+{
+    size(b"ring=", Flow::MOST, word)
+}
+
+/// `KEY=N`, 1 to the most. The key ends with its `=`.
+fn size(key: &[u8], most: usize, word: &[u8]) -> Option<usize>
+    ensures value { result ≡ size_of key.now most word.now }
+    ensures range { IfSome result (λ size. (1 ≤ size) × (size ≤ most)) }
+{
+    let size = value_after(key, word)?;
+    if 1 <= size && size <= most {
+        Some(size)
+    } else {
+        None
+    }
+}
+
+/// `gen=G`, 0 to 2^47 - 2.
+fn generation(word: &[u8]) -> Option<u64>
+    ensures value { result ≡ generation_of word.now }
+    ensures range { IfSome result (λ generation. generation < 140737488355327) }
+{
+    let generation = value_after(b"gen=", word)?;
+    if generation < 140_737_488_355_327 {
+        Some(generation as u64)
+    } else {
+        None
+    }
+}

@@ -1,0 +1,63 @@
+/* An allocator to preload that refuses one growth of the program: its call number GROWTHS_REFUSE of malloc(3) or
+ * realloc(3), counted from 1, answers NULL. Calls that the C library makes for itself are neither counted nor refused.
+ * The count stands in the 8 bytes of the file GROWTHS_COUNT, also where the program ends by a signal. */
+#define _GNU_SOURCE
+#include <errno.h>
+#include <fcntl.h>
+#include <link.h>
+#include <stdatomic.h>
+#include <stdint.h>
+#include <stdlib.h>
+#include <sys/mman.h>
+#include <unistd.h>
+
+extern void *__libc_malloc(size_t size);
+extern void *__libc_realloc(void *old, size_t size);
+
+static uintptr_t program_start, program_end;
+static unsigned long refuse;
+static _Atomic uint64_t own_count;
+static _Atomic uint64_t *count = &own_count;
+
+/* The first object is the program; its segments give the range of its code. */
+static int program_range(struct dl_phdr_info *info, size_t size, void *unused) {
+  (void)size, (void)unused;
+  program_start = UINTPTR_MAX;
+  for (int i = 0; i < info->dlpi_phnum; i++) {
+    const ElfW(Phdr) *part = &info->dlpi_phdr[i];
+    uintptr_t start = info->dlpi_addr + part->p_vaddr;
+    if (part->p_type != PT_LOAD) continue;
+    if (start < program_start) program_start = start;
+    if (start + part->p_memsz > program_end) program_end = start + part->p_memsz;
+  }
+  return 1;
+}
+
+__attribute__((constructor)) static void begin(void) {
+  const char *number = getenv("GROWTHS_REFUSE"), *path = getenv("GROWTHS_COUNT");
+  if (number) refuse = strtoul(number, NULL, 10);
+  if (path) {
+    int file = open(path, O_RDWR);
+    void *shared = mmap(NULL, sizeof *count, PROT_READ | PROT_WRITE, MAP_SHARED, file, 0);
+    close(file);
+    if (shared == MAP_FAILED) _exit(125);
+    count = shared;
+  }
+  dl_iterate_phdr(program_range, NULL);
+}
+
+static int is_refused(const void *caller) {
+  uintptr_t at = (uintptr_t)caller;
+  if (at < program_start || at >= program_end) return 0;
+  if (atomic_fetch_add(count, 1) + 1 != refuse) return 0;
+  errno = ENOMEM;
+  return 1;
+}
+
+void *malloc(size_t size) {
+  return is_refused(__builtin_return_address(0)) ? NULL : __libc_malloc(size);
+}
+
+void *realloc(void *old, size_t size) {
+  return is_refused(__builtin_return_address(0)) ? NULL : __libc_realloc(old, size);
+}
