@@ -1,4 +1,5 @@
-ghost use Rattle.std.specs.Prelude.{◌≡◌, ℕ, ◌+◌, ◌-◌, ◌^◌, ◌<◌, ◌≤◌, [], length, true, false, IsTrue, ◌↔◌, IfOk, slice_index};
+ghost use Rattle.std.specs.Prelude.{◌≡◌, ℕ, ◌+◌, ◌-◌, ◌^◌, ◌<◌, ◌≤◌, [], length, true, false, IsTrue, ◌↔◌, IfOk, slice_index, drop};
+ghost use Rattle.circular_buffer.specs.Buffer.{buffer};
 ghost use Rattle.flow.specs.Stream.{empty_stream, free_room, taken_in, dropped, ended, closed};
 
 use circular_buffer::HeapCircularBuffer;
@@ -7,22 +8,27 @@ use std::marker::Model;
 
 /// One direction's ring of bytes, with its end of input and its shutdown.
 ///
-/// The bytes lie in one piece at the front of their block, so that a whole ring can be offered to one
-/// write(2): what a short write leaves moves to the front at once.
+/// The buffer never wraps, so that the whole ring can be offered to one write(2). Bytes that have left stay
+/// in it until others take their place: overwriting bytes is one copy, but the buffer appends them in a
+/// loop.
 #[derive(Drop)]
 pub struct Flow {
     bytes: HeapCircularBuffer<u8>,
+    // How many of these have left. The ring is the rest.
+    gone: usize,
     end_seen: bool,
     shut: bool,
 }
 
 impl Model for Flow {
-    ghost use Rattle.std.specs.Prelude.{◌≤◌, length};
+    ghost use Rattle.std.specs.Prelude.{◌≤◌, length, drop};
     ghost use Rattle.flow.specs.Stream.{Stream};
 
     ghost Value = { Stream };
 
-    ghost view = { λ f. record { ring = f.bytes.items; capacity = f.bytes.capacity; end_seen = f.end_seen; shut = f.shut } };
+    ghost view = { λ f. record { ring = drop f.gone f.bytes.items; capacity = f.bytes.capacity; end_seen = f.end_seen; shut = f.shut } };
+
+    ghost invariant = { λ f. f.gone ≤ length f.bytes.items };
 }
 
 impl Flow {
@@ -43,6 +49,7 @@ impl Flow {
     {
         Ok(Flow {
             bytes: HeapCircularBuffer::with_capacity(alloc, capacity)?,
+            gone: 0,
             end_seen: false,
             shut: false,
         })
@@ -52,7 +59,7 @@ impl Flow {
     pub fn len(&self) -> usize
         ensures { result ≡ length self.now.ring }
     {
-        self.bytes.len()
+        self.bytes.len() - self.gone
     }
 
     /// Whether no byte waits.
@@ -67,16 +74,18 @@ impl Flow {
         ensures room { result ≡ free_room self.now }
         ensures whole { result + length self.now.ring ≡ self.now.capacity }
     {
-        self.bytes.capacity() - self.bytes.len()
+        self.bytes.capacity() - self.len()
     }
 
     /// All bytes that wait, oldest first: what is offered to the destination's next write(2). They are
-    /// lent to be read: who writes nothing into them leaves the ring as it was.
+    /// lent to be read: the ring stays as it was if nothing is written into them.
     pub fn front(&mut self) -> &mut [u8]
         ensures* lends { sem 𝓛 (LendsRing self.entry result) }
         ensures value { result.now ≡ self.old.ring }
         ensures unwritten { with_ring self.old self.old.ring ≡ self.old }
     {
+        drop_first(&mut self.bytes, self.gone);
+        self.gone = 0;
         self.bytes.make_contiguous()
     }
 
@@ -84,15 +93,19 @@ impl Flow {
     pub fn to_vec(&self, alloc: Global) -> Result<Vec<u8>, AllocError>
         ensures { IfOk result (λ bytes. bytes.items ≡ self.now.ring) }
     {
-        self.bytes.to_vec(alloc)
+        let mut bytes = self.bytes.to_vec(alloc)?;
+        bytes.copy_within(self.gone.., 0);
+        bytes.truncate(self.len());
+        Ok(bytes)
     }
 
-    /// The byte that `i` others stand before.
+    /// The byte at index `i`, 0 for the oldest.
     pub fn byte(&self, i: usize) -> u8
         requires { i < length self.now.ring }
         ensures { result ≡ slice_index self.now.ring i }
     {
-        match self.bytes.get(i) {
+        let behind = self.len() - i;
+        match self.bytes.get(self.bytes.len() - behind) {
             Some(byte) => *byte,
             None => unreachable!(),
         }
@@ -104,7 +117,13 @@ impl Flow {
         requires open { self.old.end_seen ≡ false }
         ensures { self.new ≡ taken_in self.old bytes.now }
     {
-        self.bytes.fill_from_slice(bytes);
+        if self.is_empty() {
+            replace(&mut self.bytes, bytes);
+        } else {
+            drop_first(&mut self.bytes, self.gone);
+            self.bytes.fill_from_slice(bytes);
+        }
+        self.gone = 0;
     }
 
     /// Drops the `n` oldest bytes, which the destination took.
@@ -112,11 +131,8 @@ impl Flow {
         requires { n ≤ length self.old.ring }
         ensures { self.new ≡ dropped self.old n }
     {
-        let left = self.bytes.len() - n;
-        if left > 0 {
-            self.bytes.make_contiguous().copy_within(n.., 0);
-        }
-        self.bytes.truncate_back(left);
+        let left = self.len() - n;
+        self.gone = self.bytes.len() - left;
     }
 
     /// Notes the source's end of input: read(2) answered 0.
@@ -149,4 +165,28 @@ impl Flow {
     {
         self.shut
     }
+}
+
+/// Drops the `n` oldest bytes of a buffer, and moves those behind them to its front in one piece.
+fn drop_first(bytes: &mut HeapCircularBuffer<u8>, n: usize)
+    requires { n ≤ length bytes.old.items }
+    ensures { bytes.new ≡ buffer (drop n bytes.old.items) bytes.old.capacity }
+{
+    if n == 0 {
+        return;
+    }
+    let left = bytes.len() - n;
+    bytes.make_contiguous().copy_within(n.., 0);
+    bytes.truncate_back(left);
+}
+
+/// Puts other bytes in the place of all that a buffer holds.
+fn replace(bytes: &mut HeapCircularBuffer<u8>, others: &[u8])
+    requires { length others.now ≤ bytes.old.capacity }
+    ensures { bytes.new ≡ buffer others.now bytes.old.capacity }
+{
+    let n = bytes.len().min(others.len());
+    bytes.truncate_back(n);
+    bytes.make_contiguous().copy_from_slice(&others[..n]);
+    bytes.fill_from_slice(&others[n..]);
 }
