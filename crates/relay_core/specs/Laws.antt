@@ -1,4 +1,4 @@
--- What every pair keeps, said of the definitions.
+-- Part of the promises: the laws of every pair.
 use Rattle.std.specs.Prelude.{◌≡◌, ◌↔◌, ℕ, ◌≤◌, ◌⊎◌, true, false, List, [], ◌++◌, length, map, Some, None}
 use Rattle.token.specs.declared.direction.Direction.{Direction}
 use Rattle.token.specs.Sides.{source, destination, inward, outward}

@@ -1,9 +1,12 @@
--- What a pair is once the borrow of an offer's bytes has ended.
+-- Part of the promises, for `offer` alone: what a pair is once the borrow of an offer's bytes has ended.
 use Rattle.std.specs.Prelude.{ℕ, List}
 use Rattle.std.specs.Borrow.{MutBor, Fml, Lends, Array, u8}
+use Rattle.token.specs.declared.direction.Direction.{Direction}
 use Rattle.token.specs.declared.side.Side.{Side}
 use Rattle.token.specs.Sides.{inward}
+use Rattle.flow.specs.Stream.{Stream}
 use Rattle.flow.specs.Lending.{with_ring}
+use Rattle.flow.specs.contracts.flow.Flow as flow
 use Rattle.relay_core.specs.Pairs.{Relay, stream_of, with_stream}
 use Rattle.relay_core.specs.contracts.pair.Pair.{the_row}
 
@@ -15,3 +18,7 @@ with_offer p side bytes = with_stream p (inward side) (with_ring (stream_of p (i
 -- written to
 abbrev pub LendsOffer : MutBor Relay → Side → MutBor (List ℕ) → Fml
 LendsOffer p side lent = Lends the_row (Array u8 0) p lent (with_offer p.now side)
+
+-- the pair lends the stream of one direction, and nothing else changes
+abbrev pub LendsStream : MutBor Relay → Direction → MutBor Stream → Fml
+LendsStream p d lent = Lends the_row flow.the_row p lent (with_stream p.now d)

@@ -1,4 +1,5 @@
--- The bytes that answers move: those that reads bring into a direction, and those that writes take out.
+-- Part of the promises: the bytes that answers move. Reads bring them into a direction, and writes take
+-- them out.
 use Rattle.std.specs.Prelude.{ℕ, Bool, true, false, if◌then◌else◌, List, [], ◌∷◌, ◌++◌, take, Option, option_map, unwrap_or}
 use Rattle.token.specs.declared.direction.Direction.{Direction}
 use Rattle.token.specs.declared.direction.Direction.TheVariants.{Up, Down}

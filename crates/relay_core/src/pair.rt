@@ -1,6 +1,5 @@
-ghost use Rattle.std.specs.Prelude.{◌≡◌, ◌≤◌, ◌<◌, ◌&&◌, true, false, Some, [], length, slice_index, ◌↔◌, IfOk, IfSome, OnSome};
+ghost use Rattle.std.specs.Prelude.{◌≡◌, ◌≤◌, ◌<◌, ◌&&◌, true, false, Some, length, slice_index, ◌↔◌, IfOk, IfSome, OnSome};
 ghost use Rattle.token.specs.Sides.{destination, inward};
-ghost use Rattle.flow.specs.Stream.{taken_in, dropped, ended, closed, free_room};
 ghost use Rattle.relay_core.specs.Calls.{side_of};
 ghost use Rattle.relay_core.specs.Pairs.{fresh, stream_of, with_stream, flags_of, with_flags, is_joined, mark_joined, noted, verdict, is_live};
 ghost use Rattle.relay_core.specs.Order.{is_waiting, call_for, next_call, offer};
@@ -48,7 +47,7 @@ impl Model for Pair {
 
 impl Pair {
     ghost use Rattle.std.specs.Borrow.{sem};
-    ghost use Rattle.relay_core.specs.Lending.{with_offer, LendsOffer};
+    ghost use Rattle.relay_core.specs.Lending.{with_offer, LendsOffer, LendsStream};
 
     /// A connection that was just made, in a slot that has been opened `generation` times, with a ring
     /// of `capacity` bytes, 1 to 65,536, for each direction. This takes all the memory that the pair
@@ -96,8 +95,8 @@ impl Pair {
         }
     }
 
-    /// The bytes that are bound for a side: what a write to it offers. They are lent to be read: who
-    /// writes nothing into them leaves the pair as it was.
+    /// The bytes that are bound for a side: what a write to it offers. They are lent to be read: the pair
+    /// stays as it was if nothing is written into them.
     pub fn offer(&mut self, side: Side) -> &mut [u8]
         ensures* lends { sem 𝓛 (LendsOffer self.entry side result) }
         ensures value { result.now ≡ offer self.old side }
@@ -217,7 +216,7 @@ impl Pair {
         self.flow(direction).len()
     }
 
-    /// The byte that `i` others stand before in one direction.
+    /// The byte at index `i` of those that wait in one direction, 0 for the oldest.
     pub fn ring_byte(&self, direction: Direction, i: usize) -> u8
         requires { i < length (stream_of self.now direction).ring }
         ensures { result ≡ slice_index (stream_of self.now direction).ring i }
@@ -250,20 +249,20 @@ impl Pair {
         let direction = call.direction();
         match answer {
             Answer::Bytes(bytes) => {
-                self.take_in(direction, bytes);
+                self.flow_mut(direction).take_in(bytes);
                 self.mark_joined(call.side());
             }
             Answer::End => {
-                self.mark_end(direction);
+                self.flow_mut(direction).mark_end();
                 self.mark_joined(call.side());
             }
             Answer::Wrote(n) => {
-                self.drop_front(direction, n);
+                self.flow_mut(direction).drop_front(n);
                 self.mark_joined(call.side());
                 self.count(direction, n);
             }
             Answer::Joined => self.mark_joined(call.side()),
-            Answer::Shut => self.mark_shut(direction),
+            Answer::Shut => self.flow_mut(direction).mark_shut(),
             Answer::Blocked => self.clear_flag(call),
             Answer::Interrupted => {}
             Answer::Failed(kind) => {
@@ -290,6 +289,16 @@ impl Pair {
         match direction {
             Direction::Up => &self.up,
             Direction::Down => &self.down,
+        }
+    }
+
+    fn flow_mut(&mut self, direction: Direction) -> &mut Flow
+        ensures* lends { sem 𝓛 (LendsStream self.entry direction result) }
+        ensures value { result.now ≡ stream_of self.old direction }
+    {
+        match direction {
+            Direction::Up => &mut self.up,
+            Direction::Down => &mut self.down,
         }
     }
 
@@ -338,47 +347,6 @@ impl Pair {
             Some(Call::Join(destination))
         } else {
             None
-        }
-    }
-
-    fn take_in(&mut self, direction: Direction, bytes: &[u8])
-        requires fits { length bytes.now ≤ free_room (stream_of self.old direction) }
-        requires open { (stream_of self.old direction).end_seen ≡ false }
-        ensures { self.new ≡ with_stream self.old direction (taken_in (stream_of self.old direction) bytes.now) }
-    {
-        match direction {
-            Direction::Up => self.up.take_in(bytes),
-            Direction::Down => self.down.take_in(bytes),
-        }
-    }
-
-    fn mark_end(&mut self, direction: Direction)
-        ensures { self.new ≡ with_stream self.old direction (ended (stream_of self.old direction)) }
-    {
-        match direction {
-            Direction::Up => self.up.mark_end(),
-            Direction::Down => self.down.mark_end(),
-        }
-    }
-
-    fn drop_front(&mut self, direction: Direction, n: usize)
-        requires { n ≤ length (stream_of self.old direction).ring }
-        ensures { self.new ≡ with_stream self.old direction (dropped (stream_of self.old direction) n) }
-    {
-        match direction {
-            Direction::Up => self.up.drop_front(n),
-            Direction::Down => self.down.drop_front(n),
-        }
-    }
-
-    fn mark_shut(&mut self, direction: Direction)
-        requires after_end { (stream_of self.old direction).end_seen ≡ true }
-        requires after_bytes { (stream_of self.old direction).ring ≡ [] }
-        ensures { self.new ≡ with_stream self.old direction (closed (stream_of self.old direction)) }
-    {
-        match direction {
-            Direction::Up => self.up.mark_shut(),
-            Direction::Down => self.down.mark_shut(),
         }
     }
 
