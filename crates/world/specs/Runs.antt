@@ -1,5 +1,5 @@
 -- A list of events, one after the other.
-use Rattle.std.specs.Prelude.{◌≡◌, ℕ, ◌+◌, ◌<◌, List, [], ◌∷◌, length, take, Option, Some, None, IsSome, option_and_then}
+use Rattle.std.specs.Prelude.{◌≡◌, ℕ, ◌+◌, ◌<◌, ◌⊎◌, List, [], ◌∷◌, length, take, Option, Some, None, IsSome, option_and_then}
 use Rattle.kernel_model.specs.declared.refusal.Refusal.{Refusal}
 use Rattle.kernel_model.specs.declared.refusal.Refusal.TheVariants.{NotAllowed, NoMemory}
 use Rattle.world.specs.declared.limits.Limits.{Limits}
@@ -12,8 +12,8 @@ abbrev pub run : State → List Event → Option State
 run st [] = Some st
 run st (e ∷ es) = option_and_then (λ (q : State). run q es) (step st e)
 
--- Why a replay fails at an event. Not allowed: the events before it can happen, and it can't happen after
--- them. Want of memory: the events before it can happen
+-- Why a replay fails at an event. Not allowed: the events before it can happen, and it can't happen after them. Out
+-- of memory: it can happen after them, or, at index 0, there was no memory for the opening world
 abbrev pub Fails : Limits → List Event → ℕ → Refusal → Type 0
 Fails l events i NotAllowed = (i < length events) × IsSome (run (opening l) (take i events)) × (run (opening l) (take (i + 1) events) ≡ None)
-Fails l events i NoMemory = IsSome (run (opening l) (take i events))
+Fails l events i NoMemory = (i ≡ 0) ⊎ ((i < length events) × IsSome (run (opening l) (take i events)) × IsSome (run (opening l) (take (i + 1) events)))

@@ -13,8 +13,8 @@ use std::alloc::{AllocError, Global};
 /// The world after these events, from the opening world on.
 ///
 /// Where not all of them can be, it tells the first that fails, by its index, and why: with `NotAllowed`
-/// the events before it can happen and this one can't happen after them, and with `NoMemory` a growth was
-/// refused at it or, for index 0, in making the world.
+/// the events before it can happen and this one can't happen after them, and with `NoMemory` this one can
+/// happen too but a list could not grow, at it or, for index 0, in making the world.
 ///
 /// Of the world after every list of events:
 ///

@@ -1,3 +1,5 @@
+ghost use Rattle.world.specs.States.{IsWithinLimits};
+
 use super::*;
 use kernel_model::{Accepting, Refusal, Reply};
 use relay_core::{CallKind, Direction, Fault, Verdict};
@@ -139,10 +141,20 @@ fn played(
     let mut events = Vec::new(alloc);
     add(alloc, &mut events, &OPENED)?;
     add(alloc, &mut events, plays)?;
-    match replay(alloc, limits, events.as_slice()) {
+    match replayed(alloc, limits, events.as_slice()) {
         Ok(world) => Ok(Ok(world)),
         Err((index, Refusal::NotAllowed)) => Ok(Err(index)),
         Err((_, Refusal::NoMemory)) => Err(Refusal::NoMemory),
+    }
+}
+
+/// A replay; where memory ran out, the same replay once more.
+fn replayed(alloc: Global, limits: Limits, events: &[Event]) -> Result<World, (usize, Refusal)>
+    requires { IsWithinLimits limits }
+{
+    match replay(alloc, limits, events) {
+        Err((_, Refusal::NoMemory)) => replay(alloc, limits, events),
+        told => told,
     }
 }
 
