@@ -28,6 +28,7 @@ use Rattle.world.specs.Steps.{connection_at, step}
 use Rattle.world.specs.Runs.{run}
 use Rattle.world.specs.Given.{brought, given}
 use Rattle.world.specs.Headline.{socket_of, ClosedHold}
+use Rattle.world.specs.CoreLaws.{CoreLaws}
 use Rattle.world.proofs.EndsHeld.{History, DirectionOk, ConnectionOk, SlotOk, AllOk}
 use Rattle.world.proofs.EndsLists.{set_same, set_other, Yes, No, tell, Before, ThisOne, last_of}
 use Rattle.world.proofs.EndsFrame.{Kept}
@@ -204,14 +205,14 @@ further_closes past st q e events (Some m) now rest all closed shape kept ran = 
     (λ s g side. sym (append_assoc (past s g side) (brought st s g side e) (given m events s g side)))
     (rest m kept.kept (shape_closes past st m e now all closed shape.kept) ran)
 
-run_closes : (past : History) (st q : State) (events : List Event) → AllOk past st → AllClosed past st → run st events ≡ Some q → AllClosed (after_run past st events) q
-run_closes past st q [] all closed ran = let same : st ≡ q = cc in subst (λ (m : State). AllClosed (after_run past st []) m) same (renamed_closed past _ st (λ s g side. append-nil (past s g side)) closed)
-run_closes past st q (e ∷ events) all closed ran = further_closes past st q e events (step st e) refl (λ m ok later rest. run_closes (after_event past st e) m q events ok later rest) all closed (step_shape st e) (step_keeps past st e all) ran
+run_closes : (laws : CoreLaws) (past : History) (st q : State) (events : List Event) → AllOk past st → AllClosed past st → run st events ≡ Some q → AllClosed (after_run past st events) q
+run_closes laws past st q [] all closed ran = let same : st ≡ q = cc in subst (λ (m : State). AllClosed (after_run past st []) m) same (renamed_closed past _ st (λ s g side. append-nil (past s g side)) closed)
+run_closes laws past st q (e ∷ events) all closed ran = further_closes past st q e events (step st e) refl (λ m ok later rest. run_closes laws (after_event past st e) m q events ok later rest) all closed (step_shape laws st e) (step_keeps past st e all) ran
 
 opening_closed : (l : Limits) → AllClosed no_history (opening l)
 opening_closed l = record { each = λ i e here. absurd (cc) }
 
-pub closed_hold : (l : Limits) (events : List Event) (st : State) → run (opening l) events ≡ Some st → ClosedHold (opening l) st events
-closed_hold l events st ran i p here =
-    let ok : ClosedOk (given (opening l) events) st p = (run_closes no_history (opening l) st events (opening_ok l) (opening_closed l) ran).each i p here in
+pub closed_hold : (laws : CoreLaws) (l : Limits) (events : List Event) (st : State) → run (opening l) events ≡ Some st → ClosedHold (opening l) st events
+closed_hold laws l events st ran i p here =
+    let ok : ClosedOk (given (opening l) events) st p = (run_closes laws no_history (opening l) st events (opening_ok l) (opening_closed l) ran).each i p here in
     record { beginning = ok.beginning; all = ok.all }

@@ -16,6 +16,7 @@ use Rattle.world.specs.States.{State, opening, unused}
 use Rattle.world.specs.Steps.{connection_at, watched_of, acted, step}
 use Rattle.world.specs.Runs.{run}
 use Rattle.world.specs.Headline.{FailsBy, FailedBy, FailuresHold}
+use Rattle.world.specs.CoreLaws.{CoreLaws}
 use Rattle.world.proofs.EndsLists.{set_same, set_other, Yes, No, tell, Before, ThisOne, last_of}
 use Rattle.world.proofs.EndsFrame.{Kept, kept_then}
 use Rattle.world.proofs.EndsNetwork.{Lies, lies}
@@ -23,25 +24,25 @@ use Rattle.world.proofs.EndsShapes.{Continues, Shape, Same, Changed, Opened, End
 use Rattle.world.proofs.EndsFaults.{call_shape}
 use Rattle.world.proofs.EndsSteps.{replicated}
 
-acted_shape : (st : State) (w : ℕ) (k : Actor) (a : Act) → slice_get st.workers w ≡ Some k → Kept (Shape st (event.Work w a)) (acted st w k a)
-acted_shape st w k act.Put there = put_shape st _ w k k.hand
-acted_shape st w k act.Pop there = pop_shape st _ w k k.doing
-acted_shape st w k act.Claim there = claim_shape st _ w k k.doing
-acted_shape st w k act.Take there = take_shape st _ k.doing
-acted_shape st w k (act.Call r) there = call_shape st w k k.doing r there refl
-acted_shape st w k act.Post there = post_shape st _ k.doing
-acted_shape st w k act.Release there = release_shape st _ w k k.doing
-acted_shape st w k act.Close there = close_shape st _ w k k.doing (λ i g side. refl)
-acted_shape st w k act.Retire there = retire_shape st _ w k k.doing
-acted_shape st w k act.Free there = free_shape st _ w k k.doing
+acted_shape : (laws : CoreLaws) (st : State) (w : ℕ) (k : Actor) (a : Act) → slice_get st.workers w ≡ Some k → Kept (Shape st (event.Work w a)) (acted st w k a)
+acted_shape laws st w k act.Put there = put_shape st _ w k k.hand
+acted_shape laws st w k act.Pop there = pop_shape st _ w k k.doing
+acted_shape laws st w k act.Claim there = claim_shape st _ w k k.doing
+acted_shape laws st w k act.Take there = take_shape st _ k.doing
+acted_shape laws st w k (act.Call r) there = call_shape laws st w k k.doing r there refl
+acted_shape laws st w k act.Post there = post_shape st _ k.doing
+acted_shape laws st w k act.Release there = release_shape st _ w k k.doing
+acted_shape laws st w k act.Close there = close_shape st _ w k k.doing (λ i g side. refl)
+acted_shape laws st w k act.Retire there = retire_shape st _ w k k.doing
+acted_shape laws st w k act.Free there = free_shape st _ w k k.doing
 
-pub step_shape : (st : State) (e : Event) → Kept (Shape st e) (step st e)
-step_shape st (event.Network s side change) = kept_then (Shape st (event.Network s side change)) _ (connection_at st s) (λ c at_s. over_same st st _ _ refl refl)
-step_shape st (event.Spurious who) = kept_then (Shape st (event.Spurious who)) _ (watched_of st who) (λ x at_x. over_same st st _ _ refl refl)
-step_shape st (event.Vanish who) = kept_then (Shape st (event.Vanish who)) _ (watched_of st who) (λ x at_x. over_same st st _ _ refl refl)
-step_shape st (event.Listen l) = listen_shape st _ l
-step_shape st (event.Poll p) = polled_shape st _ p
-step_shape st (event.Work w a) = kept_then (Shape st (event.Work w a)) _ (slice_get st.workers w) (λ k there. acted_shape st w k a there)
+pub step_shape : (laws : CoreLaws) (st : State) (e : Event) → Kept (Shape st e) (step st e)
+step_shape laws st (event.Network s side change) = kept_then (Shape st (event.Network s side change)) _ (connection_at st s) (λ c at_s. over_same st st _ _ refl refl)
+step_shape laws st (event.Spurious who) = kept_then (Shape st (event.Spurious who)) _ (watched_of st who) (λ x at_x. over_same st st _ _ refl refl)
+step_shape laws st (event.Vanish who) = kept_then (Shape st (event.Vanish who)) _ (watched_of st who) (λ x at_x. over_same st st _ _ refl refl)
+step_shape laws st (event.Listen l) = listen_shape st _ l
+step_shape laws st (event.Poll p) = polled_shape st _ p
+step_shape laws st (event.Work w a) = kept_then (Shape st (event.Work w a)) _ (slice_get st.workers w) (λ k there. acted_shape laws st w k a there)
 
 -- Failures
 
@@ -120,9 +121,9 @@ further_fails : (failed : ℕ → ℕ → Fault → Type 0) (st q : State) (e : 
 further_fails failed st q e events None now rest ok shape ran = absurd (cc)
 further_fails failed st q e events (Some m) now rest ok shape ran = told_by _ _ q (λ s g fault h. or_later failed st m e events s g fault now h) (rest m (shape_fails failed st m e ok shape.kept) ran)
 
-pub run_fails : (failed : ℕ → ℕ → Fault → Type 0) (st q : State) (events : List Event) → FailuresOk failed st → run st events ≡ Some q → FailuresOk (λ s g fault. failed s g fault ⊎ FailedBy st events s g fault) q
-run_fails failed st q [] ok ran = let same : st ≡ q = cc in subst (λ (m : State). FailuresOk (λ s g fault. failed s g fault ⊎ FailedBy st [] s g fault) m) same (told_by failed _ st (λ s g fault h. inl h) ok)
-run_fails failed st q (e ∷ events) ok ran = further_fails failed st q e events (step st e) refl (λ m later rest. run_fails (or_by failed st e) m q events later rest) ok (step_shape st e) ran
+pub run_fails : (laws : CoreLaws) (failed : ℕ → ℕ → Fault → Type 0) (st q : State) (events : List Event) → FailuresOk failed st → run st events ≡ Some q → FailuresOk (λ s g fault. failed s g fault ⊎ FailedBy st events s g fault) q
+run_fails laws failed st q [] ok ran = let same : st ≡ q = cc in subst (λ (m : State). FailuresOk (λ s g fault. failed s g fault ⊎ FailedBy st [] s g fault) m) same (told_by failed _ st (λ s g fault h. inl h) ok)
+run_fails laws failed st q (e ∷ events) ok ran = further_fails failed st q e events (step st e) refl (λ m later rest. run_fails laws (or_by failed st e) m q events later rest) ok (step_shape laws st e) ran
 
 abbrev pub never : ℕ → ℕ → Fault → Type 0
 never s g fault = ⊥
@@ -138,9 +139,9 @@ only : (l : Limits) (events : List Event) (s g : ℕ) (fault : Fault) → ⊥ �
 only l events s g fault (inl h) = absurd h
 only l events s g fault (inr h) = h
 
-pub failures_hold : (l : Limits) (events : List Event) (st : State) → run (opening l) events ≡ Some st → FailuresHold (opening l) st events
-failures_hold l events st ran =
-    let ok : FailuresOk (λ s g fault. ⊥ ⊎ FailedBy (opening l) events s g fault) st = run_fails never (opening l) st events (opening_fails l) ran in record {
+pub failures_hold : (laws : CoreLaws) (l : Limits) (events : List Event) (st : State) → run (opening l) events ≡ Some st → FailuresHold (opening l) st events
+failures_hold laws l events st ran =
+    let ok : FailuresOk (λ s g fault. ⊥ ⊎ FailedBy (opening l) events s g fault) st = run_fails laws never (opening l) st events (opening_fails l) ran in record {
       lying = λ s c fault at_s failing. (let here : Lies (slice_get st.slots s) c = lies (slice_get st.slots s) c at_s in
           only l events s c.pair.generation fault (ok.lying s here.place c fault here.there here.connection failing));
       closed = λ i p fault here failing. only l events p.slot p.generation fault (ok.closed i p fault here failing);

@@ -12,7 +12,7 @@ use Rattle.world.specs.declared.limits.Limits.{Limits}
 use Rattle.world.specs.States.{State, opening}
 use Rattle.world.specs.Runs.{run}
 use Rattle.world.specs.Given.{given}
-use Rattle.world.specs.Headline.{socket_of, end_of, DirectionHolds, ConnectionHolds, BytesAndEndsHold, EdgesHold, TableHolds}
+use Rattle.world.specs.Headline.{socket_of, end_of, DirectionHolds, ConnectionHolds, BytesAndEndsHold, EdgesHold}
 use Rattle.world.proofs.EndsHeld.{registered, DirectionOk, ConnectionOk, AllOk}
 use Rattle.world.proofs.EndsNetwork.{Lies, lies}
 use Rattle.world.proofs.EndsSteps.{no_history, run_keeps, opening_ok}
@@ -55,6 +55,3 @@ pub edges_hold : (l : Limits) (events : List Event) (st : State) → run (openin
 edges_hold l events st ran s p c side x here lying at_x =
     let ok : ConnectionOk (given (opening l) events) st s p.generation p.notes c = ((reached l events st ran).each s p here).connection c lying in
     rw (ok.generation, socket_is (end_of st c side) x (registered s p.generation side (socket_of ok.ends side)) at_x (ok.there side)) (ok.pair.covered side)
-
-pub table_holds : (l : Limits) (events : List Event) (st : State) → run (opening l) events ≡ Some st → TableHolds st
-table_holds l events st ran s p here = ((reached l events st ran).each s p here).entry

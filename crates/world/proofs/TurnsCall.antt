@@ -6,22 +6,22 @@ use Rattle.relay_core.specs.declared.call.Call.{Call}
 use Rattle.relay_core.specs.Order.{next_call}
 use Rattle.relay_core.specs.Replies.{fits, after}
 use Rattle.relay_core.specs.Laws.{place_of}
-use Rattle.relay_core.proofs.Events.{answers_keep_place}
 use Rattle.world.specs.declared.connection.Connection.{Connection}
 use Rattle.world.specs.Places.{Place}
 use Rattle.world.specs.Calls.{Line, told_of, made, replied, called}
 use Rattle.world.specs.Steps.{Lodging, lodged_call}
+use Rattle.world.specs.CoreLaws.{CoreLaws}
 use Rattle.world.proofs.TurnsKept.{Kept, kept_bind, kept_map, kept_when, kept_then}
 
 abbrev StandsAs : Connection → Line → Type 0
 StandsAs c line = place_of line.connection.pair ≡ place_of c.pair
 
-replied_stands : (l : Line) (call : Call) (r : Reply) → Kept (StandsAs l.connection) (replied l call r)
-replied_stands l call r = kept_bind _ (told_of l call r) (λ t is. kept_when (fits l.connection.pair call t) (option_map (λ (k : Watcher). record { kernel = k; connection = record l.connection { pair = after l.connection.pair call t } }) (made l call r)) (λ fit. kept_map _ (made l call r) (λ k done. answers_keep_place l.connection.pair call t)))
+replied_stands : (laws : CoreLaws) (l : Line) (call : Call) (r : Reply) → Kept (StandsAs l.connection) (replied l call r)
+replied_stands laws l call r = kept_bind _ (told_of l call r) (λ t is. kept_when (fits l.connection.pair call t) (option_map (λ (k : Watcher). record { kernel = k; connection = record l.connection { pair = after l.connection.pair call t } }) (made l call r)) (λ fit. kept_map _ (made l call r) (λ k done. laws.place l.connection.pair call t)))
 
-called_stands : (l : Line) (r : Reply) → Kept (StandsAs l.connection) (called l r)
+called_stands : (laws : CoreLaws) (l : Line) (r : Reply) → Kept (StandsAs l.connection) (called l r)
 unfolding called
-called_stands l r = kept_bind _ (next_call l.connection.pair) (λ call next. replied_stands l call r)
+called_stands laws l r = kept_bind _ (next_call l.connection.pair) (λ call next. replied_stands laws l call r)
 
 -- the slot keeps all but the connection, and the connection what it is
 pub record StaysIn (p q : Place) : Type 0 where
@@ -34,9 +34,9 @@ pub record StaysIn (p q : Place) : Type 0 where
   pub is : q.connection ≡ Some new
   pub stands : place_of new.pair ≡ place_of old.pair
 
-pub lodged_stays : (l : Lodging) (r : Reply) → Kept (λ (m : Lodging). StaysIn l.place m.place) (lodged_call l r)
+pub lodged_stays : (laws : CoreLaws) (l : Lodging) (r : Reply) → Kept (λ (m : Lodging). StaysIn l.place m.place) (lodged_call l r)
 unfolding lodged_call
-lodged_stays l r = kept_bind _ l.place.connection (λ c is. kept_then _ (called (record { kernel = l.kernel; connection = c }) r) (λ line same. record {
+lodged_stays laws l r = kept_bind _ l.place.connection (λ c is. kept_then _ (called (record { kernel = l.kernel; connection = c }) r) (λ line same. record {
   generation = refl;
   holder = refl;
   notes = refl;
@@ -45,4 +45,4 @@ lodged_stays l r = kept_bind _ l.place.connection (λ c is. kept_then _ (called 
   was = is;
   is = refl;
   stands = same;
-}) (called_stands (record { kernel = l.kernel; connection = c }) r))
+}) (called_stands laws (record { kernel = l.kernel; connection = c }) r))

@@ -18,7 +18,6 @@ use Rattle.relay_core.specs.declared.verdict.Verdict.TheVariants.{Live, Done, Fa
 use Rattle.relay_core.specs.Pairs.{Relay, stream_of, flags_of, is_joined, verdict, is_live}
 use Rattle.relay_core.specs.Order.{is_waiting, is_drained}
 use Rattle.relay_core.specs.Laws.{Place as Standing, place_of, IsDrained, IsAtRest}
-use Rattle.relay_core.proofs.Rest.{live_pairs_rest}
 use Rattle.world.specs.declared.connection.Connection.{Connection}
 use Rattle.world.specs.declared.actors.Ticket.{Ticket}
 use Rattle.world.specs.declared.actors.Holder.{Holder}
@@ -30,6 +29,7 @@ use Rattle.world.specs.States.{State}
 use Rattle.world.specs.Steps.{is_nonempty}
 use Rattle.world.specs.Due.{gives, takes, has_place, flows, moves, is_report, is_ticket, tries, has_ticket, is_reported, is_ticketed, moves_if_any, movable_at, movable, due_place, due_at, due}
 use Rattle.world.specs.Headline.{one, total, tickets, is_covered, has_report, end_of, EndCovered, EdgesHold}
+use Rattle.world.specs.CoreLaws.{CoreLaws}
 use Rattle.world.proofs.TurnsFacts.{facts, SlotOk, ConnectionOk, Turns, names, tried_right, worker_right, right_tickets, is_shaped, standing}
 use Rattle.world.proofs.TurnsPoller.{sure}
 use Rattle.world.proofs.TurnsEnded.{own_generation}
@@ -216,14 +216,14 @@ either_way st s p c r edges false live h = absurd (cc)
 either_way st s p c r edges true live h = elim (or_cases (flows st.limits.ring st.kernel c Up) (flows st.limits.ring st.kernel c Down) h) as (λ o. is_reported st s c.pair.generation ≡ true) [ inl up ↦ flows_due st s p c Up r edges up | inr down ↦ flows_due st s p c Down r edges down ]
 
 -- nobody holds it: with notes there is a ticket, and without notes the connection rests
-unheld_due : (st : State) (s : ℕ) (p : Place) (c : Connection) (some : Bool) → is_nonempty p.notes ≡ some → p.holder ≡ Nobody → slice_get st.slots s ≡ Some p → p.connection ≡ Some c → SlotOk (facts st s p.generation) p → EdgesHold st → moves st.limits.ring st.kernel c ≡ true
+unheld_due : (laws : CoreLaws) (st : State) (s : ℕ) (p : Place) (c : Connection) (some : Bool) → is_nonempty p.notes ≡ some → p.holder ≡ Nobody → slice_get st.slots s ≡ Some p → p.connection ≡ Some c → SlotOk (facts st s p.generation) p → EdgesHold st → moves st.limits.ring st.kernel c ≡ true
     → (is_reported st s c.pair.generation || is_ticketed st s c.pair.generation) ≡ true
-unheld_due st s p c true noted none lies is sv edges moving =
+unheld_due laws st s p c true noted none lies is sv edges moving =
     let own : c.pair.generation ≡ p.generation = own_generation (facts st s p.generation) p c (sv.connection c is).stands in
     let count : tickets st s ≡ 1 = rw (none, noted) at sv.tickets in
     let equal : right_tickets st s p.generation ≡ tickets st s = sv.right in
     or_second (is_reported st s c.pair.generation) (is_ticketed st s c.pair.generation) (rw own (ticketed st s p.generation (omega arith)))
-unheld_due st s p c false noted none lies is sv edges moving =
+unheld_due laws st s p c false noted none lies is sv edges moving =
     let ok : ConnectionOk (facts st s p.generation) p c = sv.connection c is in
     let empty : p.notes ≡ [] = empty_notes p.notes noted in
     let live : is_live (verdict c.pair) ≡ true = ok.live none in
@@ -232,23 +232,23 @@ unheld_due st s p c false noted none lies is sv edges moving =
       is = is;
       none = empty;
       stands = ok.stands;
-      rest = λ d. live_pairs_rest c.pair (live_is (verdict c.pair) live) (ok.rest none empty) d;
+      rest = λ d. laws.rest c.pair (live_is (verdict c.pair) live) (ok.rest none empty) d;
     } in
     or_first (is_reported st s c.pair.generation) (is_ticketed st s c.pair.generation) (either_way st s p c rest edges (is_live (verdict c.pair)) live moving)
 
-held_due : (st : State) (s : ℕ) (p : Place) (c : Connection) (h : Holder) → p.holder ≡ h → slice_get st.slots s ≡ Some p → p.connection ≡ Some c → SlotOk (facts st s p.generation) p → EdgesHold st → moves st.limits.ring st.kernel c ≡ true
+held_due : (laws : CoreLaws) (st : State) (s : ℕ) (p : Place) (c : Connection) (h : Holder) → p.holder ≡ h → slice_get st.slots s ≡ Some p → p.connection ≡ Some c → SlotOk (facts st s p.generation) p → EdgesHold st → moves st.limits.ring st.kernel c ≡ true
     → (is_by_worker h || (is_reported st s c.pair.generation || is_ticketed st s c.pair.generation)) ≡ true
-held_due st s p c Nobody held lies is sv edges moving = unheld_due st s p c (is_nonempty p.notes) refl held lies is sv edges moving
-held_due st s p c (By w) held lies is sv edges moving = refl
-held_due st s p c Free held lies is sv edges moving = absurd (let none : is_shaped Free true ≡ true = rw (held, is) at sv.shape in (cc))
+held_due laws st s p c Nobody held lies is sv edges moving = unheld_due laws st s p c (is_nonempty p.notes) refl held lies is sv edges moving
+held_due laws st s p c (By w) held lies is sv edges moving = refl
+held_due laws st s p c Free held lies is sv edges moving = absurd (let none : is_shaped Free true ≡ true = rw (held, is) at sv.shape in (cc))
 
-due_there : (st : State) (s : ℕ) (p : Place) (o : Option Connection) → p.connection ≡ o → slice_get st.slots s ≡ Some p → Turns st → EdgesHold st → moves_if_any st.limits.ring st.kernel o ≡ true → due_place st s p o ≡ true
-due_there st s p None is lies turns edges moving = absurd (cc)
-due_there st s p (Some c) is lies turns edges moving = held_due st s p c p.holder refl lies is (turns.each s p lies) edges moving
+due_there : (laws : CoreLaws) (st : State) (s : ℕ) (p : Place) (o : Option Connection) → p.connection ≡ o → slice_get st.slots s ≡ Some p → Turns st → EdgesHold st → moves_if_any st.limits.ring st.kernel o ≡ true → due_place st s p o ≡ true
+due_there laws st s p None is lies turns edges moving = absurd (cc)
+due_there laws st s p (Some c) is lies turns edges moving = held_due laws st s p c p.holder refl lies is (turns.each s p lies) edges moving
 
-due_from : (st : State) (s : ℕ) (o : Option Place) → slice_get st.slots s ≡ o → Turns st → EdgesHold st → movable_at st o ≡ true → due_at st s o ≡ true
-due_from st s None lies turns edges moving = absurd (cc)
-due_from st s (Some p) lies turns edges moving = due_there st s p p.connection refl lies turns edges moving
+due_from : (laws : CoreLaws) (st : State) (s : ℕ) (o : Option Place) → slice_get st.slots s ≡ o → Turns st → EdgesHold st → movable_at st o ≡ true → due_at st s o ≡ true
+due_from laws st s None lies turns edges moving = absurd (cc)
+due_from laws st s (Some p) lies turns edges moving = due_there laws st s p p.connection refl lies turns edges moving
 
-pub movable_is_due : (st : State) → Turns st → EdgesHold st → (s : ℕ) → movable st s ≡ true → due st s ≡ true
-movable_is_due st turns edges s moving = due_from st s (slice_get st.slots s) refl turns edges moving
+pub movable_is_due : (laws : CoreLaws) (st : State) → Turns st → EdgesHold st → (s : ℕ) → movable st s ≡ true → due st s ≡ true
+movable_is_due laws st turns edges s moving = due_from laws st s (slice_get st.slots s) refl turns edges moving

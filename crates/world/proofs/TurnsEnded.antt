@@ -16,6 +16,7 @@ use Rattle.world.specs.Places.{Place, Actor}
 use Rattle.world.specs.States.{State}
 use Rattle.world.specs.Steps.{is_nonempty, with_note, with_ticket, with_worker, with_place, doing, post, may_release, release, closed_world, close, retire, is_worn, freed, free}
 use Rattle.world.specs.Headline.{one, total, of_slot, tried, tickets}
+use Rattle.world.specs.CoreLaws.{CoreLaws}
 use Rattle.world.proofs.TurnsTotals.{total_push}
 use Rattle.world.proofs.TurnsKept.{Kept, kept_none, kept_bind, kept_map, kept_when, kept_guard}
 use Rattle.world.proofs.TurnsFacts.{Facts, facts, SlotOk, Turns, same_self, keep_slots, keep_others, names, tried_right, holds, closes, retires, worker_holds, worker_closes, worker_retires, is_number, right_tickets, is_free, standing, one_same, one_other, names_other, names_own, Replaced, replaced, Turned, turned}
@@ -249,17 +250,17 @@ free_turns st w k (Closed s) there does turns = kept_none
 
 -- each act of a worker
 
-acted_turns : (st : State) (w : ℕ) (k : Actor) (a : Act) → slice_get st.workers w ≡ Some k → Turns st → Kept Turns (acted st w k a)
-acted_turns st w k act.Put there turns = put_turns st w k k.hand there refl turns
-acted_turns st w k act.Pop there turns = pop_turns st w k k.doing there refl turns
-acted_turns st w k act.Claim there turns = claim_turns st w k k.doing there refl turns
-acted_turns st w k act.Take there turns = take_turns st w k k.doing there refl turns
-acted_turns st w k (act.Call r) there turns = call_turns st w k k.doing r there refl turns
-acted_turns st w k act.Post there turns = post_turns st w k k.doing there refl turns
-acted_turns st w k act.Release there turns = release_turns st w k k.doing there refl turns
-acted_turns st w k act.Close there turns = close_turns st w k k.doing there refl turns
-acted_turns st w k act.Retire there turns = retire_turns st w k k.doing there refl turns
-acted_turns st w k act.Free there turns = free_turns st w k k.doing there refl turns
+acted_turns : (laws : CoreLaws) (st : State) (w : ℕ) (k : Actor) (a : Act) → slice_get st.workers w ≡ Some k → Turns st → Kept Turns (acted st w k a)
+acted_turns laws st w k act.Put there turns = put_turns st w k k.hand there refl turns
+acted_turns laws st w k act.Pop there turns = pop_turns st w k k.doing there refl turns
+acted_turns laws st w k act.Claim there turns = claim_turns st w k k.doing there refl turns
+acted_turns laws st w k act.Take there turns = take_turns st w k k.doing there refl turns
+acted_turns laws st w k (act.Call r) there turns = call_turns laws st w k k.doing r there refl turns
+acted_turns laws st w k act.Post there turns = post_turns st w k k.doing there refl turns
+acted_turns laws st w k act.Release there turns = release_turns st w k k.doing there refl turns
+acted_turns laws st w k act.Close there turns = close_turns st w k k.doing there refl turns
+acted_turns laws st w k act.Retire there turns = retire_turns st w k k.doing there refl turns
+acted_turns laws st w k act.Free there turns = free_turns st w k k.doing there refl turns
 
-pub worked_turns : (st : State) (w : ℕ) (a : Act) → Turns st → Kept Turns (worked st w a)
-worked_turns st w a turns = kept_bind _ (slice_get st.workers w) (λ k there. acted_turns st w k a there turns)
+pub worked_turns : (laws : CoreLaws) (st : State) (w : ℕ) (a : Act) → Turns st → Kept Turns (worked st w a)
+worked_turns laws st w a turns = kept_bind _ (slice_get st.workers w) (λ k there. acted_turns laws st w k a there turns)

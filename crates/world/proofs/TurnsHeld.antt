@@ -12,6 +12,7 @@ use Rattle.world.specs.Places.{Place, Actor, is_held, is_by_worker}
 use Rattle.world.specs.States.{State}
 use Rattle.world.specs.Steps.{is_nonempty, with_place, doing, heard, take, Lodging, lodged_call, call, free}
 use Rattle.world.specs.Headline.{one, total}
+use Rattle.world.specs.CoreLaws.{CoreLaws}
 use Rattle.world.proofs.TurnsTotals.{total_at}
 use Rattle.world.proofs.TurnsKept.{Kept, kept_none, kept_bind, kept_map, kept_when, kept_map_map, kept_at}
 use Rattle.world.proofs.TurnsFacts.{Facts, facts, SlotOk, Turns, Same, same_self, keep_others, holds, closes, worker_holds, worker_closes, is_free, is_shaped, standing, are_own, one_same, Turned, turned}
@@ -169,14 +170,14 @@ called_turns st w k s left p l there does lies stays turns =
     rw (← same) (stays.stands ∙ (sv.connection stays.old stays.was).stands))))
     turns
 
-pub call_turns : (st : State) (w : ℕ) (k : Actor) (d : Doing) (r : Reply) → slice_get st.workers w ≡ Some k → k.doing ≡ d → Turns st → Kept Turns (call st w k d r)
-call_turns st w k (Holds s left) r there does turns = kept_when (nat_lt 0 left) (option_and_then
+pub call_turns : (laws : CoreLaws) (st : State) (w : ℕ) (k : Actor) (d : Doing) (r : Reply) → slice_get st.workers w ≡ Some k → k.doing ≡ d → Turns st → Kept Turns (call st w k d r)
+call_turns laws st w k (Holds s left) r there does turns = kept_when (nat_lt 0 left) (option_and_then
     (λ (p : Place). option_map
     (λ (l : Lodging). doing (with_place (record st { kernel = l.kernel }) s l.place) w k (Holds s (left - 1)))
     (lodged_call (record { kernel = st.kernel; place = p }) r))
     (slice_get st.slots s)) (λ some. kept_bind _ (slice_get st.slots s) (λ p lies. kept_map _ (lodged_call (record { kernel = st.kernel; place = p }) r) (λ l is. called_turns st w k s left p l there does lies
-    (kept_at (lodged_call (record { kernel = st.kernel; place = p }) r) l is (lodged_stays (record { kernel = st.kernel; place = p }) r)) turns)))
-call_turns st w k Idle r there does turns = kept_none
-call_turns st w k (Tries t) r there does turns = kept_none
-call_turns st w k (Closed s) r there does turns = kept_none
-call_turns st w k (Retired s) r there does turns = kept_none
+    (kept_at (lodged_call (record { kernel = st.kernel; place = p }) r) l is (lodged_stays laws (record { kernel = st.kernel; place = p }) r)) turns)))
+call_turns laws st w k Idle r there does turns = kept_none
+call_turns laws st w k (Tries t) r there does turns = kept_none
+call_turns laws st w k (Closed s) r there does turns = kept_none
+call_turns laws st w k (Retired s) r there does turns = kept_none

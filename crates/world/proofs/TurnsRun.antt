@@ -14,6 +14,7 @@ use Rattle.world.specs.States.{State, opening, unused, resting, numbers_below}
 use Rattle.world.specs.Steps.{connection_at, claimed, claim, worked, step}
 use Rattle.world.specs.Runs.{run}
 use Rattle.world.specs.Headline.{one, total, of_slot, tried, worker_tickets, tickets, TicketsHold, RestHolds, TableHolds, Throughout, TakesOwnNotes, ClaimsByOwnTicket, TriedOnOwn}
+use Rattle.world.specs.CoreLaws.{CoreLaws}
 use Rattle.world.proofs.TurnsTotals.{total_push, total_none, total_le, total_le_at, get-replicate, get_beside}
 use Rattle.world.proofs.TurnsKept.{Kept, kept_some, kept_next, kept_at}
 use Rattle.world.proofs.TurnsFacts.{facts, SlotOk, Turns, names, tried_right, worker_right, worker_holds, worker_closes, worker_retires, is_number, right_tickets, one_same, names_of_slot}
@@ -23,17 +24,17 @@ use Rattle.world.proofs.TurnsEnded.{own_generation, worked_turns}
 
 -- each event keeps it, and so does a list of them
 
-step_turns : (st : State) (e : Event) → Turns st → Kept Turns (step st e)
-step_turns st (event.Network s side change) turns = network_turns st s side change turns
-step_turns st (event.Spurious who) turns = spurious_turns st who turns
-step_turns st (event.Vanish who) turns = vanish_turns st who turns
-step_turns st (event.Listen l) turns = listen_turns st l turns
-step_turns st (event.Poll p) turns = polled_turns st p turns
-step_turns st (event.Work w a) turns = worked_turns st w a turns
+step_turns : (laws : CoreLaws) (st : State) (e : Event) → Turns st → Kept Turns (step st e)
+step_turns laws st (event.Network s side change) turns = network_turns st s side change turns
+step_turns laws st (event.Spurious who) turns = spurious_turns st who turns
+step_turns laws st (event.Vanish who) turns = vanish_turns st who turns
+step_turns laws st (event.Listen l) turns = listen_turns st l turns
+step_turns laws st (event.Poll p) turns = polled_turns st p turns
+step_turns laws st (event.Work w a) turns = worked_turns laws st w a turns
 
-run_turns : (st : State) (events : List Event) → Turns st → Kept Turns (run st events)
-run_turns st [] turns = kept_some turns
-run_turns st (e ∷ events) turns = kept_next (λ (q : State). run q events) (step st e) (λ q now. run_turns q events now) (step_turns st e turns)
+run_turns : (laws : CoreLaws) (st : State) (events : List Event) → Turns st → Kept Turns (run st events)
+run_turns laws st [] turns = kept_some turns
+run_turns laws st (e ∷ events) turns = kept_next (λ (q : State). run q events) (step st e) (λ q now. run_turns laws q events now) (step_turns laws st e turns)
 
 -- the opening world has it
 
@@ -88,8 +89,8 @@ opening_turns l = record {
 }
 
 -- so every world that a run reaches has it
-pub turns_after : (l : Limits) (events : List Event) (w : State) → run (opening l) events ≡ Some w → Turns w
-turns_after l events w ran = kept_at (run (opening l) events) w ran (run_turns (opening l) events (opening_turns l))
+pub turns_after : (laws : CoreLaws) (l : Limits) (events : List Event) (w : State) → run (opening l) events ≡ Some w → Turns w
+turns_after laws l events w ran = kept_at (run (opening l) events) w ran (run_turns laws (opening l) events (opening_turns l))
 
 -- what follows from it
 
@@ -183,22 +184,22 @@ first_ran f (Some q) w ran = (q, refl)
 rest_ran : (f : State → Option State) (o : Option State) (q w : State) → o ≡ Some q → option_and_then f o ≡ Some w → f q ≡ Some w
 rest_ran f o q w is ran = rw is at ran
 
-tried_throughout : (st : State) (events : List Event) (w : State) → run st events ≡ Some w → Turns st → Throughout TriedOnOwn st events
-tried_throughout st [] w ran turns = tt
-tried_throughout st (e ∷ events) w ran turns =
+tried_throughout : (laws : CoreLaws) (st : State) (events : List Event) (w : State) → run st events ≡ Some w → Turns st → Throughout TriedOnOwn st events
+tried_throughout laws st [] w ran turns = tt
+tried_throughout laws st (e ∷ events) w ran turns =
     let first : (q : State) × (step st e ≡ Some q) = first_ran (λ (q : State). run q events) (step st e) w ran in
-    (tried_own st e first.0 first.1 turns, λ q is. tried_throughout q events w (rest_ran (λ (x : State). run x events) (step st e) q w is ran) (kept_at (step st e) q is (step_turns st e turns)))
+    (tried_own st e first.0 first.1 turns, λ q is. tried_throughout laws q events w (rest_ran (λ (x : State). run x events) (step st e) q w is ran) (kept_at (step st e) q is (step_turns laws st e turns)))
 
 -- so it all holds after every run from the opening world
 
-pub tickets_after : (l : Limits) (events : List Event) (w : State) → run (opening l) events ≡ Some w → TicketsHold w
-tickets_after l events w ran = tickets_hold w (turns_after l events w ran)
+pub tickets_after : (laws : CoreLaws) (l : Limits) (events : List Event) (w : State) → run (opening l) events ≡ Some w → TicketsHold w
+tickets_after laws l events w ran = tickets_hold w (turns_after laws l events w ran)
 
-pub rest_after : (l : Limits) (events : List Event) (w : State) → run (opening l) events ≡ Some w → RestHolds w
-rest_after l events w ran = rest_holds w (turns_after l events w ran)
+pub rest_after : (laws : CoreLaws) (l : Limits) (events : List Event) (w : State) → run (opening l) events ≡ Some w → RestHolds w
+rest_after laws l events w ran = rest_holds w (turns_after laws l events w ran)
 
-pub table_after : (l : Limits) (events : List Event) (w : State) → run (opening l) events ≡ Some w → TableHolds w
-table_after l events w ran = table_holds w (turns_after l events w ran)
+pub table_after : (laws : CoreLaws) (l : Limits) (events : List Event) (w : State) → run (opening l) events ≡ Some w → TableHolds w
+table_after laws l events w ran = table_holds w (turns_after laws l events w ran)
 
-pub own_after : (l : Limits) (events : List Event) (w : State) → run (opening l) events ≡ Some w → Throughout TriedOnOwn (opening l) events
-own_after l events w ran = tried_throughout (opening l) events w ran (opening_turns l)
+pub own_after : (laws : CoreLaws) (l : Limits) (events : List Event) (w : State) → run (opening l) events ≡ Some w → Throughout TriedOnOwn (opening l) events
+own_after laws l events w ran = tried_throughout laws (opening l) events w ran (opening_turns l)

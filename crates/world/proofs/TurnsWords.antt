@@ -34,6 +34,7 @@ use Rattle.world.specs.States.{State}
 use Rattle.world.specs.Steps.{is_nonempty, connection_at, over_kernel, watched_of, may_accept, after_accept, listen, with_note, wakes as wakes_place, with_ticket, posted, post_at, delivered_at, delivered, put_by_poller, batched, opened_place, opened_world, opening_of, token_of, polled, with_worker, with_place, doing, put_by_worker, popped, pop, claim, heard, take, Lodging, lodged_call, call, post, may_release, release, closed_world, close, retire, freed, free, acted, step}
 use Rattle.world.specs.Headline.{one, total, of_slot, tried, worker_tickets, tickets}
 use Rattle.world.specs.Words.{number, word_of, Kind, Post, Claim, Take, Release, Retire, Adopt, after_all, Wake, Quiet, is_wake, wakes, claims, at_slot, is_entry, delivery_steps, steps, WordMoves, WordsMove, WordsMoveInRuns}
+use Rattle.world.specs.CoreLaws.{CoreLaws}
 use Rattle.world.proofs.TurnsTotals.{total_push, get-set_same, get-set_other}
 use Rattle.world.proofs.TurnsKept.{Kept, kept_some, kept_none, kept_bind, kept_map, kept_when, kept_guard, kept_if, kept_then, kept_map_map, kept_at}
 use Rattle.world.proofs.TurnsFacts.{Turns, one_same, one_other, Replaced, replaced, turned}
@@ -207,19 +208,19 @@ pop_words st w k (Retired s) e none there does = kept_none
 stays_word : (st next : State) (e : Event) (s : ℕ) (p r : Place) → slice_get st.slots s ≡ Some p → next.slots ≡ slice_set st.slots s r → ((i : ℕ) → steps st e i ≡ []) → r.notes ≡ p.notes → r.holder ≡ p.holder → ((i : ℕ) → tickets next i ≡ tickets st i) → WordsMove st e next
 stays_word st next e s p r there all none notes holder same = touched st next e s p r [] there all (λ i. none i ∙ none_here i s) (rw (notes, holder) refl) (let still : tickets next s ≡ tickets st s = same s in omega arith) (λ i apart. same i)
 
-call_words : (st : State) (w : ℕ) (k : Actor) (d : Doing) (r : Reply) (e : Event) → ((s : ℕ) → steps st e s ≡ []) → slice_get st.workers w ≡ Some k → k.doing ≡ d → Kept (WordsMove st e) (call st w k d r)
-call_words st w k (Holds s left) r e none there does = kept_when (nat_lt 0 left) (option_and_then
+call_words : (laws : CoreLaws) (st : State) (w : ℕ) (k : Actor) (d : Doing) (r : Reply) (e : Event) → ((s : ℕ) → steps st e s ≡ []) → slice_get st.workers w ≡ Some k → k.doing ≡ d → Kept (WordsMove st e) (call st w k d r)
+call_words laws st w k (Holds s left) r e none there does = kept_when (nat_lt 0 left) (option_and_then
     (λ (p : Place). option_map
     (λ (l : Lodging). doing (with_place (record st { kernel = l.kernel }) s l.place) w k (Holds s (left - 1)))
     (lodged_call (record { kernel = st.kernel; place = p }) r))
     (slice_get st.slots s)) (λ some. kept_bind _ (slice_get st.slots s) (λ p lies. kept_then (λ (l : Lodging). doing (with_place (record st { kernel = l.kernel }) s l.place) w k (Holds s (left - 1))) (lodged_call (record { kernel = st.kernel; place = p }) r)
     (λ l stays. stays_word st (doing (with_place (record st { kernel = l.kernel }) s l.place) w k (Holds s (left - 1))) e s p l.place lies refl none stays.notes stays.holder (λ i.
     let m : total (worker_tickets i) (slice_set st.workers w (record k { doing = Holds s (left - 1) })) + tried i (Holds s left) ≡ total (worker_tickets i) st.workers + tried i (Holds s (left - 1)) = tickets_on st w k (Holds s left) (Holds s (left - 1)) i there does in
-    omega arith)) (lodged_stays (record { kernel = st.kernel; place = p }) r)))
-call_words st w k Idle r e none there does = kept_none
-call_words st w k (Tries t) r e none there does = kept_none
-call_words st w k (Closed s) r e none there does = kept_none
-call_words st w k (Retired s) r e none there does = kept_none
+    omega arith)) (lodged_stays laws (record { kernel = st.kernel; place = p }) r)))
+call_words laws st w k Idle r e none there does = kept_none
+call_words laws st w k (Tries t) r e none there does = kept_none
+call_words laws st w k (Closed s) r e none there does = kept_none
+call_words laws st w k (Retired s) r e none there does = kept_none
 
 close_words : (st : State) (w : ℕ) (k : Actor) (d : Doing) (e : Event) → ((s : ℕ) → steps st e s ≡ []) → slice_get st.workers w ≡ Some k → k.doing ≡ d → Kept (WordsMove st e) (close st w k d)
 close_words st w k (Holds s left) e none there does = kept_bind _ (slice_get st.slots s) (λ p lies. kept_bind _ p.connection (λ c is. kept_when (not (is_live (verdict c.pair)))
@@ -310,28 +311,28 @@ retire_words st w k (Tries t) there does turns = kept_none
 retire_words st w k (Holds s left) there does turns = kept_none
 retire_words st w k (Retired s) there does turns = kept_none
 
-acted_words : (st : State) (w : ℕ) (k : Actor) (a : Act) → slice_get st.workers w ≡ Some k → Turns st → Kept (WordsMove st (event.Work w a)) (acted st w k a)
-acted_words st w k act.Put there turns = worker_put_words st w k k.hand (event.Work w act.Put) (λ i. rw there refl) there refl
-acted_words st w k act.Pop there turns = pop_words st w k k.doing (event.Work w act.Pop) (λ i. rw there refl) there refl
-acted_words st w k act.Claim there turns = claim_words st w k k.doing there refl turns
-acted_words st w k act.Take there turns = take_words st w k k.doing there refl
-acted_words st w k (act.Call r) there turns = call_words st w k k.doing r (event.Work w (act.Call r)) (λ i. rw there refl) there refl
-acted_words st w k act.Post there turns = post_words st w k k.doing there refl turns
-acted_words st w k act.Release there turns = release_words st w k k.doing there refl turns
-acted_words st w k act.Close there turns = close_words st w k k.doing (event.Work w act.Close) (λ i. rw there refl) there refl
-acted_words st w k act.Retire there turns = retire_words st w k k.doing there refl turns
-acted_words st w k act.Free there turns = free_words st w k k.doing (event.Work w act.Free) (λ i. rw there refl) there refl
+acted_words : (laws : CoreLaws) (st : State) (w : ℕ) (k : Actor) (a : Act) → slice_get st.workers w ≡ Some k → Turns st → Kept (WordsMove st (event.Work w a)) (acted st w k a)
+acted_words laws st w k act.Put there turns = worker_put_words st w k k.hand (event.Work w act.Put) (λ i. rw there refl) there refl
+acted_words laws st w k act.Pop there turns = pop_words st w k k.doing (event.Work w act.Pop) (λ i. rw there refl) there refl
+acted_words laws st w k act.Claim there turns = claim_words st w k k.doing there refl turns
+acted_words laws st w k act.Take there turns = take_words st w k k.doing there refl
+acted_words laws st w k (act.Call r) there turns = call_words laws st w k k.doing r (event.Work w (act.Call r)) (λ i. rw there refl) there refl
+acted_words laws st w k act.Post there turns = post_words st w k k.doing there refl turns
+acted_words laws st w k act.Release there turns = release_words st w k k.doing there refl turns
+acted_words laws st w k act.Close there turns = close_words st w k k.doing (event.Work w act.Close) (λ i. rw there refl) there refl
+acted_words laws st w k act.Retire there turns = retire_words st w k k.doing there refl turns
+acted_words laws st w k act.Free there turns = free_words st w k k.doing (event.Work w act.Free) (λ i. rw there refl) there refl
 
-step_words : (st : State) (e : Event) → Turns st → Kept (WordsMove st e) (step st e)
-step_words st (event.Network s side change) turns = kept_bind _ (connection_at st s) (λ c is. over_words st (event.Network s side change) _ (λ i. refl))
-step_words st (event.Spurious who) turns = kept_bind _ (watched_of st who) (λ x is. over_words st (event.Spurious who) _ (λ i. refl))
-step_words st (event.Vanish who) turns = kept_bind _ (watched_of st who) (λ x is. over_words st (event.Vanish who) _ (λ i. refl))
-step_words st (event.Listen l) turns = listen_words st l
-step_words st (event.Poll p) turns = polled_words st p turns
-step_words st (event.Work w a) turns = kept_bind _ (slice_get st.workers w) (λ k there. acted_words st w k a there turns)
+step_words : (laws : CoreLaws) (st : State) (e : Event) → Turns st → Kept (WordsMove st e) (step st e)
+step_words laws st (event.Network s side change) turns = kept_bind _ (connection_at st s) (λ c is. over_words st (event.Network s side change) _ (λ i. refl))
+step_words laws st (event.Spurious who) turns = kept_bind _ (watched_of st who) (λ x is. over_words st (event.Spurious who) _ (λ i. refl))
+step_words laws st (event.Vanish who) turns = kept_bind _ (watched_of st who) (λ x is. over_words st (event.Vanish who) _ (λ i. refl))
+step_words laws st (event.Listen l) turns = listen_words st l
+step_words laws st (event.Poll p) turns = polled_words st p turns
+step_words laws st (event.Work w a) turns = kept_bind _ (slice_get st.workers w) (λ k there. acted_words laws st w k a there turns)
 
 -- a step that was made moves the words so, in every world that a run reaches
-pub words_met : (st next : State) (e : Event) (r : Result (Unit {0}) Refusal) → Meets (step st e) st next r → IfOk r (λ x. WordsMoveInRuns st e next)
-words_met st next e (Ok x) met = λ l events ran. kept_at (step st e) next met (step_words st e (turns_after l events st ran))
-words_met st next e (Err NotAllowed) met = tt
-words_met st next e (Err NoMemory) met = tt
+pub words_met : (laws : CoreLaws) (st next : State) (e : Event) (r : Result (Unit {0}) Refusal) → Meets (step st e) st next r → IfOk r (λ x. WordsMoveInRuns st e next)
+words_met laws st next e (Ok x) met = λ l events ran. kept_at (step st e) next met (step_words laws st e (turns_after laws l events st ran))
+words_met laws st next e (Err NotAllowed) met = tt
+words_met laws st next e (Err NoMemory) met = tt

@@ -7,3 +7,4 @@ pub mod Due
 pub mod Given
 pub mod Headline
 pub mod Words
+pub mod CoreLaws

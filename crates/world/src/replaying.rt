@@ -5,6 +5,7 @@ ghost use Rattle.world.specs.Runs.{run, Fails};
 ghost use Rattle.world.specs.Headline.{BytesAndEndsHold, ClosedHold, DueHolds, EdgesHold, FailuresHold, ListenerHolds, RestHolds, TableHolds, Throughout, TicketsHold, TriedOnOwn};
 
 use crate::event::Event;
+use crate::laws::rests_on_core;
 use crate::limits::Limits;
 use crate::world::World;
 use kernel_model::Refusal;
@@ -47,6 +48,7 @@ pub fn replay(alloc: Global, limits: Limits, events: &[Event]) -> Result<World, 
     ensures edges { IfOk result (λ world. EdgesHold world) }
     ensures fails { IfErr result (λ e. Fails limits events.now e.0 e.1) }
 {
+    rests_on_core();
     let mut world = match World::new(alloc, limits) {
         Ok(world) => world,
         Err(AllocError) => return Err((0, Refusal::NoMemory)),

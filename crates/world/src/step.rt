@@ -1,5 +1,6 @@
 // One event, and a list of them.
 use crate::event::Event;
+use crate::laws::rests_on_core;
 use crate::world::World;
 use kernel_model::Refusal;
 
@@ -20,6 +21,7 @@ impl World {
         ensures event { Meets (step self.old event.now) self.old self.new result }
         ensures words { IfOk result (λ _. WordsMoveInRuns self.old event.now self.new) }
     {
+        rests_on_core();
         self.happen(event)
     }
 
