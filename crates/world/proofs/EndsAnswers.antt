@@ -9,6 +9,7 @@ use Rattle.std.proofs.lemmas.Bool.Decides.{nat_tests}
 use Rattle.std.proofs.Math.Seq.{drop-nil}
 use Rattle.token.specs.declared.side.Side.{Side}
 use Rattle.token.specs.declared.side.Side.TheVariants.{Client, Target}
+use Rattle.token.specs.declared.kind.Kind.{Kind}
 use Rattle.token.specs.declared.direction.Direction.{Direction}
 use Rattle.token.specs.declared.direction.Direction.TheVariants.{Up, Down}
 use Rattle.token.specs.Sides.{opposite, inward}
@@ -179,6 +180,26 @@ at_target h r p q ends e generation up down same covered upward downward ok = re
   down = down;
 }
 
+-- an answer by which nothing moves
+unmoved : (h : Side → List ℕ) (r : Side → Bool) (p q : Relay) (ends : Sockets) (side : Side) → q.generation ≡ p.generation → q.up ≡ p.up → q.down ≡ p.down → q.client ≡ p.client → q.target ≡ p.target → PairOk h r p ends
+    → AnswerOk h r p q (with_socket ends side (socket_of ends side))
+unmoved h r p q ends Client generation up down client target ok =
+    at_client h r p q ends ends.client generation (ap (λ (s : Stream). s.capacity) up) (ap (λ (s : Stream). s.capacity) down) target (rw client (ok.covered Client)) (rw up (ok.directions Up)) (rw down (ok.directions Down)) ok
+unmoved h r p q ends Target generation up down client target ok =
+    at_target h r p q ends ends.target generation (ap (λ (s : Stream). s.capacity) up) (ap (λ (s : Stream). s.capacity) down) client (rw target (ok.covered Target)) (rw up (ok.directions Up)) (rw down (ok.directions Down)) ok
+
+interrupted_keeps : (h : Side → List ℕ) (r : Side → Bool) (p : Relay) (ends : Sockets) (call : Call) (side : Side) (t : answer.Reply) (e : Endpoint)
+    → Some answer.Interrupted ≡ Some t → Some (socket_of ends side) ≡ Some e → PairOk h r p ends → Answered h r p ends call side t e
+interrupted_keeps h r p ends call side t e told made ok =
+    by_some (λ (z : Endpoint). Answered h r p ends call side t z) (socket_of ends side) e made
+    (by_some (λ (u : answer.Reply). Answered h r p ends call side u (socket_of ends side)) answer.Interrupted t told (unmoved h r p (after p call answer.Interrupted) ends side refl refl refl refl refl ok))
+
+failed_keeps : (h : Side → List ℕ) (r : Side → Bool) (p : Relay) (ends : Sockets) (call : Call) (side : Side) (kind : Kind) (t : answer.Reply) (e : Endpoint)
+    → Some (answer.Failed kind) ≡ Some t → Some (socket_of ends side) ≡ Some e → PairOk h r p ends → Answered h r p ends call side t e
+failed_keeps h r p ends call side kind t e told made ok =
+    by_some (λ (z : Endpoint). Answered h r p ends call side t z) (socket_of ends side) e made
+    (by_some (λ (u : answer.Reply). Answered h r p ends call side u (socket_of ends side)) (answer.Failed kind) t told (unmoved h r p (after p call (answer.Failed kind)) ends side refl refl refl refl refl ok))
+
 -- What the pair is told, and the end after the call
 
 abbrev pub told_read : Endpoint → ℕ → Reply → Option answer.Reply
@@ -196,15 +217,6 @@ read_keeps h r p ends Client most reply.End t e up told made ok = guarded (λ (z
 read_keeps h r p ends Client most reply.Blocked t e up told made ok = guarded (λ (z : Endpoint). Answered h r p ends (Read Client most) Client t z) (not (is_readable ends.client)) (record ends.client { read_armed = true }) e made (λ may.
     by_some (λ (u : answer.Reply). Answered h r p ends (Read Client most) Client u (record ends.client { read_armed = true })) answer.Blocked t told (
     at_client h r p (after p (Read Client most) answer.Blocked) ends (record ends.client { read_armed = true }) refl refl refl refl (record { read = cover_armed false (is_readable ends.client) (r Client) (unready (is_readable ends.client) may); write = (ok.covered Client).write }) (again (h Client) p.up ends.client ends.target (record ends.client { read_armed = true }) ends.target refl refl refl (ok.directions Up)) (again (h Target) p.down ends.target ends.client ends.target (record ends.client { read_armed = true }) refl refl refl (ok.directions Down)) ok))
-read_keeps h r p ends Client most reply.Interrupted t e up told made ok = by_some (λ (z : Endpoint). Answered h r p ends (Read Client most) Client t z) ends.client e made (
-    by_some (λ (u : answer.Reply). Answered h r p ends (Read Client most) Client u ends.client) answer.Interrupted t told (
-    at_client h r p (after p (Read Client most) answer.Interrupted) ends ends.client refl refl refl refl (ok.covered Client) (ok.directions Up) (ok.directions Down) ok))
-read_keeps h r p ends Client most (reply.Failed kind) t e up told made ok = guarded (λ (z : Endpoint). Answered h r p ends (Read Client most) Client t z) (not (is_zero kind)) ends.client e made (λ may.
-    by_some (λ (u : answer.Reply). Answered h r p ends (Read Client most) Client u ends.client) (answer.Failed kind) t told (
-    at_client h r p (after p (Read Client most) (answer.Failed kind)) ends ends.client refl refl refl refl (ok.covered Client) (ok.directions Up) (ok.directions Down) ok))
-read_keeps h r p ends Client most (reply.Wrote n full) t e up told made ok = absurd (cc)
-read_keeps h r p ends Client most reply.Joined t e up told made ok = absurd (cc)
-read_keeps h r p ends Client most reply.Shut t e up told made ok = absurd (cc)
 read_keeps h r p ends Target most (reply.Bytes n) t e up told made ok = guarded (λ (z : Endpoint). Answered h r p ends (Read Target most) Target t z) (is_count n most && nat_le n (length ends.target.unread)) (record ends.target { unread = drop n ends.target.unread }) e made (λ may.
     guard_map (λ (u : answer.Reply). Answered h r p ends (Read Target most) Target u (record ends.target { unread = drop n ends.target.unread })) (λ (bytes : List ℕ). answer.Bytes bytes) (is_count n most && nat_le n (length ends.target.unread)) (take n ends.target.unread) t told (λ may_too.
     at_target h r p (after p (Read Target most) (answer.Bytes (take n ends.target.unread))) ends (record ends.target { unread = drop n ends.target.unread }) refl refl refl refl (record { read = cover_flag p.target.read ends.target.read_armed (is_readable (record ends.target { unread = drop n ends.target.unread })) (r Target) up; write = (ok.covered Target).write }) (again (h Client) p.up ends.client ends.target ends.client (record ends.target { unread = drop n ends.target.unread }) refl refl refl (ok.directions Up)) (bytes_in (h Target) p.down ends.target ends.client n most may (ok.directions Down)) ok))
@@ -214,15 +226,11 @@ read_keeps h r p ends Target most reply.End t e up told made ok = guarded (λ (z
 read_keeps h r p ends Target most reply.Blocked t e up told made ok = guarded (λ (z : Endpoint). Answered h r p ends (Read Target most) Target t z) (not (is_readable ends.target)) (record ends.target { read_armed = true }) e made (λ may.
     by_some (λ (u : answer.Reply). Answered h r p ends (Read Target most) Target u (record ends.target { read_armed = true })) answer.Blocked t told (
     at_target h r p (after p (Read Target most) answer.Blocked) ends (record ends.target { read_armed = true }) refl refl refl refl (record { read = cover_armed false (is_readable ends.target) (r Target) (unready (is_readable ends.target) may); write = (ok.covered Target).write }) (again (h Client) p.up ends.client ends.target ends.client (record ends.target { read_armed = true }) refl refl refl (ok.directions Up)) (again (h Target) p.down ends.target ends.client (record ends.target { read_armed = true }) ends.client refl refl refl (ok.directions Down)) ok))
-read_keeps h r p ends Target most reply.Interrupted t e up told made ok = by_some (λ (z : Endpoint). Answered h r p ends (Read Target most) Target t z) ends.target e made (
-    by_some (λ (u : answer.Reply). Answered h r p ends (Read Target most) Target u ends.target) answer.Interrupted t told (
-    at_target h r p (after p (Read Target most) answer.Interrupted) ends ends.target refl refl refl refl (ok.covered Target) (ok.directions Up) (ok.directions Down) ok))
-read_keeps h r p ends Target most (reply.Failed kind) t e up told made ok = guarded (λ (z : Endpoint). Answered h r p ends (Read Target most) Target t z) (not (is_zero kind)) ends.target e made (λ may.
-    by_some (λ (u : answer.Reply). Answered h r p ends (Read Target most) Target u ends.target) (answer.Failed kind) t told (
-    at_target h r p (after p (Read Target most) (answer.Failed kind)) ends ends.target refl refl refl refl (ok.covered Target) (ok.directions Up) (ok.directions Down) ok))
-read_keeps h r p ends Target most (reply.Wrote n full) t e up told made ok = absurd (cc)
-read_keeps h r p ends Target most reply.Joined t e up told made ok = absurd (cc)
-read_keeps h r p ends Target most reply.Shut t e up told made ok = absurd (cc)
+read_keeps h r p ends side most reply.Interrupted t e up told made ok = interrupted_keeps h r p ends (Read side most) side t e told made ok
+read_keeps h r p ends side most (reply.Failed kind) t e up told made ok = guarded (λ (z : Endpoint). Answered h r p ends (Read side most) side t z) (not (is_zero kind)) (socket_of ends side) e made (λ may. failed_keeps h r p ends (Read side most) side kind t (socket_of ends side) told refl ok)
+read_keeps h r p ends side most (reply.Wrote n full) t e up told made ok = absurd (cc)
+read_keeps h r p ends side most reply.Joined t e up told made ok = absurd (cc)
+read_keeps h r p ends side most reply.Shut t e up told made ok = absurd (cc)
 
 pub write_keeps : (h : Side → List ℕ) (r : Side → Bool) (p : Relay) (ends : Sockets) (side : Side) (said : Reply) (t : answer.Reply) (e : Endpoint)
     → (flags_of p side).write ≡ true → plain said ≡ Some t → after_write (socket_of ends side) (offer p side) said ≡ Some e → PairOk h r p ends → Answered h r p ends (Write side) side t e
@@ -232,32 +240,18 @@ write_keeps h r p ends Client (reply.Wrote n full) t e up told made ok = guarded
 write_keeps h r p ends Client reply.Blocked t e up told made ok = guarded (λ (z : Endpoint). Answered h r p ends (Write Client) Client t z) (not (is_writable ends.client)) (record ends.client { write_armed = true }) e made (λ may.
     by_some (λ (u : answer.Reply). Answered h r p ends (Write Client) Client u (record ends.client { write_armed = true })) answer.Blocked t told (
     at_client h r p (after p (Write Client) answer.Blocked) ends (record ends.client { write_armed = true }) refl refl refl refl (record { read = (ok.covered Client).read; write = cover_armed false (is_writable ends.client) (r Client) (unready (is_writable ends.client) may) }) (again (h Client) p.up ends.client ends.target (record ends.client { write_armed = true }) ends.target refl refl refl (ok.directions Up)) (again (h Target) p.down ends.target ends.client ends.target (record ends.client { write_armed = true }) refl refl refl (ok.directions Down)) ok))
-write_keeps h r p ends Client reply.Interrupted t e up told made ok = by_some (λ (z : Endpoint). Answered h r p ends (Write Client) Client t z) ends.client e made (
-    by_some (λ (u : answer.Reply). Answered h r p ends (Write Client) Client u ends.client) answer.Interrupted t told (
-    at_client h r p (after p (Write Client) answer.Interrupted) ends ends.client refl refl refl refl (ok.covered Client) (ok.directions Up) (ok.directions Down) ok))
-write_keeps h r p ends Client (reply.Failed kind) t e up told made ok = by_some (λ (z : Endpoint). Answered h r p ends (Write Client) Client t z) ends.client e made (
-    by_some (λ (u : answer.Reply). Answered h r p ends (Write Client) Client u ends.client) (answer.Failed kind) t told (
-    at_client h r p (after p (Write Client) (answer.Failed kind)) ends ends.client refl refl refl refl (ok.covered Client) (ok.directions Up) (ok.directions Down) ok))
-write_keeps h r p ends Client (reply.Bytes n) t e up told made ok = absurd (cc)
-write_keeps h r p ends Client reply.End t e up told made ok = absurd (cc)
-write_keeps h r p ends Client reply.Joined t e up told made ok = absurd (cc)
-write_keeps h r p ends Client reply.Shut t e up told made ok = absurd (cc)
 write_keeps h r p ends Target (reply.Wrote n full) t e up told made ok = guarded (λ (z : Endpoint). Answered h r p ends (Write Target) Target t z) (ends.target.room && is_count n (length p.up.ring)) (record ends.target { taken = ends.target.taken ++ take n p.up.ring; room = not full }) e made (λ may.
     by_some (λ (u : answer.Reply). Answered h r p ends (Write Target) Target u (record ends.target { taken = ends.target.taken ++ take n p.up.ring; room = not full })) (answer.Wrote n) t told (
     at_target h r p (after p (Write Target) (answer.Wrote n)) ends (record ends.target { taken = ends.target.taken ++ take n p.up.ring; room = not full }) refl refl refl refl (record { read = (ok.covered Target).read; write = cover_flag p.target.write ends.target.write_armed (is_writable (record ends.target { taken = ends.target.taken ++ take n p.up.ring; room = not full })) (r Target) up }) (wrote_out (h Client) p.up ends.client ends.target n (not full) (ok.directions Up)) (again (h Target) p.down ends.target ends.client (record ends.target { taken = ends.target.taken ++ take n p.up.ring; room = not full }) ends.client refl refl refl (ok.directions Down)) ok))
 write_keeps h r p ends Target reply.Blocked t e up told made ok = guarded (λ (z : Endpoint). Answered h r p ends (Write Target) Target t z) (not (is_writable ends.target)) (record ends.target { write_armed = true }) e made (λ may.
     by_some (λ (u : answer.Reply). Answered h r p ends (Write Target) Target u (record ends.target { write_armed = true })) answer.Blocked t told (
     at_target h r p (after p (Write Target) answer.Blocked) ends (record ends.target { write_armed = true }) refl refl refl refl (record { read = (ok.covered Target).read; write = cover_armed false (is_writable ends.target) (r Target) (unready (is_writable ends.target) may) }) (again (h Client) p.up ends.client ends.target ends.client (record ends.target { write_armed = true }) refl refl refl (ok.directions Up)) (again (h Target) p.down ends.target ends.client (record ends.target { write_armed = true }) ends.client refl refl refl (ok.directions Down)) ok))
-write_keeps h r p ends Target reply.Interrupted t e up told made ok = by_some (λ (z : Endpoint). Answered h r p ends (Write Target) Target t z) ends.target e made (
-    by_some (λ (u : answer.Reply). Answered h r p ends (Write Target) Target u ends.target) answer.Interrupted t told (
-    at_target h r p (after p (Write Target) answer.Interrupted) ends ends.target refl refl refl refl (ok.covered Target) (ok.directions Up) (ok.directions Down) ok))
-write_keeps h r p ends Target (reply.Failed kind) t e up told made ok = by_some (λ (z : Endpoint). Answered h r p ends (Write Target) Target t z) ends.target e made (
-    by_some (λ (u : answer.Reply). Answered h r p ends (Write Target) Target u ends.target) (answer.Failed kind) t told (
-    at_target h r p (after p (Write Target) (answer.Failed kind)) ends ends.target refl refl refl refl (ok.covered Target) (ok.directions Up) (ok.directions Down) ok))
-write_keeps h r p ends Target (reply.Bytes n) t e up told made ok = absurd (cc)
-write_keeps h r p ends Target reply.End t e up told made ok = absurd (cc)
-write_keeps h r p ends Target reply.Joined t e up told made ok = absurd (cc)
-write_keeps h r p ends Target reply.Shut t e up told made ok = absurd (cc)
+write_keeps h r p ends side reply.Interrupted t e up told made ok = interrupted_keeps h r p ends (Write side) side t e told made ok
+write_keeps h r p ends side (reply.Failed kind) t e up told made ok = failed_keeps h r p ends (Write side) side kind t e told made ok
+write_keeps h r p ends side (reply.Bytes n) t e up told made ok = absurd (cc)
+write_keeps h r p ends side reply.End t e up told made ok = absurd (cc)
+write_keeps h r p ends side reply.Joined t e up told made ok = absurd (cc)
+write_keeps h r p ends side reply.Shut t e up told made ok = absurd (cc)
 
 pub join_keeps : (h : Side → List ℕ) (r : Side → Bool) (p : Relay) (ends : Sockets) (side : Side) (said : Reply) (t : answer.Reply) (e : Endpoint)
     → plain said ≡ Some t → after_join (socket_of ends side) said ≡ Some e → PairOk h r p ends → Answered h r p ends (Join side) side t e
@@ -267,60 +261,31 @@ join_keeps h r p ends Client reply.Joined t e told made ok = guarded (λ (z : En
 join_keeps h r p ends Client reply.Blocked t e told made ok = guarded (λ (z : Endpoint). Answered h r p ends (Join Client) Client t z) (not (is_writable ends.client)) (record ends.client { write_armed = true }) e made (λ may.
     by_some (λ (u : answer.Reply). Answered h r p ends (Join Client) Client u (record ends.client { write_armed = true })) answer.Blocked t told (
     at_client h r p (after p (Join Client) answer.Blocked) ends (record ends.client { write_armed = true }) refl refl refl refl (record { read = (ok.covered Client).read; write = cover_armed false (is_writable ends.client) (r Client) (unready (is_writable ends.client) may) }) (again (h Client) p.up ends.client ends.target (record ends.client { write_armed = true }) ends.target refl refl refl (ok.directions Up)) (again (h Target) p.down ends.target ends.client ends.target (record ends.client { write_armed = true }) refl refl refl (ok.directions Down)) ok))
-join_keeps h r p ends Client reply.Interrupted t e told made ok = by_some (λ (z : Endpoint). Answered h r p ends (Join Client) Client t z) ends.client e made (
-    by_some (λ (u : answer.Reply). Answered h r p ends (Join Client) Client u ends.client) answer.Interrupted t told (
-    at_client h r p (after p (Join Client) answer.Interrupted) ends ends.client refl refl refl refl (ok.covered Client) (ok.directions Up) (ok.directions Down) ok))
-join_keeps h r p ends Client (reply.Failed kind) t e told made ok = guarded (λ (z : Endpoint). Answered h r p ends (Join Client) Client t z) (not (is_zero kind)) ends.client e made (λ may.
-    by_some (λ (u : answer.Reply). Answered h r p ends (Join Client) Client u ends.client) (answer.Failed kind) t told (
-    at_client h r p (after p (Join Client) (answer.Failed kind)) ends ends.client refl refl refl refl (ok.covered Client) (ok.directions Up) (ok.directions Down) ok))
-join_keeps h r p ends Client (reply.Bytes n) t e told made ok = absurd (cc)
-join_keeps h r p ends Client reply.End t e told made ok = absurd (cc)
-join_keeps h r p ends Client (reply.Wrote n full) t e told made ok = absurd (cc)
-join_keeps h r p ends Client reply.Shut t e told made ok = absurd (cc)
 join_keeps h r p ends Target reply.Joined t e told made ok = guarded (λ (z : Endpoint). Answered h r p ends (Join Target) Target t z) ends.target.room ends.target e made (λ may.
     by_some (λ (u : answer.Reply). Answered h r p ends (Join Target) Target u ends.target) answer.Joined t told (
     at_target h r p (after p (Join Target) answer.Joined) ends ends.target refl refl refl refl (ok.covered Target) (ok.directions Up) (ok.directions Down) ok))
 join_keeps h r p ends Target reply.Blocked t e told made ok = guarded (λ (z : Endpoint). Answered h r p ends (Join Target) Target t z) (not (is_writable ends.target)) (record ends.target { write_armed = true }) e made (λ may.
     by_some (λ (u : answer.Reply). Answered h r p ends (Join Target) Target u (record ends.target { write_armed = true })) answer.Blocked t told (
     at_target h r p (after p (Join Target) answer.Blocked) ends (record ends.target { write_armed = true }) refl refl refl refl (record { read = (ok.covered Target).read; write = cover_armed false (is_writable ends.target) (r Target) (unready (is_writable ends.target) may) }) (again (h Client) p.up ends.client ends.target ends.client (record ends.target { write_armed = true }) refl refl refl (ok.directions Up)) (again (h Target) p.down ends.target ends.client (record ends.target { write_armed = true }) ends.client refl refl refl (ok.directions Down)) ok))
-join_keeps h r p ends Target reply.Interrupted t e told made ok = by_some (λ (z : Endpoint). Answered h r p ends (Join Target) Target t z) ends.target e made (
-    by_some (λ (u : answer.Reply). Answered h r p ends (Join Target) Target u ends.target) answer.Interrupted t told (
-    at_target h r p (after p (Join Target) answer.Interrupted) ends ends.target refl refl refl refl (ok.covered Target) (ok.directions Up) (ok.directions Down) ok))
-join_keeps h r p ends Target (reply.Failed kind) t e told made ok = guarded (λ (z : Endpoint). Answered h r p ends (Join Target) Target t z) (not (is_zero kind)) ends.target e made (λ may.
-    by_some (λ (u : answer.Reply). Answered h r p ends (Join Target) Target u ends.target) (answer.Failed kind) t told (
-    at_target h r p (after p (Join Target) (answer.Failed kind)) ends ends.target refl refl refl refl (ok.covered Target) (ok.directions Up) (ok.directions Down) ok))
-join_keeps h r p ends Target (reply.Bytes n) t e told made ok = absurd (cc)
-join_keeps h r p ends Target reply.End t e told made ok = absurd (cc)
-join_keeps h r p ends Target (reply.Wrote n full) t e told made ok = absurd (cc)
-join_keeps h r p ends Target reply.Shut t e told made ok = absurd (cc)
+join_keeps h r p ends side reply.Interrupted t e told made ok = interrupted_keeps h r p ends (Join side) side t e told made ok
+join_keeps h r p ends side (reply.Failed kind) t e told made ok = guarded (λ (z : Endpoint). Answered h r p ends (Join side) side t z) (not (is_zero kind)) (socket_of ends side) e made (λ may. failed_keeps h r p ends (Join side) side kind t (socket_of ends side) told refl ok)
+join_keeps h r p ends side (reply.Bytes n) t e told made ok = absurd (cc)
+join_keeps h r p ends side reply.End t e told made ok = absurd (cc)
+join_keeps h r p ends side (reply.Wrote n full) t e told made ok = absurd (cc)
+join_keeps h r p ends side reply.Shut t e told made ok = absurd (cc)
 
 pub shut_keeps : (h : Side → List ℕ) (r : Side → Bool) (p : Relay) (ends : Sockets) (side : Side) (said : Reply) (t : answer.Reply) (e : Endpoint)
     → is_drained (stream_of p (inward side)) ≡ true → plain said ≡ Some t → after_shut (socket_of ends side) said ≡ Some e → PairOk h r p ends → Answered h r p ends (Shut side) side t e
 shut_keeps h r p ends Client reply.Shut t e drained told made ok = by_some (λ (z : Endpoint). Answered h r p ends (Shut Client) Client t z) (record ends.client { shut = true }) e made (
     by_some (λ (u : answer.Reply). Answered h r p ends (Shut Client) Client u (record ends.client { shut = true })) answer.Shut t told (
     at_client h r p (after p (Shut Client) answer.Shut) ends (record ends.client { shut = true }) refl refl refl refl (record { read = (ok.covered Client).read; write = (ok.covered Client).write }) (again (h Client) p.up ends.client ends.target (record ends.client { shut = true }) ends.target refl refl refl (ok.directions Up)) (passed_on (h Target) p.down ends.target ends.client (record ends.client { shut = true }) refl drained (ok.directions Down)) ok))
-shut_keeps h r p ends Client reply.Interrupted t e drained told made ok = by_some (λ (z : Endpoint). Answered h r p ends (Shut Client) Client t z) ends.client e made (
-    by_some (λ (u : answer.Reply). Answered h r p ends (Shut Client) Client u ends.client) answer.Interrupted t told (
-    at_client h r p (after p (Shut Client) answer.Interrupted) ends ends.client refl refl refl refl (ok.covered Client) (ok.directions Up) (ok.directions Down) ok))
-shut_keeps h r p ends Client (reply.Failed kind) t e drained told made ok = guarded (λ (z : Endpoint). Answered h r p ends (Shut Client) Client t z) (not (is_zero kind)) ends.client e made (λ may.
-    by_some (λ (u : answer.Reply). Answered h r p ends (Shut Client) Client u ends.client) (answer.Failed kind) t told (
-    at_client h r p (after p (Shut Client) (answer.Failed kind)) ends ends.client refl refl refl refl (ok.covered Client) (ok.directions Up) (ok.directions Down) ok))
-shut_keeps h r p ends Client (reply.Bytes n) t e drained told made ok = absurd (cc)
-shut_keeps h r p ends Client reply.End t e drained told made ok = absurd (cc)
-shut_keeps h r p ends Client (reply.Wrote n full) t e drained told made ok = absurd (cc)
-shut_keeps h r p ends Client reply.Joined t e drained told made ok = absurd (cc)
-shut_keeps h r p ends Client reply.Blocked t e drained told made ok = absurd (cc)
 shut_keeps h r p ends Target reply.Shut t e drained told made ok = by_some (λ (z : Endpoint). Answered h r p ends (Shut Target) Target t z) (record ends.target { shut = true }) e made (
     by_some (λ (u : answer.Reply). Answered h r p ends (Shut Target) Target u (record ends.target { shut = true })) answer.Shut t told (
     at_target h r p (after p (Shut Target) answer.Shut) ends (record ends.target { shut = true }) refl refl refl refl (record { read = (ok.covered Target).read; write = (ok.covered Target).write }) (passed_on (h Client) p.up ends.client ends.target (record ends.target { shut = true }) refl drained (ok.directions Up)) (again (h Target) p.down ends.target ends.client (record ends.target { shut = true }) ends.client refl refl refl (ok.directions Down)) ok))
-shut_keeps h r p ends Target reply.Interrupted t e drained told made ok = by_some (λ (z : Endpoint). Answered h r p ends (Shut Target) Target t z) ends.target e made (
-    by_some (λ (u : answer.Reply). Answered h r p ends (Shut Target) Target u ends.target) answer.Interrupted t told (
-    at_target h r p (after p (Shut Target) answer.Interrupted) ends ends.target refl refl refl refl (ok.covered Target) (ok.directions Up) (ok.directions Down) ok))
-shut_keeps h r p ends Target (reply.Failed kind) t e drained told made ok = guarded (λ (z : Endpoint). Answered h r p ends (Shut Target) Target t z) (not (is_zero kind)) ends.target e made (λ may.
-    by_some (λ (u : answer.Reply). Answered h r p ends (Shut Target) Target u ends.target) (answer.Failed kind) t told (
-    at_target h r p (after p (Shut Target) (answer.Failed kind)) ends ends.target refl refl refl refl (ok.covered Target) (ok.directions Up) (ok.directions Down) ok))
-shut_keeps h r p ends Target (reply.Bytes n) t e drained told made ok = absurd (cc)
-shut_keeps h r p ends Target reply.End t e drained told made ok = absurd (cc)
-shut_keeps h r p ends Target (reply.Wrote n full) t e drained told made ok = absurd (cc)
-shut_keeps h r p ends Target reply.Joined t e drained told made ok = absurd (cc)
-shut_keeps h r p ends Target reply.Blocked t e drained told made ok = absurd (cc)
+shut_keeps h r p ends side reply.Interrupted t e drained told made ok = interrupted_keeps h r p ends (Shut side) side t e told made ok
+shut_keeps h r p ends side (reply.Failed kind) t e drained told made ok = guarded (λ (z : Endpoint). Answered h r p ends (Shut side) side t z) (not (is_zero kind)) (socket_of ends side) e made (λ may. failed_keeps h r p ends (Shut side) side kind t (socket_of ends side) told refl ok)
+shut_keeps h r p ends side (reply.Bytes n) t e drained told made ok = absurd (cc)
+shut_keeps h r p ends side reply.End t e drained told made ok = absurd (cc)
+shut_keeps h r p ends side (reply.Wrote n full) t e drained told made ok = absurd (cc)
+shut_keeps h r p ends side reply.Joined t e drained told made ok = absurd (cc)
+shut_keeps h r p ends side reply.Blocked t e drained told made ok = absurd (cc)

@@ -15,11 +15,11 @@ use Rattle.world.specs.declared.actors.Doing.TheVariants.{Idle, Tries, Holds, Cl
 use Rattle.world.specs.Places.{Place, Actor}
 use Rattle.world.specs.States.{State}
 use Rattle.world.specs.Steps.{is_nonempty, with_note, with_ticket, with_worker, with_place, doing, post, may_release, release, closed_world, close, retire, is_worn, freed, free}
-use Rattle.world.specs.Headline.{one, total, of_slot, tried, tickets}
+use Rattle.world.specs.Headline.{one, total, of_slot, tried}
 use Rattle.world.specs.CoreLaws.{CoreLaws}
 use Rattle.world.proofs.TurnsTotals.{total_push}
 use Rattle.world.proofs.TurnsKept.{Kept, kept_none, kept_bind, kept_map, kept_when, kept_guard}
-use Rattle.world.proofs.TurnsFacts.{Facts, facts, SlotOk, Turns, same_self, keep_slots, keep_others, names, tried_right, holds, closes, retires, worker_holds, worker_closes, worker_retires, is_number, right_tickets, is_free, standing, one_same, one_other, names_other, names_own, Replaced, replaced, Turned, turned}
+use Rattle.world.proofs.TurnsFacts.{Facts, facts, SlotOk, Turns, same_self, keep_slots, keep_others, names, tried_right, holds, closes, retires, is_number, standing, one_same, one_other, names_other, names_own, Replaced, replaced, Turned, turned, turned_elsewhere}
 use Rattle.world.proofs.TurnsPoller.{are_own_more, hand_other, hand_own}
 use Rattle.world.specs.declared.event.Act.{Act}
 use Rattle.world.specs.declared.event.Act.TheVariants as act
@@ -36,7 +36,7 @@ posted_turns : (st : State) (w : ℕ) (k : Actor) (s left : ℕ) (p : Place) (c 
     → Turns (with_place st s (with_note p c.pair.generation))
 posted_turns st w k s left p c there does lies is turns =
     let sv : SlotOk (facts st s p.generation) p = turns.each s p lies in
-    let h : Held p true = held_by st w k s left p there does lies turns in
+    let h : Held (facts st s p.generation) p true = held_by st w k s left p there does lies turns in
     let own : c.pair.generation ≡ p.generation = own_generation (facts st s p.generation) p c (sv.connection c is).stands in
     keep_others st (with_place st s (with_note p c.pair.generation)) s p (with_note p c.pair.generation) lies refl
     (λ j q apart other. same_self (facts st j q.generation))
@@ -72,7 +72,7 @@ released_turns : (st : State) (w : ℕ) (k : Actor) (s left : ℕ) (p : Place) (
     → Turns (with_worker (with_place st s (record p { holder = Nobody })) w (record { doing = Idle; hand = with_ticket (is_nonempty p.notes) s p.generation k.hand }))
 released_turns st w k s left p c there does lies is may turns =
     let sv : SlotOk (facts st s p.generation) p = turns.each s p lies in
-    let h : Held p true = held_by st w k s left p there does lies turns in
+    let h : Held (facts st s p.generation) p true = held_by st w k s left p there does lies turns in
     let free : (is_live (verdict c.pair) ≡ true) × (is_nonempty p.notes ≡ false → next_call c.pair ≡ None) = lets_go c (is_nonempty p.notes) may in
     let r : Replaced st w k (record { doing = Idle; hand = with_ticket (is_nonempty p.notes) s p.generation k.hand }) s p.generation = replaced st w k (record { doing = Idle; hand = with_ticket (is_nonempty p.notes) s p.generation k.hand }) s p.generation there in
     let did_tickets : tried s k.doing ≡ 0 = ap (tried s) does in
@@ -83,11 +83,6 @@ released_turns st w k s left p c there does lies is may turns =
     let this : one (s == s) ≡ 1 = one_same s in
     let more : total (of_slot s) (with_ticket (is_nonempty p.notes) s p.generation k.hand) ≡ total (of_slot s) k.hand + one (is_nonempty p.notes) = hand_own (of_slot s) (is_nonempty p.notes) s p.generation k.hand (one_same s) in
     let more_right : total (names s p.generation) (with_ticket (is_nonempty p.notes) s p.generation k.hand) ≡ total (names s p.generation) k.hand + one (is_nonempty p.notes) = hand_own (names s p.generation) (is_nonempty p.notes) s p.generation k.hand (names_own s p.generation) in
-    let had : tickets st s ≡ 0 = rw h.held at sv.tickets in
-    let had_right : right_tickets st s p.generation ≡ tickets st s = sv.right in
-    let held : total (worker_holds s) st.workers ≡ 1 = rw (h.by, h.some) at sv.holding in
-    let closed : total (worker_closes s) st.workers ≡ 0 = rw (h.by, h.some) at sv.closing in
-    let gone : total (worker_retires s) st.workers + total (is_number s) st.free ≤ 0 = rw h.free at sv.gone in
     keep_others st (with_worker (with_place st s (record p { holder = Nobody })) w (record { doing = Idle; hand = with_ticket (is_nonempty p.notes) s p.generation k.hand })) s p (record p { holder = Nobody }) lies refl (λ j q apart other.
     let m : Replaced st w k (record { doing = Idle; hand = with_ticket (is_nonempty p.notes) s p.generation k.hand }) j q.generation = replaced st w k (record { doing = Idle; hand = with_ticket (is_nonempty p.notes) s p.generation k.hand }) j q.generation there in
     let away : one (s == j) ≡ 0 = one_other s j apart in
@@ -140,27 +135,12 @@ closed_turns : (st : State) (w : ℕ) (k : Actor) (s left : ℕ) (p : Place) (c 
     → Turns (closed_world st w k s p c t)
 closed_turns st w k s left p c t there does lies turns =
     let sv : SlotOk (facts st s p.generation) p = turns.each s p lies in
-    let h : Held p true = held_by st w k s left p there does lies turns in
+    let h : Held (facts st s p.generation) p true = held_by st w k s left p there does lies turns in
     let r : Turned st w k (Holds s left) (Closed s) s p.generation = turned st w k (Holds s left) (Closed s) s p.generation there does in
     let this : one (s == s) ≡ 1 = one_same s in
-    let had : tickets st s ≡ 0 = rw h.held at sv.tickets in
-    let had_right : right_tickets st s p.generation ≡ tickets st s = sv.right in
-    let held : total (worker_holds s) st.workers ≡ 1 = rw (h.by, h.some) at sv.holding in
-    let closed : total (worker_closes s) st.workers ≡ 0 = rw (h.by, h.some) at sv.closing in
-    let gone : total (worker_retires s) st.workers + total (is_number s) st.free ≤ one (is_free p.holder) = sv.gone in
     keep_others st (closed_world st w k s p c t) s p (record p { connection = None }) lies refl (λ j q apart other.
-    let m : Turned st w k (Holds s left) (Closed s) j q.generation = turned st w k (Holds s left) (Closed s) j q.generation there does in
     let away : one (s == j) ≡ 0 = one_other s j apart in
-    record {
-      ring = refl;
-      slot = refl;
-      entry = refl;
-      tickets = omega arith;
-      right = omega arith;
-      holding = omega arith;
-      closing = omega arith;
-      gone = omega arith;
-    }) (record {
+    turned_elsewhere st w k (Holds s left) (Closed s) j q.generation there does (omega arith) (omega arith)) (record {
       entry = sv.entry;
       notes = sv.notes;
       tickets = rw h.held (omega arith);
@@ -187,27 +167,12 @@ retired_turns : (st : State) (w : ℕ) (k : Actor) (s : ℕ) (p : Place) → sli
     → Turns (doing (with_place st s (record p { holder = Free })) w k (Retired s))
 retired_turns st w k s p there does lies turns =
     let sv : SlotOk (facts st s p.generation) p = turns.each s p lies in
-    let h : Held p false = closed_by st w k s p there does lies turns in
+    let h : Held (facts st s p.generation) p false = closed_by st w k s p there does lies turns in
     let r : Turned st w k (Closed s) (Retired s) s p.generation = turned st w k (Closed s) (Retired s) s p.generation there does in
     let this : one (s == s) ≡ 1 = one_same s in
-    let had : tickets st s ≡ 0 = rw h.held at sv.tickets in
-    let had_right : right_tickets st s p.generation ≡ tickets st s = sv.right in
-    let held : total (worker_holds s) st.workers ≡ 0 = rw (h.by, h.some) at sv.holding in
-    let closed : total (worker_closes s) st.workers ≡ 1 = rw (h.by, h.some) at sv.closing in
-    let gone : total (worker_retires s) st.workers + total (is_number s) st.free ≤ 0 = rw h.free at sv.gone in
     keep_others st (doing (with_place st s (record p { holder = Free })) w k (Retired s)) s p (record p { holder = Free }) lies refl (λ j q apart other.
-    let m : Turned st w k (Closed s) (Retired s) j q.generation = turned st w k (Closed s) (Retired s) j q.generation there does in
     let away : one (s == j) ≡ 0 = one_other s j apart in
-    record {
-      ring = refl;
-      slot = refl;
-      entry = refl;
-      tickets = omega arith;
-      right = omega arith;
-      holding = omega arith;
-      closing = omega arith;
-      gone = omega arith;
-    }) (record {
+    turned_elsewhere st w k (Closed s) (Retired s) j q.generation there does (omega arith) (omega arith)) (record {
       entry = sv.entry;
       notes = sv.notes;
       tickets = omega arith;

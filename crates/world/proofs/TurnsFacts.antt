@@ -13,7 +13,7 @@ use Rattle.world.specs.declared.actors.Doing.{Doing}
 use Rattle.world.specs.declared.actors.Doing.TheVariants.{Idle, Tries, Holds, Closed, Retired}
 use Rattle.world.specs.Places.{Place, Actor, is_held, is_by_worker}
 use Rattle.world.specs.States.{State}
-use Rattle.world.specs.Steps.{is_nonempty}
+use Rattle.world.specs.Steps.{is_nonempty, doing}
 use Rattle.world.specs.Due.{is_ticket}
 pub use Rattle.world.specs.Words.{is_free}
 use Rattle.world.specs.Headline.{one, total, of_slot, tried, worker_tickets, tickets}
@@ -238,6 +238,24 @@ turned st w k d e s g there does =
     let f : closes s k.doing ≡ closes s d = ap (closes s) does in
     let h : retires s k.doing ≡ retires s d = ap (retires s) does in
     record {
+      tickets = omega arith;
+      right = omega arith;
+      holding = omega arith;
+      closing = omega arith;
+      gone = omega arith;
+    }
+
+-- where neither has a part in slot i, its numbers stay
+pub turned_elsewhere : (st : State) (w : ℕ) (k : Actor) (d e : Doing) (i g : ℕ) → slice_get st.workers w ≡ Some k → k.doing ≡ d
+    → tried i d + (holds i d + (closes i d + retires i d)) ≡ 0 → tried i e + (holds i e + (closes i e + retires i e)) ≡ 0 → Same (facts st i g) (facts (doing st w k e) i g)
+turned_elsewhere st w k d e i g there does before after =
+    let m : Turned st w k d e i g = turned st w k d e i g there does in
+    let less : tried_right i g d ≤ tried i d = tried_less i g d in
+    let less_after : tried_right i g e ≤ tried i e = tried_less i g e in
+    record {
+      ring = refl;
+      slot = refl;
+      entry = refl;
       tickets = omega arith;
       right = omega arith;
       holding = omega arith;

@@ -18,13 +18,17 @@ use Rattle.world.proofs.TurnsKept.{Kept, kept_none, kept_bind, kept_map, kept_wh
 use Rattle.world.proofs.TurnsFacts.{Facts, facts, SlotOk, Turns, Same, same_self, keep_others, holds, closes, worker_holds, worker_closes, is_free, is_shaped, standing, are_own, one_same, Turned, turned}
 use Rattle.world.proofs.TurnsCall.{StaysIn, lodged_stays}
 
--- a slot that a worker holds
-
-pub record Held (p : Place) (has : Bool) : Type 0 where
+-- a slot that a worker holds, with its connection or after that was closed; and the slot's numbers
+pub record Held (f : Facts) (p : Place) (has : Bool) : Type 0 where
   pub by : is_by_worker p.holder ≡ true
   pub held : is_held p.holder ≡ true
   pub free : is_free p.holder ≡ false
   pub some : is_some p.connection ≡ has
+  pub tickets : f.tickets ≡ 0
+  pub right : f.right ≡ 0
+  pub holding : f.holding ≡ one has
+  pub closing : f.closing ≡ one (not has)
+  pub gone : f.gone ≤ 0
 
 by_is_held : (h : Holder) → is_by_worker h ≡ true → is_held h ≡ true
 by_is_held Nobody by = absurd (cc)
@@ -54,7 +58,24 @@ true_not_false true false h = (refl, refl)
 true_not_false true true h = absurd (omega arith)
 true_not_false false b h = absurd (omega arith)
 
-pub held_by : (st : State) (w : ℕ) (k : Actor) (s left : ℕ) (p : Place) → slice_get st.workers w ≡ Some k → k.doing ≡ Holds s left → slice_get st.slots s ≡ Some p → Turns st → Held p true
+held_so : (f : Facts) (p : Place) (has : Bool) → SlotOk f p → is_by_worker p.holder ≡ true → is_some p.connection ≡ has → Held f p has
+held_so f p has sv by some =
+    let held : is_held p.holder ≡ true = by_is_held p.holder by in
+    let free : is_free p.holder ≡ false = by_is_not_free p.holder by in
+    let none : f.tickets ≡ 0 = rw held at sv.tickets in
+    record {
+      by = by;
+      held = held;
+      free = free;
+      some = some;
+      tickets = none;
+      right = sv.right ∙ none;
+      holding = rw (by, some) at sv.holding;
+      closing = rw (by, some) at sv.closing;
+      gone = rw free at sv.gone;
+    }
+
+pub held_by : (st : State) (w : ℕ) (k : Actor) (s left : ℕ) (p : Place) → slice_get st.workers w ≡ Some k → k.doing ≡ Holds s left → slice_get st.slots s ≡ Some p → Turns st → Held (facts st s p.generation) p true
 held_by st w k s left p there does lies turns =
     let sv : SlotOk (facts st s p.generation) p = turns.each s p lies in
     let least : worker_holds s k ≤ total (worker_holds s) st.workers = total_at (worker_holds s) st.workers w k there in
@@ -62,14 +83,9 @@ held_by st w k s left p there does lies turns =
     let this : one (s == s) ≡ 1 = one_same s in
     let count : total (worker_holds s) st.workers ≡ one (is_by_worker p.holder && is_some p.connection) = sv.holding in
     let parts : (is_by_worker p.holder ≡ true) × (is_some p.connection ≡ true) = both_true (is_by_worker p.holder) (is_some p.connection) (omega arith) in
-    record {
-      by = parts.0;
-      held = by_is_held p.holder parts.0;
-      free = by_is_not_free p.holder parts.0;
-      some = parts.1;
-    }
+    held_so (facts st s p.generation) p true sv parts.0 parts.1
 
-pub closed_by : (st : State) (w : ℕ) (k : Actor) (s : ℕ) (p : Place) → slice_get st.workers w ≡ Some k → k.doing ≡ Closed s → slice_get st.slots s ≡ Some p → Turns st → Held p false
+pub closed_by : (st : State) (w : ℕ) (k : Actor) (s : ℕ) (p : Place) → slice_get st.workers w ≡ Some k → k.doing ≡ Closed s → slice_get st.slots s ≡ Some p → Turns st → Held (facts st s p.generation) p false
 closed_by st w k s p there does lies turns =
     let sv : SlotOk (facts st s p.generation) p = turns.each s p lies in
     let least : worker_closes s k ≤ total (worker_closes s) st.workers = total_at (worker_closes s) st.workers w k there in
@@ -77,20 +93,15 @@ closed_by st w k s p there does lies turns =
     let this : one (s == s) ≡ 1 = one_same s in
     let count : total (worker_closes s) st.workers ≡ one (is_by_worker p.holder && not (is_some p.connection)) = sv.closing in
     let parts : (is_by_worker p.holder ≡ true) × (is_some p.connection ≡ false) = true_not_false (is_by_worker p.holder) (is_some p.connection) (omega arith) in
-    record {
-      by = parts.0;
-      held = by_is_held p.holder parts.0;
-      free = by_is_not_free p.holder parts.0;
-      some = parts.1;
-    }
+    held_so (facts st s p.generation) p false sv parts.0 parts.1
 
 -- the same worker still holds the slot: its numbers stay, and the notes and the connection may change
-pub stays_held : (f g : Facts) (p q : Place) (has : Bool) → Same f g → SlotOk f p → Held p has → q.generation ≡ p.generation → q.holder ≡ p.holder → is_some q.connection ≡ is_some p.connection
+pub stays_held : (f g : Facts) (p q : Place) (has : Bool) → Same f g → SlotOk f p → Held f p has → q.generation ≡ p.generation → q.holder ≡ p.holder → is_some q.connection ≡ is_some p.connection
     → are_own p.generation q.notes ≡ true → ((c : Connection) → q.connection ≡ Some c → place_of c.pair ≡ standing g p.generation) → SlotOk g q
 stays_held f g p q has m sv h generation holder some own stands = record {
   entry = rw (generation, ← m.entry) sv.entry;
   notes = rw generation own;
-  tickets = let was : f.tickets ≡ 0 = rw h.held at sv.tickets in rw (holder, h.held, ← m.tickets) was;
+  tickets = rw (holder, h.held, ← m.tickets) h.tickets;
   right = rw (← m.right, ← m.tickets) sv.right;
   holding = rw (holder, some, ← m.holding) sv.holding;
   closing = rw (holder, some, ← m.closing) sv.closing;
@@ -113,7 +124,7 @@ taken_turns : (st : State) (w : ℕ) (k : Actor) (s left : ℕ) (p : Place) (c :
     → Turns (with_place st s (record p { notes = []; connection = Some (heard c p.notes) }))
 taken_turns st w k s left p c there does lies is turns =
     let sv : SlotOk (facts st s p.generation) p = turns.each s p lies in
-    let h : Held p true = held_by st w k s left p there does lies turns in
+    let h : Held (facts st s p.generation) p true = held_by st w k s left p there does lies turns in
     keep_others st (with_place st s (record p { notes = []; connection = Some (heard c p.notes) })) s p (record p { notes = []; connection = Some (heard c p.notes) }) lies refl
     (λ j q apart other. same_self (facts st j q.generation))
     (stays_held (facts st s p.generation) (facts st s p.generation) p (record p { notes = []; connection = Some (heard c p.notes) }) true (same_self (facts st s p.generation)) sv h refl refl (sym h.some) refl
@@ -157,7 +168,7 @@ called_turns : (st : State) (w : ℕ) (k : Actor) (s left : ℕ) (p : Place) (l 
     → Turns (doing (with_place (record st { kernel = l.kernel }) s l.place) w k (Holds s (left - 1)))
 called_turns st w k s left p l there does lies stays turns =
     let sv : SlotOk (facts st s p.generation) p = turns.each s p lies in
-    let h : Held p true = held_by st w k s left p there does lies turns in
+    let h : Held (facts st s p.generation) p true = held_by st w k s left p there does lies turns in
     keep_others st (doing (with_place (record st { kernel = l.kernel }) s l.place) w k (Holds s (left - 1))) s p l.place lies refl
     (λ j q apart other. less_left st (doing (with_place (record st { kernel = l.kernel }) s l.place) w k (Holds s (left - 1))) w k s left j q.generation there does refl refl refl refl refl refl)
     (at_generation (doing (with_place (record st { kernel = l.kernel }) s l.place) w k (Holds s (left - 1))) s p l.place stays.generation (stays_held (facts st s p.generation) (facts (doing (with_place (record st { kernel = l.kernel }) s l.place) w k (Holds s (left - 1))) s p.generation) p l.place true

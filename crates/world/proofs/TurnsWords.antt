@@ -37,7 +37,7 @@ use Rattle.world.specs.Words.{number, word_of, Kind, Post, Claim, Take, Release,
 use Rattle.world.specs.CoreLaws.{CoreLaws}
 use Rattle.world.proofs.TurnsTotals.{total_push, get-set_same, get-set_other}
 use Rattle.world.proofs.TurnsKept.{Kept, kept_some, kept_none, kept_bind, kept_map, kept_when, kept_guard, kept_if, kept_then, kept_map_map, kept_at}
-use Rattle.world.proofs.TurnsFacts.{Turns, one_same, one_other, Replaced, replaced, turned}
+use Rattle.world.proofs.TurnsFacts.{facts, Turns, one_same, one_other, Replaced, replaced, turned}
 use Rattle.world.proofs.TurnsPoller.{hand_other, hand_own, first_free, FirstFree}
 use Rattle.world.proofs.TurnsWorker.{Waiting, waiting}
 use Rattle.world.proofs.TurnsHeld.{Held, held_by, closed_by}
@@ -269,7 +269,7 @@ take_words st w k (Retired s) there does = kept_none
 
 post_words : (st : State) (w : ℕ) (k : Actor) (d : Doing) → slice_get st.workers w ≡ Some k → k.doing ≡ d → Turns st → Kept (WordsMove st (event.Work w act.Post)) (post st d)
 post_words st w k (Holds s left) there does turns = kept_bind _ (slice_get st.slots s) (λ p lies. kept_bind _ p.connection (λ c is. kept_guard (is_live (verdict c.pair)) (with_place st s (with_note p c.pair.generation)) (λ live.
-    let h : Held p true = held_by st w k s left p there does lies turns in
+    let h : Held (facts st s p.generation) p true = held_by st w k s left p there does lies turns in
     touched st (with_place st s (with_note p c.pair.generation)) (event.Work w act.Post) s p (with_note p c.pair.generation) (Post ∷ []) lies refl (λ i. rw (there, does) refl) (noted_word p c.pair.generation) (rw h.held refl) (λ i apart. refl))))
 post_words st w k Idle there does turns = kept_none
 post_words st w k (Tries t) there does turns = kept_none
@@ -279,7 +279,7 @@ post_words st w k (Retired s) there does turns = kept_none
 released_words : (st : State) (w : ℕ) (k : Actor) (s left : ℕ) (p : Place) → slice_get st.workers w ≡ Some k → k.doing ≡ Holds s left → slice_get st.slots s ≡ Some p → Turns st
     → WordsMove st (event.Work w act.Release) (with_worker (with_place st s (record p { holder = Nobody })) w (record { doing = Idle; hand = with_ticket (is_nonempty p.notes) s p.generation k.hand }))
 released_words st w k s left p there does lies turns =
-    let h : Held p true = held_by st w k s left p there does lies turns in
+    let h : Held (facts st s p.generation) p true = held_by st w k s left p there does lies turns in
     let r : Replaced st w k (record { doing = Idle; hand = with_ticket (is_nonempty p.notes) s p.generation k.hand }) s 0 = replaced st w k (record { doing = Idle; hand = with_ticket (is_nonempty p.notes) s p.generation k.hand }) s 0 there in
     let did : tried s k.doing ≡ 0 = ap (tried s) does in
     let more : total (of_slot s) (with_ticket (is_nonempty p.notes) s p.generation k.hand) ≡ total (of_slot s) k.hand + one (is_nonempty p.notes) = hand_own (of_slot s) (is_nonempty p.notes) s p.generation k.hand (one_same s) in
@@ -301,7 +301,7 @@ release_words st w k (Retired s) there does turns = kept_none
 
 retire_words : (st : State) (w : ℕ) (k : Actor) (d : Doing) → slice_get st.workers w ≡ Some k → k.doing ≡ d → Turns st → Kept (WordsMove st (event.Work w act.Retire)) (retire st w k d)
 retire_words st w k (Closed s) there does turns = kept_map _ (slice_get st.slots s) (λ p lies.
-    let h : Held p false = closed_by st w k s p there does lies turns in
+    let h : Held (facts st s p.generation) p false = closed_by st w k s p there does lies turns in
     let on : (i : ℕ) → tickets (doing (with_place st s (record p { holder = Free })) w k (Retired s)) i ≡ tickets st i = λ i.
     let m : total (worker_tickets i) (slice_set st.workers w (record k { doing = Retired s })) + tried i (Closed s) ≡ total (worker_tickets i) st.workers + tried i (Retired s) = tickets_on st w k (Closed s) (Retired s) i there does in
     omega arith in

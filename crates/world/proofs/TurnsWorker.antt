@@ -11,7 +11,7 @@ use Rattle.world.specs.Steps.{is_nonempty, with_worker, with_place, doing, put_b
 use Rattle.world.specs.Headline.{one, total, of_slot, tried, worker_tickets, tickets}
 use Rattle.world.proofs.TurnsTotals.{total_push, total_at}
 use Rattle.world.proofs.TurnsKept.{Kept, kept_some, kept_none, kept_map, kept_when}
-use Rattle.world.proofs.TurnsFacts.{Facts, facts, SlotOk, Turns, keep_slots, keep_others, names, worker_holds, worker_closes, worker_retires, is_number, right_tickets, one_same, one_other, names_other, Replaced, replaced, Turned, turned}
+use Rattle.world.proofs.TurnsFacts.{Facts, facts, SlotOk, Turns, keep_slots, keep_others, names, worker_holds, worker_closes, worker_retires, is_number, right_tickets, one_same, one_other, Replaced, replaced, Turned, turned, turned_elsewhere}
 use Rattle.world.proofs.TurnsPoller.{right_within}
 
 -- its first ticket goes from a worker to the ready queue
@@ -107,19 +107,8 @@ claimed_turns st w k t p there does lies turns =
     let closing : total (worker_closes t.slot) st.workers ≡ 0 = rw wait.holder at sv.closing in
     let gone : total (worker_retires t.slot) st.workers + total (is_number t.slot) st.free ≤ 0 = rw wait.holder at sv.gone in
     keep_others st (doing (with_place st t.slot (record p { holder = By w })) w k (Holds t.slot st.limits.budget)) t.slot p (record p { holder = By w }) lies refl (λ j q apart other.
-    let m : Turned st w k (Tries t) (Holds t.slot st.limits.budget) j q.generation = turned st w k (Tries t) (Holds t.slot st.limits.budget) j q.generation there does in
     let away : one (t.slot == j) ≡ 0 = one_other t.slot j apart in
-    let unnamed : names j q.generation t ≡ 0 = names_other j q.generation t apart in
-    record {
-      ring = refl;
-      slot = refl;
-      entry = refl;
-      tickets = omega arith;
-      right = omega arith;
-      holding = omega arith;
-      closing = omega arith;
-      gone = omega arith;
-    }) (record {
+    turned_elsewhere st w k (Tries t) (Holds t.slot st.limits.budget) j q.generation there does (omega arith) (omega arith)) (record {
       entry = sv.entry;
       notes = sv.notes;
       tickets = none;
