@@ -29,8 +29,9 @@ use Rattle.world.specs.Runs.{run}
 use Rattle.world.specs.Given.{brought, given}
 use Rattle.world.specs.Headline.{socket_of, ClosedHold}
 use Rattle.world.specs.CoreLaws.{CoreLaws}
+use Rattle.world.proofs.TurnsTotals.{get-set_same, get-set_other}
 use Rattle.world.proofs.EndsHeld.{History, DirectionOk, ConnectionOk, SlotOk, AllOk}
-use Rattle.world.proofs.EndsLists.{set_same, set_other, Yes, No, tell, Before, ThisOne, last_of}
+use Rattle.world.proofs.EndsLists.{Yes, No, tell, Before, ThisOne, last_of}
 use Rattle.world.proofs.EndsFrame.{Kept}
 use Rattle.world.proofs.EndsNetwork.{Lies, lies}
 use Rattle.world.proofs.EndsWorkers.{without_both, closes}
@@ -70,7 +71,7 @@ slot_aged : (past next : History) (st q : State) (e : Past) (s : ℕ) (old new :
 slot_aged past next st q e s old new same was set grows comes ok = elim (tell (e.slot == s)) [
   | Yes h ↦ (let here : e.slot ≡ s = eqb-true e.slot s h in
       let there : slice_get st.slots e.slot ≡ Some old = rw here was in
-      let new_there : (p : Place) → slice_get q.slots e.slot ≡ Some p → p ≡ new = (λ p stands. (let is : slice_get (slice_set st.slots s new) s ≡ Some new = set_same st.slots s new old was in
+      let new_there : (p : Place) → slice_get q.slots e.slot ≡ Some p → p ≡ new = (λ p stands. (let is : slice_get (slice_set st.slots s new) s ≡ Some new = get-set_same st.slots s old new was in
       let at_s : slice_get (slice_set st.slots s new) s ≡ Some p = rw (here, set) at stands in cc)) in
       let before : e.generation ≤ old.generation = ok.older old there in
       aged past next st q e same
@@ -79,8 +80,8 @@ slot_aged past next st q e s old new same was set grows comes ok = elim (tell (e
       ok)
   | No h ↦ (let differ : e.slot ≡ s → ⊥ = λ same. (let is : (s == s) ≡ false = rw same at h in let is_not : (s == s) ≡ true = eq-eqb s s refl in absurd (cc)) in
       aged past next st q e same
-      (λ p stands. ok.older p (sym (set_other st.slots s e.slot new differ) ∙ (rw set at stands)))
-      (λ p c stands lying. ok.over p c (sym (set_other st.slots s e.slot new differ) ∙ (rw set at stands)) lying)
+      (λ p stands. ok.older p (sym (get-set_other st.slots s e.slot new (λ same. differ (sym same))) ∙ (rw set at stands)))
+      (λ p c stands lying. ok.over p c (sym (get-set_other st.slots s e.slot new (λ same. differ (sym same))) ∙ (rw set at stands)) lying)
       ok)
 ]
 
@@ -154,7 +155,7 @@ ended_ok past st q s old c ends k was lying set closing slot =
     let there : Told Watcher Sockets = record { value = without_both st.kernel s old.generation c; told = ok.ends } in
     let both : ◌≡◌ {A = Option (Told Watcher Sockets)} (Some there) (Some here) = sym (closes past st s old.generation old.notes c ok) ∙ closing in
     let are : ok.ends ≡ ends = ap (λ (t : Told Watcher Sockets). t.told) (same_value there here both) in
-    let stands : (p : Place) → slice_get q.slots s ≡ Some p → p ≡ record old { connection = None } = (λ p here. (let is : slice_get (slice_set st.slots s (record old { connection = None })) s ≡ Some (record old { connection = None }) = set_same st.slots s (record old { connection = None }) old was in
+    let stands : (p : Place) → slice_get q.slots s ≡ Some p → p ≡ record old { connection = None } = (λ p here. (let is : slice_get (slice_set st.slots s (record old { connection = None })) s ≡ Some (record old { connection = None }) = get-set_same st.slots s old (record old { connection = None }) was in
     let at_s : slice_get (slice_set st.slots s (record old { connection = None })) s ≡ Some p = rw set at here in cc)) in
     rw (ok.generation, ← are) (record {
       older = λ p here. (let is : p ≡ record old { connection = None } = stands p here in rw is (omega arith));

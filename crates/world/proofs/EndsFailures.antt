@@ -17,12 +17,12 @@ use Rattle.world.specs.Steps.{connection_at, watched_of, acted, step}
 use Rattle.world.specs.Runs.{run}
 use Rattle.world.specs.Headline.{FailsBy, FailedBy, FailuresHold}
 use Rattle.world.specs.CoreLaws.{CoreLaws}
-use Rattle.world.proofs.EndsLists.{set_same, set_other, Yes, No, tell, Before, ThisOne, last_of}
+use Rattle.world.proofs.TurnsTotals.{get-set_same, get-set_other, get-replicate}
+use Rattle.world.proofs.EndsLists.{Yes, No, tell, Before, ThisOne, last_of}
 use Rattle.world.proofs.EndsFrame.{Kept, kept_then}
 use Rattle.world.proofs.EndsNetwork.{Lies, lies}
 use Rattle.world.proofs.EndsShapes.{Continues, Shape, Same, Changed, Opened, Ended, over_same, listen_shape, polled_shape, put_shape, pop_shape, claim_shape, take_shape, post_shape, release_shape, close_shape, retire_shape, free_shape}
 use Rattle.world.proofs.EndsFaults.{call_shape}
-use Rattle.world.proofs.EndsSteps.{replicated}
 
 acted_shape : (laws : CoreLaws) (st : State) (w : ℕ) (k : Actor) (a : Act) → slice_get st.workers w ≡ Some k → Kept (Shape st (event.Work w a)) (acted st w k a)
 acted_shape laws st w k act.Put there = put_shape st _ w k k.hand
@@ -60,12 +60,12 @@ one_changed : (failed : ℕ → ℕ → Fault → Type 0) (st q : State) (e : Ev
     → (i : ℕ) (p : Place) (c : Connection) (fault : Fault) → slice_get q.slots i ≡ Some p → p.connection ≡ Some c → verdict c.pair ≡ Failed fault → or_by failed st e i c.pair.generation fault
 one_changed failed st q e s old new ok was set f i p c fault here lying failing = elim (tell (i == s)) [
   | Yes h ↦ (let same : i ≡ s = eqb-true i s h in
-      let is : slice_get (slice_set st.slots s new) s ≡ Some new = set_same st.slots s new old was in
+      let is : slice_get (slice_set st.slots s new) s ≡ Some new = get-set_same st.slots s old new was in
       let stands : slice_get (slice_set st.slots s new) s ≡ Some p = rw (same, set) at here in
       let one : p ≡ new = cc in
       rw same (f c fault (ap (λ (r : Place). r.connection) (sym one) ∙ lying) failing))
   | No h ↦ (let differ : i ≡ s → ⊥ = λ same. (let is : (s == s) ≡ false = rw same at h in let is_not : (s == s) ≡ true = eq-eqb s s refl in absurd (cc)) in
-      inl (ok.lying i p c fault (sym (set_other st.slots s i new differ) ∙ (rw set at here)) lying failing))
+      inl (ok.lying i p c fault (sym (get-set_other st.slots s i new (λ same. differ (sym same))) ∙ (rw set at here)) lying failing))
 ]
 
 continued : (failed : ℕ → ℕ → Fault → Type 0) (st : State) (e : Event) (s : ℕ) (old : Place) (b c : Connection) (fault : Fault) → FailuresOk failed st → slice_get st.slots s ≡ Some old → old.connection ≡ Some b → Continues st e s b c
@@ -130,7 +130,7 @@ never s g fault = ⊥
 
 opening_fails : (l : Limits) → FailuresOk never (opening l)
 opening_fails l = record {
-  lying = λ s p c fault here lying failing. (let is : unused l.generation ≡ p = replicated l.slots (unused l.generation) p s here in
+  lying = λ s p c fault here lying failing. (let is : unused l.generation ≡ p = get-replicate l.slots s (unused l.generation) p here in
       let none : p.connection ≡ None = ap (λ (r : Place). r.connection) (sym is) in absurd (cc));
   closed = λ i p fault here failing. absurd (cc);
 }

@@ -16,10 +16,11 @@ use Rattle.world.specs.States.{State}
 use Rattle.world.specs.Calls.{when, descriptor}
 use Rattle.world.specs.Steps.{is_nonempty}
 use Rattle.world.specs.Headline.{socket_of}
+use Rattle.world.proofs.TurnsTotals.{get-set_same, get-set_other}
 use Rattle.world.proofs.EndsHeld.{History, token_at, is_pending, registered, PairOk, ConnectionOk, SlotOk, AllOk}
 use Rattle.world.proofs.EndsCovered.{end_more}
 use Rattle.world.proofs.EndsPairs.{same_gave}
-use Rattle.world.proofs.EndsLists.{set_same, set_other, Yes, No, tell}
+use Rattle.world.proofs.EndsLists.{Yes, No, tell}
 use Rattle.world.proofs.EndsNames.{or_left, or_right, or_then}
 
 -- the rest of the machine has at least as much for slot s
@@ -85,9 +86,9 @@ pub keep_place : (past next : History) (st q : State) (s : ℕ) (old p : Place)
     → ((i : ℕ) → (i ≡ s → ⊥) → Better past next st q i)
     → SlotOk next q s p → AllOk past st → AllOk next q
 keep_place past next st q s old p was set f this all = keep_but past next st q s
-    (λ i r differ here. sym (set_other st.slots s i p differ) ∙ (rw set at here))
+    (λ i r differ here. sym (get-set_other st.slots s i p (λ same. differ (sym same))) ∙ (rw set at here))
     f
-    (λ r here. let is : slice_get (slice_set st.slots s p) s ≡ Some p = set_same st.slots s p old was in
+    (λ r here. let is : slice_get (slice_set st.slots s p) s ≡ Some p = get-set_same st.slots s old p was in
     let stands : slice_get (slice_set st.slots s p) s ≡ Some r = rw set at here in
     let same : p ≡ r = cc in
     subst (λ (place : Place). SlotOk next q s place) same this)

@@ -1,12 +1,13 @@
 -- The ends by descriptor, when one of them changes, is closed or is opened.
-use Rattle.std.proofs.Common.{◌≡◌, ℕ, ◌<◌, ◌+◌, false, List, [], ◌∷◌, ◌++◌, length, Option, Some, None, refl, ap, ◌∙◌, cond, arith, one-add}
+use Rattle.std.proofs.Common.{◌≡◌, ℕ, ◌<◌, ◌+◌, false, List, [], ◌∷◌, ◌++◌, length, Option, Some, None, refl, sym, ap, ◌∙◌, cond, arith, one-add}
 use Rattle.std.specs.Prelude.{slice_get, slice_set, nat_lt, unwrap_or}
 use Rattle.std.specs.Option.{is_none, option_flatten}
 use Rattle.std.specs.List.{position_or_len}
 use Rattle.std.proofs.lemmas.Bool.{ltb-true, lt-ltb}
 use Rattle.std.proofs.lemmas.Option.{slice_get_within}
 use Rattle.kernel_model.specs.Kernel.{Registered, end_at, lowest_free, with_end}
-use Rattle.world.proofs.EndsLists.{set_same, set_other, append_get, Yes, No, tell}
+use Rattle.world.proofs.TurnsTotals.{get-set_same, get-set_other}
+use Rattle.world.proofs.EndsLists.{append_get, Yes, No, tell}
 
 flattened : {X : Type 0} (o : Option (Option X)) (x : X) → option_flatten o ≡ Some x → o ≡ Some (Some x)
 flattened None x e = absurd (cc)
@@ -16,11 +17,11 @@ flattened (Some p) x e = ap Some e
 pub end_same : (ends : List (Option Registered)) (d : ℕ) (r : Registered) (o : Option Registered)
     → end_at ends d ≡ Some r → end_at (slice_set ends d o) d ≡ o
 end_same ends d r o here =
-    let there : slice_get (slice_set ends d o) d ≡ Some o = set_same ends d o (Some r) (flattened (slice_get ends d) r here) in
+    let there : slice_get (slice_set ends d o) d ≡ Some o = get-set_same ends d (Some r) o (flattened (slice_get ends d) r here) in
     rw there refl
 
 pub end_other : (ends : List (Option Registered)) (d other : ℕ) (o : Option Registered) → (other ≡ d → ⊥) → end_at (slice_set ends d o) other ≡ end_at ends other
-end_other ends d other o apart = ap option_flatten (set_other ends d other o apart)
+end_other ends d other o apart = ap option_flatten (get-set_other ends d other o (λ same. apart (sym same)))
 
 -- two open ends with different tokens have different descriptors
 pub apart : (ends : List (Option Registered)) (d other : ℕ) (a b : Registered)
@@ -66,7 +67,7 @@ last_get (y ∷ xs) x = last_get xs x
 
 -- the end that is opened there
 pub opened_here : (ends : List (Option Registered)) (d : ℕ) (r : Registered) → IsFree ends d → end_at (with_end ends d r) d ≡ Some r
-opened_here ends d r (Hole h) = rw (lt-ltb d (length ends) (slice_get_within ends d None h), set_same ends d (Some r) None h) refl
+opened_here ends d r (Hole h) = rw (lt-ltb d (length ends) (slice_get_within ends d None h), get-set_same ends d None (Some r) h) refl
 opened_here ends d r (Behind h) = rw (h, irreflexive (length ends), last_get ends (Some r)) refl
 
 -- and every other

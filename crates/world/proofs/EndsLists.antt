@@ -1,6 +1,6 @@
 -- Elements of a list by place, and the lowest free descriptor.
-use Rattle.std.proofs.Common.{◌≡◌, ℕ, zero, suc, Bool, true, false, List, [], ◌∷◌, ◌++◌, Some, refl, ap}
-use Rattle.std.specs.Prelude.{slice_get, slice_set}
+use Rattle.std.proofs.Common.{◌≡◌, ℕ, zero, suc, Bool, true, false, List, [], ◌∷◌, ◌++◌, Some, refl}
+use Rattle.std.specs.Prelude.{slice_get}
 
 pub data Tell (b : Bool) : Type 0 where
   Yes : b ≡ true → Tell b
@@ -9,20 +9,6 @@ pub data Tell (b : Bool) : Type 0 where
 pub tell : (b : Bool) → Tell b
 tell true = Yes refl
 tell false = No refl
-
--- where something stands, a write puts the new thing
-pub set_same : {X : Type 0} (xs : List X) (i : ℕ) (x y : X) → slice_get xs i ≡ Some y → slice_get (slice_set xs i x) i ≡ Some x
-set_same [] i x y here = absurd (cc)
-set_same (z ∷ xs) zero x y here = refl
-set_same (z ∷ xs) (suc i) x y here = set_same xs i x y here
-
--- and leaves every other place
-pub set_other : {X : Type 0} (xs : List X) (i j : ℕ) (x : X) → (j ≡ i → ⊥) → slice_get (slice_set xs i x) j ≡ slice_get xs j
-set_other [] i j x apart = refl
-set_other (z ∷ xs) zero zero x apart = absurd (apart refl)
-set_other (z ∷ xs) zero (suc j) x apart = refl
-set_other (z ∷ xs) (suc i) zero x apart = refl
-set_other (z ∷ xs) (suc i) (suc j) x apart = set_other xs i j x (λ e. apart (ap suc e))
 
 -- what stands in a list behind others
 pub append_get : {X : Type 0} (xs ys : List X) (i : ℕ) (x : X) → slice_get xs i ≡ Some x → slice_get (xs ++ ys) i ≡ Some x

@@ -1,5 +1,5 @@
 -- A slot is opened for a fresh connection.
-use Rattle.std.proofs.Common.{◌≡◌, ℕ, ◌+◌, Bool, false, List, [], ◌∷◌, Option, Some, refl, ◌∙◌, subst, arith}
+use Rattle.std.proofs.Common.{◌≡◌, ℕ, ◌+◌, Bool, false, List, [], ◌∷◌, Option, Some, refl, sym, ◌∙◌, subst, arith}
 use Rattle.std.specs.Prelude.{slice_get}
 use Rattle.token.specs.declared.side.Side.{Side}
 use Rattle.token.specs.declared.side.Side.TheVariants.{Client, Target}
@@ -12,8 +12,8 @@ use Rattle.world.specs.declared.connection.Connection.{Connection}
 use Rattle.world.specs.Places.{Place}
 use Rattle.world.specs.States.{State}
 use Rattle.world.specs.Steps.{token_of, opened_place, opened_world, opening_of}
+use Rattle.world.proofs.TurnsTotals.{get-set_same, get-set_other}
 use Rattle.world.proofs.EndsHeld.{History, token_at, registered, DirectionOk, PairOk, ConnectionOk, SlotOk, AllOk}
-use Rattle.world.proofs.EndsLists.{set_same, set_other}
 use Rattle.world.proofs.EndsPairs.{by_side, by_direction}
 use Rattle.world.proofs.EndsChanges.{guarded}
 use Rattle.world.proofs.EndsKernel.{lowest_is_free, opened_here, opened_other}
@@ -71,7 +71,7 @@ fresh_slot : (past next : History) (st : State) (s g : ℕ) (p : Place) → Quie
     → SlotOk next (fresh_world st s (g + 1)) s (opened_place s (g + 1) st.limits.ring (record { client = lowest_free st.kernel.ends; target = lowest_free (with_client st.kernel s (g + 1)) }))
 fresh_slot past next st s g p quiet entry ok =
     let same : p.generation ≡ g = (let is : slice_get st.table s ≡ Some p.generation = ok.entry in cc) in record {
-      entry = set_same st.table s (g + 1) g entry;
+      entry = get-set_same st.table s g (g + 1) entry;
       later = λ h side before. quiet s h side ∙ ok.later h side (omega arith);
       connection = λ c here. (let is : record { pair = fresh s (g + 1) st.limits.ring; ends = record { client = lowest_free st.kernel.ends; target = lowest_free (with_client st.kernel s (g + 1)) } } ≡ c = cc in
           subst (λ (b : Connection). ConnectionOk next (fresh_world st s (g + 1)) s (g + 1) ((g + 1) ∷ []) b) is (record {
@@ -89,7 +89,7 @@ fresh_keeps : (past next : History) (st : State) (s g : ℕ) (p : Place) → Qui
 fresh_keeps past next st s g p quiet here entry all = keep_place past next st (fresh_world st s (g + 1)) s p _ here refl
     (λ i differ. record {
       history = λ h side. quiet i h side;
-      table = set_other st.table s i (g + 1) differ;
+      table = get-set_other st.table s i (g + 1) (λ same. differ (sym same));
       ring = refl;
       ends = λ d b there of_i. others_open st.kernel s (g + 1) d b there;
       pending = λ side h there k. k;

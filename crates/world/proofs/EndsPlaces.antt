@@ -7,14 +7,13 @@ use Rattle.token.specs.declared.direction.Direction.TheVariants.{Up, Down}
 use Rattle.token.specs.declared.name.Name.{Name}
 use Rattle.token.specs.declared.name.Name.TheVariants as name
 use Rattle.token.specs.Names.{EndName}
-use Rattle.kernel_model.specs.declared.both.Sockets.{Sockets}
 use Rattle.kernel_model.specs.Names.{has, same}
-use Rattle.relay_core.specs.Pairs.{Relay, noted}
+use Rattle.relay_core.specs.Pairs.{noted}
 use Rattle.world.specs.declared.connection.Connection.{Connection}
 use Rattle.world.specs.Places.{Place}
 use Rattle.world.specs.States.{State}
 use Rattle.world.specs.Steps.{is_nonempty, with_note, posted, post_at, delivered_at, delivered, deliver, heard, noted_place}
-use Rattle.world.proofs.EndsHeld.{History, token_at, is_pending, PairOk, ConnectionOk, SlotOk, AllOk}
+use Rattle.world.proofs.EndsHeld.{History, token_at, is_pending, ConnectionOk, SlotOk, AllOk}
 use Rattle.world.proofs.EndsLists.{Yes, No, tell}
 use Rattle.world.proofs.EndsChanges.{nonempty_more}
 use Rattle.world.proofs.EndsNames.{or_left, or_right, or_then, same_end_is}
@@ -43,10 +42,6 @@ pub place_keeps : (past next : History) (st q : State) (s : ℕ) (old p : Place)
 place_keeps past next st q s old p quiet was set steady f all = keep_place past next st q s old p was set
     (λ i differ. steady_better past next st q i quiet (steady i))
     (f (better past next st q s old (steady_better past next st q s quiet (steady s)) (all.each s old was))) all
-
--- a note covers every flag
-pub covers : (h : Side → List ℕ) (r q : Side → Bool) (p : Relay) (ends : Sockets) → ((side : Side) → q side ≡ true) → PairOk h r p ends → PairOk h q p ends
-covers h r q p ends all ok = pair_more h h r q p ends (λ side. refl) (λ side h. all side) ok
 
 some_notes : (notes : List ℕ) (g : ℕ) → is_nonempty (notes ++ g ∷ []) ≡ true
 some_notes notes g = nonempty_more notes (g ∷ []) refl

@@ -56,11 +56,6 @@ rests_keep past next st q quiet r all = keep_all past next st q r.slots (λ i. r
   pending = λ side g entry h. r.pending i side g entry h;
 }) all
 
--- into a step that changes the kernel alone
-pub over_then : {X : Type 0} (P : State → Type 0) (st : State) (f : X → Option Watcher) (o : Option X) → ((x : X) → o ≡ Some x → Kept P (over_kernel st (f x))) → Kept P (over_kernel st (option_and_then f o))
-over_then P st f None h = record { kept = tt }
-over_then P st f (Some x) h = h x refl
-
 pub over_map : {X : Type 0} (P : State → Type 0) (st : State) (f : X → Watcher) (o : Option X) → ((x : X) → o ≡ Some x → P (record st { kernel = f x })) → Kept P (over_kernel st (option_map f o))
 over_map P st f None h = record { kept = tt }
 over_map P st f (Some x) h = record { kept = h x refl }

@@ -1,5 +1,5 @@
 -- Each event keeps what holds of the ends, so each list of events does; and the opening world has it.
-use Rattle.std.proofs.Common.{◌≡◌, ℕ, zero, suc, Bool, true, false, ◌&&◌, List, [], ◌∷◌, ◌++◌, length, replicate, Option, Some, None, refl, sym, ap, subst, append-nil, append_assoc, option_map, option_and_then, unwrap_or}
+use Rattle.std.proofs.Common.{◌≡◌, ℕ, Bool, true, false, ◌&&◌, List, [], ◌∷◌, ◌++◌, length, Option, Some, None, refl, sym, ap, subst, append-nil, append_assoc, option_map, option_and_then, unwrap_or}
 use Rattle.std.specs.Prelude.{slice_get, if◌then◌else◌, ◌==◌, nat_le}
 use Rattle.token.specs.declared.side.Side.{Side}
 use Rattle.token.specs.Sides.{side_number}
@@ -20,6 +20,7 @@ use Rattle.world.specs.Calls.{when}
 use Rattle.world.specs.Steps.{over_kernel, connection_at, network, polled, acted, step, opening_of}
 use Rattle.world.specs.Runs.{run}
 use Rattle.world.specs.Given.{has_generation, brought, given}
+use Rattle.world.proofs.TurnsTotals.{get-replicate, get_beside}
 use Rattle.world.proofs.EndsHeld.{History, SlotOk, AllOk}
 use Rattle.world.proofs.EndsChanges.{arrival_changes, finish_changes, failure_changes, room_changes}
 use Rattle.world.proofs.EndsFrame.{Kept, kept_then, kept_when}
@@ -112,23 +113,13 @@ run_keeps past st q (e ∷ events) all ran = further past st q e events (step st
 
 -- The opening world
 
-pub replicated : {X : Type 0} (n : ℕ) (x y : X) (i : ℕ) → slice_get (replicate n x) i ≡ Some y → x ≡ y
-replicated zero x y i here = absurd (cc)
-replicated (suc n) x y zero here = cc
-replicated (suc n) x y (suc i) here = replicated n x y i here
-
-replicated_both : {X Y : Type 0} (n : ℕ) (x y : X) (z : Y) (i : ℕ) → slice_get (replicate n x) i ≡ Some y → slice_get (replicate n z) i ≡ Some z
-replicated_both zero x y z i here = absurd (cc)
-replicated_both (suc n) x y z zero here = refl
-replicated_both (suc n) x y z (suc i) here = replicated_both n x y z i here
-
 abbrev pub no_history : History
 no_history = λ s g side. []
 
 pub opening_ok : (l : Limits) → AllOk no_history (opening l)
 opening_ok l = record {
-  each = λ s p here. subst (λ (place : Place). SlotOk no_history (opening l) s place) (replicated l.slots (unused l.generation) p s here) (record {
-    entry = replicated_both l.slots (unused l.generation) p l.generation s here;
+  each = λ s p here. subst (λ (place : Place). SlotOk no_history (opening l) s place) (get-replicate l.slots s (unused l.generation) p here) (record {
+    entry = get_beside l.slots s (unused l.generation) p l.generation here;
     later = λ g side before. refl;
     connection = λ c is. absurd (cc);
   });

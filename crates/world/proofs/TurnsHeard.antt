@@ -185,10 +185,6 @@ lodged_hears : (l : Lodging) (r : Reply) → Kept (λ (m : Lodging). HearsOn l.k
 unfolding lodged_call
 lodged_hears l r = kept_bind _ l.place.connection (λ c is. kept_then (λ (line : Line). record { kernel = line.kernel; place = record l.place { connection = Some line.connection } }) (called (record { kernel = l.kernel; connection = c }) r) (λ line on. on) (called_line_hears (record { kernel = l.kernel; connection = c }) r))
 
--- a state with the same flag, kernel and batch
-same_listens : (st next : State) → next.flag ≡ st.flag → next.batch ≡ st.batch → next.kernel ≡ st.kernel → Listens st → Listens next
-same_listens st next flag batch kernel l = record { covered = rw (flag, batch, kernel) l.covered }
-
 worker_put_listens : (st : State) (w : ℕ) (k : Actor) (hand : List Ticket) → Listens st → Kept Listens (put_by_worker st w k hand)
 worker_put_listens st w k [] l = kept_none
 worker_put_listens st w k (t ∷ rest) l = kept_some (record { covered = l.covered })

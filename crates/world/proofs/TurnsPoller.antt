@@ -27,7 +27,7 @@ use Rattle.world.specs.Places.{Place, Actor, is_held, is_by_worker}
 use Rattle.world.specs.States.{State}
 use Rattle.world.specs.Steps.{is_nonempty, connection_at, over_kernel, network, watched_of, spurious, vanish, may_accept, after_accept, listen, with_note, wakes, with_ticket, posted, post_at, delivered_at, delivered, deliver, put_by_poller, batched, opened_place, opened_world, opening_of, token_of, polled}
 use Rattle.world.specs.Headline.{one, total, of_slot, tried, worker_tickets, tickets}
-use Rattle.world.proofs.TurnsTotals.{total_push, total_le, get-set_same, get-set_other}
+use Rattle.world.proofs.TurnsTotals.{total_push, total_moved, total_le, get-set_same, get-set_other}
 use Rattle.world.proofs.TurnsKept.{Kept, kept_some, kept_none, kept_bind, kept_map, kept_when, kept_guard, kept_if, kept_then}
 use Rattle.world.proofs.TurnsFacts.{Facts, facts, SlotOk, ConnectionOk, Turns, keep_slots, keep_others, names, worker_right, worker_holds, worker_closes, worker_retires, is_number, right_tickets, is_free, are_own, one_same, one_other, names_of_slot, names_other, names_own, tried_right, tried_less}
 
@@ -69,14 +69,8 @@ put_turns st (t ∷ rest) is turns = kept_some (keep_slots st (record st { hand 
   ring = refl;
   slot = refl;
   entry = refl;
-  tickets =
-      let more : total (of_slot s) (st.ready ++ t ∷ []) ≡ total (of_slot s) st.ready + of_slot s t = total_push (of_slot s) st.ready t in
-      let had : total (of_slot s) st.hand ≡ of_slot s t + total (of_slot s) rest = ap (total (of_slot s)) is in
-      omega arith;
-  right =
-      let more : total (names s g) (st.ready ++ t ∷ []) ≡ total (names s g) st.ready + names s g t = total_push (names s g) st.ready t in
-      let had : total (names s g) st.hand ≡ names s g t + total (names s g) rest = ap (total (names s g)) is in
-      omega arith;
+  tickets = let same : total (of_slot s) (st.ready ++ t ∷ []) + total (of_slot s) rest ≡ total (of_slot s) st.ready + total (of_slot s) st.hand = total_moved (of_slot s) st.ready st.hand rest t is in omega arith;
+  right = let same : total (names s g) (st.ready ++ t ∷ []) + total (names s g) rest ≡ total (names s g) st.ready + total (names s g) st.hand = total_moved (names s g) st.ready st.hand rest t is in omega arith;
   holding = refl;
   closing = refl;
   gone = omega arith;

@@ -2,14 +2,14 @@
 use Rattle.std.proofs.Common.{◌≡◌, ◌≢◌, ℕ, zero, suc, ◌+◌, ◌≤◌, List, [], ◌∷◌, ◌++◌, replicate, slice_get, slice_set, Some, refl, ap, arith}
 use Rattle.world.specs.Headline.{total}
 
-pub total-append : {X : Type 0} (f : X → ℕ) (xs ys : List X) → total f (xs ++ ys) ≡ total f xs + total f ys
-total-append f [] ys = omega arith
-total-append f (x ∷ xs) ys = let more : total f (xs ++ ys) ≡ total f xs + total f ys = total-append f xs ys in omega arith
-
 -- one element more at the end
 pub total_push : {X : Type 0} (f : X → ℕ) (xs : List X) (x : X) → total f (xs ++ x ∷ []) ≡ total f xs + f x
 total_push f [] x = omega arith
 total_push f (y ∷ ys) x = let more : total f (ys ++ x ∷ []) ≡ total f ys + f x = total_push f ys x in omega arith
+
+-- the first element of a list goes to the end of another
+pub total_moved : {X : Type 0} (f : X → ℕ) (xs ys rest : List X) (x : X) → ys ≡ x ∷ rest → total f (xs ++ x ∷ []) + total f rest ≡ total f xs + total f ys
+total_moved f xs ys rest x is = let more : total f (xs ++ x ∷ []) ≡ total f xs + f x = total_push f xs x in let had : total f ys ≡ f x + total f rest = ap (total f) is in omega arith
 
 -- an element that is replaced gives up its part for the new one's
 pub total-set : {X : Type 0} (f : X → ℕ) (xs : List X) (w : ℕ) (old new : X) → slice_get xs w ≡ Some old → total f (slice_set xs w new) + f old ≡ total f xs + f new

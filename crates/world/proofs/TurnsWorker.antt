@@ -9,7 +9,7 @@ use Rattle.world.specs.Places.{Place, Actor, is_held}
 use Rattle.world.specs.States.{State}
 use Rattle.world.specs.Steps.{is_nonempty, with_worker, with_place, doing, put_by_worker, popped, pop, claim}
 use Rattle.world.specs.Headline.{one, total, of_slot, tried, worker_tickets, tickets}
-use Rattle.world.proofs.TurnsTotals.{total_push, total_at}
+use Rattle.world.proofs.TurnsTotals.{total_moved, total_at}
 use Rattle.world.proofs.TurnsKept.{Kept, kept_some, kept_none, kept_map, kept_when}
 use Rattle.world.proofs.TurnsFacts.{Facts, facts, SlotOk, Turns, keep_slots, keep_others, names, worker_holds, worker_closes, worker_retires, is_number, right_tickets, one_same, one_other, Replaced, replaced, Turned, turned, turned_elsewhere}
 use Rattle.world.proofs.TurnsPoller.{right_within}
@@ -22,14 +22,8 @@ put_turns st w k (t ∷ rest) there is turns = kept_some (keep_slots st (with_wo
       ring = refl;
       slot = refl;
       entry = refl;
-      tickets =
-          let more : total (of_slot s) (st.ready ++ t ∷ []) ≡ total (of_slot s) st.ready + of_slot s t = total_push (of_slot s) st.ready t in
-          let had : total (of_slot s) k.hand ≡ of_slot s t + total (of_slot s) rest = ap (total (of_slot s)) is in
-          omega arith;
-      right =
-          let more : total (names s g) (st.ready ++ t ∷ []) ≡ total (names s g) st.ready + names s g t = total_push (names s g) st.ready t in
-          let had : total (names s g) k.hand ≡ names s g t + total (names s g) rest = ap (total (names s g)) is in
-          omega arith;
+      tickets = let same : total (of_slot s) (st.ready ++ t ∷ []) + total (of_slot s) rest ≡ total (of_slot s) st.ready + total (of_slot s) k.hand = total_moved (of_slot s) st.ready k.hand rest t is in omega arith;
+      right = let same : total (names s g) (st.ready ++ t ∷ []) + total (names s g) rest ≡ total (names s g) st.ready + total (names s g) k.hand = total_moved (names s g) st.ready k.hand rest t is in omega arith;
       holding = omega arith;
       closing = omega arith;
       gone = omega arith;
