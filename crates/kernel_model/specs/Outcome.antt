@@ -1,4 +1,4 @@
--- How a call of the model ends, told against the value that its definition gives, or gives not.
+-- How a call of the model ends, compared with the value that its definition gives, if any. Needed to read the promises.
 use Rattle.std.specs.Prelude.{◌≡◌, Bool, Option, Some, None, IsSome, Result, Ok, Err, if◌then◌else◌}
 use Rattle.kernel_model.specs.declared.refusal.Refusal.{Refusal}
 use Rattle.kernel_model.specs.declared.refusal.Refusal.TheVariants.{NotAllowed, NoMemory}
@@ -12,14 +12,14 @@ pub record Told (X Y : Type 0) : Type 0 where
   pub value : X
   pub told : Y
 
--- The call made the value that is defined. Where none is, it answers NotAllowed; where one is and memory
--- ran out, NoMemory; and both leave the old value.
+-- The call made the value that is defined. It answers NotAllowed only where none is, and NoMemory only where one
+-- is. Both leave the old value.
 abbrev pub Meets : {X : Type 0} → Option X → X → X → Result (Unit {0}) Refusal → Type 0
 Meets defined old new (Ok x) = defined ≡ Some new
 Meets defined old new (Err NotAllowed) = (defined ≡ None) × (new ≡ old)
 Meets defined old new (Err NoMemory) = IsSome defined × (new ≡ old)
 
--- the same for a call that takes no memory
+-- the same for a call that never answers NoMemory
 abbrev pub MeetsAlways : {X : Type 0} → Option X → X → X → Result (Unit {0}) Refusal → Type 0
 MeetsAlways defined old new (Ok x) = defined ≡ Some new
 MeetsAlways defined old new (Err NotAllowed) = (defined ≡ None) × (new ≡ old)
@@ -31,7 +31,7 @@ Tells defined old new (Ok told) = defined ≡ Some (record { value = new; told =
 Tells defined old new (Err NotAllowed) = (defined ≡ None) × (new ≡ old)
 Tells defined old new (Err NoMemory) = IsSome defined × (new ≡ old)
 
--- the same for a call that takes no memory
+-- the same for a call that never answers NoMemory
 abbrev pub TellsAlways : {X Y : Type 0} → Option (Told X Y) → X → X → Result Y Refusal → Type 0
 TellsAlways defined old new (Ok told) = defined ≡ Some (record { value = new; told = told })
 TellsAlways defined old new (Err NotAllowed) = (defined ≡ None) × (new ≡ old)

@@ -38,7 +38,7 @@ impl Kernel {
     /// Closes both ends of a connection, as [`Kernel::close`] does, and hands them out.
     ///
     /// Refuses with `NotAllowed`, and closes neither, where a descriptor is not open, or both are the same.
-    /// Takes no memory.
+    /// Never answers `NoMemory`.
     pub fn close_both(&mut self, ends: Descriptors) -> Result<Sockets, Refusal>
         ensures { TellsAlways (close_both self.old ends) self.old self.new result }
     {

@@ -48,7 +48,7 @@ impl Model for End {
 
 impl End {
     /// An end as its connection opens. The client's is connected and has room; the target's is still
-    /// connecting, and gets room when the connect has ended. Takes no memory.
+    /// connecting, and gets room when the connect has ended.
     pub fn new(alloc: Global, side: Side) -> End
         ensures { result ≡ opened side }
     {
@@ -168,7 +168,7 @@ impl End {
     /// The peer's end of input comes. Tells whether that is to be reported.
     ///
     /// Refuses with `NotAllowed`, and changes nothing, where it has come before, or behind an error.
-    /// Takes no memory.
+    /// Never answers `NoMemory`.
     pub fn fin(&mut self) -> Result<bool, Refusal>
         ensures { TellsAlways (finish self.old) self.old self.new result }
     {
@@ -181,7 +181,7 @@ impl End {
 
     /// An error comes, as a reset by the peer. Tells whether that is to be reported.
     ///
-    /// Refuses with `NotAllowed`, and changes nothing, where one has come before. Takes no memory.
+    /// Refuses with `NotAllowed`, and changes nothing, where one has come before. Never answers `NoMemory`.
     pub fn reset(&mut self) -> Result<bool, Refusal>
         ensures { TellsAlways (failure self.old) self.old self.new result }
     {
@@ -196,8 +196,8 @@ impl End {
 
     /// Room for writes comes. Tells whether that is to be reported.
     ///
-    /// Refuses with `NotAllowed`, and changes nothing, where there is room, or behind an error. Takes no
-    /// memory.
+    /// Refuses with `NotAllowed`, and changes nothing, where there is room, or behind an error. Never
+    /// answers `NoMemory`.
     pub fn room(&mut self) -> Result<bool, Refusal>
         ensures { TellsAlways (new_room self.old) self.old self.new result }
     {
@@ -225,7 +225,7 @@ impl End {
     /// Refuses with `NotAllowed`, and changes nothing, where a read may not be answered so: by bytes
     /// that are none, or more than `most` or than are unread; by the end of input before it has come or
     /// while bytes are unread; by blocked where the end is readable; by a failure of the kind `Zero`; or
-    /// by a reply to another call. Takes no memory.
+    /// by a reply to another call. Never answers `NoMemory`.
     pub fn read(&mut self, most: usize, reply: Reply) -> Result<(), Refusal>
         ensures { MeetsAlways (after_read self.old most reply) self.old self.new result }
     {
@@ -255,8 +255,8 @@ impl End {
     ///
     /// Refuses with `NotAllowed` where a write may not be answered so: by a count without room, or one
     /// that is 0 or more than were offered; by blocked where the end is writable; or by a reply to
-    /// another call. Refuses with `NoMemory` where the write takes bytes and their list can't grow; no
-    /// other reply needs memory. A refusal changes nothing.
+    /// another call. Refuses with `NoMemory` where the write takes bytes and their list can't grow; to
+    /// another reply it never answers so. A refusal changes nothing.
     pub fn write(&mut self, offer: &[u8], reply: Reply) -> Result<(), Refusal>
         ensures outcome { Meets (after_write self.old offer.now reply) self.old self.new result }
         ensures memory { IsErrOf result Refusal.NoMemory → IsTrue (needs_memory reply) }
@@ -273,7 +273,7 @@ impl End {
     ///
     /// Refuses with `NotAllowed`, and changes nothing, where it may not be answered so: by joined without
     /// room; by blocked where the end is writable; by a failure of the kind `Zero`; or by a reply to
-    /// another call. Takes no memory.
+    /// another call. Never answers `NoMemory`.
     pub fn join(&mut self, reply: Reply) -> Result<(), Refusal>
         ensures { MeetsAlways (after_join self.old reply) self.old self.new result }
     {
@@ -291,7 +291,7 @@ impl End {
     /// A shutdown of sending gets this reply (shutdown(2) with `SHUT_WR`).
     ///
     /// Refuses with `NotAllowed`, and changes nothing, where it may not be answered so: by blocked, by a
-    /// failure of the kind `Zero`, or by a reply to another call. Takes no memory.
+    /// failure of the kind `Zero`, or by a reply to another call. Never answers `NoMemory`.
     pub fn shut(&mut self, reply: Reply) -> Result<(), Refusal>
         ensures { MeetsAlways (after_shut self.old reply) self.old self.new result }
     {

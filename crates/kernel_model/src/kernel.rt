@@ -58,7 +58,7 @@ impl Model for Kernel {
 
 #[tactic(auto, using(std::proofs::lemmas::Option::gets, std::proofs::lemmas::Grind::common_steps))]
 impl Kernel {
-    /// A kernel in which nothing is open or queued. Takes no memory.
+    /// A kernel in which nothing is open or queued.
     pub fn new(alloc: Global) -> Kernel
         ensures { result ≡ idle }
     {
@@ -123,7 +123,7 @@ impl Kernel {
 
     /// Closes an end, takes its name off the queue, and hands the end out (close(2)).
     ///
-    /// Refuses with `NotAllowed`, and changes nothing, where the descriptor is not open. Takes no memory.
+    /// Refuses with `NotAllowed`, and changes nothing, where the descriptor is not open. Never answers `NoMemory`.
     pub fn close(&mut self, descriptor: usize) -> Result<End, Refusal>
         ensures { TellsAlways (close self.old descriptor) self.old self.new result }
     {
@@ -158,7 +158,7 @@ impl Kernel {
     ///
     /// Refuses with `NotAllowed`, and changes nothing, where it is not queued, or where something could
     /// be done there: at an end that is readable or writable, or at the listener while somebody waits.
-    /// Takes no memory.
+    /// Never answers `NoMemory`.
     pub fn vanish(&mut self, who: Watched) -> Result<(), Refusal>
         ensures { MeetsAlways (vanish self.old who) self.old self.new result }
     {
@@ -183,7 +183,7 @@ impl Kernel {
     /// A poll hands these names over, and they leave the queue (epoll_wait(2)).
     ///
     /// Refuses with `NotAllowed`, and changes nothing, where there are more than [`MOST_POLLED`] names, or
-    /// one that is not queued, or one twice. Takes no memory.
+    /// one that is not queued, or one twice. Never answers `NoMemory`.
     pub fn poll(&mut self, names: &[Name]) -> Result<(), Refusal>
         ensures { MeetsAlways (poll self.old names.now) self.old self.new result }
     {
@@ -214,8 +214,8 @@ impl Kernel {
 
     /// The listener replies so to accept(2).
     ///
-    /// Refuses with `NotAllowed`, and changes nothing, an accepted connection where nobody waits, and
-    /// blocked where somebody does. Takes no memory.
+    /// Refuses with `NotAllowed`, and changes nothing, `Accepted` where nobody waits, and `Blocked` where
+    /// somebody does. Never answers `NoMemory`.
     pub fn accept(&mut self, reply: Accepting) -> Result<(), Refusal>
         ensures { MeetsAlways (accept self.old reply) self.old self.new result }
     {

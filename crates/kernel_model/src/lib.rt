@@ -9,7 +9,7 @@
 //! Nothing here happens by itself. Each call takes the change or the reply that is to happen and makes it
 //! happen, or refuses it with [`Refusal::NotAllowed`] because no kernel could do that (`specs/Ends.antt`,
 //! `specs/Replies.antt`, `specs/Kernel.antt`), or with [`Refusal::NoMemory`]; a refused call changes
-//! nothing.
+//! nothing. A call that is not allowed is never answered by `NoMemory`.
 //!
 //! The rules follow epoll(7), read(2), write(2), shutdown(2), connect(2) and accept(2). Each call is
 //! exactly its definition. That no report is lost is not stated here as a law of its own.

@@ -105,7 +105,7 @@ impl Kernel {
     /// A read of at most `most` bytes gets this reply ([`End::read`]).
     ///
     /// Refuses with `NotAllowed`, and changes nothing, where the descriptor is not open, or where a read
-    /// may not be answered so. Takes no memory.
+    /// may not be answered so. Never answers `NoMemory`.
     pub fn read(&mut self, descriptor: usize, most: usize, reply: Reply) -> Result<(), Refusal>
         ensures { MeetsAlways (read self.old descriptor most reply) self.old self.new result }
     {
@@ -139,7 +139,7 @@ impl Kernel {
     /// The question whether the connect has ended gets this reply ([`End::join`]).
     ///
     /// Refuses with `NotAllowed`, and changes nothing, where the descriptor is not open, or where the
-    /// question may not be answered so. Takes no memory.
+    /// question may not be answered so. Never answers `NoMemory`.
     pub fn join(&mut self, descriptor: usize, reply: Reply) -> Result<(), Refusal>
         ensures { MeetsAlways (join self.old descriptor reply) self.old self.new result }
     {
@@ -155,7 +155,7 @@ impl Kernel {
     /// A shutdown of sending gets this reply ([`End::shut`]).
     ///
     /// Refuses with `NotAllowed`, and changes nothing, where the descriptor is not open, or where a
-    /// shutdown may not be answered so. Takes no memory.
+    /// shutdown may not be answered so. Never answers `NoMemory`.
     pub fn shut(&mut self, descriptor: usize, reply: Reply) -> Result<(), Refusal>
         ensures { MeetsAlways (shut self.old descriptor reply) self.old self.new result }
     {
