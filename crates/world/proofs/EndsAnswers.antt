@@ -28,11 +28,11 @@ use Rattle.relay_core.specs.Replies.{after}
 use Rattle.relay_core.specs.Replies as answer
 use Rattle.world.specs.Calls.{plain}
 use Rattle.world.specs.Headline.{EndCovered, socket_of}
+use Rattle.world.proofs.TurnsKept.{Kept}
 use Rattle.world.proofs.EndsHeld.{DirectionOk, PairOk}
 use Rattle.world.proofs.EndsCovered.{cover_flag, cover_armed}
 use Rattle.world.proofs.EndsPairs.{by_side, by_direction, with_socket}
 use Rattle.world.proofs.EndsChanges.{guarded}
-use Rattle.world.proofs.EndsFrame.{Kept}
 
 -- What speaks for the next call: a read's and a write's flag is up, and a shutdown comes after every byte
 

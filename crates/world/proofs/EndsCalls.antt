@@ -6,7 +6,7 @@ use Rattle.token.specs.Names.{EndName}
 use Rattle.kernel_model.specs.declared.both.Sockets.{Sockets}
 use Rattle.kernel_model.specs.declared.reply.Reply.{Reply}
 use Rattle.kernel_model.specs.declared.reply.Reply.TheVariants as reply
-use Rattle.kernel_model.specs.Ends.{Endpoint}
+use Rattle.kernel_model.specs.Ends.{Endpoint, is_nonempty}
 use Rattle.kernel_model.specs.Replies.{after_read, after_write, after_join, after_shut}
 use Rattle.kernel_model.specs.Kernel.{Watcher, end_at}
 use Rattle.relay_core.specs.declared.call.Call.{Call}
@@ -20,12 +20,13 @@ use Rattle.world.specs.declared.actors.Doing.TheVariants.{Idle, Tries, Holds, Cl
 use Rattle.world.specs.Places.{Place, Actor}
 use Rattle.world.specs.States.{State}
 use Rattle.world.specs.Calls.{Line, descriptor, plain, told_of, replied, called}
-use Rattle.world.specs.Steps.{is_nonempty, Lodging, lodged_call, call, doing, with_place}
+use Rattle.world.specs.Steps.{Lodging, lodged_call, call, doing, with_place}
 use Rattle.world.specs.Headline.{socket_of}
+use Rattle.world.proofs.TurnsKept.{Kept, kept_bind, kept_when, kept_at, kept_then}
 use Rattle.world.proofs.EndsHeld.{History, token_at, is_pending, registered, PairOk, ConnectionOk, SlotOk, AllOk}
 use Rattle.world.proofs.EndsPairs.{with_socket}
 use Rattle.world.proofs.EndsKernel.{end_kept}
-use Rattle.world.proofs.EndsFrame.{keep_place, pair_more, Kept, kept_then, kept_when, kept_at, kept_map_from}
+use Rattle.world.proofs.EndsFrame.{keep_place, pair_more}
 use Rattle.world.proofs.EndsQueue.{Quiet}
 use Rattle.world.proofs.EndsNetwork.{ends_there}
 use Rattle.world.proofs.EndsAnswers.{IsAsked, asked, AnswerOk, Answered, told_read, read_keeps, write_keeps, join_keeps, shut_keeps}
@@ -66,31 +67,31 @@ told_is k s g c ends side most (reply.Failed kind) there = refl
 pub replied_keeps : (h : Side → List ℕ) (r : Side → Bool) (k : Watcher) (s g : ℕ) (c : Connection) (ends : Sockets) (call : Call) (said : Reply)
     → EndsThere k s g c ends → IsAsked c.pair call → PairOk h r c.pair ends → Kept (LineOk h r k s g c ends) (replied (record { kernel = k; connection = c }) call said)
 replied_keeps h r k s g c ends (Read side most) said there up ok =
-    kept_then (LineOk h r k s g c ends) _ (told_of (record { kernel = k; connection = c }) (Read side most) said) (λ t told.
-    kept_when (LineOk h r k s g c ends) (fits c.pair (Read side most) t) _ (λ fit.
+    kept_bind _ (told_of (record { kernel = k; connection = c }) (Read side most) said) (λ t told.
+    kept_when (fits c.pair (Read side most) t) _ (λ fit.
     rw (there side) (line_ok h r k s g c ends (Read side most) side t (after_read (socket_of ends side) most said)
     (λ e is. read_keeps h r c.pair ends side most said t e up (sym (told_is k s g c ends side most said there) ∙ told) is ok))))
 replied_keeps h r k s g c ends (Write side) said there up ok =
-    kept_then (LineOk h r k s g c ends) _ (plain said) (λ t told.
-    kept_when (LineOk h r k s g c ends) (fits c.pair (Write side) t) _ (λ fit.
+    kept_bind _ (plain said) (λ t told.
+    kept_when (fits c.pair (Write side) t) _ (λ fit.
     rw (there side) (line_ok h r k s g c ends (Write side) side t (after_write (socket_of ends side) (offer c.pair side) said)
     (λ e is. write_keeps h r c.pair ends side said t e up told is ok))))
 replied_keeps h r k s g c ends (Join side) said there up ok =
-    kept_then (LineOk h r k s g c ends) _ (plain said) (λ t told.
-    kept_when (LineOk h r k s g c ends) (fits c.pair (Join side) t) _ (λ fit.
+    kept_bind _ (plain said) (λ t told.
+    kept_when (fits c.pair (Join side) t) _ (λ fit.
     rw (there side) (line_ok h r k s g c ends (Join side) side t (after_join (socket_of ends side) said)
     (λ e is. join_keeps h r c.pair ends side said t e told is ok))))
 replied_keeps h r k s g c ends (Shut side) said there drained ok =
-    kept_then (LineOk h r k s g c ends) _ (plain said) (λ t told.
-    kept_when (LineOk h r k s g c ends) (fits c.pair (Shut side) t) _ (λ fit.
+    kept_bind _ (plain said) (λ t told.
+    kept_when (fits c.pair (Shut side) t) _ (λ fit.
     rw (there side) (line_ok h r k s g c ends (Shut side) side t (after_shut (socket_of ends side) said)
     (λ e is. shut_keeps h r c.pair ends side said t e drained told is ok))))
 
 pub called_keeps : (h : Side → List ℕ) (r : Side → Bool) (k : Watcher) (s g : ℕ) (c : Connection) (ends : Sockets) (said : Reply)
     → EndsThere k s g c ends → PairOk h r c.pair ends → Kept (LineOk h r k s g c ends) (called (record { kernel = k; connection = c }) said)
 unfolding called
-called_keeps h r k s g c ends said there ok = kept_then (LineOk h r k s g c ends) _ (next_call c.pair) (λ call next.
-    replied_keeps h r k s g c ends call said there (kept_at (IsAsked c.pair) (next_call c.pair) call next (asked c.pair)) ok)
+called_keeps h r k s g c ends said there ok = kept_bind _ (next_call c.pair) (λ call next.
+    replied_keeps h r k s g c ends call said there (kept_at (next_call c.pair) call next (asked c.pair)) ok)
 
 -- the state after it: all but the kernel and the slot is as it was, for these facts
 call_lands : (past next : History) (st q : State) (s : ℕ) (p place : Place) (c : Connection) (line : Line) → Quiet past next → slice_get st.slots s ≡ Some p → (ok : ConnectionOk past st s p.generation p.notes c)
@@ -138,17 +139,14 @@ pub record LodgingOk (past : History) (st : State) (s : ℕ) (p : Place) (l : Lo
 
 lodged_keeps : (past : History) (st : State) (s : ℕ) (p : Place) (said : Reply) → SlotOk past st s p → Kept (LodgingOk past st s p) (lodged_call (record { kernel = st.kernel; place = p }) said)
 unfolding lodged_call
-lodged_keeps past st s p said slot = kept_then (LodgingOk past st s p) _ p.connection (λ c lying.
+lodged_keeps past st s p said slot = kept_bind _ p.connection (λ c lying.
     (let ok : ConnectionOk past st s p.generation p.notes c = slot.connection c lying in
-    kept_map_from (LineOk (past s p.generation) (λ side. is_pending st (token_at s side p.generation) || is_nonempty p.notes) st.kernel s p.generation c ok.ends) (LodgingOk past st s p) _ _
-    (called_keeps (past s p.generation) _ st.kernel s p.generation c ok.ends said ok.there ok.pair)
-    (λ line l. record { connection = c; lying = lying; ok = ok; line = line; kernel = refl; place = refl; goes = l })))
+    kept_then _ _ (λ line l. record { connection = c; lying = lying; ok = ok; line = line; kernel = refl; place = refl; goes = l }) (called_keeps (past s p.generation) _ st.kernel s p.generation c ok.ends said ok.there ok.pair)))
 
 pub call_keeps : (past next : History) (st : State) (w : ℕ) (k : Actor) (d : Doing) (said : Reply) → Quiet past next → AllOk past st → Kept (AllOk next) (call st w k d said)
-call_keeps past next st w k (Holds s left) said quiet all = kept_when (AllOk next) (nat_lt 0 left) _ (λ some.
-    kept_then (AllOk next) _ (slice_get st.slots s) (λ p here.
-    kept_map_from (LodgingOk past st s p) (AllOk next) _ _ (lodged_keeps past st s p said (all.each s p here))
-    (λ l lodging. call_lands past next st (doing (with_place (record st { kernel = l.kernel }) s l.place) w k (Holds s (left - 1))) s p l.place lodging.connection lodging.line quiet here lodging.ok lodging.goes refl refl refl lodging.kernel refl lodging.place all)))
+call_keeps past next st w k (Holds s left) said quiet all = kept_when (nat_lt 0 left) _ (λ some.
+    kept_bind _ (slice_get st.slots s) (λ p here.
+    kept_then _ _ (λ l lodging. call_lands past next st (doing (with_place (record st { kernel = l.kernel }) s l.place) w k (Holds s (left - 1))) s p l.place lodging.connection lodging.line quiet here lodging.ok lodging.goes refl refl refl lodging.kernel refl lodging.place all) (lodged_keeps past st s p said (all.each s p here))))
 call_keeps past next st w k Idle said quiet all = record { kept = tt }
 call_keeps past next st w k (Tries t) said quiet all = record { kept = tt }
 call_keeps past next st w k (Closed s) said quiet all = record { kept = tt }

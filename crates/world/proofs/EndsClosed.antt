@@ -29,10 +29,10 @@ use Rattle.world.specs.Runs.{run}
 use Rattle.world.specs.Given.{brought, given}
 use Rattle.world.specs.Headline.{socket_of, ClosedHold}
 use Rattle.world.specs.CoreLaws.{CoreLaws}
+use Rattle.world.proofs.TurnsKept.{Kept}
 use Rattle.world.proofs.TurnsTotals.{get-set_same, get-set_other}
 use Rattle.world.proofs.EndsHeld.{History, DirectionOk, ConnectionOk, SlotOk, AllOk}
 use Rattle.world.proofs.EndsLists.{Yes, No, tell, Before, ThisOne, last_of}
-use Rattle.world.proofs.EndsFrame.{Kept}
 use Rattle.world.proofs.EndsNetwork.{Lies, lies}
 use Rattle.world.proofs.EndsWorkers.{without_both, closes}
 use Rattle.world.proofs.EndsShapes.{Shape, Same, Changed, Opened, Ended}

@@ -17,9 +17,9 @@ use Rattle.world.specs.Steps.{connection_at, watched_of, acted, step}
 use Rattle.world.specs.Runs.{run}
 use Rattle.world.specs.Headline.{FailsBy, FailedBy, FailuresHold}
 use Rattle.world.specs.CoreLaws.{CoreLaws}
+use Rattle.world.proofs.TurnsKept.{Kept, kept_bind}
 use Rattle.world.proofs.TurnsTotals.{get-set_same, get-set_other, get-replicate}
 use Rattle.world.proofs.EndsLists.{Yes, No, tell, Before, ThisOne, last_of}
-use Rattle.world.proofs.EndsFrame.{Kept, kept_then}
 use Rattle.world.proofs.EndsNetwork.{Lies, lies}
 use Rattle.world.proofs.EndsShapes.{Continues, Shape, Same, Changed, Opened, Ended, over_same, listen_shape, polled_shape, put_shape, pop_shape, claim_shape, take_shape, post_shape, release_shape, close_shape, retire_shape, free_shape}
 use Rattle.world.proofs.EndsFaults.{call_shape}
@@ -37,12 +37,12 @@ acted_shape laws st w k act.Retire there = retire_shape st _ w k k.doing
 acted_shape laws st w k act.Free there = free_shape st _ w k k.doing
 
 pub step_shape : (laws : CoreLaws) (st : State) (e : Event) → Kept (Shape st e) (step st e)
-step_shape laws st (event.Network s side change) = kept_then (Shape st (event.Network s side change)) _ (connection_at st s) (λ c at_s. over_same st st _ _ refl refl)
-step_shape laws st (event.Spurious who) = kept_then (Shape st (event.Spurious who)) _ (watched_of st who) (λ x at_x. over_same st st _ _ refl refl)
-step_shape laws st (event.Vanish who) = kept_then (Shape st (event.Vanish who)) _ (watched_of st who) (λ x at_x. over_same st st _ _ refl refl)
+step_shape laws st (event.Network s side change) = kept_bind _ (connection_at st s) (λ c at_s. over_same st st _ _ refl refl)
+step_shape laws st (event.Spurious who) = kept_bind _ (watched_of st who) (λ x at_x. over_same st st _ _ refl refl)
+step_shape laws st (event.Vanish who) = kept_bind _ (watched_of st who) (λ x at_x. over_same st st _ _ refl refl)
 step_shape laws st (event.Listen l) = listen_shape st _ l
 step_shape laws st (event.Poll p) = polled_shape st _ p
-step_shape laws st (event.Work w a) = kept_then (Shape st (event.Work w a)) _ (slice_get st.workers w) (λ k there. acted_shape laws st w k a there)
+step_shape laws st (event.Work w a) = kept_bind _ (slice_get st.workers w) (λ k there. acted_shape laws st w k a there)
 
 -- Failures
 

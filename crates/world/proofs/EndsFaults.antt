@@ -27,7 +27,7 @@ use Rattle.world.specs.Steps
 use Rattle.world.specs.Steps.{connection_at, Lodging, lodged_call, with_place, doing}
 use Rattle.world.specs.Headline.{FailsBy}
 use Rattle.world.specs.CoreLaws.{CoreLaws}
-use Rattle.world.proofs.EndsFrame.{Kept, kept_then, kept_map, kept_when, kept_map_from}
+use Rattle.world.proofs.TurnsKept.{Kept, kept_bind, kept_map, kept_when, kept_then}
 use Rattle.world.proofs.EndsShapes.{Continues, Stays, Shape, Changed}
 
 -- a pair is told of a failure where the kernel's reply was one
@@ -90,10 +90,9 @@ blames laws st w s left k kernel c call said t caller answers told fault failed 
 replied_continues : (laws : CoreLaws) (st : State) (w s left : ℕ) (k : Actor) (kernel : Watcher) (c : Connection) (call : Call) (said : Reply) → Caller st w s left k c → next_call c.pair ≡ Some call
     → Kept (λ (line : Line). Continues st (event.Work w (act.Call said)) s c line.connection) (replied (record { kernel = kernel; connection = c }) call said)
 replied_continues laws st w s left k kernel c call said caller next =
-    let Goes : Line → Type 0 = λ line. Continues st (event.Work w (act.Call said)) s c line.connection in
-    kept_then Goes _ (told_of (record { kernel = kernel; connection = c }) call said) (λ t told.
-    kept_when Goes (fits c.pair call t) _ (λ fit.
-    kept_map Goes _ (made (record { kernel = kernel; connection = c }) call said) (λ q is. record {
+    kept_bind _ (told_of (record { kernel = kernel; connection = c }) call said) (λ t told.
+    kept_when (fits c.pair call t) _ (λ fit.
+    kept_map _ (made (record { kernel = kernel; connection = c }) call said) (λ q is. record {
       generation = ap (λ (x : Standing). x.generation) (laws.place c.pair call t);
       fails = λ fault failed. inr (blames laws st w s left k kernel c call said t caller (record { next = next; fit = fit }) told fault failed);
     })))
@@ -101,7 +100,7 @@ replied_continues laws st w s left k kernel c call said caller next =
 called_continues : (laws : CoreLaws) (st : State) (w s left : ℕ) (k : Actor) (kernel : Watcher) (c : Connection) (said : Reply) → Caller st w s left k c
     → Kept (λ (line : Line). Continues st (event.Work w (act.Call said)) s c line.connection) (called (record { kernel = kernel; connection = c }) said)
 unfolding called
-called_continues laws st w s left k kernel c said caller = kept_then _ _ (next_call c.pair) (λ call next. replied_continues laws st w s left k kernel c call said caller next)
+called_continues laws st w s left k kernel c said caller = kept_bind _ (next_call c.pair) (λ call next. replied_continues laws st w s left k kernel c call said caller next)
 
 continuing : (st : State) (e : Event) (s : ℕ) (p : Place) (c : Connection) (line : Line) → p.connection ≡ Some c → Continues st e s c line.connection → Stays st e s p (record p { connection = Some line.connection })
 continuing st e s p c line lying goes = record {
@@ -112,16 +111,13 @@ continuing st e s p c line lying goes = record {
 lodged_stays : (laws : CoreLaws) (st : State) (w s left : ℕ) (k : Actor) (p : Place) (said : Reply) → slice_get st.workers w ≡ Some k → k.doing ≡ Holds s left → slice_get st.slots s ≡ Some p
     → Kept (λ (l : Lodging). Stays st (event.Work w (act.Call said)) s p l.place) (lodged_call (record { kernel = st.kernel; place = p }) said)
 unfolding lodged_call
-lodged_stays laws st w s left k p said there holds here = kept_then _ _ p.connection (λ c lying.
-    kept_map_from (λ (line : Line). Continues st (event.Work w (act.Call said)) s c line.connection) _ _ _
-    (called_continues laws st w s left k st.kernel c said (record { there = there; holds = holds; lies = rw here lying }))
-    (λ line goes. continuing st (event.Work w (act.Call said)) s p c line lying goes))
+lodged_stays laws st w s left k p said there holds here = kept_bind _ p.connection (λ c lying.
+    kept_then _ _ (λ line goes. continuing st (event.Work w (act.Call said)) s p c line lying goes) (called_continues laws st w s left k st.kernel c said (record { there = there; holds = holds; lies = rw here lying })))
 
 pub call_shape : (laws : CoreLaws) (st : State) (w : ℕ) (k : Actor) (d : Doing) (said : Reply) → slice_get st.workers w ≡ Some k → k.doing ≡ d → Kept (Shape st (event.Work w (act.Call said))) (Steps.call st w k d said)
-call_shape laws st w k (Holds s left) said there holds = kept_when (Shape st (event.Work w (act.Call said))) (nat_lt 0 left) _ (λ some.
-    kept_then (Shape st (event.Work w (act.Call said))) _ (slice_get st.slots s) (λ p here.
-    kept_map_from (λ (l : Lodging). Stays st (event.Work w (act.Call said)) s p l.place) (Shape st (event.Work w (act.Call said))) _ _ (lodged_stays laws st w s left k p said there holds here)
-    (λ l stays. Changed s p l.place here refl refl stays)))
+call_shape laws st w k (Holds s left) said there holds = kept_when (nat_lt 0 left) _ (λ some.
+    kept_bind _ (slice_get st.slots s) (λ p here.
+    kept_then _ _ (λ l stays. Changed s p l.place here refl refl stays) (lodged_stays laws st w s left k p said there holds here)))
 call_shape laws st w k Idle said there holds = record { kept = tt }
 call_shape laws st w k (Tries t) said there holds = record { kept = tt }
 call_shape laws st w k (Closed s) said there holds = record { kept = tt }

@@ -1,5 +1,5 @@
 -- What a slot keeps while the rest of the machine changes.
-use Rattle.std.proofs.Common.{◌≡◌, ℕ, Bool, true, false, ◌||◌, List, Option, Some, None, refl, sym, ◌∙◌, subst, option_map, option_and_then, IfSome, eqb-true, eq-eqb}
+use Rattle.std.proofs.Common.{◌≡◌, ℕ, Bool, true, false, ◌||◌, List, Some, refl, sym, ◌∙◌, subst, eqb-true, eq-eqb}
 use Rattle.std.specs.Prelude.{slice_get, slice_set, ◌==◌}
 use Rattle.token.specs.declared.side.Side.{Side}
 use Rattle.token.specs.Sides.{source, destination}
@@ -7,14 +7,13 @@ use Rattle.token.specs.declared.name.Name.TheVariants as name
 use Rattle.token.specs.Names.{EndName}
 use Rattle.kernel_model.specs.Names.{has}
 use Rattle.kernel_model.specs.declared.both.Sockets.{Sockets}
-use Rattle.kernel_model.specs.Outcome.{guard}
 use Rattle.kernel_model.specs.Kernel.{Registered, end_at}
 use Rattle.relay_core.specs.Pairs.{Relay, stream_of, flags_of}
+use Rattle.kernel_model.specs.Ends.{is_nonempty}
 use Rattle.world.specs.declared.connection.Connection.{Connection}
 use Rattle.world.specs.Places.{Place}
 use Rattle.world.specs.States.{State}
-use Rattle.world.specs.Calls.{when, descriptor}
-use Rattle.world.specs.Steps.{is_nonempty}
+use Rattle.world.specs.Calls.{descriptor}
 use Rattle.world.specs.Headline.{socket_of}
 use Rattle.world.proofs.TurnsTotals.{get-set_same, get-set_other}
 use Rattle.world.proofs.EndsHeld.{History, token_at, is_pending, registered, PairOk, ConnectionOk, SlotOk, AllOk}
@@ -97,34 +96,3 @@ keep_place past next st q s old p was set f this all = keep_but past next st q s
 -- no slot changes, and each has at least what it had
 pub keep_all : (past next : History) (st q : State) → q.slots ≡ st.slots → ((i : ℕ) → Better past next st q i) → AllOk past st → AllOk next q
 keep_all past next st q same f all = record { each = λ i p here. better past next st q i p (f i) (all.each i p (rw same at here)) }
-
--- Going into a step, which may be refused
-
-pub record Kept {X : Type 0} (P : X → Type 0) (o : Option X) : Type 0 where
-  pub kept : IfSome o P
-
-pub kept_then : {X Y : Type 0} (P : Y → Type 0) (f : X → Option Y) (o : Option X) → ((x : X) → o ≡ Some x → Kept P (f x)) → Kept P (option_and_then f o)
-kept_then P f None h = record { kept = tt }
-kept_then P f (Some x) h = h x refl
-
-pub kept_map : {X Y : Type 0} (P : Y → Type 0) (f : X → Y) (o : Option X) → ((x : X) → o ≡ Some x → P (f x)) → Kept P (option_map f o)
-kept_map P f None h = record { kept = tt }
-kept_map P f (Some x) h = record { kept = h x refl }
-
-pub kept_guard : {X : Type 0} (P : X → Type 0) (b : Bool) (q : X) → (b ≡ true → P q) → Kept P (guard b q)
-kept_guard P true q h = record { kept = h refl }
-kept_guard P false q h = record { kept = tt }
-
-pub kept_when : {X : Type 0} (P : X → Type 0) (b : Bool) (o : Option X) → (b ≡ true → Kept P o) → Kept P (when b o)
-kept_when P true o h = h refl
-kept_when P false o h = record { kept = tt }
-
--- what is kept holds of the value
-pub kept_at : {X : Type 0} (P : X → Type 0) (o : Option X) (x : X) → o ≡ Some x → Kept P o → P x
-kept_at P None x e k = absurd (cc)
-kept_at P (Some y) x e k = let same : y ≡ x = cc in subst P same k.kept
-
--- going from one fact to another
-pub kept_map_from : {X Y : Type 0} (P : X → Type 0) (Q : Y → Type 0) (f : X → Y) (o : Option X) → Kept P o → ((x : X) → P x → Q (f x)) → Kept Q (option_map f o)
-kept_map_from P Q f None k h = record { kept = tt }
-kept_map_from P Q f (Some x) k h = record { kept = h x k.kept }

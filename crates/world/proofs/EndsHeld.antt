@@ -8,7 +8,7 @@ use Rattle.token.specs.Names.{EndName}
 use Rattle.token.specs.Sides.{source, destination}
 use Rattle.flow.specs.Stream.{Stream}
 use Rattle.kernel_model.specs.declared.both.Sockets.{Sockets}
-use Rattle.kernel_model.specs.Ends.{Endpoint}
+use Rattle.kernel_model.specs.Ends.{Endpoint, is_nonempty}
 use Rattle.kernel_model.specs.Names.{has}
 use Rattle.kernel_model.specs.Kernel.{Registered}
 use Rattle.relay_core.specs.Pairs.{Relay, stream_of, flags_of}
@@ -16,7 +16,6 @@ use Rattle.relay_core.specs.Laws.{IsClosedLast}
 use Rattle.world.specs.declared.connection.Connection.{Connection}
 use Rattle.world.specs.Places.{Place}
 use Rattle.world.specs.States.{State}
-use Rattle.world.specs.Steps.{is_nonempty}
 use Rattle.world.specs.Headline.{KeepsBytes, socket_of, end_of, EndCovered}
 
 -- the bytes that came so far, by slot, generation and side

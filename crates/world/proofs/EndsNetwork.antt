@@ -8,21 +8,22 @@ use Rattle.token.specs.Names.{EndName}
 use Rattle.token.specs.Sides.{side_number, other_side}
 use Rattle.kernel_model.specs.declared.both.Sockets.{Sockets}
 use Rattle.kernel_model.specs.Outcome.{Told}
-use Rattle.kernel_model.specs.Ends.{Endpoint}
+use Rattle.kernel_model.specs.Ends.{Endpoint, is_nonempty}
 use Rattle.kernel_model.specs.Kernel.{Registered, end_at, reported, changed}
 use Rattle.world.specs.declared.connection.Connection.{Connection}
 use Rattle.world.specs.Places.{Place}
 use Rattle.world.specs.States.{State}
 use Rattle.world.specs.Calls.{descriptor}
-use Rattle.world.specs.Steps.{over_kernel, is_nonempty, connection_at}
+use Rattle.world.specs.Steps.{over_kernel, connection_at}
 use Rattle.world.specs.Given.{has_generation}
 use Rattle.world.specs.Headline.{socket_of, end_of}
+use Rattle.world.proofs.TurnsKept.{Kept}
 use Rattle.world.proofs.EndsHeld.{History, token_at, registered, ConnectionOk, SlotOk, AllOk}
 use Rattle.world.proofs.EndsNames.{or_left, or_right, or_then, has_reported, is_reported}
 use Rattle.world.proofs.EndsPairs.{with_socket, IsChange, pair_changed}
 use Rattle.world.proofs.EndsChanges.{Changes}
 use Rattle.world.proofs.EndsKernel.{end_same, end_kept}
-use Rattle.world.proofs.EndsFrame.{Better, keep_but, Kept}
+use Rattle.world.proofs.EndsFrame.{Better, keep_but}
 
 -- the place of a connection
 pub record Lies (o : Option Place) (c : Connection) : Type 0 where

@@ -12,12 +12,13 @@ use Rattle.world.specs.declared.connection.Connection.{Connection}
 use Rattle.world.specs.Places.{Place}
 use Rattle.world.specs.States.{State}
 use Rattle.world.specs.Steps.{token_of, opened_place, opened_world, opening_of}
+use Rattle.world.proofs.TurnsKept.{Kept, kept_bind, kept_map}
 use Rattle.world.proofs.TurnsTotals.{get-set_same, get-set_other}
 use Rattle.world.proofs.EndsHeld.{History, token_at, registered, DirectionOk, PairOk, ConnectionOk, SlotOk, AllOk}
 use Rattle.world.proofs.EndsPairs.{by_side, by_direction}
 use Rattle.world.proofs.EndsChanges.{guarded}
 use Rattle.world.proofs.EndsKernel.{lowest_is_free, opened_here, opened_other}
-use Rattle.world.proofs.EndsFrame.{keep_place, Kept, kept_then, kept_map}
+use Rattle.world.proofs.EndsFrame.{keep_place}
 use Rattle.world.proofs.EndsQueue.{Quiet}
 
 -- the two ends as they open
@@ -98,10 +99,10 @@ fresh_keeps past next st s g p quiet here entry all = keep_place past next st (f
 
 pub open_keeps : (past next : History) (st : State) (s : ℕ) → Quiet past next → AllOk past st → Kept (AllOk next) (opening_of st s)
 open_keeps past next st s quiet all =
-    kept_then (AllOk next) _ (slice_get st.slots s) (λ p here.
-    kept_then (AllOk next) _ (slice_get st.table s) (λ g entry.
-    kept_then (AllOk next) _ (token_of s Client (g + 1)) (λ client is_client.
-    kept_map (AllOk next) _ (token_of s Target (g + 1)) (λ target is_target.
+    kept_bind _ (slice_get st.slots s) (λ p here.
+    kept_bind _ (slice_get st.table s) (λ g entry.
+    kept_bind _ (token_of s Client (g + 1)) (λ client is_client.
+    kept_map _ (token_of s Target (g + 1)) (λ target is_target.
     subst (λ (n : EndName). AllOk next (opened_world st s (g + 1) (open_both st.kernel n target))) (own_token s Client (g + 1) client is_client)
     (subst (λ (n : EndName). AllOk next (opened_world st s (g + 1) (open_both st.kernel (token_at s Client (g + 1)) n))) (own_token s Target (g + 1) target is_target)
     (fresh_keeps past next st s g p quiet here entry all))))))

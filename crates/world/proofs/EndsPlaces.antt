@@ -9,16 +9,18 @@ use Rattle.token.specs.declared.name.Name.TheVariants as name
 use Rattle.token.specs.Names.{EndName}
 use Rattle.kernel_model.specs.Names.{has, same}
 use Rattle.relay_core.specs.Pairs.{noted}
+use Rattle.kernel_model.specs.Ends.{is_nonempty}
 use Rattle.world.specs.declared.connection.Connection.{Connection}
 use Rattle.world.specs.Places.{Place}
 use Rattle.world.specs.States.{State}
-use Rattle.world.specs.Steps.{is_nonempty, with_note, posted, post_at, delivered_at, delivered, deliver, heard, noted_place}
+use Rattle.world.specs.Steps.{with_note, posted, post_at, delivered_at, delivered, deliver, heard, noted_place}
+use Rattle.world.proofs.TurnsKept.{Kept, kept_bind, kept_map_map}
 use Rattle.world.proofs.EndsHeld.{History, token_at, is_pending, ConnectionOk, SlotOk, AllOk}
 use Rattle.world.proofs.EndsLists.{Yes, No, tell}
 use Rattle.world.proofs.EndsChanges.{nonempty_more}
 use Rattle.world.proofs.EndsNames.{or_left, or_right, or_then, same_end_is}
 use Rattle.world.proofs.EndsPairs.{by_side, by_direction}
-use Rattle.world.proofs.EndsFrame.{Better, better, keep_place, pair_more, pending_more, Kept, kept_then}
+use Rattle.world.proofs.EndsFrame.{Better, better, keep_place, pair_more, pending_more}
 use Rattle.world.proofs.EndsQueue.{Quiet, rests_keep}
 
 -- no end changes, and no report that counts is lost
@@ -98,10 +100,6 @@ pub kept_map_if : (P : State → Type 0) (f : State → State) (b : Bool) (o u :
 kept_map_if P f true o u this that = this refl
 kept_map_if P f false o u this that = that refl
 
-pub kept_map_map : {X : Type 0} (P : State → Type 0) (f : State → State) (g : X → State) (o : Option X) → ((x : X) → o ≡ Some x → P (f (g x))) → Kept P (option_map f (option_map g o))
-kept_map_map P f g None h = record { kept = tt }
-kept_map_map P f g (Some x) h = record { kept = h x refl }
-
 posted_keeps : (past next : History) (st : State) (n : EndName) (p : Place) → Quiet past next → slice_get st.batch 0 ≡ Some (name.End n) → slice_get st.slots n.slot ≡ Some p → AllOk past st
     → AllOk next (behind st (posted st n.slot n.generation p))
 posted_keeps past next st n p quiet first here all =
@@ -126,7 +124,7 @@ delivered_keeps past next st name.Waker quiet first all = record { kept = left_b
 delivered_keeps past next st (name.End n) quiet first all = elim (slice_get st.table n.slot) as (λ o. slice_get st.table n.slot ≡ o → Kept (AllOk next) (option_map (behind st) (delivered_at st n o))) [
   | None ↦ λ is. record { kept = left_behind past next st (behind st st) (name.End n) quiet first (λ i side g entry. not_this st n i side g (λ h. absurd (cc)) entry) refl refl refl refl refl all }
   | Some g ↦ λ is. kept_map_if (AllOk next) (behind st) (g == n.generation) (post_at st n.slot g) (Some st)
-      (λ same. let e : g ≡ n.generation = eqb-true g n.generation same in rw e (kept_map_map (AllOk next) (behind st) (λ (p : Place). posted st n.slot n.generation p) (slice_get st.slots n.slot) (λ p here. posted_keeps past next st n p quiet first here all)))
+      (λ same. let e : g ≡ n.generation = eqb-true g n.generation same in rw e (kept_map_map (behind st) (λ (p : Place). posted st n.slot n.generation p) (slice_get st.slots n.slot) (λ p here. posted_keeps past next st n p quiet first here all)))
       (λ other. record {
         kept = left_behind past next st (behind st st) (name.End n) quiet first
             (λ i side h entry. not_this st n i side h (λ now. (let e : g ≡ n.generation = cc in let stale : (n.generation == n.generation) ≡ false = rw e at other in let is_not : (n.generation == n.generation) ≡ true = eq-eqb n.generation n.generation refl in absurd (cc))) entry) refl refl refl refl refl all;
@@ -134,7 +132,7 @@ delivered_keeps past next st (name.End n) quiet first all = elim (slice_get st.t
 ] refl
 
 pub deliver_keeps : (past next : History) (st : State) → Quiet past next → AllOk past st → Kept (AllOk next) (deliver st)
-deliver_keeps past next st quiet all = kept_then (AllOk next) _ (slice_get st.batch 0) (λ m first. delivered_keeps past next st m quiet first all)
+deliver_keeps past next st quiet all = kept_bind _ (slice_get st.batch 0) (λ m first. delivered_keeps past next st m quiet first all)
 
 -- All notes leave the slot
 

@@ -14,7 +14,7 @@ use Rattle.kernel_model.specs.declared.watched.Watched.{Watched}
 use Rattle.kernel_model.specs.declared.watched.Watched.TheVariants as watched
 use Rattle.kernel_model.specs.declared.accepting.Accepting.TheVariants.{Accepted, Blocked, Again, Starved}
 use Rattle.kernel_model.specs.Outcome.{guard}
-use Rattle.kernel_model.specs.Ends.{is_readable, is_writable}
+use Rattle.kernel_model.specs.Ends.{is_readable, is_writable, is_nonempty}
 use Rattle.kernel_model.specs.Names.{has, same, without_name}
 use Rattle.kernel_model.specs.Kernel as kernel
 use Rattle.kernel_model.specs.Kernel.{Watcher, Registered, end_at, name_of, is_quiet, is_quiet_end}
@@ -26,13 +26,14 @@ use Rattle.world.specs.declared.event.Listening.{Listening}
 use Rattle.world.specs.declared.event.Listening.TheVariants as listening
 use Rattle.world.specs.States.{State}
 use Rattle.world.specs.Calls.{descriptor}
-use Rattle.world.specs.Steps.{over_kernel, is_nonempty, connection_at, watched_of, spurious, vanish, may_accept, listen, batched}
+use Rattle.world.specs.Steps.{over_kernel, connection_at, watched_of, spurious, vanish, may_accept, listen, batched}
 use Rattle.world.specs.Headline.{socket_of}
+use Rattle.world.proofs.TurnsKept.{Kept, kept_bind, kept_guard, kept_when}
 use Rattle.world.proofs.EndsHeld.{History, token_at, is_pending, registered, PairOk, ConnectionOk, SlotOk, AllOk}
 use Rattle.world.proofs.EndsCovered.{end_more, cover_unready}
 use Rattle.world.proofs.EndsNames.{or_left, or_right, or_then, has_with, has_reported, has_without, has_polled, other_slot}
 use Rattle.world.proofs.EndsPairs.{by_side, same_gave}
-use Rattle.world.proofs.EndsFrame.{keep_but, keep_all, pending_more, or_more, Kept, kept_then, kept_guard, kept_when}
+use Rattle.world.proofs.EndsFrame.{keep_but, keep_all, pending_more, or_more}
 use Rattle.world.proofs.EndsNetwork.{Lies, lies}
 
 -- nothing came
@@ -77,7 +78,7 @@ queue_rests st names more = record {
 
 pub spurious_keeps : (past next : History) (st : State) (who : Reported) → Quiet past next → AllOk past st → Kept (AllOk next) (spurious st who)
 spurious_keeps past next st who quiet all =
-    kept_then (AllOk next) _ (watched_of st who) (λ w at_w.
+    kept_bind _ (watched_of st who) (λ w at_w.
     over_map (AllOk next) st _ (name_of st.kernel w) (λ n at_n.
     rests_keep past next st _ quiet (queue_rests st _ (λ e h. has_with (name.End e) n st.kernel.queue h)) all))
 
@@ -181,15 +182,15 @@ listen_keeps past next st listening.Connect quiet all = over_guard (AllOk next) 
   ends = refl;
   pending = λ i side g entry h. or_then _ _ _ (λ k. or_left _ _ (has_reported (name.End (token_at i side g)) name.Listener st.kernel.armed st.kernel.queue k)) (λ k. or_right _ _ k) h;
 }) all)
-listen_keeps past next st (listening.Accept Accepted) quiet all = kept_when (AllOk next) (may_accept st) _ (λ may.
+listen_keeps past next st (listening.Accept Accepted) quiet all = kept_when (may_accept st) _ (λ may.
     over_guard (AllOk next) (record st { accepted = true }) _ _ (λ some. rests_keep past next st _ quiet (record { slots = refl; table = refl; ring = refl; ends = refl; pending = λ i side g entry h. h }) all))
-listen_keeps past next st (listening.Accept Blocked) quiet all = kept_when (AllOk next) (may_accept st) _ (λ may.
+listen_keeps past next st (listening.Accept Blocked) quiet all = kept_when (may_accept st) _ (λ may.
     over_guard (AllOk next) (record st { flag = false }) _ _ (λ none. rests_keep past next st _ quiet (record { slots = refl; table = refl; ring = refl; ends = refl; pending = λ i side g entry h. h }) all))
-listen_keeps past next st (listening.Accept Again) quiet all = kept_when (AllOk next) (may_accept st) _ (λ may.
+listen_keeps past next st (listening.Accept Again) quiet all = kept_when (may_accept st) _ (λ may.
     record { kept = rests_keep past next st _ quiet (record { slots = refl; table = refl; ring = refl; ends = refl; pending = λ i side g entry h. h }) all })
-listen_keeps past next st (listening.Accept Starved) quiet all = kept_when (AllOk next) (may_accept st) _ (λ may.
+listen_keeps past next st (listening.Accept Starved) quiet all = kept_when (may_accept st) _ (λ may.
     record { kept = rests_keep past next st _ quiet (record { slots = refl; table = refl; ring = refl; ends = refl; pending = λ i side g entry h. h }) all })
-listen_keeps past next st listening.Drop quiet all = kept_guard (AllOk next) st.accepted _ (λ some.
+listen_keeps past next st listening.Drop quiet all = kept_guard st.accepted _ (λ some.
     rests_keep past next st _ quiet (record { slots = refl; table = refl; ring = refl; ends = refl; pending = λ i side g entry h. h }) all)
 
 -- A poll
@@ -199,7 +200,7 @@ none_in n [] e h = absurd (cc)
 none_in n (m ∷ names) e h = absurd (cc)
 
 pub batched_keeps : (past next : History) (st : State) (names : List Name) → Quiet past next → AllOk past st → Kept (AllOk next) (batched st names)
-batched_keeps past next st names quiet all = kept_when (AllOk next) (length st.batch == 0) _ (λ none.
+batched_keeps past next st names quiet all = kept_when (length st.batch == 0) _ (λ none.
     over_guard (AllOk next) (record st { batch = names }) _ _ (λ may. rests_keep past next st _ quiet (record {
       slots = refl;
       table = refl;

@@ -14,6 +14,7 @@ use Rattle.kernel_model.specs.Kernel.{Watcher}
 use Rattle.relay_core.specs.declared.verdict.Fault.{Fault}
 use Rattle.relay_core.specs.declared.verdict.Verdict.TheVariants.{Live, Failed}
 use Rattle.relay_core.specs.Pairs.{verdict, is_live, noted, fresh}
+use Rattle.kernel_model.specs.Ends.{is_nonempty}
 use Rattle.world.specs.declared.connection.Connection.{Connection}
 use Rattle.world.specs.declared.actors.Ticket.{Ticket}
 use Rattle.world.specs.declared.actors.Doing.{Doing}
@@ -26,11 +27,11 @@ use Rattle.world.specs.declared.event.Polling.TheVariants as polling
 use Rattle.world.specs.Places.{Place, Actor, is_held}
 use Rattle.world.specs.States.{State}
 use Rattle.world.specs.Steps
-use Rattle.world.specs.Steps.{over_kernel, is_nonempty, connection_at, watched_of, change_at, may_accept, after_accept, token_of, opened_world, with_note, posted, post_at, delivered_at, delivered, put_by_poller, put_by_worker, popped, heard, noted_place, with_place, Lodging, lodged_call, may_release, closed_world, doing, step}
+use Rattle.world.specs.Steps.{over_kernel, connection_at, watched_of, change_at, may_accept, after_accept, token_of, opened_world, with_note, posted, post_at, delivered_at, delivered, put_by_poller, put_by_worker, popped, heard, noted_place, with_place, Lodging, lodged_call, may_release, closed_world, doing, step}
 use Rattle.world.specs.Given.{brought}
 use Rattle.world.specs.Headline.{FailsBy}
-use Rattle.world.proofs.EndsFrame.{Kept, kept_then, kept_map, kept_guard, kept_when, kept_map_from}
-use Rattle.world.proofs.EndsPlaces.{behind, kept_map_if, kept_map_map}
+use Rattle.world.proofs.TurnsKept.{Kept, kept_bind, kept_map, kept_guard, kept_when, kept_then, kept_map_map}
+use Rattle.world.proofs.EndsPlaces.{behind, kept_map_if}
 
 -- a connection that was there before, and fails by this event if it did not fail already
 pub record Continues (st : State) (e : Event) (s : ℕ) (old new : Connection) : Type 0 where
@@ -63,11 +64,11 @@ over_same st m e (Some k) slots past = record { kept = Same slots past }
 
 pub listen_shape : (st : State) (e : Event) (l : Listening) → Kept (Shape st e) (Steps.listen st l)
 listen_shape st e listening.Connect = over_same st st e _ refl refl
-listen_shape st e (listening.Accept Accepted) = kept_when (Shape st e) (may_accept st) _ (λ may. over_same st (after_accept st Accepted) e _ refl refl)
-listen_shape st e (listening.Accept Blocked) = kept_when (Shape st e) (may_accept st) _ (λ may. over_same st (after_accept st Blocked) e _ refl refl)
-listen_shape st e (listening.Accept Again) = kept_when (Shape st e) (may_accept st) _ (λ may. over_same st (after_accept st Again) e (kernel.accept st.kernel Again) refl refl)
-listen_shape st e (listening.Accept Starved) = kept_when (Shape st e) (may_accept st) _ (λ may. over_same st (after_accept st Starved) e (kernel.accept st.kernel Starved) refl refl)
-listen_shape st e listening.Drop = kept_guard (Shape st e) st.accepted _ (λ some. Same refl refl)
+listen_shape st e (listening.Accept Accepted) = kept_when (may_accept st) _ (λ may. over_same st (after_accept st Accepted) e _ refl refl)
+listen_shape st e (listening.Accept Blocked) = kept_when (may_accept st) _ (λ may. over_same st (after_accept st Blocked) e _ refl refl)
+listen_shape st e (listening.Accept Again) = kept_when (may_accept st) _ (λ may. over_same st (after_accept st Again) e (kernel.accept st.kernel Again) refl refl)
+listen_shape st e (listening.Accept Starved) = kept_when (may_accept st) _ (λ may. over_same st (after_accept st Starved) e (kernel.accept st.kernel Starved) refl refl)
+listen_shape st e listening.Drop = kept_guard st.accepted _ (λ some. Same refl refl)
 
 delivered_shape : (st : State) (e : Event) (m : Name) → Kept (Shape st e) (option_map (behind st) (delivered st m))
 delivered_shape st e name.Listener = record { kept = Same refl refl }
@@ -75,7 +76,7 @@ delivered_shape st e name.Waker = record { kept = Same refl refl }
 delivered_shape st e (name.End n) = elim (slice_get st.table n.slot) as (λ o. Kept (Shape st e) (option_map (behind st) (delivered_at st n o))) [
   | None ↦ record { kept = Same refl refl }
   | Some g ↦ kept_map_if (Shape st e) (behind st) (g == n.generation) (post_at st n.slot g) (Some st)
-      (λ same. kept_map_map (Shape st e) (behind st) (λ (p : Place). posted st n.slot g p) (slice_get st.slots n.slot) (λ p here.
+      (λ same. kept_map_map (behind st) (λ (p : Place). posted st n.slot g p) (slice_get st.slots n.slot) (λ p here.
       Changed n.slot p (with_note p g) here refl refl (same_connection st e n.slot p (with_note p g) refl refl)))
       (λ other. record { kept = Same refl refl })
 ]
@@ -89,16 +90,16 @@ fresh_is_live s g ring ends c is = let same : record { pair = fresh s g ring; en
 
 open_shape : (st : State) (e : Event) (s : ℕ) → Kept (Shape st e) (Steps.opening_of st s)
 open_shape st e s =
-    kept_then (Shape st e) _ (slice_get st.slots s) (λ p here.
-    kept_then (Shape st e) _ (slice_get st.table s) (λ g entry.
-    kept_then (Shape st e) _ (token_of s Client (g + 1)) (λ client is_client.
-    kept_map (Shape st e) _ (token_of s Target (g + 1)) (λ target is_target.
+    kept_bind _ (slice_get st.slots s) (λ p here.
+    kept_bind _ (slice_get st.table s) (λ g entry.
+    kept_bind _ (token_of s Client (g + 1)) (λ client is_client.
+    kept_map _ (token_of s Target (g + 1)) (λ target is_target.
     Opened s g p _ here entry refl refl refl (λ c is. fresh_is_live s (g + 1) st.limits.ring _ c is)))))
 
 pub polled_shape : (st : State) (e : Event) (p : Polling) → Kept (Shape st e) (Steps.polled st p)
-polled_shape st e polling.Open = kept_when (Shape st e) st.accepted _ (λ some. kept_then (Shape st e) _ (slice_get st.free 0) (λ s first. open_shape st e s))
-polled_shape st e (polling.Poll names) = kept_when (Shape st e) (length st.batch == 0) _ (λ none. over_same st (record st { batch = names.items }) e _ refl refl)
-polled_shape st e polling.Deliver = kept_then (Shape st e) _ (slice_get st.batch 0) (λ m first. delivered_shape st e m)
+polled_shape st e polling.Open = kept_when st.accepted _ (λ some. kept_bind _ (slice_get st.free 0) (λ s first. open_shape st e s))
+polled_shape st e (polling.Poll names) = kept_when (length st.batch == 0) _ (λ none. over_same st (record st { batch = names.items }) e _ refl refl)
+polled_shape st e polling.Deliver = kept_bind _ (slice_get st.batch 0) (λ m first. delivered_shape st e m)
 polled_shape st e polling.Put = put_by_poller_shape st e st.hand
 
 -- The workers
@@ -112,7 +113,7 @@ popped_shape st e w k [] = record { kept = tt }
 popped_shape st e w k (t ∷ rest) = record { kept = Same refl refl }
 
 pub pop_shape : (st : State) (e : Event) (w : ℕ) (k : Actor) (d : Doing) → Kept (Shape st e) (Steps.pop st w k d)
-pop_shape st e w k Idle = kept_when (Shape st e) (length k.hand == 0) _ (λ none. popped_shape st e w k st.ready)
+pop_shape st e w k Idle = kept_when (length k.hand == 0) _ (λ none. popped_shape st e w k st.ready)
 pop_shape st e w k (Tries t) = record { kept = tt }
 pop_shape st e w k (Holds s left) = record { kept = tt }
 pop_shape st e w k (Closed s) = record { kept = tt }
@@ -123,7 +124,7 @@ either_way P true q r this that = this
 either_way P false q r this that = that
 
 pub claim_shape : (st : State) (e : Event) (w : ℕ) (k : Actor) (d : Doing) → Kept (Shape st e) (Steps.claim st w k d)
-claim_shape st e w k (Tries t) = kept_map (Shape st e) _ (slice_get st.slots t.slot) (λ p here.
+claim_shape st e w k (Tries t) = kept_map _ (slice_get st.slots t.slot) (λ p here.
     either_way (Shape st e) (is_held p.holder) _ _ (Same refl refl) (Changed t.slot p _ here refl refl (same_connection st e t.slot p _ refl refl)))
 claim_shape st e w k Idle = record { kept = tt }
 claim_shape st e w k (Holds s left) = record { kept = tt }
@@ -155,50 +156,50 @@ noted_stays st e s p (Some c) lying = record {
 }
 
 pub take_shape : (st : State) (e : Event) (d : Doing) → Kept (Shape st e) (Steps.take st d)
-take_shape st e (Holds s left) = kept_then (Shape st e) _ (slice_get st.slots s) (λ p here.
-    kept_map_from (Stays st e s p) (Shape st e) (λ (q : Place). with_place st s q) (noted_place p) (noted_stays st e s p p.connection refl) (λ q stays. Changed s p q here refl refl stays))
+take_shape st e (Holds s left) = kept_bind _ (slice_get st.slots s) (λ p here.
+    kept_then (λ (q : Place). with_place st s q) (noted_place p) (λ q stays. Changed s p q here refl refl stays) (noted_stays st e s p p.connection refl))
 take_shape st e Idle = record { kept = tt }
 take_shape st e (Tries t) = record { kept = tt }
 take_shape st e (Closed s) = record { kept = tt }
 take_shape st e (Retired s) = record { kept = tt }
 
 pub post_shape : (st : State) (e : Event) (d : Doing) → Kept (Shape st e) (Steps.post st d)
-post_shape st e (Holds s left) = kept_then (Shape st e) _ (slice_get st.slots s) (λ p here.
-    kept_then (Shape st e) _ p.connection (λ c lying.
-    kept_guard (Shape st e) (is_live (verdict c.pair)) _ (λ live. Changed s p (with_note p c.pair.generation) here refl refl (same_connection st e s p _ refl refl))))
+post_shape st e (Holds s left) = kept_bind _ (slice_get st.slots s) (λ p here.
+    kept_bind _ p.connection (λ c lying.
+    kept_guard (is_live (verdict c.pair)) _ (λ live. Changed s p (with_note p c.pair.generation) here refl refl (same_connection st e s p _ refl refl))))
 post_shape st e Idle = record { kept = tt }
 post_shape st e (Tries t) = record { kept = tt }
 post_shape st e (Closed s) = record { kept = tt }
 post_shape st e (Retired s) = record { kept = tt }
 
 pub release_shape : (st : State) (e : Event) (w : ℕ) (k : Actor) (d : Doing) → Kept (Shape st e) (Steps.release st w k d)
-release_shape st e w k (Holds s left) = kept_then (Shape st e) _ (slice_get st.slots s) (λ p here.
-    kept_then (Shape st e) _ p.connection (λ c lying.
-    kept_guard (Shape st e) (may_release c (is_nonempty p.notes)) _ (λ may. Changed s p _ here refl refl (same_connection st e s p _ refl refl))))
+release_shape st e w k (Holds s left) = kept_bind _ (slice_get st.slots s) (λ p here.
+    kept_bind _ p.connection (λ c lying.
+    kept_guard (may_release c (is_nonempty p.notes)) _ (λ may. Changed s p _ here refl refl (same_connection st e s p _ refl refl))))
 release_shape st e w k Idle = record { kept = tt }
 release_shape st e w k (Tries t) = record { kept = tt }
 release_shape st e w k (Closed s) = record { kept = tt }
 release_shape st e w k (Retired s) = record { kept = tt }
 
 pub retire_shape : (st : State) (e : Event) (w : ℕ) (k : Actor) (d : Doing) → Kept (Shape st e) (Steps.retire st w k d)
-retire_shape st e w k (Closed s) = kept_map (Shape st e) _ (slice_get st.slots s) (λ p here. Changed s p _ here refl refl (same_connection st e s p _ refl refl))
+retire_shape st e w k (Closed s) = kept_map _ (slice_get st.slots s) (λ p here. Changed s p _ here refl refl (same_connection st e s p _ refl refl))
 retire_shape st e w k Idle = record { kept = tt }
 retire_shape st e w k (Tries t) = record { kept = tt }
 retire_shape st e w k (Holds s left) = record { kept = tt }
 retire_shape st e w k (Retired s) = record { kept = tt }
 
 pub free_shape : (st : State) (e : Event) (w : ℕ) (k : Actor) (d : Doing) → Kept (Shape st e) (Steps.free st w k d)
-free_shape st e w k (Retired s) = kept_map (Shape st e) _ (slice_get st.slots s) (λ p here. Same refl refl)
+free_shape st e w k (Retired s) = kept_map _ (slice_get st.slots s) (λ p here. Same refl refl)
 free_shape st e w k Idle = record { kept = tt }
 free_shape st e w k (Tries t) = record { kept = tt }
 free_shape st e w k (Holds s left) = record { kept = tt }
 free_shape st e w k (Closed s) = record { kept = tt }
 
 pub close_shape : (st : State) (e : Event) (w : ℕ) (k : Actor) (d : Doing) → ((i g : ℕ) (side : Side) → brought st i g side e ≡ []) → Kept (Shape st e) (Steps.close st w k d)
-close_shape st e w k (Holds s left) brings = kept_then (Shape st e) _ (slice_get st.slots s) (λ p here.
-    kept_then (Shape st e) _ p.connection (λ c lying.
-    kept_when (Shape st e) (not (is_live (verdict c.pair))) _ (λ over.
-    kept_map (Shape st e) _ (kernel.close_both st.kernel c.ends) (λ t is. Ended s p c t.told t.value here lying refl refl is brings))))
+close_shape st e w k (Holds s left) brings = kept_bind _ (slice_get st.slots s) (λ p here.
+    kept_bind _ p.connection (λ c lying.
+    kept_when (not (is_live (verdict c.pair))) _ (λ over.
+    kept_map _ (kernel.close_both st.kernel c.ends) (λ t is. Ended s p c t.told t.value here lying refl refl is brings))))
 close_shape st e w k Idle brings = record { kept = tt }
 close_shape st e w k (Tries t) brings = record { kept = tt }
 close_shape st e w k (Closed s) brings = record { kept = tt }

@@ -20,10 +20,10 @@ use Rattle.world.specs.Calls.{when}
 use Rattle.world.specs.Steps.{over_kernel, connection_at, network, polled, acted, step, opening_of}
 use Rattle.world.specs.Runs.{run}
 use Rattle.world.specs.Given.{has_generation, brought, given}
+use Rattle.world.proofs.TurnsKept.{Kept, kept_bind, kept_when}
 use Rattle.world.proofs.TurnsTotals.{get-replicate, get_beside}
 use Rattle.world.proofs.EndsHeld.{History, SlotOk, AllOk}
 use Rattle.world.proofs.EndsChanges.{arrival_changes, finish_changes, failure_changes, room_changes}
-use Rattle.world.proofs.EndsFrame.{Kept, kept_then, kept_when}
 use Rattle.world.proofs.EndsNetwork.{BringsTo, network_keeps}
 use Rattle.world.proofs.EndsQueue.{Quiet, rests_keep, spurious_keeps, vanish_keeps, listen_keeps, batched_keeps}
 use Rattle.world.proofs.EndsPlaces.{deliver_keeps}
@@ -54,18 +54,18 @@ brings_none : (past : History) (st : State) (s : ℕ) (side : Side) → BringsTo
 brings_none past st s side i g t = ap (λ (bytes : List ℕ). past i g t ++ bytes) (sym (nothing ((s == i && side_number side == side_number t) && has_generation (slice_get st.slots i) g)))
 
 change_keeps : (past : History) (st : State) (s : ℕ) (side : Side) (change : Change) → AllOk past st → Kept (AllOk (after_event past st (event.Network s side change))) (network st s side change)
-change_keeps past st s side (Arrive bytes) all = kept_then (AllOk (after_event past st (event.Network s side (Arrive bytes)))) _ (connection_at st s) (λ c at_s.
+change_keeps past st s side (Arrive bytes) all = kept_bind _ (connection_at st s) (λ c at_s.
     over_when _ st (nat_le (length bytes.items) 1024) _
     (network_keeps past (after_event past st (event.Network s side (Arrive bytes))) st s side bytes.items (λ e. arrival e bytes.items) c (arrival_changes bytes.items) (λ i g t. refl) at_s all))
-change_keeps past st s side Fin all = kept_then (AllOk (same_history past)) _ (connection_at st s) (λ c at_s.
+change_keeps past st s side Fin all = kept_bind _ (connection_at st s) (λ c at_s.
     network_keeps past (same_history past) st s side [] finish c finish_changes (brings_none past st s side) at_s all)
-change_keeps past st s side Reset all = kept_then (AllOk (same_history past)) _ (connection_at st s) (λ c at_s.
+change_keeps past st s side Reset all = kept_bind _ (connection_at st s) (λ c at_s.
     network_keeps past (same_history past) st s side [] failure c failure_changes (brings_none past st s side) at_s all)
-change_keeps past st s side Room all = kept_then (AllOk (same_history past)) _ (connection_at st s) (λ c at_s.
+change_keeps past st s side Room all = kept_bind _ (connection_at st s) (λ c at_s.
     network_keeps past (same_history past) st s side [] new_room c room_changes (brings_none past st s side) at_s all)
 
 polled_keeps : (past next : History) (st : State) (p : Polling) → Quiet past next → AllOk past st → Kept (AllOk next) (polled st p)
-polled_keeps past next st polling.Open quiet all = kept_when (AllOk next) st.accepted _ (λ some. kept_then (AllOk next) (λ (s : ℕ). opening_of st s) (slice_get st.free 0) (λ s first. open_keeps past next st s quiet all))
+polled_keeps past next st polling.Open quiet all = kept_when st.accepted _ (λ some. kept_bind (λ (s : ℕ). opening_of st s) (slice_get st.free 0) (λ s first. open_keeps past next st s quiet all))
 polled_keeps past next st (polling.Poll names) quiet all = batched_keeps past next st names.items quiet all
 polled_keeps past next st polling.Deliver quiet all = deliver_keeps past next st quiet all
 polled_keeps past next st polling.Put quiet all = put_by_poller_keeps past next st st.hand quiet all
@@ -88,7 +88,7 @@ step_keeps past st (event.Spurious who) all = spurious_keeps past (same_history 
 step_keeps past st (event.Vanish who) all = vanish_keeps past (same_history past) st who (quiet past) all
 step_keeps past st (event.Listen l) all = listen_keeps past (same_history past) st l (quiet past) all
 step_keeps past st (event.Poll p) all = polled_keeps past (same_history past) st p (quiet past) all
-step_keeps past st (event.Work w a) all = kept_then (AllOk (same_history past)) _ (slice_get st.workers w) (λ k there. acted_keeps past (same_history past) st w k a (quiet past) all)
+step_keeps past st (event.Work w a) all = kept_bind _ (slice_get st.workers w) (λ k there. acted_keeps past (same_history past) st w k a (quiet past) all)
 
 -- Lists of events
 

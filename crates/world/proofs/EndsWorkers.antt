@@ -10,6 +10,7 @@ use Rattle.kernel_model.specs.Names.{without_name}
 use Rattle.kernel_model.specs.Kernel as kernel
 use Rattle.kernel_model.specs.Kernel.{Watcher, Registered, end_at}
 use Rattle.relay_core.specs.Pairs.{verdict, is_live}
+use Rattle.kernel_model.specs.Ends.{is_nonempty}
 use Rattle.world.specs.declared.connection.Connection.{Connection}
 use Rattle.world.specs.declared.actors.Ticket.{Ticket}
 use Rattle.world.specs.declared.actors.Holder.{Holder}
@@ -17,11 +18,12 @@ use Rattle.world.specs.declared.actors.Doing.{Doing}
 use Rattle.world.specs.declared.actors.Doing.TheVariants.{Idle, Tries, Holds, Closed, Retired}
 use Rattle.world.specs.Places.{Place, Actor, is_held}
 use Rattle.world.specs.States.{State}
-use Rattle.world.specs.Steps.{is_nonempty, with_note, put_by_poller, put_by_worker, popped, pop, claim, noted_place, take, with_place, post, may_release, release, closed_world, close, retire, free}
+use Rattle.world.specs.Steps.{with_note, put_by_poller, put_by_worker, popped, pop, claim, noted_place, take, with_place, post, may_release, release, closed_world, close, retire, free}
+use Rattle.world.proofs.TurnsKept.{Kept, kept_bind, kept_map, kept_guard, kept_when}
 use Rattle.world.proofs.EndsHeld.{History, token_at, registered, ConnectionOk, SlotOk, AllOk}
 use Rattle.world.proofs.EndsNames.{has_without, other_slot}
 use Rattle.world.proofs.EndsKernel.{end_kept}
-use Rattle.world.proofs.EndsFrame.{Better, keep_place, pending_more, Kept, kept_then, kept_map, kept_guard, kept_when}
+use Rattle.world.proofs.EndsFrame.{Better, keep_place, pending_more}
 use Rattle.world.proofs.EndsQueue.{Quiet, rests_keep}
 use Rattle.world.proofs.EndsPlaces.{Steady, place_keeps, note_keeps, take_ok}
 
@@ -40,7 +42,7 @@ popped_keeps past next st w k [] quiet all = record { kept = tt }
 popped_keeps past next st w k (t ∷ rest) quiet all = record { kept = rests_keep past next st _ quiet (record { slots = refl; table = refl; ring = refl; ends = refl; pending = λ i side g entry h. h }) all }
 
 pub pop_keeps : (past next : History) (st : State) (w : ℕ) (k : Actor) (d : Doing) → Quiet past next → AllOk past st → Kept (AllOk next) (pop st w k d)
-pop_keeps past next st w k Idle quiet all = kept_when (AllOk next) (length k.hand == 0) _ (λ none. popped_keeps past next st w k st.ready quiet all)
+pop_keeps past next st w k Idle quiet all = kept_when (length k.hand == 0) _ (λ none. popped_keeps past next st w k st.ready quiet all)
 pop_keeps past next st w k (Tries t) quiet all = record { kept = tt }
 pop_keeps past next st w k (Holds s left) quiet all = record { kept = tt }
 pop_keeps past next st w k (Closed s) quiet all = record { kept = tt }
@@ -64,7 +66,7 @@ either_way P true q r this that = this
 either_way P false q r this that = that
 
 pub claim_keeps : (past next : History) (st : State) (w : ℕ) (k : Actor) (d : Doing) → Quiet past next → AllOk past st → Kept (AllOk next) (claim st w k d)
-claim_keeps past next st w k (Tries t) quiet all = kept_map (AllOk next) _ (slice_get st.slots t.slot) (λ p here.
+claim_keeps past next st w k (Tries t) quiet all = kept_map _ (slice_get st.slots t.slot) (λ p here.
     either_way (AllOk next) (is_held p.holder) _ _
     (rests_keep past next st _ quiet (record { slots = refl; table = refl; ring = refl; ends = refl; pending = λ i side g entry h. h }) all)
     (place_keeps past next st _ t.slot p _ quiet here refl (steady st _ refl refl refl refl) (held_by next _ t.slot p _) all))
@@ -74,8 +76,8 @@ claim_keeps past next st w k (Closed s) quiet all = record { kept = tt }
 claim_keeps past next st w k (Retired s) quiet all = record { kept = tt }
 
 pub take_keeps : (past next : History) (st : State) (d : Doing) → Quiet past next → AllOk past st → Kept (AllOk next) (take st d)
-take_keeps past next st (Holds s left) quiet all = kept_then (AllOk next) _ (slice_get st.slots s) (λ p here.
-    kept_map (AllOk next) (λ (q : Place). with_place st s q) (noted_place p) (λ q is.
+take_keeps past next st (Holds s left) quiet all = kept_bind _ (slice_get st.slots s) (λ p here.
+    kept_map (λ (q : Place). with_place st s q) (noted_place p) (λ q is.
     place_keeps past next st (with_place st s q) s p q quiet here refl (steady st (with_place st s q) refl refl refl refl) (take_ok next (with_place st s q) s p q is) all))
 take_keeps past next st Idle quiet all = record { kept = tt }
 take_keeps past next st (Tries t) quiet all = record { kept = tt }
@@ -83,9 +85,9 @@ take_keeps past next st (Closed s) quiet all = record { kept = tt }
 take_keeps past next st (Retired s) quiet all = record { kept = tt }
 
 pub post_keeps : (past next : History) (st : State) (d : Doing) → Quiet past next → AllOk past st → Kept (AllOk next) (post st d)
-post_keeps past next st (Holds s left) quiet all = kept_then (AllOk next) _ (slice_get st.slots s) (λ p here.
-    kept_then (AllOk next) _ p.connection (λ c lying.
-    kept_guard (AllOk next) (is_live (verdict c.pair)) (with_place st s (with_note p c.pair.generation)) (λ live.
+post_keeps past next st (Holds s left) quiet all = kept_bind _ (slice_get st.slots s) (λ p here.
+    kept_bind _ p.connection (λ c lying.
+    kept_guard (is_live (verdict c.pair)) (with_place st s (with_note p c.pair.generation)) (λ live.
     place_keeps past next st (with_place st s (with_note p c.pair.generation)) s p (with_note p c.pair.generation) quiet here refl (steady st _ refl refl refl refl)
     (λ ok. note_keeps next next (with_place st s (with_note p c.pair.generation)) (with_place st s (with_note p c.pair.generation)) s p c.pair.generation (λ i g side. refl) refl refl refl ok) all)))
 post_keeps past next st Idle quiet all = record { kept = tt }
@@ -94,9 +96,9 @@ post_keeps past next st (Closed s) quiet all = record { kept = tt }
 post_keeps past next st (Retired s) quiet all = record { kept = tt }
 
 pub release_keeps : (past next : History) (st : State) (w : ℕ) (k : Actor) (d : Doing) → Quiet past next → AllOk past st → Kept (AllOk next) (release st w k d)
-release_keeps past next st w k (Holds s left) quiet all = kept_then (AllOk next) _ (slice_get st.slots s) (λ p here.
-    kept_then (AllOk next) _ p.connection (λ c lying.
-    kept_guard (AllOk next) (may_release c (is_nonempty p.notes)) _ (λ may.
+release_keeps past next st w k (Holds s left) quiet all = kept_bind _ (slice_get st.slots s) (λ p here.
+    kept_bind _ p.connection (λ c lying.
+    kept_guard (may_release c (is_nonempty p.notes)) _ (λ may.
     place_keeps past next st _ s p _ quiet here refl (steady st _ refl refl refl refl) (held_by next _ s p _) all)))
 release_keeps past next st w k Idle quiet all = record { kept = tt }
 release_keeps past next st w k (Tries t) quiet all = record { kept = tt }
@@ -104,7 +106,7 @@ release_keeps past next st w k (Closed s) quiet all = record { kept = tt }
 release_keeps past next st w k (Retired s) quiet all = record { kept = tt }
 
 pub retire_keeps : (past next : History) (st : State) (w : ℕ) (k : Actor) (d : Doing) → Quiet past next → AllOk past st → Kept (AllOk next) (retire st w k d)
-retire_keeps past next st w k (Closed s) quiet all = kept_map (AllOk next) _ (slice_get st.slots s) (λ p here.
+retire_keeps past next st w k (Closed s) quiet all = kept_map _ (slice_get st.slots s) (λ p here.
     place_keeps past next st _ s p _ quiet here refl (steady st _ refl refl refl refl) (held_by next _ s p _) all)
 retire_keeps past next st w k Idle quiet all = record { kept = tt }
 retire_keeps past next st w k (Tries t) quiet all = record { kept = tt }
@@ -112,7 +114,7 @@ retire_keeps past next st w k (Holds s left) quiet all = record { kept = tt }
 retire_keeps past next st w k (Retired s) quiet all = record { kept = tt }
 
 pub free_keeps : (past next : History) (st : State) (w : ℕ) (k : Actor) (d : Doing) → Quiet past next → AllOk past st → Kept (AllOk next) (free st w k d)
-free_keeps past next st w k (Retired s) quiet all = kept_map (AllOk next) _ (slice_get st.slots s) (λ p here.
+free_keeps past next st w k (Retired s) quiet all = kept_map _ (slice_get st.slots s) (λ p here.
     rests_keep past next st _ quiet (record { slots = refl; table = refl; ring = refl; ends = refl; pending = λ i side g entry h. h }) all)
 free_keeps past next st w k Idle quiet all = record { kept = tt }
 free_keeps past next st w k (Tries t) quiet all = record { kept = tt }
@@ -172,9 +174,9 @@ closed_keeps past next st w k s p c quiet here ok all =
     (vacated past next st q s p quiet refl (all.each s p here)) all
 
 pub close_keeps : (past next : History) (st : State) (w : ℕ) (k : Actor) (d : Doing) → Quiet past next → AllOk past st → Kept (AllOk next) (close st w k d)
-close_keeps past next st w k (Holds s left) quiet all = kept_then (AllOk next) _ (slice_get st.slots s) (λ p here.
-    kept_then (AllOk next) _ p.connection (λ c lying.
-    kept_when (AllOk next) (not (is_live (verdict c.pair))) _ (λ over.
+close_keeps past next st w k (Holds s left) quiet all = kept_bind _ (slice_get st.slots s) (λ p here.
+    kept_bind _ p.connection (λ c lying.
+    kept_when (not (is_live (verdict c.pair))) _ (λ over.
     (let ok : ConnectionOk past st s p.generation p.notes c = (all.each s p here).connection c lying in
     rw (closes past st s p.generation p.notes c ok) (record { kept = closed_keeps past next st w k s p c quiet here ok all })))))
 close_keeps past next st w k Idle quiet all = record { kept = tt }

@@ -11,7 +11,7 @@ use Rattle.token.specs.Names.{EndName}
 use Rattle.token.specs.Sides.{side_number, source, destination}
 use Rattle.flow.specs.Stream.{Stream}
 use Rattle.kernel_model.specs.Names.{same, has}
-use Rattle.kernel_model.specs.Ends.{is_readable, is_writable}
+use Rattle.kernel_model.specs.Ends.{is_readable, is_writable, is_nonempty}
 use Rattle.kernel_model.specs.Kernel.{Registered}
 use Rattle.relay_core.specs.declared.verdict.Verdict.{Verdict}
 use Rattle.relay_core.specs.declared.verdict.Verdict.TheVariants.{Live, Done, Failed}
@@ -26,7 +26,6 @@ use Rattle.world.specs.declared.actors.Doing.{Doing}
 use Rattle.world.specs.declared.actors.Doing.TheVariants.{Idle, Tries, Holds, Closed, Retired}
 use Rattle.world.specs.Places.{Place, is_by_worker}
 use Rattle.world.specs.States.{State}
-use Rattle.world.specs.Steps.{is_nonempty}
 use Rattle.world.specs.Due.{gives, takes, has_place, flows, moves, is_report, is_ticket, tries, has_ticket, is_reported, is_ticketed, moves_if_any, movable_at, movable, due_place, due_at, due}
 use Rattle.world.specs.Headline.{one, total, tickets, is_covered, has_report, end_of, EndCovered, EdgesHold}
 use Rattle.world.specs.CoreLaws.{CoreLaws}

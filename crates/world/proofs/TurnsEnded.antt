@@ -8,13 +8,14 @@ use Rattle.kernel_model.specs.Kernel.{Watcher}
 use Rattle.relay_core.specs.Pairs.{verdict, is_live}
 use Rattle.relay_core.specs.Order.{next_call}
 use Rattle.relay_core.specs.Laws.{Place as Standing, place_of}
+use Rattle.kernel_model.specs.Ends.{is_nonempty}
 use Rattle.world.specs.declared.connection.Connection.{Connection}
 use Rattle.world.specs.declared.actors.Holder.TheVariants.{Nobody, Free}
 use Rattle.world.specs.declared.actors.Doing.{Doing}
 use Rattle.world.specs.declared.actors.Doing.TheVariants.{Idle, Tries, Holds, Closed, Retired}
 use Rattle.world.specs.Places.{Place, Actor}
 use Rattle.world.specs.States.{State}
-use Rattle.world.specs.Steps.{is_nonempty, with_note, with_ticket, with_worker, with_place, doing, post, may_release, release, closed_world, close, retire, is_worn, freed, free}
+use Rattle.world.specs.Steps.{with_note, with_ticket, with_worker, with_place, doing, post, may_release, release, closed_world, close, retire, is_worn, freed, free}
 use Rattle.world.specs.Headline.{one, total, of_slot, tried}
 use Rattle.world.specs.CoreLaws.{CoreLaws}
 use Rattle.world.proofs.TurnsTotals.{total_push}

@@ -5,6 +5,7 @@ use Rattle.std.specs.List.{list_all}
 use Rattle.relay_core.specs.Pairs.{verdict, is_live}
 use Rattle.relay_core.specs.Order.{next_call}
 use Rattle.relay_core.specs.Laws.{Place as Standing, place_of}
+use Rattle.kernel_model.specs.Ends.{is_nonempty}
 use Rattle.world.specs.declared.connection.Connection.{Connection}
 use Rattle.world.specs.declared.actors.Ticket.{Ticket}
 use Rattle.world.specs.declared.actors.Holder.{Holder}
@@ -13,7 +14,7 @@ use Rattle.world.specs.declared.actors.Doing.{Doing}
 use Rattle.world.specs.declared.actors.Doing.TheVariants.{Idle, Tries, Holds, Closed, Retired}
 use Rattle.world.specs.Places.{Place, Actor, is_held, is_by_worker}
 use Rattle.world.specs.States.{State}
-use Rattle.world.specs.Steps.{is_nonempty, doing}
+use Rattle.world.specs.Steps.{doing}
 use Rattle.world.specs.Due.{is_ticket}
 pub use Rattle.world.specs.Words.{is_free}
 use Rattle.world.specs.Headline.{one, total, of_slot, tried, worker_tickets, tickets}

@@ -19,6 +19,7 @@ use Rattle.kernel_model.specs.Kernel.{Watcher, Registered, end_at}
 use Rattle.relay_core.specs.Pairs.{verdict, is_live}
 use Rattle.relay_core.specs.Order.{next_call}
 use Rattle.relay_core.specs.Replies.{fits, after}
+use Rattle.kernel_model.specs.Ends.{is_nonempty}
 use Rattle.world.specs.declared.actors.Ticket.{Ticket}
 use Rattle.world.specs.declared.actors.Holder.TheVariants.{By}
 use Rattle.world.specs.declared.actors.Doing.{Doing}
@@ -37,7 +38,7 @@ use Rattle.world.specs.declared.limits.Limits.{Limits}
 use Rattle.world.specs.Places.{Place, Actor, is_held}
 use Rattle.world.specs.States.{State, opening}
 use Rattle.world.specs.Calls.{Line, descriptor, told_of, made, called}
-use Rattle.world.specs.Steps.{connection_at, over_kernel, change_at, network, watched_of, spurious, vanish, may_accept, after_accept, listen, post_at, delivered_at, delivered, put_by_poller, batched, opened_world, opening_of, token_of, polled, put_by_worker, popped, pop, claim, noted_place, with_place, take, Lodging, lodged_call, doing, call, with_note, post, may_release, release, closed_world, close, retire, free, acted, step, is_nonempty}
+use Rattle.world.specs.Steps.{connection_at, over_kernel, change_at, network, watched_of, spurious, vanish, may_accept, after_accept, listen, post_at, delivered_at, delivered, put_by_poller, batched, opened_world, opening_of, token_of, polled, put_by_worker, popped, pop, claim, noted_place, with_place, take, Lodging, lodged_call, doing, call, with_note, post, may_release, release, closed_world, close, retire, free, acted, step}
 use Rattle.world.specs.Runs.{run}
 use Rattle.world.specs.Headline.{is_covered, ListenerHolds}
 use Rattle.world.proofs.TurnsKept.{Kept, kept_some, kept_none, kept_bind, kept_map, kept_when, kept_guard, kept_if, kept_then, kept_next, kept_at, kept_bind_map, either_of}

@@ -3,6 +3,7 @@ use Rattle.std.proofs.Common.{◌≡◌, ◌∙◌, ℕ, ◌-◌, ◌≤◌, ◌
 use Rattle.kernel_model.specs.declared.reply.Reply.{Reply}
 use Rattle.relay_core.specs.Pairs.{noted}
 use Rattle.relay_core.specs.Laws.{place_of}
+use Rattle.kernel_model.specs.Ends.{is_nonempty}
 use Rattle.world.specs.declared.connection.Connection.{Connection}
 use Rattle.world.specs.declared.actors.Holder.{Holder}
 use Rattle.world.specs.declared.actors.Holder.TheVariants.{Nobody, By, Free}
@@ -10,7 +11,7 @@ use Rattle.world.specs.declared.actors.Doing.{Doing}
 use Rattle.world.specs.declared.actors.Doing.TheVariants.{Idle, Tries, Holds, Closed, Retired}
 use Rattle.world.specs.Places.{Place, Actor, is_held, is_by_worker}
 use Rattle.world.specs.States.{State}
-use Rattle.world.specs.Steps.{is_nonempty, with_place, doing, heard, take, Lodging, lodged_call, call, free}
+use Rattle.world.specs.Steps.{with_place, doing, heard, take, Lodging, lodged_call, call, free}
 use Rattle.world.specs.Headline.{one, total}
 use Rattle.world.specs.CoreLaws.{CoreLaws}
 use Rattle.world.proofs.TurnsTotals.{total_at}

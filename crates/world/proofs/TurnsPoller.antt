@@ -10,6 +10,7 @@ use Rattle.kernel_model.specs.Outcome.{Told}
 use Rattle.kernel_model.specs.Kernel as kernel
 use Rattle.kernel_model.specs.Kernel.{Watcher}
 use Rattle.relay_core.specs.Pairs.{fresh}
+use Rattle.kernel_model.specs.Ends.{is_nonempty}
 use Rattle.world.specs.declared.connection.Connection.{Connection}
 use Rattle.world.specs.declared.actors.Ticket.{Ticket}
 use Rattle.std.proofs.lemmas.Bool.{and_parts}
@@ -25,7 +26,7 @@ use Rattle.kernel_model.specs.declared.accepting.Accepting.{Accepting}
 use Rattle.kernel_model.specs.declared.accepting.Accepting.TheVariants.{Accepted, Blocked, Again, Starved}
 use Rattle.world.specs.Places.{Place, Actor, is_held, is_by_worker}
 use Rattle.world.specs.States.{State}
-use Rattle.world.specs.Steps.{is_nonempty, connection_at, over_kernel, network, watched_of, spurious, vanish, may_accept, after_accept, listen, with_note, wakes, with_ticket, posted, post_at, delivered_at, delivered, deliver, put_by_poller, batched, opened_place, opened_world, opening_of, token_of, polled}
+use Rattle.world.specs.Steps.{connection_at, over_kernel, network, watched_of, spurious, vanish, may_accept, after_accept, listen, with_note, wakes, with_ticket, posted, post_at, delivered_at, delivered, deliver, put_by_poller, batched, opened_place, opened_world, opening_of, token_of, polled}
 use Rattle.world.specs.Headline.{one, total, of_slot, tried, worker_tickets, tickets}
 use Rattle.world.proofs.TurnsTotals.{total_push, total_moved, total_le, get-set_same, get-set_other}
 use Rattle.world.proofs.TurnsKept.{Kept, kept_some, kept_none, kept_bind, kept_map, kept_when, kept_guard, kept_if, kept_then}

@@ -1,5 +1,6 @@
 -- Who has a slot, through what the workers do.
 use Rattle.std.proofs.Common.{◌≡◌, ℕ, ◌+◌, ◌≤◌, ◌==◌, Bool, true, false, not, ◌&&◌, List, [], ◌∷◌, ◌++◌, length, slice_get, Some, is_some, refl, ap, arith}
+use Rattle.kernel_model.specs.Ends.{is_nonempty}
 use Rattle.world.specs.declared.actors.Ticket.{Ticket}
 use Rattle.world.specs.declared.actors.Holder.{Holder}
 use Rattle.world.specs.declared.actors.Holder.TheVariants.{Nobody, By, Free}
@@ -7,7 +8,7 @@ use Rattle.world.specs.declared.actors.Doing.{Doing}
 use Rattle.world.specs.declared.actors.Doing.TheVariants.{Idle, Tries, Holds, Closed, Retired}
 use Rattle.world.specs.Places.{Place, Actor, is_held}
 use Rattle.world.specs.States.{State}
-use Rattle.world.specs.Steps.{is_nonempty, with_worker, with_place, doing, put_by_worker, popped, pop, claim}
+use Rattle.world.specs.Steps.{with_worker, with_place, doing, put_by_worker, popped, pop, claim}
 use Rattle.world.specs.Headline.{one, total, of_slot, tried, worker_tickets, tickets}
 use Rattle.world.proofs.TurnsTotals.{total_moved, total_at}
 use Rattle.world.proofs.TurnsKept.{Kept, kept_some, kept_none, kept_map, kept_when}

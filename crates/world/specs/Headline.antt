@@ -1,4 +1,5 @@
--- What holds after every run of events, clause by clause. No definition here knows how the relay comes to it.
+-- What holds after every run of events, clause by clause. Needed to read the promises. No definition here depends on
+-- how the relay comes to it.
 use Rattle.std.specs.Prelude.{◌≡◌, ℕ, ◌+◌, ◌==◌, Bool, true, false, not, ◌&&◌, ◌||◌, ◌⊎◌, List, [], ◌∷◌, ◌++◌, Option, Some, None, IsSome, slice_get}
 use Rattle.std.specs.List.{list_all}
 use Rattle.token.specs.declared.side.Side.{Side}
@@ -10,7 +11,7 @@ use Rattle.token.specs.Sides.{source, destination}
 use Rattle.flow.specs.Stream.{Stream}
 use Rattle.kernel_model.specs.declared.both.Sockets.{Sockets}
 use Rattle.kernel_model.specs.declared.reply.Reply.TheVariants as reply
-use Rattle.kernel_model.specs.Ends.{Endpoint, is_readable, is_writable}
+use Rattle.kernel_model.specs.Ends.{Endpoint, is_nonempty, is_readable, is_writable}
 use Rattle.kernel_model.specs.Kernel.{Registered, end_at}
 use Rattle.kernel_model.specs.Names.{has}
 use Rattle.relay_core.specs.declared.call.Call.{Call}
@@ -33,7 +34,7 @@ use Rattle.world.specs.declared.past.Past.{Past}
 use Rattle.world.specs.Places.{Place, Actor, is_held}
 use Rattle.world.specs.States.{State, opening}
 use Rattle.world.specs.Calls.{descriptor}
-use Rattle.world.specs.Steps.{step, connection_at, is_nonempty}
+use Rattle.world.specs.Steps.{step, connection_at}
 use Rattle.world.specs.Runs.{run}
 use Rattle.world.specs.Given.{given}
 use Rattle.world.specs.Due.{movable, due}

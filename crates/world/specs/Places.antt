@@ -1,4 +1,4 @@
--- A slot, and a worker.
+-- What a slot and a worker are. Needed to read the promises.
 use Rattle.std.specs.Prelude.{ℕ, Bool, true, false, List, Option}
 use Rattle.world.specs.declared.connection.Connection.{Connection}
 use Rattle.world.specs.declared.actors.Ticket.{Ticket}
@@ -6,8 +6,8 @@ use Rattle.world.specs.declared.actors.Holder.{Holder}
 use Rattle.world.specs.declared.actors.Holder.TheVariants.{Nobody, By, Free}
 use Rattle.world.specs.declared.actors.Doing.{Doing}
 
--- A place for one connection. `generation` says how often it was opened. Each note is a report that was
--- delivered, by the generation that it was for
+-- A place for one connection. `generation` is that of the connection that was opened in it last. Each note is a
+-- report that was delivered, by the generation that it was for
 pub record Place : Type 0 where
   pub generation : ℕ
   pub connection : Option Connection

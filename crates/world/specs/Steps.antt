@@ -1,5 +1,5 @@
--- One event of the machine. Each choice stands in the event, so a step has one result or, where the event
--- is not allowed, none.
+-- What one event does to the machine. Needed to read the promises. Each choice stands in the event, so a step has one
+-- result or, where the event is not allowed, none.
 use Rattle.std.specs.Prelude.{ℕ, ◌+◌, ◌-◌, ◌==◌, Bool, true, false, not, ◌&&◌, ◌||◌, nat_lt, nat_le, if◌then◌else◌, List, [], ◌∷◌, ◌++◌, length, slice_get, slice_set, drop, Option, Some, None, option_map, option_and_then}
 use Rattle.std.specs.Option.{is_none}
 use Rattle.token.specs.declared.side.Side.{Side}
@@ -15,6 +15,7 @@ use Rattle.kernel_model.specs.declared.accepting.Accepting.TheVariants.{Accepted
 use Rattle.kernel_model.specs.declared.both.Descriptors.{Descriptors}
 use Rattle.kernel_model.specs.declared.both.Sockets.{Sockets}
 use Rattle.kernel_model.specs.Outcome.{guard, Told}
+use Rattle.kernel_model.specs.Ends.{is_nonempty}
 use Rattle.kernel_model.specs.Kernel as kernel
 use Rattle.kernel_model.specs.Kernel.{Watcher}
 use Rattle.relay_core.specs.Pairs.{fresh, noted, verdict, is_live}
@@ -39,10 +40,6 @@ use Rattle.world.specs.declared.event.Act.TheVariants as act
 use Rattle.world.specs.Places.{Place, Actor, is_held}
 use Rattle.world.specs.States.{State}
 use Rattle.world.specs.Calls.{when, Line, descriptor, called}
-
--- some generations, notes
-abbrev pub is_nonempty : List ℕ → Bool
-is_nonempty xs = nat_lt 0 (length xs)
 
 -- the connection in a slot
 abbrev pub connection_at : State → ℕ → Option Connection
@@ -80,13 +77,9 @@ vanish st who = option_and_then (λ (w : Watched). over_kernel st (kernel.vanish
 
 -- The listener
 
--- some slots
-abbrev pub some_free : List ℕ → Bool
-some_free slots = is_nonempty slots
-
 -- the poller accepts only with a slot to open, and one connection at a time
 abbrev pub may_accept : State → Bool
-may_accept st = st.flag && (not st.accepted && some_free st.free)
+may_accept st = st.flag && (not st.accepted && is_nonempty st.free)
 
 -- what the poller makes of the reply: only blocked clears the flag
 abbrev pub after_accept : State → Accepting → State

@@ -15,7 +15,7 @@ pub enum Holder {
     Free,
 }
 
-/// What a worker is about.
+/// What a worker is doing.
 #[derive(Clone, Copy, Debug, PartialEq, Eq)]
 pub enum Doing {
     Idle,
@@ -25,6 +25,6 @@ pub enum Doing {
     Holds(usize, usize),
     /// It closed the connection of a slot, which it still holds.
     Closed(usize),
-    /// It gave a slot up, which is to be put into the free queue.
+    /// It retired a slot, and has to put it into the free queue.
     Retired(usize),
 }

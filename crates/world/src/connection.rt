@@ -34,7 +34,7 @@ impl Connection {
         }
     }
 
-    /// Is told whether a report came: then every call is worth a try again.
+    /// Takes a report, if there is `any`: every call is worth a try again.
     pub fn hear(&mut self, any: bool)
         ensures { self.new ≡ (if any then record self.old { pair = noted self.old.pair } else self.old) }
     {
@@ -43,8 +43,8 @@ impl Connection {
         }
     }
 
-    /// Whether a worker may hold it no more: it is live, and there is nothing to try, or a note to try again
-    /// for.
+    /// Whether a worker may release it: it is live, and there is no call to try, or a note is there, so that
+    /// it is tried again.
     #[tactic(auto, unfolding(crate::specs::Steps::may_release))]
     pub fn may_release(&self, noted: bool) -> bool
         ensures { result ≡ may_release self.now noted }
@@ -55,7 +55,7 @@ impl Connection {
     /// Makes the next call on the kernel's end, which gets this reply.
     ///
     /// Refuses with `NotAllowed` where there is no next call, or where it may not be answered so, and with
-    /// `NoMemory` where the kernel has none for the bytes that a write takes. A refusal changes nothing.
+    /// `NoMemory` where there is no memory for the bytes that a write takes. A refusal changes nothing.
     #[tactic(auto, unfolding(crate::specs::Calls::called))]
     pub fn call(&mut self, kernel: &mut Kernel, reply: Reply) -> Result<(), Refusal>
         ensures { Meets (called (record { kernel = kernel.old; connection = self.old }) reply) (record { kernel = kernel.old; connection = self.old }) (record { kernel = kernel.new; connection = self.new }) result }
@@ -175,7 +175,7 @@ impl Connection {
     }
 }
 
-/// What the pair is told of a reply that brings no bytes.
+/// The answer that the pair gets for a reply that brings no bytes.
 fn plain(reply: Reply) -> Option<Answer<'static>>
     ensures { option_map reply_of result ≡ plain reply }
 {

@@ -19,7 +19,7 @@ use token::{Direction, Name};
 impl World {
     /// Whether the connection in a slot could move: it is done or failed and not closed yet; or it is live,
     /// and in some direction bytes or an end could come in, bytes could go out, or the end could be passed
-    /// on. No where no connection lies there. Takes no memory.
+    /// on. `false` where no connection lies there.
     pub fn movable(&self, slot: usize) -> bool
         ensures { result ≡ movable self.now slot }
     {
@@ -30,8 +30,8 @@ impl World {
     }
 
     /// Whether the connection in a slot is due to be tried: a report of it is queued or in the batch, a
-    /// ticket of it is in the ready queue or with the poller or a worker, or a worker holds the slot. No
-    /// where no connection lies there. Takes no memory.
+    /// ticket of it is in the ready queue or with the poller or a worker, or a worker holds the slot.
+    /// `false` where no connection lies there.
     pub fn due(&self, slot: usize) -> bool
         ensures { result ≡ due self.now slot }
     {

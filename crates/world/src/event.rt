@@ -79,12 +79,12 @@ pub enum Act {
     Call(Reply),
     /// It posts a note to its own slot, since its budget is spent.
     Post,
-    /// It holds its slot no more.
+    /// It releases its slot.
     Release,
     /// It closes the connection of its slot.
     Close,
-    /// It gives up its slot, which is free from now on.
+    /// It retires its slot, which is free from now on.
     Retire,
-    /// It puts the slot that it gave up into the free queue.
+    /// It puts the slot that it retired into the free queue.
     Free,
 }

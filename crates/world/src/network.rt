@@ -4,12 +4,10 @@ ghost use Rattle.world.specs.Steps.{change_at};
 
 use crate::connection::Connection;
 use crate::event::{Change, Listening, Reported};
+use crate::limits::MOST_BYTES;
 use crate::world::World;
 use kernel_model::{Accepting, Kernel, Refusal, Watched};
 use token::Side;
-
-/// The most bytes that one arrival brings.
-pub const MOST_BYTES: usize = 1_024;
 
 #[tactic(auto, using(std::proofs::lemmas::Option::gets, std::proofs::lemmas::Grind::common_steps))]
 impl World {

@@ -155,7 +155,7 @@ impl World {
         self.table.get(slot).copied()
     }
 
-    /// It posts to a slot, and takes the ticket in hand that this may bring.
+    /// It posts to a slot, and takes in hand the ticket that this may make.
     fn post_at(&mut self, slot: usize, generation: u64) -> Result<(), Refusal>
         ensures { Meets (post_at self.old slot generation) self.old self.new result }
     {

@@ -13,9 +13,9 @@ use std::alloc::{AllocError, Global};
 
 /// The world after these events, from the opening world on.
 ///
-/// Where not all of them can be, it tells the first that fails, by its index, and why: with `NotAllowed`
-/// the events before it can happen and this one can't happen after them, and with `NoMemory` this one can
-/// happen too but a list could not grow, at it or, for index 0, in making the world.
+/// Where not all of them can happen, the answer is the index of the first that fails, and why: `NotAllowed`
+/// where the events before it can happen and it can't happen after them; `NoMemory` where it can happen too,
+/// but a list could not grow for it or, at index 0, for the world itself.
 ///
 /// Of the world after every list of events:
 ///

@@ -26,12 +26,13 @@ impl Model for Slot {
 impl Slot {
     ghost use Rattle.std.specs.Prelude.{◌≡◌, OnOk, OnErr};
     ghost use Rattle.std.specs.Option.{option_copied};
+    ghost use Rattle.kernel_model.specs.Ends.{is_nonempty};
     ghost use Rattle.kernel_model.specs.Outcome.{Meets, MeetsAlways};
     ghost use Rattle.world.specs.Places.{is_held};
     ghost use Rattle.world.specs.States.{unused};
-    ghost use Rattle.world.specs.Steps.{is_nonempty, with_note, noted_place, Lodging, lodged_call};
+    ghost use Rattle.world.specs.Steps.{with_note, noted_place, Lodging, lodged_call};
 
-    /// A slot in which no connection lies. Takes no memory.
+    /// A slot in which no connection lies.
     pub fn new(alloc: Global, generation: u64) -> Slot
         ensures { result ≡ unused generation }
     {
@@ -43,7 +44,7 @@ impl Slot {
         }
     }
 
-    /// How often it was opened.
+    /// The generation of the connection that was opened in it last.
     pub fn generation(&self) -> u64
         ensures { result ≡ self.now.generation }
     {
@@ -88,7 +89,7 @@ impl Slot {
         !self.notes.is_empty()
     }
 
-    /// Adds a note. Without memory for it nothing changes.
+    /// Adds a note. An error changes nothing.
     pub fn note(&mut self, generation: u64) -> Result<(), AllocError>
         ensures noted { OnOk result (self.new ≡ with_note self.old generation) }
         ensures kept { OnErr result (self.new ≡ self.old) }

@@ -3,7 +3,7 @@ use crate::actors::{Doing, Ticket};
 use std::alloc::{AllocError, Global};
 use std::marker::Model;
 
-/// A worker: what it is about, and the tickets that it has to put.
+/// A worker: what it is doing, and the tickets that it has to put.
 #[derive(Drop)]
 pub struct Worker {
     pub(crate) doing: Doing,
@@ -24,7 +24,7 @@ impl Worker {
     ghost use Rattle.world.specs.States.{resting};
     ghost use Rattle.world.specs.Steps.{with_ticket};
 
-    /// A worker with nothing to do. Takes no memory.
+    /// A worker with nothing to do.
     pub fn new(alloc: Global) -> Worker
         ensures { result ≡ resting }
     {
@@ -34,7 +34,7 @@ impl Worker {
         }
     }
 
-    /// What it is about.
+    /// What it is doing.
     pub fn doing(&self) -> Doing
         ensures { result ≡ self.now.doing }
     {
@@ -48,8 +48,8 @@ impl Worker {
         self.hand.as_slice()
     }
 
-    /// It is idle again, and takes the ticket of the slot that it held in hand where there are notes in it.
-    /// Without memory for that nothing changes.
+    /// It is idle again. Where there are notes in the slot that it held, it takes in hand a ticket of it.
+    /// An error changes nothing.
     pub fn release(&mut self, noted: bool, slot: usize, generation: u64) -> Result<(), AllocError>
         ensures released { OnOk result (self.new ≡ record { doing = Doing.Idle; hand = with_ticket noted slot generation self.old.hand }) }
         ensures kept { OnErr result (self.new ≡ self.old) }

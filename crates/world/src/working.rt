@@ -139,7 +139,7 @@ impl World {
         Ok(())
     }
 
-    /// It holds its slot no more, and takes the ticket in hand that the notes make.
+    /// It releases its slot, and takes in hand the ticket that the notes make.
     fn release(&mut self, worker: usize, slot: usize, left: usize) -> Result<(), Refusal>
         requires { worker < length self.old.workers }
         ensures { Meets (of_worker self.old worker (λ (k : Actor). release self.old worker k (Doing.Holds slot left))) self.old self.new result }
@@ -190,7 +190,7 @@ impl World {
         Ok(())
     }
 
-    /// It gives up its slot, which is free from now on.
+    /// It retires its slot, which is free from now on.
     fn retire(&mut self, worker: usize, slot: usize) -> Result<(), Refusal>
         requires { worker < length self.old.workers }
         ensures { Meets (of_worker self.old worker (λ (k : Actor). retire self.old worker k (Doing.Closed slot))) self.old self.new result }
@@ -203,7 +203,7 @@ impl World {
         Ok(())
     }
 
-    /// It puts the slot that it gave up into the free queue, unless the slot's last generation was used.
+    /// It puts the slot that it retired into the free queue, unless the slot's last generation was used.
     fn free(&mut self, worker: usize, slot: usize) -> Result<(), Refusal>
         requires { worker < length self.old.workers }
         ensures { Meets (of_worker self.old worker (λ (k : Actor). free self.old worker k (Doing.Retired slot))) self.old self.new result }

@@ -60,7 +60,7 @@ impl World {
 
     /// A world as it begins: every slot is free and has had the generation of the limits.
     ///
-    /// Fails only where there is no memory for its slots, workers and queues.
+    /// Fails only where there is no memory for its slots, workers and queues, and then no world is made.
     pub fn new(alloc: Global, limits: Limits) -> Result<World, AllocError>
         requires { IsWithinLimits limits }
         ensures { IfOk result (λ world. world ≡ opening limits) }
