@@ -70,10 +70,11 @@ leads_too text input r same to = subst (λ (p : Result Plan Fault). By p r) same
     By p (Err fault) = (p ≡ Err fault) ⊎ ((script : Script) × ((p ≡ Ok (said_by script)) × (reached_by script ≡ Err fault)))
 
 -- what was computed of the front that was read holds of the whole input
-pub of_input : (a : Option (List ℕ)) (text : List ℕ) (o : Result Reached Fault) → IfSome a (λ input. text ≡ take (most_bytes + 1) input) → LeadsTo text o
-    → IfSome a (λ input. LeadsTo input o)
-of_input None text o front to = tt
-of_input (Some input) text o front to = leads_too text input o (ap parsed front ∙ same_parsed input) to
+pub of_input : (most : ℕ) (a : Option (List ℕ)) (text : List ℕ) (o : Result Reached Fault) → IfSome a (λ input. text ≡ take most input)
+    → most ≡ most_bytes + 1 → LeadsTo text o → IfSome a (λ input. LeadsTo input o)
+of_input most None text o front is to = tt
+of_input most (Some input) text o front is to =
+    leads_too text input o (ap parsed front ∙ ap (λ (n : ℕ). parsed (take n input)) is ∙ same_parsed input) to
 
 -- memory ran out before the line of a fault was made
 pub no_memory_told : (o : Result Reached Fault) (fault : Fault) (r : Result Outcome ScriptFault) (old new : Option (List ℕ)) → o ≡ Err fault

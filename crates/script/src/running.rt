@@ -63,17 +63,23 @@ pub fn run<R: Read, W: Write>(
     ensures every_run { IfSome (R.remaining reader.old) EveryRun }
 {
     every_run_holds();
-    let outcome = play(alloc, reader)?;
+    let outcome = play(alloc, reader, MOST_BYTES + 1)?;
     tell(alloc, writer, outcome)
 }
 
-/// Reads a script, and computes the state after it or its fault. An `Err` is that it was not read.
-fn play<R: Read>(alloc: Global, reader: &mut R) -> Result<Result<Reached, Fault>, ScriptFault>
+/// Reads a script, of which one byte too many is enough to tell, and computes the state after it or its fault. An
+/// `Err` is that it was not read.
+fn play<R: Read>(
+    alloc: Global,
+    reader: &mut R,
+    most: usize,
+) -> Result<Result<Reached, Fault>, ScriptFault>
+    requires { most ≡ most_bytes + 1 }
     ensures ok { IfOk result (λ outcome. IfSome (R.remaining reader.old) (λ text. LeadsTo text outcome)) }
     ensures taken { TakesAtMost (most_bytes + 1) (R.remaining reader.old) (R.remaining reader.new) }
     ensures err { IfErr result (λ fault. fault ≡ ScriptFault.Read) }
 {
-    match input::read_front(alloc, reader, MOST_BYTES + 1) {
+    match input::read_front(alloc, reader, most) {
         Ok(text) => Ok(compute(alloc, text.as_slice())),
         Err(InputFault::NoMemory) => Ok(Err(Fault::NoMemory)),
         Err(InputFault::Unreadable) => Err(ScriptFault::Read),
