@@ -1,4 +1,4 @@
--- The faults of a script, and the one line that tells each.
+-- The faults of a script, and the one line that tells each. Readers of the promises need it.
 use Rattle.std.specs.Prelude.{◌≡◌, ℕ, List, ◌++◌, codes, Result, Ok, Err}
 use Rattle.std.specs.Fmt.{decimal}
 use Rattle.script.specs.declared.word.Word.{Word}

@@ -1,4 +1,4 @@
--- What every script of one direction keeps, told by its steps alone.
+-- What holds of every script of one direction, in terms of its steps alone. Readers of the promises need it.
 use Rattle.std.specs.Prelude.{◌≡◌, ℕ, Bool, true, false, ◌||◌, List, [], ◌∷◌, ◌++◌, Ok}
 use Rattle.script.specs.declared.step.Step.{Step}
 use Rattle.script.specs.declared.step.Step.TheVariants.{Arrive, Fin}

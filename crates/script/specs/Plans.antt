@@ -1,4 +1,4 @@
--- The two kinds of scripts, as they are kept.
+-- The two kinds of scripts, as values. Readers of the promises need it.
 use Rattle.std.specs.Prelude.{ℕ, List, map}
 use Rattle.world.specs.declared.limits.Limits.{Limits}
 use Rattle.world.specs.declared.event.Event.{Event}

@@ -1,4 +1,5 @@
--- What a script leads to: the state after all of it, or the fault of the first line that is not allowed.
+-- What a script leads to: the state after all of it, or the fault of the first line that is not allowed. Readers of
+-- the promises need it.
 use Rattle.std.specs.Prelude.{◌≡◌, List, [], ◌∷◌, Option, Some, None, IsSome, Result, Ok, Err}
 use Rattle.world.specs.States.{State, opening}
 use Rattle.world.specs.Steps.{step}

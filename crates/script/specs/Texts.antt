@@ -1,4 +1,5 @@
--- How the lines and words of a script are cut, and what numbers and bytes look like in it.
+-- How the lines and words of a script are cut, and what numbers and bytes look like in it. Readers of the promises
+-- need it.
 use Rattle.std.specs.Prelude.{ℕ, ◌+◌, ◌-◌, ◌*◌, ◌^◌, ◌==◌, nat_lt, nat_le, Bool, true, false, not, ◌&&◌, ◌||◌, if◌then◌else◌, List, [], ◌∷◌, length, fold, Option, Some, None, take, drop, option_and_then}
 use Rattle.std.specs.List.{slice_split, list_all}
 use Rattle.std.specs.Str.{bytes_eq}

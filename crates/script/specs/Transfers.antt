@@ -1,4 +1,5 @@
--- One direction as a machine: a source, a ring and a destination, and what each step of a script does.
+-- One direction as a machine: a source, a ring and a destination, and what each step of a script does. Readers of the
+-- promises need it.
 use Rattle.std.specs.Prelude.{ℕ, min, Bool, true, false, not, ◌&&◌, if◌then◌else◌, ◌≡◌, List, [], ◌∷◌, take, Option, Some, None, IsSome, option_map, Result, Ok, Err}
 use Rattle.token.specs.declared.side.Side.TheVariants.{Client, Target}
 use Rattle.flow.specs.Stream.{Stream, empty_stream, free_room, taken_in, dropped, ended, closed}

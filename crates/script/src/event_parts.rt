@@ -37,7 +37,7 @@ pub(crate) fn side(word: &[u8]) -> Option<Side>
 }
 
 /// A kind of failure by its name.
-fn kind(word: &[u8]) -> Option<Kind>
+pub(crate) fn kind(word: &[u8]) -> Option<Kind>
     ensures { result ≡ kind_of word.now }
 {
     if word == b"reset".as_slice() {
@@ -92,7 +92,7 @@ fn end(mut parts: Pieces) -> Option<Name>
 }
 
 /// A name as the queue has it: `listener`, `waker` or `SLOT.GEN.SIDE`.
-fn name(word: &[u8]) -> Option<Name>
+pub(crate) fn name(word: &[u8]) -> Option<Name>
     ensures { result ≡ name_of word.now }
 {
     if word == b"listener".as_slice() {

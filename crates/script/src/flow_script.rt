@@ -2,7 +2,7 @@ ghost use Rattle.std.specs.Prelude.{◌≡◌, ◌≤◌};
 ghost use Rattle.script.specs.Faults.{Gives};
 ghost use Rattle.script.specs.Transfers.{run_of};
 
-use crate::{Fault, NumberedStep, Transfer};
+use crate::{Fault, NumberedStep, Step, Transfer};
 use std::alloc::Global;
 use std::marker::Model;
 
@@ -57,5 +57,18 @@ impl FlowScript {
             transfer.carry_out(numbered)?;
         }
         Ok(transfer)
+    }
+
+    /// The state before the step of a line, and that step. None where no step has that line, one before it is
+    /// refused, or memory ran out.
+    pub(crate) fn before(&self, alloc: Global, line: u64) -> Option<(Transfer, &Step)> {
+        let mut transfer = Transfer::new(alloc, self.ring).ok()?;
+        for numbered in self.steps() {
+            if numbered.line == line {
+                return Some((transfer, &numbered.step));
+            }
+            transfer.step(&numbered.step).ok()?;
+        }
+        None
     }
 }

@@ -81,7 +81,7 @@ fn limits_with(
 }
 
 /// `ring=R`, 1 to 65,536 bytes.
-fn ring(word: &[u8]) -> Option<usize>
+pub(crate) fn ring(word: &[u8]) -> Option<usize>
     ensures value { result ≡ ring_of word.now }
     ensures range { IfSome result IsRing }
 {
@@ -89,7 +89,7 @@ fn ring(word: &[u8]) -> Option<usize>
 }
 
 /// `KEY=N`, 1 to the most. The key ends with its `=`.
-fn size(key: &[u8], most: usize, word: &[u8]) -> Option<usize>
+pub(crate) fn size(key: &[u8], most: usize, word: &[u8]) -> Option<usize>
     ensures value { result ≡ size_of key.now most word.now }
     ensures range { IfSome result (λ size. (1 ≤ size) × (size ≤ most)) }
 {
@@ -102,7 +102,7 @@ fn size(key: &[u8], most: usize, word: &[u8]) -> Option<usize>
 }
 
 /// `gen=G`, 0 to 2^47 - 2.
-fn generation(word: &[u8]) -> Option<u64>
+pub(crate) fn generation(word: &[u8]) -> Option<u64>
     ensures value { result ≡ generation_of word.now }
     ensures range { IfSome result (λ generation. generation < 140737488355327) }
 {

@@ -1,24 +1,31 @@
 //! The simulator: a script of steps goes in, and a report of the state after them comes out.
 //!
-//! A script is a text. Its first line that says something is the header `flow ring=R`, one direction
-//! with a ring of at most R bytes; each further one is a step: what comes from the network, or what a
-//! socket replies to the relay's next call. [`parse`] reads the whole text before the first step is
-//! made, [`Script::carry_out`] makes the steps one by one, and [`print`] writes the
-//! report. [`run`] does all three from a reader to a writer.
+//! A script is a text. Its first line that says something is the header: `flow ring=R` for one direction with a
+//! ring of at most R bytes, or `world slots=S workers=W ring=R budget=B` for the whole relay. Each further one is a
+//! step: what comes from the network, what a socket replies to the relay's next call, or what the poller or a worker
+//! does. [`parse`] reads the whole text before the first step is made, [`Script::carry_out`] makes the steps one by
+//! one, and [`Reached::report`] is the report. [`run`] does all three from a reader to a writer.
 //!
-//! `docs/FORMATS.md` has the form of scripts and reports; `specs/` has the same as definitions:
-//! `Texts`, `Steps` and `Scripts` for the text, `Transfers` for the steps, `Reports` for what is
-//! written, and `Laws` for what every script keeps.
+//! A script that has a fault has one line in the report's place. [`cause`] tells a person more: which word is
+//! malformed and what is wanted there, or why a step is not allowed. [`run`] hands text and fault to its [`Explain`].
+//!
+//! `docs/FORMATS.md` has the form of scripts and reports; `specs/` has the same as definitions: `Texts`, `Headers`,
+//! `Steps`, `Events` and `Scripts` for the text, `Transfers` and `Plays` for the steps, `Reports` and `WorldReports`
+//! for what is written, and `Laws` and `Runs` for what holds of every run.
 #![tactic(auto)]
 
+mod causes;
 mod event;
 mod event_parts;
 mod events;
+mod explain;
 mod fault;
 mod flow_script;
 mod header;
 mod lines;
 mod parsing;
+mod parts;
+mod reasons;
 mod report;
 mod running;
 mod script;
@@ -32,7 +39,9 @@ mod word;
 mod world_report;
 mod world_script;
 
+pub use causes::cause;
 pub use event::{NumberedEvent, word_of};
+pub use explain::Explain;
 pub use fault::Fault;
 pub use flow_script::FlowScript;
 pub use parsing::parse;

@@ -6,7 +6,7 @@ ghost use Rattle.script.specs.Runs.{LeadsTo, Tells, WritesReport, WritesFault, E
 
 use crate::parsing::MOST_BYTES;
 use crate::report::fault_line;
-use crate::{Fault, Reached, parse};
+use crate::{Explain, Fault, Reached, parse};
 use input::InputFault;
 use std::alloc::Global;
 use std::io::{Read, Write};
@@ -38,10 +38,14 @@ pub enum ScriptFault {
 ///
 /// It makes at most 1,048,577 reads. Any error of the reader, a signal too, is [`ScriptFault::Read`] at
 /// once. Where memory runs out, the line is `out of memory`.
-pub fn run<R: Read, W: Write>(
+///
+/// Where the script that was read has a fault, `explain` is told so once, before anything is written, and never
+/// otherwise; nor where memory runs out before the script was read, or for what is to be written.
+pub fn run<R: Read, W: Write, X: Explain>(
     alloc: Global,
     reader: &mut R,
     writer: &mut W,
+    explain: &X,
 ) -> Result<Outcome, ScriptFault>
     // What is written is the report of the script that was read, or the line of its fault, or that
     // memory ran out; and nothing else.
@@ -63,16 +67,17 @@ pub fn run<R: Read, W: Write>(
     ensures every_run { IfSome (R.remaining reader.old) EveryRun }
 {
     every_run_holds();
-    let outcome = play(alloc, reader, MOST_BYTES + 1)?;
+    let outcome = play(alloc, reader, MOST_BYTES + 1, explain)?;
     tell(alloc, writer, outcome)
 }
 
 /// Reads a script, of which one byte too many is enough to tell, and computes the state after it or its fault. An
 /// `Err` is that it was not read.
-fn play<R: Read>(
+fn play<R: Read, X: Explain>(
     alloc: Global,
     reader: &mut R,
     most: usize,
+    explain: &X,
 ) -> Result<Result<Reached, Fault>, ScriptFault>
     requires { most ≡ most_bytes + 1 }
     ensures ok { IfOk result (λ outcome. IfSome (R.remaining reader.old) (λ text. LeadsTo text outcome)) }
@@ -80,10 +85,21 @@ fn play<R: Read>(
     ensures err { IfErr result (λ fault. fault ≡ ScriptFault.Read) }
 {
     match input::read_front(alloc, reader, most) {
-        Ok(text) => Ok(compute(alloc, text.as_slice())),
+        Ok(text) => Ok(explained(alloc, text.as_slice(), explain)),
         Err(InputFault::NoMemory) => Ok(Err(Fault::NoMemory)),
         Err(InputFault::Unreadable) => Err(ScriptFault::Read),
     }
+}
+
+/// The state after the script that a text is, or its fault, of which the other is told.
+fn explained<X: Explain>(alloc: Global, text: &[u8], explain: &X) -> Result<Reached, Fault>
+    ensures { LeadsTo text.now result }
+{
+    let outcome = compute(alloc, text);
+    if let Err(fault) = &outcome {
+        explain.explain(text, *fault);
+    }
+    outcome
 }
 
 /// The state after the script that a text is, or its fault.

@@ -76,7 +76,7 @@ impl Transfer {
     }
 
     /// The most bytes that the next read asks for.
-    fn read_size(&self) -> usize
+    pub(crate) fn read_size(&self) -> usize
         ensures { result ≡ read_size self.now.flow }
     {
         self.flow.free().min(READ_MOST)

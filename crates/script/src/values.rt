@@ -72,7 +72,7 @@ pub(crate) fn bytes(alloc: Global, text: &[u8]) -> Result<Option<Bytes>, AllocEr
 }
 
 /// Whether a text is 1 to 1,024 bytes in lower-case hexadecimal, but for an odd length.
-fn is_hex_text(text: &[u8]) -> bool
+pub(crate) fn is_hex_text(text: &[u8]) -> bool
     ensures { result ≡ is_hex_text text.now }
 {
     0 < text.len() && text.len() <= 2048 && is_all_lower_hex(text)

@@ -8,7 +8,7 @@ use crate::{Fault, NumberedEvent};
 use kernel_model::Refusal;
 use std::alloc::Global;
 use std::marker::Model;
-use world::{Limits, World};
+use world::{Event, Limits, World};
 
 /// A script of a world: its sizes, and its events.
 #[derive(Drop)]
@@ -60,6 +60,19 @@ impl WorldScript {
             happen(&mut world, numbered)?;
         }
         Ok(world)
+    }
+
+    /// The world before the event of a line, and that event. None where no event has that line, one before it is
+    /// refused, or memory ran out.
+    pub(crate) fn before(&self, alloc: Global, line: u64) -> Option<(World, &Event)> {
+        let mut world = World::new(alloc, self.limits).ok()?;
+        for numbered in self.events() {
+            if numbered.line == line {
+                return Some((world, &numbered.event));
+            }
+            world.step(&numbered.event).ok()?;
+        }
+        None
     }
 }
 

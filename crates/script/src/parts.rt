@@ -1,0 +1,251 @@
+//! The forms of a script's lines: which words may follow the first.
+
+use crate::event_parts::{accepting, kind, lone_who, name, side, slot, worker};
+use crate::header::{generation, ring, size};
+use crate::lines::Pieces;
+use crate::values::{is_hex_text, number};
+use kernel_model::MOST_POLLED;
+
+/// What a word may be, where it stands.
+#[derive(Clone, Copy)]
+pub(crate) enum Part {
+    /// `slots=S`.
+    Slots,
+    /// `workers=W`.
+    Workers,
+    /// `ring=R`.
+    Ring,
+    /// `budget=B`.
+    Budget,
+    /// `gen=G`, or nothing.
+    Generation,
+    /// The number of a slot.
+    Slot,
+    /// The name of a side.
+    Side,
+    /// Bytes in hexadecimal.
+    Hex,
+    /// The number of a worker.
+    Worker,
+    /// The number of a worker, or `poller`.
+    Actor,
+    /// What accept(2) answers.
+    Accepting,
+    /// `listener`, `waker`, or a slot and then a side.
+    Reported,
+    /// A name in the queue, and any number of further ones; or nothing.
+    Name,
+    /// The answer to a call.
+    Reply,
+    /// A count of bytes.
+    Count,
+    /// `full`, or nothing.
+    Full,
+    /// A kind of failure.
+    Kind,
+}
+
+/// The forms of one kind of line.
+#[derive(Clone, Copy)]
+pub(crate) struct Forms {
+    /// Each first word, and the parts behind it.
+    rows: &'static [(&'static str, &'static [Part])],
+    /// What is wanted where a line has another first word.
+    pub(crate) wanted: &'static str,
+}
+
+/// The first line.
+pub(crate) const HEADERS: Forms = Forms {
+    rows: &[
+        ("flow", &[Part::Ring]),
+        (
+            "world",
+            &[
+                Part::Slots,
+                Part::Workers,
+                Part::Ring,
+                Part::Budget,
+                Part::Generation,
+            ],
+        ),
+    ],
+    wanted: "the first line begins with flow or world",
+};
+
+/// The steps of one direction.
+pub(crate) const STEPS: Forms = Forms {
+    rows: &[
+        ("arrive", &[Part::Hex]),
+        ("fin", &[]),
+        ("room", &[]),
+        ("read", &[Part::Count]),
+        ("end", &[]),
+        ("wrote", &[Part::Count, Part::Full]),
+        ("shut", &[]),
+    ],
+    wanted: "no step of a flow begins so; one of arrive, end, fin, read, room, shut and wrote is wanted",
+};
+
+/// The steps of a world.
+pub(crate) const EVENTS: Forms = Forms {
+    rows: &[
+        ("connect", &[]),
+        ("arrive", &[Part::Slot, Part::Side, Part::Hex]),
+        ("fin", &[Part::Slot, Part::Side]),
+        ("reset", &[Part::Slot, Part::Side]),
+        ("room", &[Part::Slot, Part::Side]),
+        ("spurious", &[Part::Reported]),
+        ("vanish", &[Part::Reported]),
+        ("accept", &[Part::Accepting]),
+        ("drop", &[]),
+        ("open", &[]),
+        ("poll", &[Part::Name]),
+        ("deliver", &[]),
+        ("put", &[Part::Actor]),
+        ("pop", &[Part::Worker]),
+        ("claim", &[Part::Worker]),
+        ("take", &[Part::Worker]),
+        ("call", &[Part::Worker, Part::Reply]),
+        ("post", &[Part::Worker]),
+        ("release", &[Part::Worker]),
+        ("close", &[Part::Worker]),
+        ("retire", &[Part::Worker]),
+        ("free", &[Part::Worker]),
+    ],
+    wanted: "no step of a world begins so; one of accept, arrive, call, claim, close, connect, deliver, drop, fin, free, open, poll, pop, post, put, release, reset, retire, room, spurious, take and vanish is wanted",
+};
+
+/// The answers to a call.
+const REPLIES: Forms = Forms {
+    rows: &[
+        ("read", &[Part::Count]),
+        ("end", &[]),
+        ("wrote", &[Part::Count, Part::Full]),
+        ("joined", &[]),
+        ("shut", &[]),
+        ("blocked", &[]),
+        ("interrupted", &[]),
+        ("failed", &[Part::Kind]),
+    ],
+    wanted: "one of blocked, end, failed, interrupted, joined, read, shut and wrote is wanted",
+};
+
+impl Forms {
+    /// The first word as a text, and the parts behind it, if a line may begin so.
+    pub(crate) fn row(self, first: &[u8]) -> Option<(&'static str, &'static [Part])> {
+        for (name, parts) in self.rows {
+            if name.as_bytes() == first {
+                return Some((*name, *parts));
+            }
+        }
+        None
+    }
+}
+
+/// What is wrong behind the first word of a line.
+pub(crate) struct Wrong<'a> {
+    /// The malformed word, or none where one is missing.
+    pub(crate) word: Option<&'a [u8]>,
+    /// What is wanted in its place.
+    pub(crate) wanted: &'static str,
+}
+
+/// The first word that is none of the parts that a line has to have behind its first.
+pub(crate) fn first_wrong<'a>(parts: &'static [Part], mut words: Pieces<'a>) -> Option<Wrong<'a>> {
+    let mut left = parts;
+    for _place in 0..MOST_POLLED {
+        let word = words.next();
+        let Some((part, rest)) = left.split_first() else {
+            return malformed(word?, "the line ends before this word");
+        };
+        match word {
+            Some(word) if part.takes(word) => left = part.rest(word, rest),
+            Some(word) => return malformed(word, part.wanted()),
+            None => return part.missing(),
+        }
+    }
+    malformed(words.next()?, "a poll has at most 256 names")
+}
+
+fn malformed<'a>(word: &'a [u8], wanted: &'static str) -> Option<Wrong<'a>> {
+    Some(Wrong {
+        word: Some(word),
+        wanted,
+    })
+}
+
+impl Part {
+    /// Whether a word is of this kind.
+    fn takes(self, word: &[u8]) -> bool {
+        match self {
+            Part::Slots => size(b"slots=", 64, word).is_some(),
+            Part::Workers => size(b"workers=", 16, word).is_some(),
+            Part::Ring => ring(word).is_some(),
+            Part::Budget => size(b"budget=", 1024, word).is_some(),
+            Part::Generation => generation(word).is_some(),
+            Part::Slot => slot(word).is_some(),
+            Part::Side => side(word).is_some(),
+            Part::Hex => is_hex_text(word) && word.len() % 2 == 0,
+            Part::Worker => worker(word).is_some(),
+            Part::Actor => word == b"poller".as_slice() || worker(word).is_some(),
+            Part::Accepting => accepting(word).is_some(),
+            Part::Reported => lone_who(word).is_some() || slot(word).is_some(),
+            Part::Name => name(word).is_some(),
+            Part::Reply => REPLIES.row(word).is_some(),
+            Part::Count => number(word).is_some(),
+            Part::Full => word == b"full".as_slice(),
+            Part::Kind => kind(word).is_some(),
+        }
+    }
+
+    /// The parts behind a word of this kind: the rest of the line's, or what the word itself asks for.
+    fn rest(self, word: &[u8], rest: &'static [Part]) -> &'static [Part] {
+        match self {
+            Part::Name => &[Part::Name],
+            Part::Reported if slot(word).is_some() => &[Part::Side],
+            Part::Reply => match REPLIES.row(word) {
+                Some((_, parts)) => parts,
+                None => rest,
+            },
+            _ => rest,
+        }
+    }
+
+    /// What is wrong where the line ends before a word of this kind.
+    fn missing(self) -> Option<Wrong<'static>> {
+        match self {
+            Part::Generation | Part::Name | Part::Full => None,
+            _ => Some(Wrong {
+                word: None,
+                wanted: self.wanted(),
+            }),
+        }
+    }
+
+    /// What is wanted in the place of a word that is not of this kind.
+    fn wanted(self) -> &'static str {
+        match self {
+            Part::Slots => "slots=1 to slots=64 is wanted",
+            Part::Workers => "workers=1 to workers=16 is wanted",
+            Part::Ring => "ring=1 to ring=65536 is wanted",
+            Part::Budget => "budget=1 to budget=1024 is wanted",
+            Part::Generation => "gen=0 to gen=140737488355326, or the end of the line, is wanted",
+            Part::Slot => "the number of a slot, 0 to 63, is wanted",
+            Part::Side => "client or target is wanted",
+            Part::Hex => "1 to 1024 bytes as pairs of lower-case hexadecimal digits are wanted",
+            Part::Worker => "the number of a worker, 0 to 15, is wanted",
+            Part::Actor => "poller or the number of a worker, 0 to 15, is wanted",
+            Part::Accepting => "one of again, blocked, ok and starved is wanted",
+            Part::Reported => "listener, waker or the number of a slot, 0 to 63, is wanted",
+            Part::Name => { "listener, waker or SLOT.GENERATION.SIDE, as in 0.1.client, is wanted" }
+            Part::Reply => REPLIES.wanted,
+            Part::Count => {
+                "a number from 0 to 18446744073709551615 without leading zeros is wanted"
+            }
+            Part::Full => "full, or the end of the line, is wanted",
+            Part::Kind => {
+                "one of aborted, notconnected, other, pipe, refused, reset, timedout and zero is wanted"
+            }
+        }
+    }
+}

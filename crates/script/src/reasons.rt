@@ -1,0 +1,314 @@
+//! Why a step is not allowed where it stands, by the state before it.
+
+use crate::{Step, Transfer};
+use kernel_model::{Accepting, End, Kernel, MOST_BACKLOG, Open, Reply};
+use relay_core::{Call, Verdict};
+use token::{Kind, Name, Side};
+use world::{
+    Act, Change, Connection, Doing, Event, Listening, Polling, Reported, Slot, Worker, World,
+};
+
+/// What is told where no closer reason is known.
+const NOT_HERE: &str = "it cannot happen in the state before it";
+
+const ENDED: &str = "the end of input has come";
+
+const BROKEN: &str = "an error has come to the socket";
+
+const HAS_ROOM: &str = "the socket has room";
+
+const UNREAD: &str = "bytes are unread";
+
+const END_READ: &str = "the end of input was read";
+
+const UNQUEUED: &str = "no report of it is in the queue";
+
+const UNACCEPTED: &str = "the poller has no accepted connection";
+
+/// The first reason that holds.
+fn first_of(reasons: &[(bool, &'static str)]) -> &'static str {
+    for (holds, reason) in reasons {
+        if *holds {
+            return *reason;
+        }
+    }
+    NOT_HERE
+}
+
+/// Why a step of a flow is not allowed.
+pub(crate) fn step_reason(transfer: &Transfer, step: &Step) -> &'static str {
+    let (source, destination) = (&transfer.source, &transfer.destination);
+    let flow = &transfer.flow;
+    match step {
+        Step::Arrive(_) | Step::Fin => ended_reason(source),
+        Step::Room => room_reason(destination),
+        Step::Read(_) | Step::End if flow.end_seen() => END_READ,
+        Step::Read(count) => read_reason(source, transfer.read_size(), *count),
+        Step::End => end_reason(source),
+        Step::Wrote(count, _) => wrote_reason(destination, flow.len(), *count),
+        Step::Shut => first_of(&[
+            (!flow.end_seen(), "the end of input was not read"),
+            (!flow.is_empty(), "bytes are in the ring"),
+            (flow.is_shut(), "the destination is shut down"),
+        ]),
+    }
+}
+
+fn ended_reason(end: &End) -> &'static str {
+    first_of(&[(end.has_fin(), ENDED), (end.has_err(), BROKEN)])
+}
+
+fn room_reason(end: &End) -> &'static str {
+    first_of(&[(end.has_room(), HAS_ROOM), (end.has_err(), BROKEN)])
+}
+
+/// Why a read of at most `most` bytes does not give this many.
+fn read_reason(end: &End, most: usize, count: usize) -> &'static str {
+    first_of(&[
+        (count == 0, "a read gives at least 1 byte"),
+        (end.unread().len() < count, "fewer bytes are unread"),
+        (most < count, "the read asks for fewer bytes"),
+    ])
+}
+
+fn end_reason(end: &End) -> &'static str {
+    first_of(&[
+        (!end.unread().is_empty(), UNREAD),
+        (!end.has_fin(), "the end of input has not come"),
+    ])
+}
+
+/// Why a write of a ring of `length` bytes does not take this many.
+fn wrote_reason(end: &End, length: usize, count: usize) -> &'static str {
+    first_of(&[
+        (!end.has_room(), "the socket has no room"),
+        (count == 0, "a write takes at least 1 byte"),
+        (length < count, "the ring has fewer bytes"),
+    ])
+}
+
+/// Why a step of a world is not allowed.
+pub(crate) fn event_reason(world: &World, event: &Event) -> &'static str {
+    match event {
+        Event::Network(slot, side, change) => network_reason(world, *slot, *side, change),
+        Event::Spurious(Reported::End(slot, _)) => vacant_reason(world, *slot),
+        Event::Spurious(_) => NOT_HERE,
+        Event::Vanish(who) => vanish_reason(world, *who),
+        Event::Listen(listening) => listen_reason(world, *listening),
+        Event::Poll(polling) => poll_reason(world, polling),
+        Event::Work(number, act) => match world.workers().get(*number) {
+            Some(worker) => work_reason(world, worker, *act),
+            None => "there is no such worker",
+        },
+    }
+}
+
+/// Why a slot has no ends.
+fn vacant_reason(world: &World, slot: usize) -> &'static str {
+    first_of(&[
+        (world.slots().len() <= slot, "there is no such slot"),
+        (
+            world.connection(slot).is_none(),
+            "no connection lies in the slot",
+        ),
+    ])
+}
+
+/// One end of the connection that lies in a slot.
+fn end_at(world: &World, slot: usize, side: Side) -> Option<&Open> {
+    let connection = world.connection(slot)?;
+    world.kernel().end(connection.descriptor(side))
+}
+
+fn network_reason(world: &World, slot: usize, side: Side, change: &Change) -> &'static str {
+    let Some(open) = end_at(world, slot, side) else {
+        return vacant_reason(world, slot);
+    };
+    match change {
+        Change::Arrive(_) | Change::Fin => ended_reason(&open.socket),
+        Change::Reset => first_of(&[(open.socket.has_err(), BROKEN)]),
+        Change::Room => room_reason(&open.socket),
+    }
+}
+
+fn vanish_reason(world: &World, who: Reported) -> &'static str {
+    let kernel = world.kernel();
+    match who {
+        Reported::Listener => first_of(&[
+            (!kernel.is_queued(&Name::Listener), UNQUEUED),
+            (0 < kernel.backlog(), "a connection waits at the listener"),
+        ]),
+        Reported::Waker => first_of(&[(!kernel.is_queued(&Name::Waker), UNQUEUED)]),
+        Reported::End(slot, side) => match end_at(world, slot, side) {
+            Some(open) => first_of(&[
+                (!kernel.is_queued(&Name::End(open.token)), UNQUEUED),
+                (open.socket.is_readable(), "the socket is readable"),
+                (open.socket.is_writable(), "the socket is writable"),
+            ]),
+            None => vacant_reason(world, slot),
+        },
+    }
+}
+
+fn listen_reason(world: &World, listening: Listening) -> &'static str {
+    let backlog = world.kernel().backlog();
+    match listening {
+        Listening::Connect => first_of(&[(
+            MOST_BACKLOG <= backlog,
+            "4096 connections wait at the listener",
+        )]),
+        Listening::Accept(reply) => first_of(&[
+            (!world.accept_flag(), "the accept flag is down"),
+            (
+                world.has_accepted(),
+                "the poller has an accepted connection",
+            ),
+            (world.free_slots().is_empty(), "no slot is free"),
+            (
+                reply == Accepting::Accepted && backlog == 0,
+                "no connection waits at the listener",
+            ),
+            (
+                reply == Accepting::Blocked && 0 < backlog,
+                "a connection waits at the listener",
+            ),
+        ]),
+        Listening::Drop => first_of(&[(!world.has_accepted(), UNACCEPTED)]),
+    }
+}
+
+fn poll_reason(world: &World, polling: &Polling) -> &'static str {
+    match polling {
+        Polling::Open => first_of(&[
+            (!world.has_accepted(), UNACCEPTED),
+            (world.free_slots().is_empty(), "no slot is free"),
+        ]),
+        Polling::Poll(names) => first_of(&[
+            (!world.batch().is_empty(), "the batch is not empty"),
+            (
+                !names.iter().all(|name| world.kernel().is_queued(name)),
+                "a name is not in the queue",
+            ),
+            (
+                !world.kernel().may_poll(names.as_slice()),
+                "a name stands twice",
+            ),
+        ]),
+        Polling::Deliver => first_of(&[(world.batch().is_empty(), "the batch is empty")]),
+        Polling::Put => first_of(&[(
+            world.poller_hand().is_empty(),
+            "the poller has no ticket to put",
+        )]),
+    }
+}
+
+fn work_reason(world: &World, worker: &Worker, act: Act) -> &'static str {
+    match (act, worker.doing()) {
+        (Act::Put, _) => first_of(&[(worker.hand().is_empty(), "the worker has no ticket to put")]),
+        (Act::Pop, Doing::Idle) => first_of(&[
+            (
+                !worker.hand().is_empty(),
+                "the worker has a ticket to put first",
+            ),
+            (world.ready().is_empty(), "the ready queue is empty"),
+        ]),
+        (Act::Pop, _) => "the worker is not idle",
+        (Act::Claim, Doing::Tries(_))
+        | (Act::Retire, Doing::Closed(_))
+        | (Act::Free, Doing::Retired(_)) => NOT_HERE,
+        (Act::Claim, _) => "the worker has no ticket to claim a slot by",
+        (Act::Retire, _) => "the worker has closed no connection",
+        (Act::Free, _) => "the worker has retired no slot",
+        (_, Doing::Holds(slot, left)) => match world.slots().get(slot) {
+            Some(slot) => holder_reason(world.kernel(), slot, left, act),
+            None => NOT_HERE,
+        },
+        (_, _) => "the worker holds no slot",
+    }
+}
+
+/// Why a worker cannot do this with the slot that it holds, with `left` calls left.
+fn holder_reason(kernel: &Kernel, slot: &Slot, left: usize, act: Act) -> &'static str {
+    let Some(connection) = slot.connection() else {
+        return "no connection lies in the slot";
+    };
+    let verdict = connection.pair.verdict();
+    match act {
+        Act::Call(_) if left == 0 => "no calls are left",
+        Act::Call(reply) => call_reason(kernel, connection, reply),
+        Act::Post => over_reason(verdict),
+        Act::Release if verdict != Verdict::Live => over_reason(verdict),
+        Act::Release => release_reason(slot, connection, left),
+        Act::Close => first_of(&[(verdict == Verdict::Live, "the connection is live")]),
+        _ => NOT_HERE,
+    }
+}
+
+fn over_reason(verdict: Verdict) -> &'static str {
+    match verdict {
+        Verdict::Live => NOT_HERE,
+        Verdict::Done => "the connection is done",
+        Verdict::Failed(_) => "the connection has failed",
+    }
+}
+
+fn release_reason(slot: &Slot, connection: &Connection, left: usize) -> &'static str {
+    if connection.pair.next().is_none() || !slot.notes().is_empty() {
+        NOT_HERE
+    } else if left == 0 {
+        "there is a next call and no note was posted"
+    } else {
+        "calls are left and there is a next call"
+    }
+}
+
+/// Why the next call of a connection is not answered so.
+fn call_reason(kernel: &Kernel, connection: &Connection, reply: Reply) -> &'static str {
+    let Some(call) = connection.pair.next() else {
+        return match connection.pair.verdict() {
+            Verdict::Live => "there is no next call",
+            over => over_reason(over),
+        };
+    };
+    let Some(open) = kernel.end(connection.descriptor(call.side())) else {
+        return NOT_HERE;
+    };
+    let socket = &open.socket;
+    match (call, reply) {
+        (Call::Read(_, most), Reply::Bytes(count)) => read_reason(socket, most, count),
+        (Call::Read(..), Reply::End) => end_reason(socket),
+        (Call::Read(..), Reply::Blocked) => {
+            first_of(&[(socket.is_readable(), "the socket is readable")])
+        }
+        (Call::Write(_), Reply::Wrote(count, _)) => {
+            wrote_reason(socket, connection.pair.ring_len(call.direction()), count)
+        }
+        (Call::Join(_), Reply::Joined) => first_of(&[(
+            !socket.has_room(),
+            "the socket has no room",
+        )]),
+        (Call::Write(_) | Call::Join(_), Reply::Blocked) => {
+            first_of(&[(socket.is_writable(), "the socket is writable")])
+        }
+        (Call::Shut(_), Reply::Blocked) => "a shutdown never blocks",
+        (Call::Read(..) | Call::Join(_) | Call::Shut(_), Reply::Failed(Kind::Zero)) => {
+            "only a write fails by zero"
+        }
+        (_, Reply::Interrupted | Reply::Failed(_)) => NOT_HERE,
+        (_, _) => other_call(call),
+    }
+}
+
+/// Which call is next, where it never gets such an answer.
+fn other_call(call: Call) -> &'static str {
+    match call {
+        Call::Read(Side::Client, _) => "the next call is a read of the client",
+        Call::Read(Side::Target, _) => "the next call is a read of the target",
+        Call::Write(Side::Client) => "the next call is a write to the client",
+        Call::Write(Side::Target) => "the next call is a write to the target",
+        Call::Join(Side::Client) => "the next call is a join of the client",
+        Call::Join(Side::Target) => "the next call is a join of the target",
+        Call::Shut(Side::Client) => "the next call is a shutdown of the client",
+        Call::Shut(Side::Target) => "the next call is a shutdown of the target",
+    }
+}
