@@ -10,9 +10,10 @@ use Rattle.script.specs.declared.step.Step.{Step}
 use Rattle.script.specs.declared.step.Step.TheVariants.{Arrive, Fin, Room, Read, End, Wrote, Shut}
 use Rattle.script.specs.declared.step.NumberedStep.{NumberedStep}
 use Rattle.script.specs.declared.transfer.Transfer.{Transfer}
-use Rattle.script.specs.Faults.{and_then}
+use Rattle.script.specs.Faults.{and_then, or_not_allowed, played}
 use Rattle.script.specs.Plans.{FlowPlan}
-use Rattle.script.specs.Transfers.{opening, stepped, read_size, or_not_allowed, carried}
+use Rattle.script.specs.Steps.{word_of}
+use Rattle.script.specs.Transfers.{opening, stepped, read_size, line_stepped}
 use Rattle.script.specs.Laws.{brought, given, is_fin, has_ended, KeepsBytes, KeepsEnd}
 
 pub record Sound (t : Transfer) : Type 0 where
@@ -187,12 +188,12 @@ joined t u v s ss first rest = record {
 
 -- a step, and then the rest, for which it is known
 step_on : (t : Transfer) (s : NumberedStep) (ss : List NumberedStep) (v : Transfer) (o : Option Transfer) → IfSome o (Goes t s.step)
-    → and_then (λ (u : Transfer). carried u ss) (or_not_allowed s o) ≡ Ok v
-    → ((u : Transfer) → Sound u → carried u ss ≡ Ok v → Comes u ss v) → Comes t (s ∷ ss) v
+    → and_then (λ (u : Transfer). played line_stepped u ss) (or_not_allowed s.line (word_of s.step) o) ≡ Ok v
+    → ((u : Transfer) → Sound u → played line_stepped u ss ≡ Ok v → Comes u ss v) → Comes t (s ∷ ss) v
 step_on t s ss v (Some u) g is rest = joined t u v s ss g (rest u g.sound is)
 step_on t s ss v None g is rest = absurd (cc)
 
-comes : (t : Transfer) (ss : List NumberedStep) (v : Transfer) → Sound t → carried t ss ≡ Ok v → Comes t ss v
+comes : (t : Transfer) (ss : List NumberedStep) (v : Transfer) → Sound t → played line_stepped t ss ≡ Ok v → Comes t ss v
 comes t [] v z is =
     let same : t ≡ v = cc in
     subst (λ (u : Transfer). Comes t [] u) same (record { sound = z; came = sym (append-nil t.source.arrived); finished = true_or t.source.fin })

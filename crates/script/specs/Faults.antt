@@ -1,5 +1,5 @@
 -- The faults of a script, and the one line that tells each. Readers of the promises need it.
-use Rattle.std.specs.Prelude.{◌≡◌, ℕ, List, ◌++◌, codes, Result, Ok, Err}
+use Rattle.std.specs.Prelude.{◌≡◌, ℕ, List, [], ◌∷◌, ◌++◌, codes, Option, Some, None, IsSome, Result, Ok, Err}
 use Rattle.std.specs.Fmt.{decimal}
 use Rattle.script.specs.declared.word.Word.{Word}
 use Rattle.script.specs.declared.word.Word.TheVariants.{Accept, Arrive, Call, Claim, Close, Connect, Deliver, Drop, End, Fin, Free, Open, Poll, Pop, Post, Put, Read, Release, Reset, Retire, Room, Shut, Spurious, Take, Vanish, Wrote}
@@ -58,3 +58,19 @@ Gives defined result = GivesBy (λ x. x) defined result
 abbrev pub and_then : {X Y : Type 0} → (X → Result Y Fault) → Result X Fault → Result Y Fault
 and_then f (Ok x) = f x
 and_then f (Err fault) = Err fault
+
+-- what the step of a line makes, or the fault of the line
+abbrev pub or_not_allowed : {X : Type 0} → ℕ → Word → Option X → Result X Fault
+or_not_allowed line word (Some x) = Ok x
+or_not_allowed line word None = Err (NotAllowed line word)
+
+-- The step of a line was made as it is defined, or the fault is that of the line and nothing changed; or memory ran
+-- out for a step that is allowed.
+abbrev pub Carries : {X : Type 0} → ℕ → Word → Option X → X → Result (Unit {0}) Fault → X → Type 0
+Carries line word defined old (Ok x) new = or_not_allowed line word defined ≡ Ok new
+Carries line word defined old (Err fault) new = Gives (or_not_allowed line word defined) (Err fault) × (new ≡ old) × (fault ≡ NoMemory → IsSome defined)
+
+-- the steps of lines one after another, to the first fault
+abbrev pub played : {X L : Type 0} → (X → L → Result X Fault) → X → List L → Result X Fault
+played stepped x [] = Ok x
+played stepped x (l ∷ ls) = and_then (λ y. played stepped y ls) (stepped x l)

@@ -1,20 +1,19 @@
 -- One direction as a machine: a source, a ring and a destination, and what each step of a script does. Readers of the
 -- promises need it.
-use Rattle.std.specs.Prelude.{ℕ, min, Bool, true, false, not, ◌&&◌, if◌then◌else◌, ◌≡◌, List, [], ◌∷◌, take, Option, Some, None, IsSome, option_map, Result, Ok, Err}
+use Rattle.std.specs.Prelude.{ℕ, min, Bool, true, false, not, ◌&&◌, if◌then◌else◌, take, Option, None, option_map, Result}
 use Rattle.token.specs.declared.side.Side.TheVariants.{Client, Target}
 use Rattle.flow.specs.Stream.{Stream, empty_stream, free_room, taken_in, dropped, ended, closed}
 use Rattle.kernel_model.specs.Ends.{opened, is_nonempty, arrival, finish, new_room}
 use Rattle.kernel_model.specs.Replies.{after_read, after_write, after_shut}
 use Rattle.kernel_model.specs.declared.reply.Reply.TheVariants as reply
 use Rattle.script.specs.declared.fault.Fault.{Fault}
-use Rattle.script.specs.declared.fault.Fault.TheVariants.{NotAllowed, NoMemory}
 use Rattle.script.specs.declared.step.Step.{Step}
 use Rattle.script.specs.declared.step.Step.TheVariants.{Arrive, Fin, Room, Read, End, Wrote, Shut}
 use Rattle.script.specs.declared.step.NumberedStep.{NumberedStep}
 use Rattle.script.specs.declared.transfer.Transfer.{Transfer}
 use Rattle.script.specs.Steps.{word_of}
 use Rattle.script.specs.Plans.{FlowPlan}
-use Rattle.script.specs.Faults.{and_then, Gives}
+use Rattle.script.specs.Faults.{or_not_allowed, played}
 
 -- nothing has come; the source is connected, and the destination has no room yet
 abbrev pub opening : ℕ → Transfer
@@ -43,27 +42,15 @@ stepped t Shut =
     then option_map (λ e. record t { destination = e; flow = closed t.flow }) (after_shut t.destination reply.Shut)
     else None
 
--- the step's outcome, or the fault of its line
-abbrev pub or_not_allowed : NumberedStep → Option Transfer → Result Transfer Fault
-or_not_allowed s (Some t) = Ok t
-or_not_allowed s None = Err (NotAllowed s.line (word_of s.step))
-
 -- the steps that a list grows by: bytes come, or are taken
 abbrev pub takes_memory : Step → Bool
 takes_memory (Arrive bytes) = true
 takes_memory (Wrote n full) = true
 takes_memory _ = false
 
--- The step of a line was made, or the fault is that of the line and nothing changed; or memory ran out for
--- a step that is allowed.
-abbrev pub Carries : Transfer → NumberedStep → Result (Unit {0}) Fault → Transfer → Type 0
-Carries old s (Ok x) new = or_not_allowed s (stepped old s.step) ≡ Ok new
-Carries old s (Err fault) new = Gives (or_not_allowed s (stepped old s.step)) (Err fault) × (new ≡ old) × (fault ≡ NoMemory → IsSome (stepped old s.step))
-
--- one step after another, to the first that is not allowed
-abbrev pub carried : Transfer → List NumberedStep → Result Transfer Fault
-carried t [] = Ok t
-carried t (s ∷ ss) = and_then (λ u. carried u ss) (or_not_allowed s (stepped t s.step))
+-- the step of a line
+abbrev pub line_stepped : Transfer → NumberedStep → Result Transfer Fault
+line_stepped t s = or_not_allowed s.line (word_of s.step) (stepped t s.step)
 
 abbrev pub run_of : FlowPlan → Result Transfer Fault
-run_of plan = carried (opening plan.ring) plan.steps
+run_of plan = played line_stepped (opening plan.ring) plan.steps

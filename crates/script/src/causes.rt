@@ -11,7 +11,7 @@ use std::alloc::Global;
 use std::fmt;
 
 /// The most bytes of a word that are shown.
-const MOST_SHOWN: usize = 64;
+const MAX_SHOWN: usize = 64;
 
 /// The cause of a fault, for a person, on one line: which word is malformed and what is wanted there, or why the step
 /// is not allowed. `text` is the script that has the fault. None where there is no more to tell, or no memory for it.
@@ -96,14 +96,14 @@ struct Shown<'a>(&'a [u8]);
 impl fmt::Display for Shown<'_> {
     fn fmt<W: fmt::Write>(&self, f: &mut fmt::Formatter<W>) -> fmt::Result {
         f.write_str("\"")?;
-        for byte in self.0.iter().take(MOST_SHOWN) {
+        for byte in self.0.iter().take(MAX_SHOWN) {
             if byte.is_ascii_graphic() {
                 f.write_char(char::from(*byte))?;
             } else {
                 write!(f, "\\x{byte:02x}")?;
             }
         }
-        f.write_str(if self.0.len() > MOST_SHOWN {
+        f.write_str(if self.0.len() > MAX_SHOWN {
             "..\""
         } else {
             "\""

@@ -69,7 +69,7 @@ pub(crate) const HEADERS: Forms = Forms {
             ],
         ),
     ],
-    wanted: "the first line begins with flow or world",
+    wanted: "a script begins with flow or world",
 };
 
 /// The steps of one direction.
@@ -156,7 +156,7 @@ pub(crate) fn first_wrong<'a>(parts: &'static [Part], mut words: Pieces<'a>) -> 
     for _place in 0..MOST_POLLED {
         let word = words.next();
         let Some((part, rest)) = left.split_first() else {
-            return malformed(word?, "the line ends before this word");
+            return malformed(word?, "the line should end before this word");
         };
         match word {
             Some(word) if part.takes(word) => left = part.rest(word, rest),

@@ -9,7 +9,7 @@ use world::{
 };
 
 /// What is told where no closer reason is known.
-const NOT_HERE: &str = "it cannot happen in the state before it";
+const NOT_HERE: &str = "it is not possible in this state";
 
 const ENDED: &str = "the end of input has come";
 
@@ -109,7 +109,7 @@ fn vacant_reason(world: &World, slot: usize) -> &'static str {
         (world.slots().len() <= slot, "there is no such slot"),
         (
             world.connection(slot).is_none(),
-            "no connection lies in the slot",
+            "the slot has no connection",
         ),
     ])
 }
@@ -191,7 +191,7 @@ fn poll_reason(world: &World, polling: &Polling) -> &'static str {
             ),
             (
                 !world.kernel().may_poll(names.as_slice()),
-                "a name stands twice",
+                "a name is listed twice",
             ),
         ]),
         Polling::Deliver => first_of(&[(world.batch().is_empty(), "the batch is empty")]),
@@ -216,7 +216,7 @@ fn work_reason(world: &World, worker: &Worker, act: Act) -> &'static str {
         (Act::Claim, Doing::Tries(_))
         | (Act::Retire, Doing::Closed(_))
         | (Act::Free, Doing::Retired(_)) => NOT_HERE,
-        (Act::Claim, _) => "the worker has no ticket to claim a slot by",
+        (Act::Claim, _) => "the worker has no ticket to claim a slot with",
         (Act::Retire, _) => "the worker has closed no connection",
         (Act::Free, _) => "the worker has retired no slot",
         (_, Doing::Holds(slot, left)) => match world.slots().get(slot) {
@@ -230,7 +230,7 @@ fn work_reason(world: &World, worker: &Worker, act: Act) -> &'static str {
 /// Why a worker cannot do this with the slot that it holds, with `left` calls left.
 fn holder_reason(kernel: &Kernel, slot: &Slot, left: usize, act: Act) -> &'static str {
     let Some(connection) = slot.connection() else {
-        return "no connection lies in the slot";
+        return "the slot has no connection";
     };
     let verdict = connection.pair.verdict();
     match act {
@@ -292,7 +292,7 @@ fn call_reason(kernel: &Kernel, connection: &Connection, reply: Reply) -> &'stat
         }
         (Call::Shut(_), Reply::Blocked) => "a shutdown never blocks",
         (Call::Read(..) | Call::Join(_) | Call::Shut(_), Reply::Failed(Kind::Zero)) => {
-            "only a write fails by zero"
+            "only a write can fail with zero"
         }
         (_, Reply::Interrupted | Reply::Failed(_)) => NOT_HERE,
         (_, _) => other_call(call),

@@ -1,6 +1,8 @@
 ghost use Rattle.std.specs.Prelude.{◌≡◌, ◌≤◌, IfOk, IsErrOf, IsTrue};
 ghost use Rattle.kernel_model.specs.Outcome.{Meets, MeetsAlways};
-ghost use Rattle.script.specs.Transfers.{opening, stepped, takes_memory, read_size, Carries};
+ghost use Rattle.script.specs.Faults.{Carries};
+ghost use Rattle.script.specs.Steps.{word_of};
+ghost use Rattle.script.specs.Transfers.{opening, stepped, takes_memory, read_size};
 
 use crate::{Fault, NumberedStep, Step};
 use flow::Flow;
@@ -66,7 +68,7 @@ impl Transfer {
 
     /// Makes the step of a line, or tells the fault of that line.
     pub(crate) fn carry_out(&mut self, numbered: &NumberedStep) -> Result<(), Fault>
-        ensures { Carries self.old numbered.now result self.new }
+        ensures { Carries numbered.now.line (word_of numbered.now.step) (stepped self.old numbered.now.step) self.old result self.new }
     {
         match self.step(&numbered.step) {
             Ok(()) => Ok(()),

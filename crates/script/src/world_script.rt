@@ -1,7 +1,9 @@
 ghost use Rattle.std.specs.Prelude.{◌≡◌};
 ghost use Rattle.world.specs.States.{IsWithinLimits};
-ghost use Rattle.script.specs.Faults.{Gives};
-ghost use Rattle.script.specs.Plays.{world_of, Happens};
+ghost use Rattle.world.specs.Steps.{step};
+ghost use Rattle.script.specs.Faults.{Gives, Carries};
+ghost use Rattle.script.specs.Words.{event_word};
+ghost use Rattle.script.specs.Plays.{world_of};
 
 use crate::event::word_of;
 use crate::{Fault, NumberedEvent};
@@ -78,7 +80,7 @@ impl WorldScript {
 
 /// Makes the event of a line happen, or tells the fault of that line.
 fn happen(world: &mut World, numbered: &NumberedEvent) -> Result<(), Fault>
-    ensures { Happens world.old numbered.now result world.new }
+    ensures { Carries numbered.now.line (event_word numbered.now.event) (step world.old numbered.now.event) world.old result world.new }
 {
     match world.step(&numbered.event) {
         Ok(()) => Ok(()),

@@ -27,7 +27,7 @@ const CAUSES: &[(&[u8], &[u8], &str)] = &[
     (
         BARE,
         b"flo\n",
-        "line 1: \"flo\": the first line begins with flow or world",
+        "line 1: \"flo\": a script begins with flow or world",
     ),
     (
         BARE,
@@ -42,7 +42,7 @@ const CAUSES: &[(&[u8], &[u8], &str)] = &[
     (
         BARE,
         b"flow ring=4 \r",
-        "line 1: flow: \"\\x0d\": the line ends before this word",
+        "line 1: flow: \"\\x0d\": the line should end before this word",
     ),
     (
         BARE,
@@ -88,7 +88,7 @@ const CAUSES: &[(&[u8], &[u8], &str)] = &[
     (
         FLOW,
         b"fin 0123456789abcdef0123456789abcdef0123456789abcdef0123456789abcde\xe9f",
-        "line 2: fin: \"0123456789abcdef0123456789abcdef0123456789abcdef0123456789abcde\\xe9..\": the line ends before this word",
+        "line 2: fin: \"0123456789abcdef0123456789abcdef0123456789abcdef0123456789abcde\\xe9..\": the line should end before this word",
     ),
     (
         WORLD,
@@ -207,7 +207,7 @@ const CAUSES: &[(&[u8], &[u8], &str)] = &[
     (
         WORLD,
         b"spurious 0 client",
-        "line 2: spurious: no connection lies in the slot",
+        "line 2: spurious: the slot has no connection",
     ),
     (
         HELD,
@@ -285,7 +285,7 @@ const CAUSES: &[(&[u8], &[u8], &str)] = &[
     (
         WORLD,
         b"spurious waker\npoll waker waker",
-        "line 3: poll: a name stands twice",
+        "line 3: poll: a name is listed twice",
     ),
     (WORLD, b"deliver", "line 2: deliver: the batch is empty"),
     (
@@ -310,7 +310,7 @@ const CAUSES: &[(&[u8], &[u8], &str)] = &[
     (
         WORLD,
         b"claim 0",
-        "line 2: claim: the worker has no ticket to claim a slot by",
+        "line 2: claim: the worker has no ticket to claim a slot with",
     ),
     (WORLD, b"take 0", "line 2: take: the worker holds no slot"),
     (
@@ -326,7 +326,7 @@ const CAUSES: &[(&[u8], &[u8], &str)] = &[
     (
         HELD,
         b"call 0 failed zero",
-        "line 9: call: only a write fails by zero",
+        "line 9: call: only a write can fail with zero",
     ),
     (
         HELD,
