@@ -1,4 +1,5 @@
--- What a call tells the end that made it. The state is some state that meets the rule, since no clause can name what other threads do, but the end's own history stands in it.
+-- What a call tells the end that made it. Readers of the promises need it.
+-- The state is some state that meets the rule, since no clause can name what other threads do, but the end's own history stands in it.
 use Rattle.std.specs.Prelude.{◌≡◌, ℕ, zero, suc, true, false, List, [], ◌∷◌, ◌++◌, length, slice_set}
 use mathlib.Core.Option.{some}
 use lib.ListN.{get_elem?}
@@ -54,6 +55,10 @@ module _ {T : Type 0} where
     pub before : QueueRule items views
     pub put : new ≡ after_put old (length (before.gone ++ items)) item
     pub after : QueueRule (items ++ item ∷ []) (slice_set views end_number new)
+
+  -- the last item that the end has put
+  abbrev pub PutLast : T → History T → Type 0
+  PutLast item h = (place : ℕ) × (before : List (ℕ × T)) × (h.put ≡ before ++ (place, item) ∷ [])
 
   -- the item left at the front, and the end has its place
   pub record TookOne (old : History T) (item : T) (new : History T) : Type 0 where

@@ -15,6 +15,14 @@ pub(crate) struct IdleEnds {
     ghost few: { vec_len unparkers ≤ 32 },
 }
 
+/// An end that is announced as idle. It has to look at the queue once more before it parks.
+///
+/// It is neither copied nor dropped, so each announcement is withdrawn once.
+pub(crate) struct Announced {
+    end: usize,
+    ghost few: { end < 32 },
+}
+
 impl IdleEnds {
     pub(crate) fn new(unparkers: Vec<Unparker>) -> IdleEnds
         requires { vec_len unparkers ≤ 32 }
@@ -26,25 +34,25 @@ impl IdleEnds {
         }
     }
 
-    /// Marks the end as idle. It has to look at the queue once more before it parks.
-    pub(crate) fn announce(&self, end: usize)
+    /// Marks the end as idle.
+    pub(crate) fn announce(&self, end: usize) -> Announced
         requires { end < 32 }
     {
         // Pairs with the load in `wake_one`. A put pushes and then loads; an end sets its bit and then looks. So one
         // of the two sees the other's step. With a look first and the bit after it, a put could come between: it would
         // find no bit, and the end would park beside its ticket.
         self.idle.fetch_or(1u64 << end, SeqCst);
+        Announced { end }
     }
 
     /// Marks the end as awake, after its last look at the queue or its sleep.
     ///
     /// Where the look found something, and another put had spent its wake on this end, the wake is passed on.
-    pub(crate) fn withdraw(&self, end: usize, found: bool)
-        requires { end < 32 }
-    {
+    pub(crate) fn withdraw(&self, announced: Announced, found: bool) {
         // Pairs with the exchange in `wake_one`: of the two, one alone finds the bit. A load and then a store could
         // let both find it, and nobody would pass that wake on: the other put's ticket would lie until this end is
         // back, while a third end sleeps.
+        let Announced { end } = announced;
         let bit = 1u64 << end;
         let was_woken = self.idle.fetch_and(!bit, SeqCst) & bit == 0;
         if found && was_woken {

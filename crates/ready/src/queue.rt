@@ -2,9 +2,9 @@
 ghost use Rattle.std.specs.Prelude.{◌≡◌, ◌<◌, ◌≤◌, IfOk, OnOk, IfErr, OnErr, IfSome, IfNone, replicate, vec_len};
 ghost use Rattle.std.specs.Arc.{arc_value};
 ghost use Rattle.crossbeam_queue.specs.Passes.{view, IsPassOf, ruled_capacity};
-ghost use Rattle.ready.specs.Steps.{fresh, blank, HeldOnce, PutOne, TookOne};
+ghost use Rattle.ready.specs.Steps.{fresh, blank, HeldOnce, PutLast, PutOne, TookOne};
 
-use crate::idle::IdleEnds;
+use crate::idle::{Announced, IdleEnds};
 use crate::rule::{Line, LinePass, another, pop, push};
 use crate::ticket::{Full, Ticket};
 use crossbeam_utils::sync::{Parker, Unparker};
@@ -92,14 +92,22 @@ impl ReadyQueue {
         ensures unchanged { OnErr result (self.new ≡ self.old) }
         ensures capacity { self.new.capacity ≡ self.old.capacity }
     {
-        let shared = &*self.shared;
-        push(rt, &shared.line, &mut self.pass, ticket)?;
+        push(rt, &self.shared.line, &mut self.pass, ticket)?;
+        self.wake_for(ticket);
+        Ok(())
+    }
+
+    // Wakes an idle end for the ticket that this end has just put, unless this one comes back for it itself. An end
+    // that were woken before could look, find no ticket, and sleep beside it.
+    fn wake_for(&mut self, _ticket: Ticket)
+        requires { PutLast _ticket self.old.history }
+        ensures { self.new ≡ self.old }
+    {
         if self.comes_back {
             self.comes_back = false;
         } else {
-            shared.ends.wake_one();
+            self.shared.ends.wake_one();
         }
-        Ok(())
     }
 
     /// Takes the ticket at the front. None: the queue was empty at one moment of the call.
@@ -132,7 +140,9 @@ impl ReadyQueue {
             if closed {
                 return None;
             }
-            let found = self.last_look(rt);
+            let announced = self.shared.ends.announce(self.number);
+            let found = self.look_or_park(rt, &announced);
+            self.shared.ends.withdraw(announced, found.is_some());
             if found.is_some() {
                 self.comes_back = true;
                 return found;
@@ -141,19 +151,17 @@ impl ReadyQueue {
         unreachable!()
     }
 
-    // Announces that this end is idle, looks once more, and parks where there was nothing.
-    fn last_look(&mut self, rt: &impl Wait) -> Option<Ticket>
+    // Looks once more, as an end that has announced that it is idle, and parks where there was nothing.
+    fn look_or_park(&mut self, rt: &impl Wait, _announced: &Announced) -> Option<Ticket>
         ensures taken { IfSome result (λ ticket. TookOne self.old.history ticket self.new.history) }
         ensures empty { IfNone result (HeldOnce 0 self.old.history) }
         ensures unchanged { IfNone result (self.new ≡ self.old) }
         ensures capacity { self.new.capacity ≡ self.old.capacity }
     {
-        self.shared.ends.announce(self.number);
         let found = self.try_take(rt);
         if found.is_none() {
             self.parker.park(rt);
         }
-        self.shared.ends.withdraw(self.number, found.is_some());
         found
     }
 

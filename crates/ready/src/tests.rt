@@ -49,9 +49,10 @@ fn the_first_put_after_a_take_wakes_nobody(rt: HostRuntime) -> Result<(), Fail> 
     let idle = other.idle();
     // Never took; its first put after a take; its second one.
     for (step, wakes) in [(0, true), (1, false), (2, true)] {
-        idle.announce(other.number());
+        let announced = idle.announce(other.number());
         assert_eq!(rt; mine.put(&rt, ticket(1, 1)), Ok(()));
         assert_eq!(rt; idle.count() == 0, wakes, "at step {step}");
+        idle.withdraw(announced, false);
         if step == 0 {
             assert_eq!(rt; mine.take(&rt), Some(ticket(1, 1)));
         }
@@ -68,14 +69,34 @@ fn a_wake_that_is_not_needed_is_passed_on(rt: HostRuntime) -> Result<(), Fail> {
     let idle = end.idle();
     // Whether another thread wakes end 0, whether end 0 finds a ticket, and how many ends stay idle.
     for (woken, found, left) in [(true, true, 0), (true, false, 1), (false, true, 1)] {
-        idle.announce(0);
+        let first = idle.announce(0);
         if woken {
             idle.wake_one();
         }
-        idle.announce(1);
-        idle.withdraw(0, found);
+        let second = idle.announce(1);
+        idle.withdraw(first, found);
         assert_eq!(rt; idle.count(), left, "woken {woken}, found {found}");
-        idle.withdraw(1, false);
+        idle.withdraw(second, false);
+    }
+    Ok(())
+}
+
+#[test]
+fn a_wake_is_for_one_end(rt: HostRuntime) -> Result<(), Fail> {
+    let mut ends = ReadyQueue::new(rt.alloc(), 1, 32)?;
+    let Some(end) = ends.pop() else {
+        panic!(rt; "there is no end")
+    };
+    let idle = end.idle();
+    for number in 0..32 {
+        let first = idle.announce(number);
+        let second = idle.announce((number + 1) % 32);
+        for left in [1, 0] {
+            idle.wake_one();
+            assert_eq!(rt; idle.count(), left, "of {number} and the next");
+        }
+        idle.withdraw(first, false);
+        idle.withdraw(second, false);
     }
     Ok(())
 }
