@@ -1,4 +1,4 @@
--- What the errors of accept(2) mean to the relay.
+-- What the errors of accept(2) mean to the relay. Readers of the promises need it.
 use Rattle.std.specs.declared.io.ErrorKind.{ErrorKind}
 use Rattle.std.specs.declared.io.ErrorKind.TheVariants.{Interrupted, ConnectionAborted, NetworkDown, NetworkUnreachable, HostUnreachable, WouldBlock}
 use Rattle.server.specs.declared.accepting.Accepted.{Accepted}

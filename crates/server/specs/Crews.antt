@@ -1,4 +1,4 @@
--- The seats of threads that have not begun.
+-- The seats of threads that have not begun. It serves proofs alone.
 use Rattle.std.specs.Prelude.{◌≡◌, List, length, replicate}
 use Rattle.claims.specs.Seats.{TableId, SeatState, fresh}
 

@@ -1,5 +1,6 @@
--- What the reports of one poll come to: a note for each that names an end of a connection that its slot still has, and a ticket for
--- each note that found nobody at work there.
+-- What delivering the reports of one poll does. Readers of the promises need it.
+-- Each report that names an end of a connection which its slot still has becomes a note, and each note that found nobody at work
+-- there makes a ticket.
 use Rattle.std.specs.Prelude.{◌≡◌, ℕ, ◌+◌, ◌==◌, ◌⊎◌, List, [], ◌∷◌, ◌++◌, Option, Some, None, length, if◌then◌else◌, slice_index}
 use Rattle.std.specs.List.{filter_map, count_by}
 use Rattle.claims.specs.declared.view.Account.{Account}

@@ -1,6 +1,8 @@
--- What a thread has in hand: the tickets and the free slots that a queue refused, oldest first.
-use Rattle.std.specs.Prelude.{◌≡◌, ℕ, ◌-◌, ◌<◌, ◌≤◌, List, [], length}
+-- What a thread has in hand: the tickets and the free slots that a queue refused, oldest first. Readers of the promises need it.
+use Rattle.std.specs.Prelude.{◌≡◌, ◌⊎◌, ℕ, ◌-◌, ◌<◌, ◌≤◌, List, [], ◌∷◌, ◌++◌, length}
+use Rattle.ready.specs.declared.history.History.{History}
 use Rattle.ready.specs.declared.ticket.Ticket.{Ticket}
+use Rattle.ready.specs.Steps.{PutLast}
 
 -- at most `capacity` of each
 pub record HandState : Type 0 where
@@ -19,6 +21,14 @@ ticket_room h = h.capacity - length h.tickets
 pub record HasRoom (h : HandState) : Type 0 where
   pub tickets : length h.tickets < h.capacity
   pub slots : length h.slots < h.capacity
+
+-- the ticket is not lost: it is the last that this end of the queue has put, or the last in hand
+abbrev pub KeepsTicket : Ticket → History Ticket → HandState → Type 0
+KeepsTicket ticket history hand = PutLast ticket history ⊎ ((before : List Ticket) × (hand.tickets ≡ before ++ ticket ∷ []))
+
+-- the same of a free slot
+abbrev pub KeepsSlot : ℕ → History ℕ → HandState → Type 0
+KeepsSlot slot history hand = PutLast slot history ⊎ ((before : List ℕ) × (hand.slots ≡ before ++ slot ∷ []))
 
 -- nothing came in, and as much fits as before or more
 pub record Shrank (old new : HandState) : Type 0 where

@@ -1,12 +1,15 @@
--- What the poller keeps between its rounds.
+-- What the poller keeps between its rounds. Readers of the promises need it.
 use Rattle.std.specs.Prelude.{ℕ, ◌≤◌, Bool, false, List, All}
 use Rattle.server.specs.declared.accepting.Accepted.{Accepted}
 use Rattle.server.specs.declared.accepting.Accepted.TheVariants.{Again, Blocked, Starved}
 
--- each slot's generation, and the accept flag: whether a connection may wait to be accepted
+-- each slot's generation, the accept flag (whether a connection may wait to be accepted), the bytes of a ring, and after how many
+-- connections none is accepted any more, 0 for no end
 pub record PollerState : Type 0 where
   pub table : List ℕ
   pub accepting : Bool
+  pub ring : ℕ
+  pub stop_after : ℕ
 
 -- every entry is a generation
 abbrev pub AreGenerations : List ℕ → Type 0

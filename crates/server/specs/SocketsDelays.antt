@@ -1,5 +1,4 @@
--- When a socket sends at once what is written to it, and when it may wait for more to send along: the option
--- TCP_NODELAY of tcp(7).
+-- When a socket sends at once (TCP_NODELAY of tcp(7)), and when it may wait for more to send along. Readers of the promises need it.
 use Rattle.std.specs.Prelude.{◌≡◌, ◌↔◌, ℕ, ◌+◌, ◌<◌, ◌≤◌, min, Bool, true, false, IsTrue}
 
 -- whether it sends at once, and how many full offers came in a row, up to four

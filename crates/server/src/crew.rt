@@ -2,6 +2,7 @@
 ghost use Rattle.std.specs.Prelude.{◌≡◌, IfOk, IfSome};
 ghost use Rattle.claims.specs.Seats.{fresh, HoldsNothing};
 ghost use Rattle.server.specs.Crews.{AreFresh};
+ghost use Rattle.server.specs.Hands.{empty_hand};
 
 use crate::faults::ServerFault;
 use crate::front::Front;
@@ -37,6 +38,7 @@ pub(crate) fn next_own<F: Front>(
     requires { AreFresh shared.now.claims parts.old.seats.items }
     ensures left { AreFresh shared.now.claims parts.new.seats.items }
     ensures next { IfOk result (λ next. IfSome next (λ own. own.seat ≡ fresh shared.now.claims)) }
+    ensures hand { IfOk result (λ next. IfSome next (λ own. own.hand ≡ empty_hand capacity)) }
 {
     let hand = Hand::new(alloc, capacity)?;
     let Some(seat) = parts.seats.pop() else {

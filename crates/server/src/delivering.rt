@@ -7,12 +7,10 @@ ghost use Rattle.server.specs.Deliveries.{connection, reported, Delivered};
 
 use crate::faults::ServerFault;
 use crate::hand::Hand;
+use crate::limits::LISTENER;
 use claims::{ClaimSeat, Claims, Posted};
 use ready::Ticket;
 use token::{Name, Token, unpack};
-
-/// The number by which the listener is reported.
-const LISTENER: u64 = 0;
 
 /// Posts a note for each report of a batch, and takes a ticket in hand for each post that woke. Answers whether the
 /// listener was reported.

@@ -1,5 +1,6 @@
 ghost use Rattle.std.specs.Prelude.{◌≡◌, ◌≤◌, [], OnErr, vec_len, vec_capacity};
 
+use crate::limits::MAX_BATCH;
 use engine::Wire;
 use log::Log;
 use relay_log::Cause;
@@ -40,9 +41,6 @@ impl From<Unopened> for Cause {
         }
     }
 }
-
-/// The most reports that one poll gives.
-pub const MAX_BATCH: usize = 256;
 
 /// Where connections and reports come from: the system's sockets, or a fake in memory.
 pub trait Front {

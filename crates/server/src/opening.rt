@@ -1,6 +1,7 @@
 //! An accepted connection is made ready, and placed in a free slot with the one note that starts it.
-ghost use Rattle.std.specs.Prelude.{◌≡◌, ◌+◌, ◌<◌, ◌≤◌, length, OnOk, IfErr, IfSome, OnSome, IsNone, slice_index};
+ghost use Rattle.std.specs.Prelude.{◌≡◌, ◌+◌, ◌<◌, ◌≤◌, length, IfOk, OnOk, IfErr, IfSome, OnSome, IsNone, slice_index};
 ghost use Rattle.claims.specs.Seats.{HoldsNothing, OnlyAt};
+ghost use Rattle.relay_core.specs.Pairs.{fresh};
 ghost use Rattle.server.specs.Turns.{HoldsOnly};
 ghost use Rattle.server.specs.Openings.{Opened, PlaceChange};
 ghost use Rattle.server.specs.Polls.{AreGenerations};
@@ -47,6 +48,7 @@ pub(crate) fn connected<F: Front, N: Net + Log>(
 ) -> Result<Berth<F::Client, F::Target>, Cause>
     requires least { 1 ≤ ring }
     requires most { ring ≤ 65536 }
+    ensures { IfOk result (λ berth. berth.pair ≡ fresh client_token.slot client_token.generation ring) }
 {
     let target = front.open(rt, &mut client, client_token, target_token)?;
     match Pair::new(alloc, client_token.slot(), client_token.generation(), ring) {

@@ -9,7 +9,8 @@ ghost use Rattle.server.specs.Polls.{flag_after};
 use crate::accepting::{Accepted, accepted_of};
 use crate::delivering::deliver;
 use crate::faults::ServerFault;
-use crate::front::{Front, MAX_BATCH};
+use crate::front::Front;
+use crate::limits::{MAX_ACCEPTS, MAX_BATCH};
 use crate::opening::{connected, next_names, placed};
 use crate::putting::put_tickets;
 use crate::shared::{Own, Shared};
@@ -24,12 +25,10 @@ use std::net::Net;
 use std::sync::Wait;
 use token::Token;
 
-/// The most tries of accept(2) in one round.
-const MAX_ACCEPTS: usize = 256;
-
 /// What the poller keeps between its rounds.
 ///
-/// In a clause it is its table, which has each slot's generation, and its accept flag.
+/// In a clause it is its table, which has each slot's generation, its accept flag, and what it was made with: the bytes
+/// of a ring, and after how many connections it stops.
 #[derive(Drop)]
 pub struct Poller<F: Front> {
     /// Where connections and reports come from.
@@ -54,7 +53,7 @@ impl<F: Front> Model for Poller<F> {
 
     ghost Value = { PollerState };
 
-    ghost view = { λ p. record { table = p.table.items; accepting = p.accepting } };
+    ghost view = { λ p. record { table = p.table.items; accepting = p.accepting; ring = p.ring; stop_after = p.stop_after } };
 
     ghost invariant = { λ p. AreGenerations p.table.items × (256 ≤ vec_capacity p.batch) × (length p.batch.items ≤ 256) × (1 ≤ p.ring) × (p.ring ≤ 65536) };
 }
@@ -76,7 +75,7 @@ impl<F: Front> Poller<F> {
         F: Drop,
         requires least { 1 ≤ ring }
         requires most { ring ≤ 65536 }
-        ensures { IfOk result (λ poller. poller ≡ record { table = replicate slots 0; accepting = true }) }
+        ensures { IfOk result (λ poller. poller ≡ record { table = replicate slots 0; accepting = true; ring = ring; stop_after = stop_after }) }
     {
         Ok(Poller {
             front,

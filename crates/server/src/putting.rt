@@ -1,7 +1,7 @@
 //! Putting tickets and free slots into the queues, and keeping in hand what a queue refuses.
 ghost use Rattle.std.specs.Prelude.{◌≡◌, ◌<◌, ◌≤◌, length};
 ghost use Rattle.claims.specs.Seats.{HoldsNot};
-ghost use Rattle.server.specs.Hands.{HasRoom, Shrank};
+ghost use Rattle.server.specs.Hands.{HasRoom, KeepsSlot, KeepsTicket, Shrank};
 
 use crate::hand::Hand;
 use crate::shared::Own;
@@ -44,6 +44,7 @@ pub(crate) fn put_ticket<R: Wait>(rt: &R, own: &mut Own, ticket: Ticket)
     requires released { HoldsNot own.old.seat ticket.slot }
     requires room { length own.old.hand.tickets < own.old.hand.capacity }
     ensures seat { own.new.seat ≡ own.old.seat }
+    ensures kept { KeepsTicket ticket own.new.ready.history own.new.hand }
 {
     if let Err(Full(ticket)) = own.ready.put(rt, ticket) {
         own.hand.keep_ticket(ticket);
@@ -56,6 +57,7 @@ pub(crate) fn give_slot<R: Wait>(rt: &R, own: &mut Own, slot: usize)
     requires retired { HoldsNot own.old.seat slot }
     requires room { length own.old.hand.slots < own.old.hand.capacity }
     ensures seat { own.new.seat ≡ own.old.seat }
+    ensures kept { KeepsSlot slot own.new.free.history own.new.hand }
 {
     if let Err(Full(slot)) = own.free.give(rt, slot) {
         own.hand.keep_slot(slot);

@@ -1,12 +1,14 @@
 //! A server over the system's sockets, from its settings to its end.
-ghost use Rattle.std.specs.Prelude.{◌≡◌, ◌+◌, ◌<◌, ◌≤◌, length, replicate, IfOk};
+ghost use Rattle.std.specs.Prelude.{◌≡◌, ◌+◌, ◌<◌, ◌≤◌, ◌∷◌, length, replicate, true, IfOk};
 ghost use Rattle.claims.specs.Seats.{fresh, HoldsNothing};
+ghost use Rattle.ready.specs.Steps.{fresh as unused, opened as filled};
 ghost use Rattle.server.specs.Crews.{AreFresh};
 
 use crate::crew::{Parts, next_own, work};
 use crate::faults::ServerFault;
-use crate::front::{Front, MAX_BATCH};
+use crate::front::Front;
 use crate::gate::Gate;
+use crate::limits::{MAX_BATCH, WORKER_HAND};
 use crate::note::Note;
 use crate::poller::{Poller, poller_round};
 use crate::shared::{Own, Shared};
@@ -15,6 +17,7 @@ use crate::worker::worker_turn;
 use berths::Berths;
 use claims::{ClaimSeat, Claims};
 use log::Log;
+use mio::Waker;
 use ready::{FreeQueue, ReadyQueue};
 use settings::Settings;
 use std::alloc::Global;
@@ -22,9 +25,6 @@ use std::net::{Net, SocketAddr};
 use std::sync::Wait;
 use std::thread;
 use std::thread::Threads;
-
-/// How much a worker keeps in hand. A queue has room for each ticket and each slot, so nothing stays there.
-const WORKER_HAND: usize = 2;
 
 /// Serves what was bound: accepts connections and forwards each to the settings' target, with the settings' number of
 /// workers beside the calling thread, which polls. It returns once `stop_after` connections were opened and all of
@@ -52,9 +52,37 @@ pub(crate) fn serve_as<G: Gate + Sync, R: Net + Wait + Threads + Log + Sync>(
     bound: Bound,
     poller_works: bool,
 ) -> Result<(), ServerFault> {
+    let (front, waker) = Sockets::new(rt, alloc, bound, SocketAddr::from(settings.target))?;
+    let (shared, parts, poller) = built(rt, alloc, settings, front, waker)?;
+    run_threads(
+        rt,
+        alloc,
+        gate,
+        &shared,
+        parts,
+        poller,
+        settings.workers,
+        poller_works,
+    )
+}
+
+/// What all threads share, what they are made of, and the poller, as the settings say.
+fn built<R: Wait>(
+    rt: &R,
+    alloc: Global,
+    settings: &Settings,
+    front: Sockets,
+    waker: Waker,
+) -> Result<(Shared<Sockets>, Parts, Poller<Sockets>), ServerFault>
+    ensures slots { IfOk result (λ made. made.0.claims.words ≡ settings.now.slots) }
+    ensures budget { IfOk result (λ made. made.0.budget ≡ settings.now.budget) }
+    ensures seats { IfOk result (λ made. made.1.seats.items ≡ replicate (settings.now.workers + 1) (fresh made.0.claims)) }
+    ensures ready { IfOk result (λ made. made.1.ready.items ≡ replicate (settings.now.workers + 1) (unused settings.now.slots)) }
+    ensures free { IfOk result (λ made. made.1.free.items ≡ filled settings.now.slots ∷ replicate settings.now.workers (unused settings.now.slots)) }
+    ensures poller { IfOk result (λ made. made.2 ≡ record { table = replicate settings.now.slots 0; accepting = true; ring = settings.now.ring; stop_after = settings.now.stop_after }) }
+{
     let slots = settings.slots;
     let threads = settings.workers + 1;
-    let (front, waker) = Sockets::new(rt, alloc, bound, SocketAddr::from(settings.target))?;
     let (claims, seats) = opened(alloc, slots, threads)?;
     let shared = Shared {
         claims,
@@ -68,16 +96,7 @@ pub(crate) fn serve_as<G: Gate + Sync, R: Net + Wait + Threads + Log + Sync>(
         free: FreeQueue::new(rt, alloc, slots, threads)?,
     };
     let poller = Poller::new(alloc, front, slots, settings.ring, settings.stop_after)?;
-    run_threads(
-        rt,
-        alloc,
-        gate,
-        &shared,
-        parts,
-        poller,
-        settings.workers,
-        poller_works,
-    )
+    Ok((shared, parts, poller))
 }
 
 /// The claim words and their seats, one for each thread.

@@ -1,7 +1,7 @@
 //! One turn of a worker: a ticket's slot is claimed, its connection taken out, told of its notes, run and put back.
-ghost use Rattle.std.specs.Prelude.{◌≡◌, ◌+◌, ◌<◌, ◌≤◌, length, Ok};
+ghost use Rattle.std.specs.Prelude.{◌≡◌, ◌+◌, ◌<◌, ◌≤◌, length, Ok, IfOk};
 ghost use Rattle.claims.specs.Seats.{account_at, HoldsNothing, OnlyAt};
-ghost use Rattle.server.specs.Hands.{HasRoom};
+ghost use Rattle.server.specs.Hands.{HasRoom, KeepsSlot, KeepsTicket};
 ghost use Rattle.server.specs.Turns.{TurnChange, Rose, exchanges, HoldsOnly, Released as ReleasedHere};
 
 use crate::faults::ServerFault;
@@ -59,6 +59,8 @@ pub fn worker_turn<F: Front, G: Gate, R: Wait + Log>(
     ensures only { OnlyAt ticket.slot own.old.seat own.new.seat }
     ensures change { TurnChange (account_at own.old.seat ticket.slot) result (account_at own.new.seat ticket.slot) }
     ensures exchanges { ticket.slot < shared.now.claims.words → own.new.seat.steps ≡ own.old.seat.steps + exchanges result }
+    ensures ticket { (account_at own.new.seat ticket.slot).minted ≡ (account_at own.old.seat ticket.slot).minted + 1 → KeepsTicket ticket own.new.ready.history own.new.hand }
+    ensures slot { result ≡ Ok Worked.Ended → ticket.generation < MAX_GEN → KeepsSlot ticket.slot own.new.free.history own.new.hand }
     ensures outside { shared.now.claims.words ≤ ticket.slot → (result ≡ Ok Worked.Gone) × (own.new.seat ≡ own.old.seat) }
 {
     put_tickets(rt, &mut own.ready, &mut own.hand);
@@ -89,6 +91,8 @@ fn claimed<F: Front, G: Gate, R: Wait + Log>(
     ensures only { OnlyAt ticket.slot own.old.seat own.new.seat }
     ensures change { TurnChange (account_at own.old.seat ticket.slot) result (account_at own.new.seat ticket.slot) }
     ensures exchanges { own.new.seat.steps + 1 ≡ own.old.seat.steps + exchanges result }
+    ensures ticket { (account_at own.new.seat ticket.slot).minted ≡ (account_at own.old.seat ticket.slot).minted + 1 → KeepsTicket ticket own.new.ready.history own.new.hand }
+    ensures slot { result ≡ Ok Worked.Ended → ticket.generation < MAX_GEN → KeepsSlot ticket.slot own.new.free.history own.new.hand }
 {
     match shared.berths.take_out(rt, &own.seat, ticket.slot) {
         Some(berth) if berth.pair.generation() == ticket.generation => {
@@ -116,6 +120,7 @@ fn give_up<F: Front, R: Wait>(rt: &R, shared: &Shared<F>, own: &mut Own, ticket:
     ensures only { OnlyAt ticket.slot own.old.seat own.new.seat }
     ensures posted { (account_at own.new.seat ticket.slot).posted ≡ (account_at own.old.seat ticket.slot).posted }
     ensures exchanges { own.new.seat.steps ≡ own.old.seat.steps + 2 }
+    ensures ticket { (account_at own.new.seat ticket.slot).minted ≡ (account_at own.old.seat ticket.slot).minted + 1 → KeepsTicket ticket own.new.ready.history own.new.hand }
 {
     shared.claims.take(&mut own.seat, ticket.slot);
     leave(rt, shared, own, ticket);
@@ -139,6 +144,8 @@ fn run<F: Front, G: Gate, R: Wait + Log>(
     ensures only { OnlyAt ticket.slot own.old.seat own.new.seat }
     ensures change { TurnChange (account_at own.old.seat ticket.slot) result (account_at own.new.seat ticket.slot) }
     ensures exchanges { own.new.seat.steps + 1 ≡ own.old.seat.steps + exchanges result }
+    ensures ticket { (account_at own.new.seat ticket.slot).minted ≡ (account_at own.old.seat ticket.slot).minted + 1 → KeepsTicket ticket own.new.ready.history own.new.hand }
+    ensures slot { result ≡ Ok Worked.Ended → ticket.generation < MAX_GEN → KeepsSlot ticket.slot own.new.free.history own.new.hand }
 {
     match play(shared, &mut own.seat, gate, ticket.slot, &mut berth) {
         Turn::Done | Turn::Failed => {
@@ -219,7 +226,9 @@ fn again<F: Front, R: Wait>(
     ensures idle { HoldsNothing own.new.seat }
     ensures only { OnlyAt ticket.slot own.old.seat own.new.seat }
     ensures change { TurnChange (account_at own.old.seat ticket.slot) result (account_at own.new.seat ticket.slot) }
+    ensures answer { IfOk result (λ worked. worked ≡ Worked.Again) }
     ensures exchanges { own.new.seat.steps + 2 ≡ own.old.seat.steps + exchanges result }
+    ensures ticket { (account_at own.new.seat ticket.slot).minted ≡ (account_at own.old.seat ticket.slot).minted + 1 → KeepsTicket ticket own.new.ready.history own.new.hand }
 {
     // A holder's own post never answers Wake: the release does.
     let posted = shared.claims.post(&mut own.seat, ticket.slot);
@@ -241,6 +250,7 @@ fn leave<F: Front, R: Wait>(rt: &R, shared: &Shared<F>, own: &mut Own, ticket: T
     ensures only { OnlyAt ticket.slot own.old.seat own.new.seat }
     ensures exchanges { own.new.seat.steps ≡ own.old.seat.steps + 1 }
     ensures released { ReleasedHere (account_at own.old.seat ticket.slot) (account_at own.new.seat ticket.slot) }
+    ensures ticket { (account_at own.new.seat ticket.slot).minted ≡ (account_at own.old.seat ticket.slot).minted + 1 → KeepsTicket ticket own.new.ready.history own.new.hand }
 {
     if shared.claims.release(&mut own.seat, ticket.slot) == Released::Wake {
         put_ticket(rt, own, ticket);
@@ -264,6 +274,7 @@ fn end<F: Front, R: Wait + Log>(
     ensures only { OnlyAt ticket.slot own.old.seat own.new.seat }
     ensures change { TurnChange (account_at own.old.seat ticket.slot) (Ok Worked.Ended) (account_at own.new.seat ticket.slot) }
     ensures exchanges { own.new.seat.steps ≡ own.old.seat.steps + 1 }
+    ensures slot { ticket.generation < MAX_GEN → KeepsSlot ticket.slot own.new.free.history own.new.hand }
 {
     log_end(rt, alloc, &berth.pair);
     drop(berth);
@@ -272,6 +283,13 @@ fn end<F: Front, R: Wait + Log>(
     if ticket.generation < MAX_GEN {
         give_slot(rt, own, ticket.slot);
     }
+    wake_poller(shared, own, ticket);
+}
+
+/// Wakes the poller, which may wait for the slot. Woken before the slot is given back, it could look and wait on.
+fn wake_poller<F: Front>(shared: &Shared<F>, _own: &Own, _ended: Ticket)
+    requires given { _ended.generation < MAX_GEN → KeepsSlot _ended.slot _own.now.free.history _own.now.hand }
+{
     F::wake(&shared.waker);
 }
 

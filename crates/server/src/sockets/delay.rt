@@ -1,11 +1,9 @@
 ghost use Rattle.std.specs.Prelude.{◌≡◌, ◌↔◌, true, false, IsTrue};
 ghost use Rattle.server.specs.SocketsDelays.{waiting, prompt, IsOffered};
 
+use crate::limits::BULK;
 use relay_core::READ_MOST;
 use std::marker::Model;
-
-/// So many full offers in a row are bulk, which is sent in larger parts where a socket may wait for more.
-const BULK: u8 = 4;
 
 /// When a socket sends at once, by TCP_NODELAY of tcp(7): from its opening on, but for bulk until the connection is
 /// quiet.

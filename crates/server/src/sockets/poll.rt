@@ -4,7 +4,8 @@ ghost use Rattle.server.specs.SocketsFronts.{numbers};
 ghost use Rattle.server.specs.SocketsWires.{fresh, promptly};
 
 use crate::faults::ServerFault;
-use crate::front::{Front, Line, MAX_BATCH, Unopened};
+use crate::front::{Front, Line, Unopened};
+use crate::limits::{LISTENER, LONGEST_WAIT, MAX_BATCH, WAKER};
 use crate::sockets::bound::Bound;
 use crate::sockets::wire::SocketWire;
 use log::{Log, debug, error};
@@ -16,15 +17,6 @@ use std::marker::Model;
 use std::net::{Net, SocketAddr};
 use std::time::Duration;
 use token::Token;
-
-/// The longest wait for reports, in milliseconds.
-const LONGEST_WAIT: u64 = 200;
-
-/// The number under which the listening socket is reported.
-const LISTENER: usize = 0;
-
-/// The number under which the waker is reported.
-const WAKER: usize = 1;
 
 /// The front over the system's sockets: one listening socket, one target, and one epoll(7) for all.
 #[derive(Drop)]
@@ -117,9 +109,8 @@ impl Sockets {
 /// What reports on the listening socket, and the waker that ends a wait for reports.
 fn reports_on<R: Net>(rt: &R, listener: &mut TcpListener) -> io::Result<(Poll, Waker)> {
     let poll = Poll::new(rt)?;
-    poll.registry()
-        .register(listener, mio::Token(LISTENER), Interest::READABLE)?;
-    let waker = Waker::new(poll.registry(), mio::Token(WAKER))?;
+    poll.registry().register(listener, mio::Token(LISTENER as usize), Interest::READABLE)?;
+    let waker = Waker::new(poll.registry(), mio::Token(WAKER as usize))?;
     Ok((poll, waker))
 }
 

@@ -2,7 +2,8 @@
 // is told by its run alone.
 ghost use Rattle.std.specs.Prelude.{◌≡◌, ◌≤◌, vec_len, vec_capacity};
 
-use crate::front::{Front, Line, MAX_BATCH, Unopened};
+use crate::front::{Front, Line, Unopened};
+use crate::limits::MAX_BATCH;
 use engine::{Play, ScriptWire};
 use log::Log;
 use std::alloc::{AllocError, Global};
