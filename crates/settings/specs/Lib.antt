@@ -1,5 +1,7 @@
 pub mod Names
 pub mod Addresses
+pub mod Shown
 pub mod Table
 pub mod Document
 pub mod Text
+pub mod Faults

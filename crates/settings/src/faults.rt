@@ -2,10 +2,11 @@
 ghost use Rattle.std.specs.Prelude.{◌≡◌, ℕ, List, Some, IfOk, string_bytes};
 
 use crate::keys::Key;
+use crate::one_line::OneLine;
 use std::alloc::{AllocError, Global};
+use std::error::Error;
 use std::fmt;
 use std::marker::Model;
-use thiserror::Error;
 
 /// A key that no table knows, as it stands in the text.
 #[derive(Debug, Drop)]
@@ -37,40 +38,56 @@ impl KeyText {
     }
 }
 
+/// The key on one line, as [`OneLine`] shows it.
 impl fmt::Display for KeyText {
-    ghost output = { λ key. Some key };
+    ghost use Rattle.settings.specs.Shown.{one_line};
+
+    ghost output = { λ key. Some (one_line key) };
 
     fn fmt<W: fmt::Write>(&self, f: &mut fmt::Formatter<W>) -> fmt::Result {
-        f.write_str(self.as_str())
+        OneLine(self.as_str()).fmt(f)
     }
 }
 
 /// The first thing that is wrong in a settings text, or that there was no memory to look.
 ///
-/// Faults are looked for in this order: a text that is no TOML; the first unknown key, by the order
-/// of its bytes; and then key by key, in the order of `Key`, one that is missing, of the wrong kind,
-/// out of range or a bad address.
-#[derive(Debug, Drop, Error)]
+/// Errors are checked in this order: a text that is no TOML; the first unknown key, by the order of its bytes; and then
+/// key by key, in the order of `Key`, one that is missing, of the wrong kind, out of range or a bad address.
+#[derive(Debug, Drop)]
 pub enum SettingsFault {
     /// The bytes are not UTF-8, or no TOML document.
-    #[error("settings: not toml")]
     NotToml,
     /// A key at the top level that is none of the eight.
-    #[error("settings: {0}: unknown key")]
     UnknownKey(KeyText),
     /// A required key that the text leaves out.
-    #[error("settings: {0}: missing")]
     Missing(Key),
     /// A value of another kind than its key takes, as a number for a text.
-    #[error("settings: {0}: wrong kind")]
     WrongKind(Key),
     /// A number out of its range, or a text that names no level.
-    #[error("settings: {0}: out of range")]
     OutOfRange(Key),
     /// A text that is no address with a port in range.
-    #[error("settings: {0}: bad address")]
     BadAddress(Key),
     /// An allocation was refused, which says nothing of the text.
-    #[error("out of memory")]
     NoMemory,
 }
+
+/// One line, without its end. No text of a file can write a line of its own.
+impl fmt::Display for SettingsFault {
+    ghost use Rattle.settings.specs.Faults.{fault_line};
+
+    ghost output = { λ fault. Some (fault_line fault) };
+
+    fn fmt<W: fmt::Write>(&self, f: &mut fmt::Formatter<W>) -> fmt::Result {
+        match self {
+            SettingsFault::NotToml => f.write_str("settings: not toml"),
+            SettingsFault::UnknownKey(key) => write!(f, "settings: {key}: unknown key"),
+            SettingsFault::Missing(key) => write!(f, "settings: {key}: missing"),
+            SettingsFault::WrongKind(key) => write!(f, "settings: {key}: wrong kind"),
+            SettingsFault::OutOfRange(key) => write!(f, "settings: {key}: out of range"),
+            SettingsFault::BadAddress(key) => write!(f, "settings: {key}: bad address"),
+            SettingsFault::NoMemory => f.write_str("out of memory"),
+        }
+    }
+}
+
+impl Error for SettingsFault {}
