@@ -1,4 +1,4 @@
-//! Reading an input up to a most: a script from standard input, a settings file.
+//! Reads at most N bytes from the start of an input: of a script on standard input, of a settings file.
 #![tactic(auto)]
 
 mod reading;

@@ -8,7 +8,7 @@ use thiserror::Error;
 /// Why an input was not read.
 #[derive(Clone, Copy, Debug, PartialEq, Eq, Error)]
 pub enum InputFault {
-    /// The reader answered an error.
+    /// The reader gave an error.
     #[error("cannot be read")]
     Unreadable,
     /// Memory ran out.
@@ -16,11 +16,11 @@ pub enum InputFault {
     NoMemory,
 }
 
-/// Reads to the end of the input, or `most` bytes of it where it has more. One who asks for one byte more
-/// than may be there sees by it that there were too many.
+/// The front of an input: at most `most` bytes from its start, and all of it where it has no more. A caller that
+/// allows n bytes asks for n + 1, and knows by the last one that the input is too long.
 ///
-/// It makes at most `most` reads. Any error of the reader, a signal too, is [`InputFault::Unreadable`] at
-/// once; what was read until then is gone, and so it is where memory runs out.
+/// It makes at most `most` reads. The first error of the reader, also an interruption by a signal, ends it with
+/// [`InputFault::Unreadable`]. After any fault the bytes that were read are lost.
 pub fn read_front<R: Read>(
     alloc: Global,
     reader: &mut R,
@@ -31,7 +31,7 @@ pub fn read_front<R: Read>(
     ensures taken { TakesAtMost most (R.remaining reader.old) (R.remaining reader.new) }
 {
     let mut text = Vec::new(alloc);
-    // Each read but the last gives a byte, so there are at most as many as that.
+    // Each read but the last gives at least a byte, so this many reads are enough.
     for _reads in 0..most {
         if text.len() == most {
             return Ok(text);
@@ -44,7 +44,7 @@ pub fn read_front<R: Read>(
     Ok(text)
 }
 
-/// One read, to the end of the text.
+/// One read, whose bytes are appended to the text.
 fn read_on<R: Read>(reader: &mut R, text: &mut Vec<u8>, most: usize) -> Result<usize, InputFault>
     requires { vec_len text.old ≤ most }
     ensures reads { IfOk result (λ count. ReadsOn most (R.remaining reader.old) (R.remaining reader.new) text.old.items text.new.items count) }

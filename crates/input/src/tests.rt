@@ -2,7 +2,7 @@ use super::*;
 use std::io::{self, ErrorKind, Read};
 use std::test::Fail;
 
-/// A reader of letters: it gives at most so many a read, and answers an error in one read's place.
+/// A reader of letters. It gives at most `most` of them a read, and an error in place of one read.
 #[derive(Drop)]
 struct Letters {
     left: usize,
@@ -38,10 +38,10 @@ impl Read for Letters {
     }
 }
 
-// What there is, what is wanted, the most that a read gives, and then: how many bytes came, how many are
-// left, and after how many reads.
+// Bytes in the reader, bytes asked for, the most that a read gives; and then bytes that came, bytes left in the reader,
+// and the reads made.
 #[test]
-fn reads_to_the_end_or_the_most(rt: HostRuntime) -> Result<(), Fail> {
+fn reads_to_the_end_or_the_limit(rt: HostRuntime) -> Result<(), Fail> {
     for (there, wanted, most, came, left, reads) in [
         (0, 0, 9, 0, 0, 0),
         (5, 0, 9, 0, 5, 0),
@@ -67,9 +67,9 @@ fn reads_to_the_end_or_the_most(rt: HostRuntime) -> Result<(), Fail> {
     Ok(())
 }
 
-// A reader's error is told at once, also one that a second read would not meet.
+// A reader's error is reported at once, also one that the next read would not meet.
 #[test]
-fn tells_an_error_at_once(rt: HostRuntime) -> Result<(), Fail> {
+fn reports_an_error_at_once(rt: HostRuntime) -> Result<(), Fail> {
     for kind in [
         ErrorKind::Interrupted,
         ErrorKind::WouldBlock,

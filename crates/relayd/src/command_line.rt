@@ -1,14 +1,12 @@
-//! The words of the command line.
+//! The command line: its commands, their options and their help.
 
-use clap::{Arg, ArgMatches, Command, Error};
+use crate::constants::VERSION;
+use clap::{Arg, ArgMatches, Error};
 use std::alloc::{AllocError, Global};
 
-/// The version that `--version` tells.
-const VERSION: &str = "0.1.0";
-
-/// What the command line asks for.
+/// A command of the program.
 #[derive(Clone, Copy)]
-pub enum Asked<'a> {
+pub enum Command<'a> {
     /// Run the script on standard input.
     Simulate,
     /// Read this settings file and print what it sets.
@@ -17,29 +15,29 @@ pub enum Asked<'a> {
     Run(&'a str),
 }
 
-/// Reads the command line, the program's own name first. An error is help that was asked for, or why
-/// the words were refused.
-pub fn read_words<'a>(alloc: Global, words: &'a [&'a str]) -> Result<Asked<'a>, Error> {
-    let matches = relayd(alloc)?.try_get_matches_from(words)?;
+/// The command that the arguments name, the program's own name first among them. An error is a usage text: help or
+/// the version that was asked for, or why the arguments are refused.
+pub fn read_command<'a>(alloc: Global, arguments: &'a [&'a str]) -> Result<Command<'a>, Error> {
+    let matches = relayd(alloc)?.try_get_matches_from(arguments)?;
     Ok(chosen(&matches))
 }
 
 /// The command that was chosen; without one, the simulator.
-fn chosen<'a>(matches: &ArgMatches<'a>) -> Asked<'a> {
+fn chosen<'a>(matches: &ArgMatches<'a>) -> Command<'a> {
     let run = matches.subcommand_matches("run");
     if let Some(path) = run.and_then(|run| run.get_str("config")) {
-        return Asked::Run(path);
+        return Command::Run(path);
     }
     let check = matches.subcommand_matches("check");
     match check.and_then(|check| check.get_str("config")) {
-        Some(path) => Asked::Check(path),
-        None => Asked::Simulate,
+        Some(path) => Command::Check(path),
+        None => Command::Simulate,
     }
 }
 
 /// The program's command line.
-fn relayd<'a>(alloc: Global) -> Result<Command<'a>, AllocError> {
-    Command::new(alloc, "relayd")
+fn relayd<'a>(alloc: Global) -> Result<clap::Command<'a>, AllocError> {
+    clap::Command::new(alloc, "relayd")
         .version(VERSION)
         .about("A TCP port forwarder on edge-triggered readiness, and its simulator")
         .after_help(
@@ -51,8 +49,8 @@ fn relayd<'a>(alloc: Global) -> Result<Command<'a>, AllocError> {
 }
 
 /// `relayd sim`.
-fn simulate<'a>(alloc: Global) -> Command<'a> {
-    Command::new(alloc, "sim")
+fn simulate<'a>(alloc: Global) -> clap::Command<'a> {
+    clap::Command::new(alloc, "sim")
         .about("Runs the script on standard input and prints its report")
         .after_help(
             "A script is a header and steps, one a line: what comes from the network, and what the\nsockets reply to the relay. The report says where every byte is after the last step. A\nscript with a fault gives one line that tells the fault, and the status 1.\n\nExample:\n  relayd sim < examples/one-direction.flow\n\nrelayd(1) lists the steps, and relayd.toml(5) describes the settings.",
@@ -60,9 +58,9 @@ fn simulate<'a>(alloc: Global) -> Command<'a> {
 }
 
 /// `relayd run --config FILE`.
-fn run<'a>(alloc: Global) -> Result<Command<'a>, AllocError> {
+fn run<'a>(alloc: Global) -> Result<clap::Command<'a>, AllocError> {
     Ok(
-        Command::new(alloc, "run")
+        clap::Command::new(alloc, "run")
             .about("Forwards connections by a settings file")
             .after_help(
                 "Listens at the file's `listen` address, and forwards each connection to `target`. Prints\n`listening A.B.C.D:PORT` once it listens, and log lines to standard error. It ends after\n`stop_after` connections, if that is set, or at a fault, with the status 1.\n\nExample:\n  relayd run --config examples/relayd.toml\n\nrelayd(1) tells more, and relayd.toml(5) describes the settings.",
@@ -72,9 +70,9 @@ fn run<'a>(alloc: Global) -> Result<Command<'a>, AllocError> {
 }
 
 /// `relayd check --config FILE`.
-fn check<'a>(alloc: Global) -> Result<Command<'a>, AllocError> {
+fn check<'a>(alloc: Global) -> Result<clap::Command<'a>, AllocError> {
     Ok(
-        Command::new(alloc, "check")
+        clap::Command::new(alloc, "check")
             .about("Reads a settings file and prints every setting, or what is wrong")
             .after_help(
                 "Prints a line KEY=VALUE for each setting, defaults included. Where the file is not as it\nshould be, the first fault is told, with its key where it has one, and the status is 1.\n\nExample:\n  relayd check --config examples/relayd.toml\n\nrelayd.toml(5) describes the settings.",

@@ -2,6 +2,7 @@
 ghost use Rattle.std.specs.Prelude.{◌≡◌, ◌<◌, ◌≤◌, Err, IfOk, IfErr, IfSome, length, vec_len};
 ghost use Rattle.relayd.specs.Files.{FileSets, HasFault};
 
+use crate::constants::MAX_CONFIG_BYTES;
 use crate::faults::ProgramFault;
 use input::{InputFault, read_front};
 use log::{Log, error};
@@ -11,10 +12,7 @@ use std::fs::File;
 use std::io::{self, Read};
 use std::rt::Files;
 
-/// The most bytes of a settings file.
-const MOST_BYTES: usize = 65_536;
-
-/// The settings of a file. Where it has a fault, what the system or the reader of settings says of it is logged.
+/// The settings of the file at a path. The cause of a fault is logged: what the system or the parser says of it.
 pub fn load<R: AllocGlobal + Files, L: Log>(
     rt: &R,
     log: &L,
@@ -43,8 +41,8 @@ fn log_unread(log: &impl Log, path: &str, error: io::Error) {
     error!(log; target: "relayd", "config: {path}: {error}");
 }
 
-/// The settings that a file's bytes are, all of them, or the fault of the file. One that is too long is told so,
-/// whatever it says. The cause of a fault of its text is logged.
+/// The settings of a file, by all of its bytes, or its fault. A file that is too long has that fault, whatever its text.
+/// Where the text has a fault, its cause is logged.
 pub fn read<F: Read, L: Log>(log: &L, alloc: Global, file: &mut F) -> Result<Settings, ProgramFault>
     ensures settings { IfOk result (λ s. IfSome (F.remaining file.old) (λ bytes. FileSets bytes s)) }
     ensures fault { IfErr result (λ fault. IfSome (F.remaining file.old) (λ bytes. HasFault bytes fault)) }
@@ -59,14 +57,14 @@ pub fn read<F: Read, L: Log>(log: &L, alloc: Global, file: &mut F) -> Result<Set
     }
 }
 
-/// Logs where a fault of a text stands, and what is wanted there.
+/// Logs the line of a settings fault, and what it should say.
 fn log_cause(log: &impl Log, alloc: Global, text: &[u8], fault: &SettingsFault) {
     if let Some(cause) = settings::cause(alloc, text, fault) {
         error!(log; target: "relayd", "settings: {cause}");
     }
 }
 
-/// A reader that keeps the error of a read that failed.
+/// A reader that keeps the error of its last failed read, since the fault of the file doesn't name it.
 #[derive(Drop)]
 struct Noting<R> {
     reader: R,
@@ -85,15 +83,14 @@ impl<R: Read> Read for Noting<R> {
     }
 }
 
-/// All bytes of a file, which is read to its end or one byte past the most that it may have: with that
-/// byte it is too long.
+/// All bytes of a file. It is read to its end, or to one byte past its greatest length, by which it is too long.
 fn read_whole<F: Read>(alloc: Global, file: &mut F) -> Result<Vec<u8>, ProgramFault>
     ensures most { IfOk result (λ text. vec_len text ≤ 65536) }
     ensures whole { IfOk result (λ text. IfSome (F.remaining file.old) (λ bytes. text.items ≡ bytes)) }
     ensures fault { IfErr result (λ fault. IfSome (F.remaining file.old) (λ bytes. HasFault bytes fault)) }
 {
-    match read_front(alloc, file, MOST_BYTES + 1) {
-        Ok(text) if text.len() > MOST_BYTES => Err(ProgramFault::ConfigLong),
+    match read_front(alloc, file, MAX_CONFIG_BYTES + 1) {
+        Ok(text) if text.len() > MAX_CONFIG_BYTES => Err(ProgramFault::ConfigLong),
         Ok(text) => Ok(text),
         Err(fault) => Err(not_read(fault)),
     }

@@ -1,7 +1,7 @@
-//! What the program tells on standard error.
+//! What the program reports on standard error.
 ghost use Rattle.std.specs.Prelude.{◌≡◌};
 ghost use Rattle.std.specs.IoError.{error_kind};
-ghost use Rattle.relayd.specs.Words.{words_fault};
+ghost use Rattle.relayd.specs.Arguments.{arguments_fault};
 ghost use Rattle.relayd.specs.Files.{settings_fault};
 ghost use Rattle.relayd.specs.declared.faults.ProgramFault.TheVariants.{NoMemory};
 
@@ -38,12 +38,12 @@ pub enum ProgramFault {
     NoMemory,
 }
 
-/// Why the words of the command line can't be had.
+/// Why the arguments of the command line can't be read.
 #[derive(Clone, Copy, Debug)]
-pub enum WordsFault {
+pub enum ArgumentsFault {
     /// Memory ran out.
     NoMemory,
-    /// A word is not UTF-8.
+    /// An argument is not UTF-8.
     NotText,
 }
 
@@ -57,7 +57,7 @@ impl From<AllocError> for ProgramFault {
 
 // Memory that ran out is one fault, wherever it did.
 impl From<SettingsFault> for ProgramFault {
-    ghost from_gives = { λ fault told. told ≡ settings_fault fault };
+    ghost from_gives = { λ fault given. given ≡ settings_fault fault };
 
     fn from(fault: SettingsFault) -> ProgramFault {
         match fault {
@@ -67,24 +67,24 @@ impl From<SettingsFault> for ProgramFault {
     }
 }
 
-impl From<AllocError> for WordsFault {
-    ghost use Rattle.relayd.specs.declared.faults.WordsFault.TheVariants.{NoMemory};
+impl From<AllocError> for ArgumentsFault {
+    ghost use Rattle.relayd.specs.declared.faults.ArgumentsFault.TheVariants.{NoMemory};
 
     ghost from_gives = { λ _ fault. fault ≡ NoMemory };
 
-    fn from(_error: AllocError) -> WordsFault {
-        WordsFault::NoMemory
+    fn from(_error: AllocError) -> ArgumentsFault {
+        ArgumentsFault::NoMemory
     }
 }
 
-// The words are asked for from the system, which has them as bytes.
-impl From<io::Error> for WordsFault {
-    ghost from_gives = { λ error fault. fault ≡ words_fault (error_kind error) };
+// The system hands out the arguments as bytes.
+impl From<io::Error> for ArgumentsFault {
+    ghost from_gives = { λ error fault. fault ≡ arguments_fault (error_kind error) };
 
-    fn from(error: io::Error) -> WordsFault {
+    fn from(error: io::Error) -> ArgumentsFault {
         match error.kind() {
-            io::ErrorKind::OutOfMemory => WordsFault::NoMemory,
-            _ => WordsFault::NotText,
+            io::ErrorKind::OutOfMemory => ArgumentsFault::NoMemory,
+            _ => ArgumentsFault::NotText,
         }
     }
 }

@@ -1,13 +1,14 @@
 //! The program: it forwards connections by a settings file, checks such a file, and runs the relay's simulator on
 //! standard input and output.
 //!
-//! [`program::act`] does all that the program does, from its words, a reader, two writers and what serves to a
-//! status. `main` hands it the process's own, and words that can't be had are told by
-//! [`program::refuse`].
+//! [`program::act`] does all that the program does: from its arguments, a reader, two writers and a closure that serves
+//! to a status. `main` hands it the process's own, and [`program::report_arguments_fault`] reports arguments that can't be
+//! read.
 #![tactic(auto)]
 
 mod command_line;
 mod config;
+mod constants;
 mod faults;
 mod program;
 #[cfg(test)]
@@ -27,16 +28,16 @@ fn main(rt: HostRuntime) -> ExitCode {
         let logged = Logged::new(rt, program::most_logged(settings.log), Console(rt));
         server::serve(&logged, rt.alloc(), &settings, &OpenGate, bound)
     };
-    let status = match program::words(&rt) {
-        Ok(words) => program::act(
+    let status = match program::arguments(&rt) {
+        Ok(arguments) => program::act(
             &rt,
-            words.as_slice(),
+            arguments.as_slice(),
             &mut input,
             &mut output,
             &mut errors,
             &serve,
         ),
-        Err(fault) => program::refuse(&mut errors, fault),
+        Err(fault) => program::report_arguments_fault(&mut errors, fault),
     };
     ExitCode::from(status)
 }

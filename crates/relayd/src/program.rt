@@ -1,11 +1,12 @@
-//! What the program does, from its words to its status.
+//! What the program does, from its arguments to its status.
 ghost use Rattle.std.specs.Prelude.{◌≡◌, ◌≢◌, ◌⊎◌, IfSome, Ok};
 ghost use Rattle.clap.specs.Values.{kind_of};
 ghost use Rattle.script.specs.Runs.{WritesReport, WritesFault};
 
-use crate::command_line::{Asked, read_words};
+use crate::command_line::{Command, read_command};
 use crate::config;
-use crate::faults::{ProgramFault, WordsFault};
+use crate::constants::{DONE, FAULT, USAGE};
+use crate::faults::{ArgumentsFault, ProgramFault};
 use clap::error::ErrorKind;
 use log::sink::Console;
 use log::{LevelFilter, Logged};
@@ -18,38 +19,29 @@ use std::io::{self, Eprint, Read, Write};
 use std::net::Net;
 use std::rt::Files;
 
-/// The status of a program that did what it was asked for.
-const DONE: u8 = 0;
-
-/// The status of a program that met a fault.
-const FAULT: u8 = 1;
-
-/// The status of a program whose command line was refused.
-const USAGE: u8 = 2;
-
-/// The words of the command line, the program's own name first.
-pub fn words<R: AllocGlobal + Env>(rt: &R) -> Result<Vec<String>, WordsFault> {
-    let words = env::args(rt)?;
-    Ok(words.collect(rt.alloc())?)
+/// The arguments of the command line, the program's own name first.
+pub fn arguments<R: AllocGlobal + Env>(rt: &R) -> Result<Vec<String>, ArgumentsFault> {
+    let arguments = env::args(rt)?;
+    Ok(arguments.collect(rt.alloc())?)
 }
 
-/// Tells to `errors` why there are no words, and answers the exit status: 1 where memory ran out, and
-/// 2 where a word is not UTF-8, which refuses the command line.
-pub fn refuse<E: Write>(errors: &mut E, fault: WordsFault) -> u8
-    ensures memory { fault ≡ WordsFault.NoMemory → result ≡ 1 }
-    ensures not_text { fault ≡ WordsFault.NotText → result ≡ 2 }
+/// Writes to `errors` why the arguments can't be read, and answers the exit status: 1 where memory ran out, and 2, a
+/// usage error, where one is not UTF-8.
+pub fn report_arguments_fault<E: Write>(errors: &mut E, fault: ArgumentsFault) -> u8
+    ensures memory { fault ≡ ArgumentsFault.NoMemory → result ≡ 1 }
+    ensures not_text { fault ≡ ArgumentsFault.NotText → result ≡ 2 }
 {
     match fault {
-        WordsFault::NoMemory => told(errors, ProgramFault::NoMemory),
-        WordsFault::NotText => {
-            // Where not even this can be written, the status is all that is left to tell.
+        ArgumentsFault::NoMemory => report_fault(errors, ProgramFault::NoMemory),
+        ArgumentsFault::NotText => {
+            // If this can't be written either, only the status is left to report it.
             let _ = writeln!(errors, "error: a word of the command line is not UTF-8");
             USAGE
         }
     }
 }
 
-/// Runs the program. `words` is the command line, the program's own name first.
+/// Runs the program. `words` are the arguments of the command line, the program's own name first.
 ///
 /// | command | what it does |
 /// |---|---|
@@ -57,9 +49,8 @@ pub fn refuse<E: Write>(errors: &mut E, fault: WordsFault) -> u8
 /// | `check --config FILE` | reads a settings file and writes each setting to `writer` |
 /// | `run --config FILE` | reads a settings file, listens, writes `listening A.B.C.D:PORT` to `writer`, and serves; log lines go to the process's own standard error |
 ///
-/// Answers the exit status: 0 for what was asked for, help too; 1 for a fault, which is told to
-/// `errors` after `relayd: ` unless it is a script's own; 2 where the command line is refused, which is
-/// told to `errors`.
+/// Answers the exit status: 0 where the command, help included, was carried out; 1 for a fault, which is written to
+/// `errors` after `relayd: ` unless it is a script's own; 2 for a usage error, which is written to `errors`.
 ///
 /// `serve` is [`server::serve`] with the process's own handle: a thread can only be started with that one.
 pub fn act<R, S, I: Read, O: Write, E: Write>(
@@ -75,24 +66,27 @@ where
     S: Fn(Settings, Bound) -> Result<(), ServerFault>,
     requires { S.IsAlwaysCallable serve.now }
 {
-    let Ok(words) = texts(rt.alloc(), words) else {
-        return told(errors, ProgramFault::NoMemory);
+    let Ok(arguments) = texts(rt.alloc(), words) else {
+        return report_fault(errors, ProgramFault::NoMemory);
     };
-    let outcome = match read_words(rt.alloc(), words.as_slice()) {
-        Ok(Asked::Simulate) => simulate(rt.alloc(), reader, writer),
-        Ok(Asked::Check(path)) => check(rt, path, writer),
-        Ok(Asked::Run(path)) => run(rt, path, writer, serve),
-        Err(error) => return answered(&error, writer, errors),
+    let outcome = match read_command(rt.alloc(), arguments.as_slice()) {
+        Ok(Command::Simulate) => simulate(rt.alloc(), reader, writer),
+        Ok(Command::Check(path)) => check(rt, path, writer),
+        Ok(Command::Run(path)) => run(rt, path, writer, serve),
+        Err(error) => return answer_usage(&error, writer, errors),
     };
     match outcome {
         Ok(status) => status,
-        Err(fault) => told(errors, fault),
+        Err(fault) => report_fault(errors, fault),
     }
 }
 
-/// The words as texts.
-fn texts(alloc: Global, words: &[String]) -> Result<Vec<&str>, AllocError> {
-    words.iter().map(|word| word.as_str()).collect(alloc)
+/// The arguments as text slices, which the reader of the command line takes.
+fn texts(alloc: Global, arguments: &[String]) -> Result<Vec<&str>, AllocError> {
+    arguments
+        .iter()
+        .map(|argument| argument.as_str())
+        .collect(alloc)
 }
 
 /// Runs a script: 0 where its report was written, and 1 where the line of its fault was.
@@ -111,7 +105,7 @@ fn simulate<I: Read, O: Write>(
     }
 }
 
-/// Prints what a settings file sets.
+/// Prints each setting of a settings file.
 fn check<R: AllocGlobal + Files + Eprint + Copy + Drop, O: Write>(
     rt: &R,
     path: &str,
@@ -123,8 +117,8 @@ fn check<R: AllocGlobal + Files + Eprint + Copy + Drop, O: Write>(
     Ok(DONE)
 }
 
-/// The settings of a file. Causes of its faults go to the process's own standard error: what it says of `log` is not
-/// known by then.
+/// The settings of a file. The causes of its faults are logged to the process's own standard error at any level that it
+/// sets: what it says of `log` is not known by then.
 fn load<R: AllocGlobal + Files + Eprint + Copy + Drop>(
     rt: &R,
     path: &str,
@@ -133,7 +127,7 @@ fn load<R: AllocGlobal + Files + Eprint + Copy + Drop>(
     config::load(rt, &logged, path)
 }
 
-/// Listens by a settings file, tells where, and serves.
+/// Listens by a settings file, prints the address, and serves.
 fn run<R, S, O: Write>(rt: &R, path: &str, writer: &mut O, serve: &S) -> Result<u8, ProgramFault>
 where
     R: AllocGlobal + Files + Eprint + Net + Copy + Drop,
@@ -170,31 +164,31 @@ fn write(writer: &mut impl Write, text: &str) -> Result<(), ProgramFault> {
     Ok(())
 }
 
-/// Answers a command line that asked for help, or was refused.
-fn answered<O: Write, E: Write>(error: &clap::Error, writer: &mut O, errors: &mut E) -> u8
+/// Prints a usage text: help and the version to `writer`, a usage error to `errors`. Answers the exit status.
+fn answer_usage<O: Write, E: Write>(error: &clap::Error, writer: &mut O, errors: &mut E) -> u8
     ensures memory { kind_of error.now ≡ ErrorKind.OutOfMemory → result ≡ 1 }
     ensures help { (kind_of error.now ≡ ErrorKind.DisplayHelp) ⊎ (kind_of error.now ≡ ErrorKind.DisplayVersion) → (result ≡ 0) ⊎ (result ≡ 1) }
     ensures refused { kind_of error.now ≢ ErrorKind.OutOfMemory → kind_of error.now ≢ ErrorKind.DisplayHelp → kind_of error.now ≢ ErrorKind.DisplayVersion → result ≡ 2 }
 {
     if error.kind() == ErrorKind::OutOfMemory {
-        return told(errors, ProgramFault::NoMemory);
+        return report_fault(errors, ProgramFault::NoMemory);
     }
     if error.use_stderr() {
-        // Where not even this can be written, the status is all that is left to tell.
+        // If this can't be written either, only the status is left to report it.
         let _ = write!(errors, "{error}");
         return USAGE;
     }
     if write!(writer, "{error}").is_err() || writer.flush().is_err() {
-        return told(errors, ProgramFault::Write);
+        return report_fault(errors, ProgramFault::Write);
     }
     DONE
 }
 
-/// Tells a fault, and answers its status.
-fn told(errors: &mut impl Write, fault: ProgramFault) -> u8
+/// Writes a fault to `errors`, and answers its status.
+fn report_fault(errors: &mut impl Write, fault: ProgramFault) -> u8
     ensures { result ≡ 1 }
 {
-    // Where not even this can be written, the status is all that is left to tell.
+    // If this can't be written either, only the status is left to report it.
     let _ = writeln!(errors, "relayd: {fault}");
     FAULT
 }

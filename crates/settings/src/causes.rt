@@ -1,14 +1,12 @@
-//! What a person is told beside a fault: where it stands, what stands there, and what is wanted.
+//! The causes of faults, for a person: the line, what it says, and what is wanted there.
 
+use crate::limits::MAX_LOOKS;
 use crate::{Key, OneLine, SettingsFault};
 use std::alloc::{AllocError, Global};
 use toml::Table;
 
-/// The most lines that are looked at for a key.
-const MAX_LOOKS: usize = 64;
-
-/// The cause of a fault, for a person: the line, what stands there, and what is wanted. None where there is no memory
-/// for it. `bytes` is the text that has the fault.
+/// The cause of a fault, for a person: the line, what it says, and what is wanted there. `bytes` is the text with the
+/// fault. `None` where there is no memory for the cause.
 pub fn cause(alloc: Global, bytes: &[u8], fault: &SettingsFault) -> Option<String> {
     let text = match std::str::from_utf8(bytes) {
         Ok(text) => text,
@@ -39,7 +37,7 @@ fn line_at(bytes: &[u8], index: usize) -> usize {
     line
 }
 
-/// Where a text is no TOML, and what its reader says.
+/// Where a text is not TOML, and what the parser says.
 fn not_toml(alloc: Global, text: &str) -> Option<String> {
     let Err(error) = toml::table_from_str(alloc, text) else {
         return None;
@@ -50,7 +48,7 @@ fn not_toml(alloc: Global, text: &str) -> Option<String> {
     format!(in alloc; "line {line}: {message}").ok()
 }
 
-/// That a key is none, and which there are.
+/// A key that isn't known, and those that are.
 fn unknown(alloc: Global, text: &str, name: &str) -> Option<String> {
     let place = place_of(alloc, text, name).ok()?;
     let name = OneLine(name);
@@ -59,13 +57,13 @@ fn unknown(alloc: Global, text: &str, name: &str) -> Option<String> {
     ).ok()
 }
 
-/// That a key is required, and what it takes.
+/// A key that is required, and what it takes.
 fn missing(alloc: Global, key: Key) -> Result<String, AllocError> {
     let wanted = wanted(key);
     format!(in alloc; "{key}: {wanted}")
 }
 
-/// The value that a key may not have, and what it takes.
+/// A value that a key doesn't take, and what it takes.
 fn refused(alloc: Global, text: &str, key: Key) -> Option<String> {
     let place = place_of(alloc, text, key.name()).ok()?;
     let document = toml::table_from_str(alloc, text).ok()?;
@@ -98,8 +96,8 @@ fn place_of(alloc: Global, text: &str, name: &str) -> Result<String, AllocError>
     }
 }
 
-/// The first line, from 1, by whose end the text sets a key. Only lines that have the name in plain letters are looked
-/// at, and not too many of them.
+/// The first line, from 1, by whose end the text sets a key. Only lines that contain the name as it is are tried, and
+/// at most [`MAX_LOOKS`] of them.
 fn line_of(alloc: Global, text: &str, name: &str) -> Option<usize> {
     let mut looks = 0usize;
     let mut start = 0usize;

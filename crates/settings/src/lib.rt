@@ -11,6 +11,7 @@ mod faults;
 mod fields;
 mod keys;
 mod levels;
+mod limits;
 mod one_line;
 mod read;
 #[cfg(test)]

@@ -2,10 +2,8 @@
 ghost use Rattle.std.specs.Prelude.{Some};
 ghost use Rattle.settings.specs.Shown.{shown_character, one_line};
 
+use crate::limits::MAX_SHOWN;
 use std::fmt;
-
-/// The most characters of a text that are shown.
-const MAX_SHOWN: usize = 64;
 
 /// A text from outside on one line: control characters are escaped, and after 64 characters `..` stands for the rest.
 #[derive(Clone, Copy)]

@@ -1,16 +1,15 @@
 //! One growth is refused under `rt try --test --fail-alloc N`, and none otherwise: the program then does
-//! what it does with ample memory, or tells that memory ran out.
+//! what it does with ample memory, or reports that memory ran out.
 
-use super::checks::{DEFAULTS, NEEDED, check_words, path, words};
-use super::ends::Source;
-use super::helps::HELP;
-use super::{WHOLE, lines};
+use super::ends::{Sink, Source};
+use super::{NEEDED, REPORT, ROOM, SCRIPT, arguments, check_arguments, path, play};
 use crate::program::act;
 use std::fs;
-use std::io::Eprint;
-use std::net::Net;
-use std::rt::Files;
 use std::test::Fail;
+
+/// What `relayd check` prints of the two settings that are needed.
+const DEFAULTS: &[u8] =
+    b"listen=127.0.0.1:7000\ntarget=127.0.0.1:7001\nring=16384\nbudget=64\nworkers=4\nslots=1024\nstop_after=0\nlog=info\n";
 
 /// How a run ended, by its status and what it wrote.
 #[derive(Clone, Copy, Debug, PartialEq, Eq)]
@@ -26,12 +25,7 @@ enum Ending {
 
 /// How a run ends that should write this output. Its writers take no memory, so that each growth is the
 /// program's own.
-fn ended<R: AllocGlobal + Files + Eprint + Net + Copy + Drop>(
-    rt: &R,
-    words: &[String],
-    input: &[u8],
-    wanted: &[u8],
-) -> Ending {
+fn ended(rt: &HostRuntime, arguments: &[String], input: &[u8], wanted: &[u8]) -> Ending {
     let mut source = Source::whole(input);
     let mut output = [0u8; 2048];
     let mut errors = [0u8; 2048];
@@ -39,7 +33,7 @@ fn ended<R: AllocGlobal + Files + Eprint + Net + Copy + Drop>(
     let mut error_writer = errors.as_mut_slice();
     let status = act(
         rt,
-        words,
+        arguments,
         &mut source,
         &mut writer,
         &mut error_writer,
@@ -64,27 +58,32 @@ fn ended<R: AllocGlobal + Files + Eprint + Net + Copy + Drop>(
 }
 
 #[test]
-fn tells_of_refused_growths(rt: HostRuntime) -> Result<(), Fail> {
-    let script = lines(rt.alloc(), WHOLE)?;
-    let simulate = words(rt.alloc(), "relayd sim")?;
-    let report = b"up sent=616263 ring=- unread=- end=yes shut=yes\n";
-    let end = ended(&rt, simulate.as_slice(), script.as_slice(), report);
-    assert!(rt; end != Ending::Another, "sim");
-    let help = words(rt.alloc(), "relayd --help")?;
-    let end = ended(&rt, help.as_slice(), b"", HELP.as_bytes());
+fn sim_reports_refused_growths(rt: HostRuntime) -> Result<(), Fail> {
+    let arguments = arguments(rt.alloc(), "relayd sim")?;
+    let end = ended(&rt, arguments.as_slice(), SCRIPT, REPORT);
+    assert!(rt; end != Ending::Another);
+    Ok(())
+}
+
+#[test]
+fn help_reports_refused_growths(rt: HostRuntime) -> Result<(), Fail> {
+    let arguments = arguments(rt.alloc(), "relayd --help")?;
+    let sink = Sink::failing_after(rt.alloc(), ROOM)?;
+    let help = play(&rt, arguments.as_slice(), &mut Source::whole(b""), sink)?;
+    let end = ended(&rt, arguments.as_slice(), b"", help.output.as_slice());
     assert!(rt;
         matches!(end, Ending::Whole | Ending::LineOfProgram),
-        "help: {end:?}"
+        "{end:?}"
     );
     Ok(())
 }
 
 #[test]
-fn check_tells_of_refused_growths(rt: HostRuntime) -> Result<(), Fail> {
+fn check_reports_refused_growths(rt: HostRuntime) -> Result<(), Fail> {
     let path = path(&rt, "growths")?;
-    let words = check_words(rt.alloc(), path.as_str())?;
-    fs::write(&rt, path.as_str(), NEEDED.as_bytes())?;
-    let end = ended(&rt, words.as_slice(), b"", DEFAULTS.as_bytes());
+    let arguments = check_arguments(rt.alloc(), path.as_str())?;
+    fs::write(&rt, path.as_str(), NEEDED)?;
+    let end = ended(&rt, arguments.as_slice(), b"", DEFAULTS);
     fs::remove_file(&rt, path.as_str())?;
     assert!(rt;
         matches!(end, Ending::Whole | Ending::LineOfProgram),
