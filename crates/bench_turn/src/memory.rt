@@ -2,11 +2,9 @@
 
 ghost use Rattle.engine.specs.Wires.{counts_alone};
 
+use crate::RING;
 use engine::Wire;
 use std::io;
-
-/// How many bytes one copy moves at most.
-const CHUNK: usize = 16_384;
 
 /// A wire that has so many bytes to read, and takes what is written, at most so many bytes in one write.
 /// Its calls are not inlined, as a system call isn't, and it counts what it took, so that no copy can be
@@ -16,8 +14,8 @@ pub struct MemoryWire {
     left: u64,
     taken: u64,
     most: usize,
-    source: [u8; CHUNK],
-    sink: [u8; CHUNK],
+    source: [u8; RING],
+    sink: [u8; RING],
 }
 
 impl MemoryWire {
@@ -28,8 +26,8 @@ impl MemoryWire {
             left: bytes,
             taken: 0,
             most,
-            source: [7; CHUNK],
-            sink: [0; CHUNK],
+            source: [7; RING],
+            sink: [0; RING],
         }
     }
 
@@ -45,7 +43,7 @@ impl Wire for MemoryWire {
     #[inline(never)]
     fn read(&mut self, buffer: &mut [u8]) -> io::Result<usize> {
         let most = usize::try_from(self.left).unwrap_or(usize::MAX);
-        let count = buffer.len().min(CHUNK).min(most);
+        let count = buffer.len().min(RING).min(most);
         buffer[..count].copy_from_slice(&self.source[..count]);
         self.left = self.left.saturating_sub(count as u64);
         Ok(count)
@@ -53,7 +51,7 @@ impl Wire for MemoryWire {
 
     #[inline(never)]
     fn write(&mut self, offer: &[u8]) -> io::Result<usize> {
-        let count = offer.len().min(self.most.max(1)).min(CHUNK);
+        let count = offer.len().min(self.most.max(1)).min(RING);
         self.sink[..count].copy_from_slice(&offer[..count]);
         self.taken = self.taken.wrapping_add(count as u64);
         Ok(count)

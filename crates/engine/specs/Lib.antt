@@ -4,6 +4,6 @@ pub mod Asked
 pub mod Wires
 pub mod Turns
 pub mod Steps
-pub mod Cues
+pub mod Plays
 pub mod Scripts
 pub mod Playing

@@ -1,18 +1,19 @@
--- How a wire over memory works its plays off.
+-- For proofs alone: how a wire over memory works its plays off.
 use Rattle.std.specs.Prelude.{ℕ, List, [], ◌∷◌, take, drop, Result, Ok, Err}
 use Rattle.std.specs.declared.io.ErrorKind.{ErrorKind}
 use Rattle.engine.specs.Asked.{Given, Brought, Took, Refused}
-use Rattle.engine.specs.Cues.{Cue, Bytes, bytes_in}
+use Rattle.engine.specs.declared.scripted.play.Play.TheVariants.{Bytes}
+use Rattle.engine.specs.Plays.{Play, bytes_in}
 
 -- the first play without the bytes that it has given
-abbrev pub trimmed : ℕ → List Cue → List Cue
+abbrev pub trimmed : ℕ → List Play → List Play
 trimmed n [] = []
-trimmed n (Bytes bytes ∷ cues) = Bytes (drop n bytes) ∷ cues
-trimmed n (cue ∷ cues) = cue ∷ cues
+trimmed n (Bytes bytes ∷ plays) = Bytes (drop n bytes) ∷ plays
+trimmed n (play ∷ plays) = play ∷ plays
 
-abbrev pub first_bytes : List Cue → List ℕ
+abbrev pub first_bytes : List Play → List ℕ
 first_bytes [] = []
-first_bytes (cue ∷ cues) = bytes_in cue
+first_bytes (play ∷ plays) = bytes_in play
 
 -- what a play's result says that it gave
 abbrev pub brought : Result ℕ ErrorKind → List ℕ → Given

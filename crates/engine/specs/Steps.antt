@@ -1,4 +1,4 @@
--- What one call comes to: the steps of a turn.
+-- For proofs alone: what one call of a turn comes to.
 use Rattle.std.specs.Prelude.{◌≡◌, ℕ, true, if◌then◌else◌, List, [], ◌∷◌}
 use Rattle.std.specs.Prelude.{Some}
 use Rattle.std.specs.Io.KnownBytes.{Consumes, Appends}

@@ -1,4 +1,4 @@
--- What a wire knows of its answers.
+-- Part of the promises: what a wire knows of its answers.
 use Rattle.std.specs.Prelude.{ℕ, ◌+◌, ◌%◌, ◌^◌, Bool, true}
 use Rattle.engine.specs.declared.class.Class.{Class}
 use Rattle.engine.specs.declared.class.Class.TheVariants.{Interrupted, Blocked, Failed}

@@ -1,4 +1,4 @@
--- What a turn comes to: the pair's run over the answers of two wires.
+-- Part of the promises: what a turn comes to, as the pair's run over the answers of two wires.
 use Rattle.std.specs.Prelude.{◌≡◌, ℕ, ◌+◌, ◌≤◌, Bool, true, false, ◌&&◌, if◌then◌else◌, List, [], ◌∷◌, ◌++◌, length, OnSome, unwrap_or, option_map}
 use Rattle.std.specs.Prelude.{Option}
 use Rattle.std.specs.Prelude.{Some, None}
@@ -24,19 +24,19 @@ use Rattle.engine.specs.Classes.{kind_of_error}
 use Rattle.engine.specs.Asked as ask
 use Rattle.engine.specs.Asked.{Asked, Given, Brought, Took, Done, Refused}
 use Rattle.engine.specs.Wires.{Told, Rises}
-use Rattle.engine.specs.declared.ending.Turn.{Turn}
-use Rattle.engine.specs.declared.ending.Turn.TheVariants as turn
+use Rattle.engine.specs.declared.outcome.Turn.{Turn}
+use Rattle.engine.specs.declared.outcome.Turn.TheVariants as turn
 
 -- Done and Failed by the verdict; of a live pair, Again while there is a next call, and Quiet where
 -- there is none
-abbrev pub ending : Verdict → Option Call → Turn
-ending verdict.Done next = turn.Done
-ending (verdict.Failed fault) next = turn.Failed
-ending verdict.Live (Some call) = turn.Again
-ending verdict.Live None = turn.Quiet
+abbrev pub outcome : Verdict → Option Call → Turn
+outcome verdict.Done next = turn.Done
+outcome (verdict.Failed fault) next = turn.Failed
+outcome verdict.Live (Some call) = turn.Again
+outcome verdict.Live None = turn.Quiet
 
-abbrev pub ending_of : Relay → Turn
-ending_of p = ending (verdict p) (next_call p)
+abbrev pub outcome_of : Relay → Turn
+outcome_of p = outcome (verdict p) (next_call p)
 
 -- the direction of the bytes that reads on a side bring, and of those that writes on it carry
 abbrev pub way_from : Side → Direction

@@ -8,15 +8,12 @@
 //!
 //! The definitions stand in `specs/`: what is asked of a wire and what it gives in `Asked.antt`, what its
 //! calls do in `Wires.antt`, the classes of errors in `Classes.antt`, what a turn comes to in `Turns.antt`,
-//! and what a scripted wire plays in `Cues.antt` and `Scripts.antt`.
+//! and what a scripted wire plays in `Plays.antt` and `Scripts.antt`.
 #![tactic(auto)]
 
 mod class;
-mod ending;
-mod play;
-mod plays;
-mod reads;
-mod script_wire;
+mod outcome;
+mod scripted;
 mod step;
 mod tally;
 #[cfg(test)]
@@ -25,9 +22,8 @@ mod turning;
 mod wire;
 
 pub use class::{Class, class_of, pending};
-pub use ending::Turn;
-pub use play::Play;
-pub use script_wire::{PlayList, ScriptWire};
+pub use outcome::Turn;
+pub use scripted::{Bytes, Play, PlayList, ScriptWire};
 pub use tally::Tally;
 pub use turning::turn;
 pub use wire::Wire;

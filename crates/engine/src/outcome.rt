@@ -1,4 +1,4 @@
-/// How a turn ended.
+/// The outcome of a turn.
 #[derive(Clone, Copy, Debug, PartialEq, Eq)]
 pub enum Turn {
     /// The budget is spent, and there is a next call.

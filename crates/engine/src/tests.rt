@@ -75,7 +75,7 @@ const STILL: Seen = Seen {
 
 fn play_of(alloc: Global, cue: Cue) -> Result<Play, AllocError> {
     Ok(match cue {
-        Cue::Bytes(bytes) => Play::Bytes(bytes.to_vec(alloc)?),
+        Cue::Bytes(bytes) => Play::Bytes(Bytes::new(bytes.to_vec(alloc)?)),
         Cue::End => Play::End,
         Cue::Take(most) => Play::Take(most),
         Cue::Zero => Play::Zero,
@@ -155,9 +155,9 @@ fn play_in(
     let mut pair = Pair::new(alloc, 0, 1, ring)?;
     let mut client = wire_of(alloc, client_part)?;
     let mut target = wire_of(alloc, target_part)?;
-    let ending = turn(&mut pair, &mut client, &mut target, budget);
-    let seen = observe(ending, &pair, &client, &target);
-    if ending != Turn::Again {
+    let outcome = turn(&mut pair, &mut client, &mut target, budget);
+    let seen = observe(outcome, &pair, &client, &target);
+    if outcome != Turn::Again {
         let again = turn(&mut pair, &mut client, &mut target, 1);
         assert_eq!(rt; observe(again, &pair, &client, &target), seen);
     }

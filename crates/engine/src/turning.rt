@@ -2,9 +2,9 @@ ghost use Rattle.std.specs.Prelude.{◌≡◌, ◌≤◌, Some};
 ghost use Rattle.relay_core.specs.Order.{next_call};
 ghost use Rattle.relay_core.specs.Laws.{IsPossible, AnswersAreToNextCalls, CallsComeWhileLive, FailuresAreTold};
 ghost use Rattle.engine.specs.Steps.{IsMove};
-ghost use Rattle.engine.specs.Turns.{ending_of, IsServed, IsTurn};
+ghost use Rattle.engine.specs.Turns.{outcome_of, IsServed, IsTurn};
 
-use crate::ending::Turn;
+use crate::outcome::Turn;
 use crate::step::step;
 use crate::wire::Wire;
 use relay_core::{Call, Pair, READ_MOST, Side, Verdict, laws};
@@ -27,18 +27,18 @@ pub fn turn<A: Wire, B: Wire>(
 ) -> Turn
     requires least { 1 ≤ budget }
     requires most { budget ≤ 1024 }
-    ensures ending { result ≡ ending_of pair.new }
+    ensures outcome { result ≡ outcome_of pair.new }
     ensures run { IsTurn budget pair.old pair.new (IsServed A.told A.does client.old client.new) (IsServed B.told B.does target.old target.new) }
 {
     rests_on_laws();
     let mut buffer = [0; READ_MOST];
     for _calls in 0..budget {
         let Some(call) = pair.next() else {
-            return ending(pair);
+            return outcome(pair);
         };
         advance(pair, call, client, target, &mut buffer);
     }
-    ending(pair)
+    outcome(pair)
 }
 
 /// What the core says of every pair, by which a pair that was live fails only by its last answer.
@@ -70,9 +70,9 @@ fn advance<A: Wire, B: Wire>(
     }
 }
 
-/// How a turn ends that leaves a pair so.
-fn ending(pair: &Pair) -> Turn
-    ensures { result ≡ ending_of pair.now }
+/// The outcome of a turn that leaves this pair.
+fn outcome(pair: &Pair) -> Turn
+    ensures { result ≡ outcome_of pair.now }
 {
     match pair.verdict() {
         Verdict::Done => Turn::Done,

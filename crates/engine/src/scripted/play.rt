@@ -1,15 +1,55 @@
 ghost use Rattle.std.specs.Prelude.{◌≡◌};
-ghost use Rattle.engine.specs.Cues.{cue_of, error_of, error_of_kind, written_by, most_taken, connects};
+ghost use Rattle.std.specs.Prelude.{◌≤◌, length, drop};
+ghost use Rattle.engine.specs.Plays.{error_of, error_of_kind, written_by, most_taken, connects};
 ghost use Rattle.engine.specs.Playing.{took};
 
 use relay_core::Kind;
 use std::io::ErrorKind;
+use std::marker::Model;
+
+/// The bytes of a [`Play::Bytes`].
+#[derive(Debug, Drop)]
+pub struct Bytes {
+    bytes: Vec<u8>,
+}
+
+impl Model for Bytes {
+    ghost use Rattle.std.specs.Prelude.{ℕ, List};
+
+    ghost Value = { List ℕ };
+
+    ghost view = { λ b. b.bytes.items };
+}
+
+impl Bytes {
+    /// These bytes. Takes no memory.
+    pub fn new(bytes: Vec<u8>) -> Bytes
+        ensures { result ≡ bytes.items }
+    {
+        Bytes { bytes }
+    }
+
+    pub(crate) fn as_slice(&self) -> &[u8]
+        ensures { result.now ≡ self.now }
+    {
+        self.bytes.as_slice()
+    }
+
+    /// Drops the first `n` bytes.
+    pub(crate) fn drop_front(&mut self, n: usize)
+        requires { n ≤ length self.old }
+        ensures { self.new ≡ drop n self.old }
+    {
+        self.bytes.copy_within(n.., 0);
+        self.bytes.truncate(self.bytes.len() - n);
+    }
+}
 
 /// One answer that a [`ScriptWire`](crate::ScriptWire) gives.
 #[derive(Debug, Drop)]
 pub enum Play {
     /// A read gives these bytes, or as many of the first as its buffer holds; what is left is given next.
-    Bytes(Vec<u8>),
+    Bytes(Bytes),
     /// A read meets the end of input.
     End,
     /// A write takes so many bytes, or its whole offer where that is shorter.
@@ -32,7 +72,7 @@ pub enum Play {
 impl Play {
     /// The error by which a call answers where this play is one, or does not fit the call.
     pub(crate) fn error(&self) -> ErrorKind
-        ensures { result ≡ error_of (cue_of self.now) }
+        ensures { result ≡ error_of self.now }
     {
         match self {
             Play::Interrupted => ErrorKind::Interrupted,
@@ -44,7 +84,7 @@ impl Play {
 
     /// How many bytes a write takes that offers so many, or its error.
     pub(crate) fn taken(&self, offered: usize) -> Result<usize, ErrorKind>
-        ensures { took result ≡ written_by offered (cue_of self.now) }
+        ensures { took result ≡ written_by offered self.now }
     {
         match self {
             Play::Take(most) => Ok(offered.min(*most)),
@@ -55,7 +95,7 @@ impl Play {
 
     /// The most bytes that a write takes by it.
     pub(crate) fn most_taken(&self) -> usize
-        ensures { result ≡ most_taken (cue_of self.now) }
+        ensures { result ≡ most_taken self.now }
     {
         match self {
             Play::Take(most) => *most,
@@ -65,7 +105,7 @@ impl Play {
 
     /// Whether it shows, where it fits its call, that the socket is connected.
     pub(crate) fn connects(&self) -> bool
-        ensures { result ≡ connects (cue_of self.now) }
+        ensures { result ≡ connects self.now }
     {
         matches!(
             self,

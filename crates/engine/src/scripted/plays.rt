@@ -1,8 +1,7 @@
-ghost use Rattle.std.specs.Prelude.{◌≡◌, ◌≤◌, ◌∷◌, [], map, length, drop, insert, IsNone, IfSome, IfOk, IfErr};
-ghost use Rattle.engine.specs.Cues.{cue_of};
+ghost use Rattle.std.specs.Prelude.{◌≡◌, ◌≤◌, ◌∷◌, [], length, drop, insert, IsNone, IfSome, IfOk, IfErr};
 ghost use Rattle.engine.specs.Playing.{first_bytes, trimmed};
 
-use crate::play::Play;
+use super::play::Play;
 use std::alloc::AllocError;
 use std::marker::Model;
 
@@ -14,19 +13,19 @@ pub(crate) struct Plays {
 }
 
 impl Model for Plays {
-    ghost use Rattle.std.specs.Prelude.{◌≤◌, List, map, drop, vec_len};
-    ghost use Rattle.engine.specs.Cues.{Cue, cue_of};
+    ghost use Rattle.std.specs.Prelude.{◌≤◌, List, drop, vec_len};
+    ghost use Rattle.engine.specs.Plays.{Play};
 
-    ghost Value = { List Cue };
+    ghost Value = { List Play };
 
-    ghost view = { λ p. map cue_of (drop p.used p.plays.items) };
+    ghost view = { λ p. drop p.used p.plays.items };
 
     ghost invariant = { λ p. p.used ≤ vec_len p.plays };
 }
 
 impl Plays {
     pub(crate) fn new(plays: Vec<Play>) -> Plays
-        ensures { result ≡ map cue_of plays.items }
+        ensures { result ≡ plays.items }
     {
         Plays { plays, used: 0 }
     }
@@ -41,7 +40,7 @@ impl Plays {
     /// The one that comes next.
     pub(crate) fn first(&self) -> Option<&Play>
         ensures none { IsNone result → self.now ≡ [] }
-        ensures some { IfSome result (λ play. self.now ≡ cue_of play.now ∷ drop 1 self.now) }
+        ensures some { IfSome result (λ play. self.now ≡ play.now ∷ drop 1 self.now) }
     {
         self.plays.as_slice().get(self.used)
     }
@@ -56,7 +55,7 @@ impl Plays {
 
     /// Those that are left.
     pub(crate) fn rest(&self) -> &[Play]
-        ensures { map cue_of result.now ≡ self.now }
+        ensures { result.now ≡ self.now }
     {
         &self.plays[self.used..]
     }
@@ -70,15 +69,14 @@ impl Plays {
             return;
         }
         if let Play::Bytes(bytes) = &mut self.plays[self.used] {
-            bytes.copy_within(n.., 0);
-            bytes.truncate(bytes.len() - n);
+            bytes.drop_front(n);
         }
     }
 
     /// Puts one before the one at this index; or there is no memory for it, and it is dropped.
     pub(crate) fn insert(&mut self, index: usize, play: Play) -> Result<(), AllocError>
         requires { index ≤ length self.old }
-        ensures done { IfOk result (λ x. self.new ≡ insert self.old index (cue_of play)) }
+        ensures done { IfOk result (λ x. self.new ≡ insert self.old index play) }
         ensures refused { IfErr result (λ x. self.new ≡ self.old) }
     {
         match self.plays.insert(self.used + index, play) {

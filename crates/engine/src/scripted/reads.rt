@@ -1,12 +1,12 @@
-ghost use Rattle.std.specs.Prelude.{◌≡◌, ◌≤◌, min, map, length, take, insert, IfOk, IfErr};
+ghost use Rattle.std.specs.Prelude.{◌≡◌, ◌≤◌, min, length, take, insert, IfOk, IfErr};
 ghost use Rattle.std.specs.declared.io.ErrorKind.TheVariants.{WouldBlock};
 ghost use Rattle.engine.specs.Asked.{Refused};
-ghost use Rattle.engine.specs.Cues.{cue_of, read_by};
+ghost use Rattle.engine.specs.Plays.{read_by};
 ghost use Rattle.engine.specs.Scripts.{first_by, after_read};
 ghost use Rattle.engine.specs.Playing.{brought};
 
-use crate::play::Play;
-use crate::plays::Plays;
+use super::play::Play;
+use super::plays::Plays;
 use std::alloc::AllocError;
 use std::io::ErrorKind;
 use std::marker::Model;
@@ -20,10 +20,10 @@ pub(crate) struct Reads {
 
 impl Model for Reads {
     ghost use Rattle.std.specs.Prelude.{◌≤◌, List, length};
-    ghost use Rattle.engine.specs.Cues.{Cue};
+    ghost use Rattle.engine.specs.Plays.{Play};
     ghost use Rattle.engine.specs.Playing.{trimmed, first_bytes};
 
-    ghost Value = { List Cue };
+    ghost Value = { List Play };
 
     ghost view = { λ r. trimmed r.given r.plays };
 
@@ -32,7 +32,7 @@ impl Model for Reads {
 
 impl Reads {
     pub(crate) fn new(plays: Vec<Play>) -> Reads
-        ensures { result ≡ map cue_of plays.items }
+        ensures { result ≡ plays.items }
     {
         Reads {
             plays: Plays::new(plays),
@@ -58,6 +58,7 @@ impl Reads {
         };
         match play {
             Play::Bytes(bytes) => {
+                let bytes = bytes.as_slice();
                 let count = copy_front(&bytes[self.given..], buffer);
                 if self.given + count == bytes.len() {
                     self.plays.pass();
@@ -83,7 +84,7 @@ impl Reads {
     /// first it comes before what is left of that.
     pub(crate) fn insert(&mut self, index: usize, play: Play) -> Result<(), AllocError>
         requires { index ≤ length self.old }
-        ensures done { IfOk result (λ x. self.new ≡ insert self.old index (cue_of play)) }
+        ensures done { IfOk result (λ x. self.new ≡ insert self.old index play) }
         ensures refused { IfErr result (λ x. self.new ≡ self.old) }
     {
         self.plays.trim(self.given);

@@ -1,14 +1,14 @@
-ghost use Rattle.std.specs.Prelude.{◌≡◌, ◌≤◌, ◌-◌, ◌^◌, min, Some, [], map, length, take, sum_by, IfOk, IfErr, IfSome};
+ghost use Rattle.std.specs.Prelude.{◌≡◌, ◌≤◌, ◌-◌, ◌^◌, min, Some, [], length, take, sum_by, IfOk, IfErr, IfSome};
 ghost use Rattle.std.specs.IoError.{error_kind};
 ghost use Rattle.relay_core.specs.Calls.{side_of};
 ghost use Rattle.engine.specs.Classes.{class_of};
-ghost use Rattle.engine.specs.Cues.{cue_of, most_taken};
+ghost use Rattle.engine.specs.Plays.{most_taken};
 ghost use Rattle.engine.specs.Scripts.{bytes_of, plays_left, plays_of, disturbed, IsPlayed};
 ghost use Rattle.engine.specs.Tallies.{tally, counted};
 
-use crate::play::Play;
-use crate::plays::Plays;
-use crate::reads::Reads;
+use super::play::Play;
+use super::plays::Plays;
+use super::reads::Reads;
 use crate::tally::Tally;
 use crate::wire::Wire;
 use relay_core::{Call, Side};
@@ -46,7 +46,7 @@ pub struct ScriptWire {
 
 impl Model for ScriptWire {
     ghost use Rattle.std.specs.Prelude.{◌+◌, ◌≤◌, sum_by, vec_len, vec_capacity};
-    ghost use Rattle.engine.specs.Cues.{most_taken};
+    ghost use Rattle.engine.specs.Plays.{most_taken};
     ghost use Rattle.engine.specs.Scripts.{Script};
 
     ghost Value = { Script };
@@ -67,7 +67,7 @@ impl ScriptWire {
         writes: Vec<Play>,
         closings: Vec<Play>,
     ) -> Result<ScriptWire, AllocError>
-        ensures { IfOk result (λ wire. wire ≡ record { reads = map cue_of reads.items; writes = map cue_of writes.items; closings = map cue_of closings.items; written = []; tally = tally joined 0 0 }) }
+        ensures { IfOk result (λ wire. wire ≡ record { reads = reads.items; writes = writes.items; closings = closings.items; written = []; tally = tally joined 0 0 }) }
     {
         let Some(room) = room_for(writes.as_slice()) else {
             return Err(AllocError);
@@ -89,7 +89,7 @@ impl ScriptWire {
     /// there is not so much: then the play is dropped, and the wire is as it was.
     pub fn disturb(&mut self, list: PlayList, index: usize, play: Play) -> Result<(), AllocError>
         requires { index ≤ length (plays_of list self.old) }
-        ensures done { IfOk result (λ x. self.new ≡ disturbed list index (cue_of play) self.old) }
+        ensures done { IfOk result (λ x. self.new ≡ disturbed list index play self.old) }
         ensures refused { IfErr result (λ x. self.new ≡ self.old) }
     {
         match list {
@@ -145,7 +145,7 @@ impl ScriptWire {
 
 /// The room for the bytes of every Take, or none where no memory is so large.
 fn room_for(plays: &[Play]) -> Option<usize>
-    ensures { IfSome result (λ room. room ≡ sum_by most_taken (map cue_of plays.now)) }
+    ensures { IfSome result (λ room. room ≡ sum_by most_taken plays.now) }
 {
     let mut room = 0usize;
     for play in plays {

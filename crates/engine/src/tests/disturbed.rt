@@ -183,6 +183,25 @@ fn is_failure(ended: Ended, given: Given, at: Point, kind: Kind) -> bool {
         && ended.faults == faults
 }
 
+/// Plays the session both ways round, with one play more before a call. It is done, and `wanted` is the
+/// outcome of its first turn; or it fails at that call, by this kind.
+fn check(
+    rt: &impl Abort,
+    alloc: Global,
+    at: Point,
+    cue: Cue,
+    wanted: Result<Turn, Kind>,
+) -> Result<(), AllocError> {
+    for given in GIVEN {
+        let ended = play_session(rt, alloc, given, &[(at, cue)], given)?;
+        match wanted {
+            Ok(first) => assert_eq!(rt; ended, done(first, given)),
+            Err(kind) => assert!(rt; is_failure(ended, given, at, kind)),
+        }
+    }
+    Ok(())
+}
+
 #[test]
 fn is_done_after_eight_calls(rt: HostRuntime) -> Result<(), Fail> {
     for given in GIVEN {
@@ -194,46 +213,19 @@ fn is_done_after_eight_calls(rt: HostRuntime) -> Result<(), Fail> {
     Ok(())
 }
 
-#[test]
-fn tries_an_interrupted_call_again(rt: HostRuntime) -> Result<(), Fail> {
-    for given in GIVEN {
-        for at in CALLS {
-            let ended = play_session(&rt, rt.alloc(), given, &[(at, Cue::Interrupted)], given)?;
-            assert_eq!(rt; ended, done(Turn::Done, given));
-        }
-    }
-    Ok(())
-}
-
 // A shutdown never has to wait: an answer that it would is a failure.
 #[test]
-fn waits_for_a_report_where_a_call_would_block(rt: HostRuntime) -> Result<(), Fail> {
-    for given in GIVEN {
-        for at in CALLS {
-            let ended = play_session(&rt, rt.alloc(), given, &[(at, Cue::Blocked)], given)?;
-            if at.call == CallKind::Shut {
-                assert!(rt; is_failure(ended, given, at, Kind::Other));
-            } else {
-                assert_eq!(rt; ended, done(Turn::Quiet, given));
-            }
-        }
-    }
-    Ok(())
-}
-
-#[test]
-fn fails_at_the_call_that_fails(rt: HostRuntime) -> Result<(), Fail> {
-    for given in GIVEN {
-        for at in CALLS {
-            let ended = play_session(
-                &rt,
-                rt.alloc(),
-                given,
-                &[(at, Cue::Fault(Kind::Reset))],
-                given,
-            )?;
-            assert!(rt; is_failure(ended, given, at, Kind::Reset));
-        }
+fn goes_on_or_fails_at_each_call(rt: HostRuntime) -> Result<(), Fail> {
+    let alloc = rt.alloc();
+    for at in CALLS {
+        let blocked = if at.call == CallKind::Shut {
+            Err(Kind::Other)
+        } else {
+            Ok(Turn::Quiet)
+        };
+        check(&rt, alloc, at, Cue::Interrupted, Ok(Turn::Done))?;
+        check(&rt, alloc, at, Cue::Blocked, blocked)?;
+        check(&rt, alloc, at, Cue::Fault(Kind::Reset), Err(Kind::Reset))?;
     }
     Ok(())
 }
@@ -242,19 +234,16 @@ fn fails_at_the_call_that_fails(rt: HostRuntime) -> Result<(), Fail> {
 // is put before what the session has as the rest.
 #[test]
 fn goes_on_after_one_byte(rt: HostRuntime) -> Result<(), Fail> {
-    for given in GIVEN {
-        for at in [CALLS[2], CALLS[3]] {
-            let one = play_session(&rt, rt.alloc(), given, &[(at, Cue::Take(1))], given)?;
-            assert_eq!(rt; one, done(Turn::Done, given));
-            let none = play_session(&rt, rt.alloc(), given, &[(at, Cue::Zero)], given)?;
-            assert!(rt; is_failure(none, given, at, Kind::Zero));
-        }
+    let alloc = rt.alloc();
+    for at in [CALLS[2], CALLS[3]] {
+        check(&rt, alloc, at, Cue::Take(1), Ok(Turn::Done))?;
+        check(&rt, alloc, at, Cue::Zero, Err(Kind::Zero))?;
     }
     let up = [(CALLS[0], Cue::Bytes(b"a")), (CALLS[2], Cue::Take(1))];
-    let up = play_session(&rt, rt.alloc(), (b"bc", b"xy"), &up, (b"abc", b"xy"))?;
+    let up = play_session(&rt, alloc, (b"bc", b"xy"), &up, (b"abc", b"xy"))?;
     assert_eq!(rt; up, done(Turn::Done, (b"abc", b"xy")));
     let down = [(CALLS[1], Cue::Bytes(b"a")), (CALLS[3], Cue::Take(1))];
-    let down = play_session(&rt, rt.alloc(), (b"xy", b"bc"), &down, (b"xy", b"abc"))?;
+    let down = play_session(&rt, alloc, (b"xy", b"bc"), &down, (b"xy", b"abc"))?;
     assert_eq!(rt; down, done(Turn::Done, (b"xy", b"abc")));
     Ok(())
 }
@@ -263,11 +252,8 @@ fn goes_on_after_one_byte(rt: HostRuntime) -> Result<(), Fail> {
 #[test]
 fn waits_for_a_target_that_is_not_connected(rt: HostRuntime) -> Result<(), Fail> {
     let cue = Cue::Fault(Kind::NotConnected);
-    for given in GIVEN {
-        let early = play_session(&rt, rt.alloc(), given, &[(CALLS[1], cue)], given)?;
-        assert_eq!(rt; early, done(Turn::Quiet, given));
-        let late = play_session(&rt, rt.alloc(), given, &[(CALLS[5], cue)], given)?;
-        assert!(rt; is_failure(late, given, CALLS[5], Kind::NotConnected));
-    }
+    let late = Err(Kind::NotConnected);
+    check(&rt, rt.alloc(), CALLS[1], cue, Ok(Turn::Quiet))?;
+    check(&rt, rt.alloc(), CALLS[5], cue, late)?;
     Ok(())
 }

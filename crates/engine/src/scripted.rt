@@ -1,0 +1,9 @@
+//! A wire over memory that plays lists of answers. [`Play`] is one answer, [`ScriptWire`] the wire; `Plays` and
+//! `Reads` are its lists, used from the front.
+mod play;
+mod plays;
+mod reads;
+mod script_wire;
+
+pub use play::{Bytes, Play};
+pub use script_wire::{PlayList, ScriptWire};
