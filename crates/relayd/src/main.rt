@@ -6,6 +6,7 @@
 //! read.
 #![tactic(auto)]
 
+mod causes;
 mod command_line;
 mod config;
 mod constants;

@@ -3,6 +3,7 @@ ghost use Rattle.std.specs.Prelude.{◌≡◌, ◌≢◌, ◌⊎◌, IfSome, Ok}
 ghost use Rattle.clap.specs.Values.{kind_of};
 ghost use Rattle.script.specs.Runs.{WritesReport, WritesFault};
 
+use crate::causes::LoggedCauses;
 use crate::command_line::{Command, read_command};
 use crate::config;
 use crate::constants::{DONE, FAULT, USAGE};
@@ -70,7 +71,7 @@ where
         return report_fault(errors, ProgramFault::NoMemory);
     };
     let outcome = match read_command(rt.alloc(), arguments.as_slice()) {
-        Ok(Command::Simulate) => simulate(rt.alloc(), reader, writer),
+        Ok(Command::Simulate) => simulate(rt, reader, writer),
         Ok(Command::Check(path)) => check(rt, path, writer),
         Ok(Command::Run(path)) => run(rt, path, writer, serve),
         Err(error) => return answer_usage(&error, writer, errors),
@@ -89,16 +90,22 @@ fn texts(alloc: Global, arguments: &[String]) -> Result<Vec<&str>, AllocError> {
         .collect(alloc)
 }
 
-/// Runs a script: 0 where its report was written, and 1 where the line of its fault was.
-fn simulate<I: Read, O: Write>(
-    alloc: Global,
+/// Runs a script: 0 where its report was written, and 1 where the line of its fault was. The cause of a fault is
+/// logged.
+fn simulate<R: AllocGlobal + Eprint + Copy + Drop, I: Read, O: Write>(
+    rt: &R,
     reader: &mut I,
     writer: &mut O,
 ) -> Result<u8, ProgramFault>
     ensures report { result ≡ Ok 0 → IfSome (I.remaining reader.old) (λ text. WritesReport text (O.contents writer.old) (O.contents writer.new)) }
     ensures refused { result ≡ Ok 1 → IfSome (I.remaining reader.old) (λ text. WritesFault text (O.contents writer.old) (O.contents writer.new)) }
 {
-    match script::run(alloc, reader, writer) {
+    let logged = Logged::new(*rt, LevelFilter::Error, Console(*rt));
+    let causes = LoggedCauses {
+        alloc: rt.alloc(),
+        log: &logged,
+    };
+    match script::run(rt.alloc(), reader, writer, &causes) {
         Ok(Outcome::Report) => Ok(DONE),
         Ok(Outcome::Refused) => Ok(FAULT),
         Err(fault) => Err(ProgramFault::Script(fault)),

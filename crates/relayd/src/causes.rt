@@ -1,0 +1,22 @@
+//! The causes of scripts' faults, for a person.
+
+use log::{Log, error};
+use script::{Explain, Fault};
+use std::alloc::Global;
+
+/// Logs the cause of each fault, where there is one to tell and memory for it.
+#[derive(Drop)]
+pub struct LoggedCauses<'a, L> {
+    /// The memory for the text of a cause.
+    pub alloc: Global,
+    /// Where causes are logged.
+    pub log: &'a L,
+}
+
+impl<L: Log> Explain for LoggedCauses<'_, L> {
+    fn explain(&self, text: &[u8], fault: Fault) {
+        if let Some(cause) = script::cause(self.alloc, text, fault) {
+            error!(self.log; target: "relayd", "{cause}");
+        }
+    }
+}
