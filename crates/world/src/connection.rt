@@ -1,7 +1,7 @@
 ghost use Rattle.std.specs.Prelude.{◌≡◌, Some, IsNone, IsSome, ◌↔◌, option_map};
 ghost use Rattle.relay_core.specs.Order.{next_call};
 ghost use Rattle.relay_core.specs.Answers.{reply_of};
-ghost use Rattle.world.specs.Calls.{bytes_of, plain};
+ghost use Rattle.world.specs.Calls.{told_of, plain};
 
 use crate::working::is_live;
 use kernel_model::{Descriptors, Kernel, Refusal, Reply};
@@ -21,7 +21,7 @@ impl Connection {
     ghost use Rattle.relay_core.specs.Pairs.{noted};
     ghost use Rattle.kernel_model.specs.Outcome.{Meets};
     ghost use Rattle.relay_core.specs.Answers.{reply_of};
-    ghost use Rattle.world.specs.Calls.{descriptor, Line, replied, called};
+    ghost use Rattle.world.specs.Calls.{descriptor, Line, made, replied, called};
     ghost use Rattle.world.specs.Steps.{may_release};
 
     /// The descriptor of one side's end.
@@ -62,29 +62,28 @@ impl Connection {
     {
         match self.pair.next() {
             None => Err(Refusal::NotAllowed),
-            Some(Call::Read(side, most)) => self.read(kernel, side, most, reply),
-            Some(Call::Write(side)) => self.write(kernel, side, reply),
-            Some(Call::Join(side)) => self.join(kernel, side, reply),
-            Some(Call::Shut(side)) => self.shut(kernel, side, reply),
+            Some(call) => match (call, reply) {
+                (Call::Read(side, most), Reply::Bytes(count)) => {
+                    self.read(kernel, side, most, count)
+                }
+                _ => self.make(kernel, call, reply),
+            },
         }
     }
 
-    /// A read, where it is the next call.
+    /// A read that brings bytes, where a read is the next call.
     fn read(
         &mut self,
         kernel: &mut Kernel,
         side: Side,
         most: usize,
-        reply: Reply,
+        count: usize,
     ) -> Result<(), Refusal>
         requires { next_call self.old.pair ≡ Some (Call.Read side most) }
-        ensures { Meets (replied (record { kernel = kernel.old; connection = self.old }) (Call.Read side most) reply) (record { kernel = kernel.old; connection = self.old }) (record { kernel = kernel.new; connection = self.new }) result }
+        ensures { Meets (replied (record { kernel = kernel.old; connection = self.old }) (Call.Read side most) (Reply.Bytes count)) (record { kernel = kernel.old; connection = self.old }) (record { kernel = kernel.new; connection = self.new }) result }
     {
         let call = Call::Read(side, most);
         let descriptor = self.descriptor(side);
-        let Reply::Bytes(count) = reply else {
-            return self.read_none(kernel, side, most, reply);
-        };
         let Some(open) = kernel.end(descriptor) else {
             return Err(Refusal::NotAllowed);
         };
@@ -95,83 +94,40 @@ impl Connection {
             return Err(Refusal::NotAllowed);
         }
         self.pair.answer(call, Answer::Bytes(bytes));
-        kernel.read(descriptor, most, reply)
+        kernel.read(descriptor, most, Reply::Bytes(count))
     }
 
-    /// The same for a reply without bytes.
-    fn read_none(
-        &mut self,
-        kernel: &mut Kernel,
-        side: Side,
-        most: usize,
-        reply: Reply,
-    ) -> Result<(), Refusal>
-        requires next { next_call self.old.pair ≡ Some (Call.Read side most) }
-        requires no_bytes { IsNone (bytes_of reply) }
-        ensures { Meets (replied (record { kernel = kernel.old; connection = self.old }) (Call.Read side most) reply) (record { kernel = kernel.old; connection = self.old }) (record { kernel = kernel.new; connection = self.new }) result }
+    /// A call whose reply brings no bytes, where it is the next one.
+    fn make(&mut self, kernel: &mut Kernel, call: Call, reply: Reply) -> Result<(), Refusal>
+        requires next { next_call self.old.pair ≡ Some call }
+        requires no_bytes { told_of (record { kernel = kernel.old; connection = self.old }) call reply ≡ plain reply }
+        ensures { Meets (replied (record { kernel = kernel.old; connection = self.old }) call reply) (record { kernel = kernel.old; connection = self.old }) (record { kernel = kernel.new; connection = self.new }) result }
     {
-        let call = Call::Read(side, most);
         let Some(answer) = plain(reply) else {
             return Err(Refusal::NotAllowed);
         };
         if !self.pair.fits(call, answer) {
             return Err(Refusal::NotAllowed);
         }
-        kernel.read(self.descriptor(side), most, reply)?;
+        self.ask(kernel, call, reply)?;
         self.pair.answer(call, answer);
         Ok(())
     }
 
-    /// A write of all that is offered, where it is the next call.
-    fn write(&mut self, kernel: &mut Kernel, side: Side, reply: Reply) -> Result<(), Refusal>
-        requires { next_call self.old.pair ≡ Some (Call.Write side) }
-        ensures { Meets (replied (record { kernel = kernel.old; connection = self.old }) (Call.Write side) reply) (record { kernel = kernel.old; connection = self.old }) (record { kernel = kernel.new; connection = self.new }) result }
+    /// The kernel's part of a call.
+    fn ask(&mut self, kernel: &mut Kernel, call: Call, reply: Reply) -> Result<(), Refusal>
+        ensures kernel { Meets (made (record { kernel = kernel.old; connection = self.old }) call reply) kernel.old kernel.new result }
+        ensures pair { self.new ≡ self.old }
     {
-        let call = Call::Write(side);
-        let Some(answer) = plain(reply) else {
-            return Err(Refusal::NotAllowed);
-        };
-        if !self.pair.fits(call, answer) {
-            return Err(Refusal::NotAllowed);
+        match call {
+            Call::Read(side, most) => kernel.read(self.descriptor(side), most, reply),
+            Call::Write(side) => {
+                let descriptor = self.descriptor(side);
+                kernel.write(descriptor, self.pair.offer(side), reply)
+            }
+            Call::Join(side) => kernel.join(self.descriptor(side), reply),
+            Call::Shut(side) => kernel.shut(self.descriptor(side), reply),
         }
-        let descriptor = self.descriptor(side);
-        kernel.write(descriptor, self.pair.offer(side), reply)?;
-        self.pair.answer(call, answer);
-        Ok(())
-    }
-
-    /// The question whether the connect has ended, where it is the next call.
-    fn join(&mut self, kernel: &mut Kernel, side: Side, reply: Reply) -> Result<(), Refusal>
-        requires { next_call self.old.pair ≡ Some (Call.Join side) }
-        ensures { Meets (replied (record { kernel = kernel.old; connection = self.old }) (Call.Join side) reply) (record { kernel = kernel.old; connection = self.old }) (record { kernel = kernel.new; connection = self.new }) result }
-    {
-        let call = Call::Join(side);
-        let Some(answer) = plain(reply) else {
-            return Err(Refusal::NotAllowed);
-        };
-        if !self.pair.fits(call, answer) {
-            return Err(Refusal::NotAllowed);
-        }
-        kernel.join(self.descriptor(side), reply)?;
-        self.pair.answer(call, answer);
-        Ok(())
-    }
-
-    /// A shutdown of sending, where it is the next call.
-    fn shut(&mut self, kernel: &mut Kernel, side: Side, reply: Reply) -> Result<(), Refusal>
-        requires { next_call self.old.pair ≡ Some (Call.Shut side) }
-        ensures { Meets (replied (record { kernel = kernel.old; connection = self.old }) (Call.Shut side) reply) (record { kernel = kernel.old; connection = self.old }) (record { kernel = kernel.new; connection = self.new }) result }
-    {
-        let call = Call::Shut(side);
-        let Some(answer) = plain(reply) else {
-            return Err(Refusal::NotAllowed);
-        };
-        if !self.pair.fits(call, answer) {
-            return Err(Refusal::NotAllowed);
-        }
-        kernel.shut(self.descriptor(side), reply)?;
-        self.pair.answer(call, answer);
-        Ok(())
     }
 }
 
