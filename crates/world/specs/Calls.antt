@@ -28,11 +28,6 @@ abbrev pub descriptor : Descriptors → Side → ℕ
 descriptor ends Client = ends.client
 descriptor ends Target = ends.target
 
--- how many bytes a reply brings
-abbrev pub bytes_of : Reply → Option ℕ
-bytes_of (reply.Bytes n) = Some n
-bytes_of r = None
-
 -- what the pair is told of a reply that brings no bytes
 abbrev pub plain : Reply → Option answer.Reply
 plain (reply.Bytes n) = None
