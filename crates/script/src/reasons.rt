@@ -11,15 +11,7 @@ use world::{
 /// What is told where no closer reason is known.
 const NOT_HERE: &str = "it is not possible in this state";
 
-const ENDED: &str = "the end of input has come";
-
 const BROKEN: &str = "an error has come to the socket";
-
-const HAS_ROOM: &str = "the socket has room";
-
-const UNREAD: &str = "bytes are unread";
-
-const END_READ: &str = "the end of input was read";
 
 const UNQUEUED: &str = "no report of it is in the queue";
 
@@ -42,7 +34,7 @@ pub(crate) fn step_reason(transfer: &Transfer, step: &Step) -> &'static str {
     match step {
         Step::Arrive(_) | Step::Fin => ended_reason(source),
         Step::Room => room_reason(destination),
-        Step::Read(_) | Step::End if flow.end_seen() => END_READ,
+        Step::Read(_) | Step::End if flow.end_seen() => "the end of input was read",
         Step::Read(count) => read_reason(source, transfer.read_size(), *count),
         Step::End => end_reason(source),
         Step::Wrote(count, _) => wrote_reason(destination, flow.len(), *count),
@@ -55,11 +47,17 @@ pub(crate) fn step_reason(transfer: &Transfer, step: &Step) -> &'static str {
 }
 
 fn ended_reason(end: &End) -> &'static str {
-    first_of(&[(end.has_fin(), ENDED), (end.has_err(), BROKEN)])
+    first_of(&[
+        (end.has_fin(), "the end of input has come"),
+        (end.has_err(), BROKEN),
+    ])
 }
 
 fn room_reason(end: &End) -> &'static str {
-    first_of(&[(end.has_room(), HAS_ROOM), (end.has_err(), BROKEN)])
+    first_of(&[
+        (end.has_room(), "the socket has room"),
+        (end.has_err(), BROKEN),
+    ])
 }
 
 /// Why a read of at most `most` bytes does not give this many.
@@ -73,7 +71,7 @@ fn read_reason(end: &End, most: usize, count: usize) -> &'static str {
 
 fn end_reason(end: &End) -> &'static str {
     first_of(&[
-        (!end.unread().is_empty(), UNREAD),
+        (!end.unread().is_empty(), "bytes are unread"),
         (!end.has_fin(), "the end of input has not come"),
     ])
 }

@@ -145,14 +145,13 @@ fn ran(alloc: Global, text: &[u8]) -> Result<(Outcome, Vec<u8>), Fail> {
     written.extend_from_slice(b"> ")?;
     let faults = Count(Cell::new(0));
     let outcome = run(alloc, &mut reader, &mut written, &faults)?;
-    if faults.0.get() != u64::from(outcome == Outcome::Refused) {
-        return Err(Fail::from("a fault is explained once"));
-    }
     if written.ends_with(b"out of memory\n".as_slice()) {
-        Err(Fail::from(AllocError))
-    } else {
-        Ok((outcome, written))
+        return Err(Fail::from(AllocError));
     }
+    if faults.0.get() != u64::from(outcome == Outcome::Refused) {
+        return Err(Fail::from("each fault is explained once"));
+    }
+    Ok((outcome, written))
 }
 
 #[test]
