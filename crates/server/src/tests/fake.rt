@@ -26,10 +26,11 @@ pub(crate) struct Script<'a> {
     pub(crate) opens: &'a [Option<Unopened>],
 }
 
-/// A front that plays a script. Its connections are reset at the first read.
+/// A front that plays a script. Its connections are reset at the first read. No call of it takes memory.
 #[derive(Drop)]
 pub(crate) struct Fake {
-    alloc: Global,
+    /// The wires that are left for clients and targets.
+    wires: Vec<ScriptWire>,
     batches: Vec<Vec<u64>>,
     accepts: Vec<Option<ErrorKind>>,
     opens: Vec<Option<Unopened>>,
@@ -50,8 +51,17 @@ impl Fake {
         for numbers in script.batches {
             batches.push(numbers.to_vec(alloc)?)?;
         }
+        // A client and a target for each connection.
+        let mut wires = Vec::new(alloc);
+        for answer in script.accepts {
+            if answer.is_none() {
+                wires.push(reset_wire(alloc)?)?;
+                wires.push(reset_wire(alloc)?)?;
+            }
+        }
         Ok(Fake {
-            alloc,
+            asked: Vec::with_capacity(alloc, wires.len())?,
+            wires,
             batches,
             accepts: script.accepts.to_vec(alloc)?,
             opens: script.opens.to_vec(alloc)?,
@@ -59,7 +69,6 @@ impl Fake {
             polled: 0,
             accepted: 0,
             opened: 0,
-            asked: Vec::new(alloc),
         })
     }
 }
@@ -109,10 +118,7 @@ impl Front for Fake {
         let answer = self.accepts.get(self.accepted).copied();
         self.accepted = self.accepted.saturating_add(1);
         match answer {
-            Some(None) => match reset_wire(self.alloc) {
-                Ok(wire) => Ok(wire),
-                Err(AllocError) => Err(io::Error::from(ErrorKind::OutOfMemory)),
-            },
+            Some(None) => self.wires.pop().ok_or(io::Error::from(ErrorKind::Other)),
             Some(Some(kind)) => Err(io::Error::from(kind)),
             None => Err(io::Error::from(ErrorKind::WouldBlock)),
         }
@@ -133,7 +139,7 @@ impl Front for Fake {
         if let Some(Some(unopened)) = answer {
             return Err(unopened);
         }
-        reset_wire(self.alloc).map_err(|_| Unopened::Connect)
+        self.wires.pop().ok_or(Unopened::Connect)
     }
 
     fn wake(waker: &AtomicU64) {

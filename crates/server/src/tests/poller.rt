@@ -304,6 +304,39 @@ fn each_answer_of_accept_is_obeyed(rt: HostRuntime) -> Result<(), Fail> {
     Ok(())
 }
 
+// One opening, and a second try where the first found no memory. At most one growth is refused: an opening's, which
+// closes the connection and leaves its slot as it was, or a log line's, which is left out.
+#[test]
+fn an_opening_without_memory_leaves_its_slot(rt: HostRuntime) -> Result<(), Fail> {
+    let alloc = rt.alloc();
+    let sink = Memory::new(alloc);
+    let log = Logged::new(&rt, Level::Info, &sink);
+    let script = Script {
+        batches: &[&[], &[0]],
+        accepts: &[None, Some(ErrorKind::WouldBlock), None],
+        opens: &[],
+    };
+    let mut stage = staged(&rt, alloc, 1, 0, script)?;
+    assert!(rt; stage.round(&log, alloc));
+    let refused = stage.word(0) == Some(3);
+    if refused {
+        assert_eq!(rt; stage.own.hand.tickets(), 0);
+        assert!(rt; stage.round(&log, alloc));
+    }
+    assert_eq!(rt; stage.word(0), Some(4));
+    assert_eq!(rt; stage.own.hand.take_ticket(), ticket(0, 1));
+    assert_eq!(rt; stage.own.hand.tickets(), 0);
+    let lines = sink.into_lines();
+    let mut lines = lines.as_slice().iter().map(|line| line.as_str());
+    if refused {
+        assert_eq!(rt; lines.next(), Some("[WARN  relayd] drop kind=memory"));
+    }
+    let opened = lines.next();
+    assert!(rt; opened == Some("[INFO  relayd] open s=0 g=1") || !refused && opened.is_none());
+    assert!(rt; lines.next().is_none());
+    Ok(())
+}
+
 #[test]
 fn a_poller_stops_after_its_last_connection(rt: HostRuntime) -> Result<(), Fail> {
     let alloc = rt.alloc();
