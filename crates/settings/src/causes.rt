@@ -90,7 +90,7 @@ fn wanted(key: Key) -> &'static str {
 
 /// The words `line N: ` for the line that sets a key, or none where it is not found.
 fn place_of(alloc: Global, text: &str, name: &str) -> Result<String, AllocError> {
-    match line_of(alloc, text, name) {
+    match line_of(alloc, text, name)? {
         Some(line) => format!(in alloc; "line {line}: "),
         None => Ok(String::new(alloc)),
     }
@@ -98,7 +98,7 @@ fn place_of(alloc: Global, text: &str, name: &str) -> Result<String, AllocError>
 
 /// The first line, from 1, by whose end the text sets a key. Only lines that contain the name as it is are tried, and
 /// at most [`MAX_LOOKS`] of them.
-fn line_of(alloc: Global, text: &str, name: &str) -> Option<usize> {
+fn line_of(alloc: Global, text: &str, name: &str) -> Result<Option<usize>, AllocError> {
     let mut looks = 0usize;
     let mut start = 0usize;
     let mut number = 0usize;
@@ -111,20 +111,22 @@ fn line_of(alloc: Global, text: &str, name: &str) -> Option<usize> {
             start = index + 1;
             if has_name && looks < MAX_LOOKS {
                 looks = looks.saturating_add(1);
-                if sets(alloc, text.get(..start)?, name) {
-                    return Some(number);
+                let front = text.get(..start).unwrap_or("");
+                if sets(alloc, front, name)? {
+                    return Ok(Some(number));
                 }
             }
         }
     }
-    None
+    Ok(None)
 }
 
 /// Whether a text is TOML that has this name at its top level.
-fn sets(alloc: Global, text: &str, name: &str) -> bool {
+fn sets(alloc: Global, text: &str, name: &str) -> Result<bool, AllocError> {
     match toml::table_from_str(alloc, text) {
-        Ok(document) => is_in(&document, name),
-        Err(_) => false,
+        Ok(document) => Ok(is_in(&document, name)),
+        Err(error) if error.is_memory() => Err(AllocError),
+        Err(_) => Ok(false),
     }
 }
 
