@@ -1,4 +1,4 @@
--- The claim word of a slot, and what one step of each kind makes of it and answers.
+-- The claim word of a slot, and what one step of each kind makes of it and answers. Readers of the promises need it.
 -- This file stands by itself, so that a model of the server can state its own steps by the same words.
 use Rattle.std.specs.Prelude.{◌≡◌, ℕ, zero, suc, ◌+◌, ◌*◌, Bool, true, false, if◌then◌else◌}
 

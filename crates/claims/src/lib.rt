@@ -3,7 +3,8 @@
 //! A server has slots, one for each connection, and threads that work on them. A thread that learns of something to
 //! do at a slot posts a note there. A thread that has a ticket for the slot claims it, takes its notes, works, and
 //! releases it. This crate keeps one word a slot, `4 * notes + 2 * free + held`. Each call is one atomic exchange on
-//! one word, by the caller's own seat. No call tries again or waits, and none takes memory but [`Claims::open`].
+//! one word, by the caller's own seat. No call waits or makes its exchange twice, and only [`Claims::open`] takes
+//! memory.
 //!
 //! # The rule
 //!
@@ -21,7 +22,8 @@
 //!
 //! Each call makes exactly one exchange, whatever it answers, but for a post that answers Worn, which makes none. A
 //! seat counts its exchanges of the six kinds below, and the call's contract says that the count rose by one. So no
-//! call tries again, and none answers Busy or NotFree before it has made its exchange.
+//! call makes a second exchange, and none answers Busy or NotFree before it has made one. That is so of the source: in
+//! machine code an exchange may be a loop.
 //!
 //! # The exchanges, and the race that each closes
 //!
@@ -41,15 +43,15 @@
 //!
 //! # What is not promised
 //!
-//! That Busy or NotFree was necessary, any order between threads that never met, or that anyone gets on. A seat that
-//! is dropped while it holds a slot leaves it held. A look by [`Claims::peek`] is no exchange, and is not counted.
+//! That Busy or NotFree was necessary, any order between threads that never met, or progress. A seat that is dropped
+//! while it holds a slot leaves it held. A look by [`Claims::peek`] is not an exchange, and is not counted.
 //!
 //! # Where to look
 //!
 //! `specs/Words.antt` has the word and its steps, `specs/Rule.antt` the rule, `specs/Calls.antt` and
 //! `specs/Views.antt` what each answer says of the caller's account of the slot, and `src/calls.rt` the calls.
-//! [`laws`] says in plain words what the rule comes to. For callers, `specs/Seats.antt` has that a seat holds nothing
-//! and that it changed at one slot alone, and `proofs/Seats.antt` how these go on from call to call.
+//! [`laws`] says in plain words what follows from the rule. For callers, `specs/Seats.antt` says when a seat holds
+//! nothing and when it changed at one slot only, and `proofs/Seats.antt` how this carries over from call to call.
 #![tactic(auto)]
 
 mod answers;

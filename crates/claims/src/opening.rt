@@ -21,13 +21,13 @@ const MOST_SEATS: usize = 32;
 /// Why `Claims::open` made nothing.
 #[derive(Debug, Drop, Error)]
 pub enum OpenFault {
-    /// The number of slots is 0 or over 32,768. It is looked at first.
+    /// The number of slots is 0 or over 32,768. It is checked first.
     #[error("the number of slots is not from 1 to 32768")]
     SlotRange,
     /// The number of seats is 0 or over 32.
     #[error("the number of seats is not from 1 to 32")]
     SeatRange,
-    /// There was no memory for the words or for the seats.
+    /// Memory ran out for the words or for the seats.
     #[error("out of memory")]
     NoMemory,
 }
@@ -35,8 +35,8 @@ pub enum OpenFault {
 impl Claims {
     /// Makes a word for each slot, free and with no note, and the seats, which are all that these words ever have.
     ///
-    /// Refuses, in this order: a number of slots that is not from 1 to 32,768 (`SlotRange`), a number of seats that
-    /// is not from 1 to 32 (`SeatRange`), and a want of memory (`NoMemory`).
+    /// Errors are checked in this order: a number of slots that is not from 1 to 32,768 (`SlotRange`), a number of
+    /// seats that is not from 1 to 32 (`SeatRange`), and out of memory (`NoMemory`).
     pub fn open(
         alloc: Global,
         slots: usize,

@@ -1,4 +1,4 @@
--- What reads take from a reader, where it tells its bytes.
+-- What reads take from a reader whose bytes are known. Readers of the promises need `TakesAtMost`; the rest serves proofs alone.
 use Rattle.std.specs.Prelude.{◌≡◌, ℕ, ◌+◌, ◌<◌, ◌≤◌, List, ◌++◌, length, Option}
 use Rattle.std.specs.Io.KnownBytes.{Consumes, IsAtEnd}
 

@@ -26,7 +26,7 @@ fn main(rt: HostRuntime) -> ExitCode {
     let mut output = rt.stdout();
     let mut errors = rt.stderr();
     let serve = |settings: Settings, bound: Bound| -> Result<(), ServerFault> {
-        let logged = Logged::new(rt, program::most_logged(settings.log), Console(rt));
+        let logged = Logged::new(rt, program::level_filter(settings.log), Console(rt));
         server::serve(&logged, rt.alloc(), &settings, &OpenGate, bound)
     };
     let status = match program::arguments(&rt) {

@@ -1,6 +1,9 @@
 //! What the program does, from its arguments to its status.
-ghost use Rattle.std.specs.Prelude.{◌≡◌, ◌≢◌, ◌⊎◌, IfSome, Ok};
+ghost use Rattle.std.specs.Prelude.{◌≡◌, ◌≢◌, ◌⊎◌, IfSome, Ok, map};
+ghost use Rattle.std.specs.Char.{to_ascii_lowercase};
 ghost use Rattle.clap.specs.Values.{kind_of};
+ghost use Rattle.log.specs.Level.{filter_name};
+ghost use Rattle.settings.specs.Names.{level_name};
 ghost use Rattle.script.specs.Runs.{WritesReport, WritesFault};
 
 use crate::causes::LoggedCauses;
@@ -142,7 +145,7 @@ where
     requires { S.IsAlwaysCallable serve.now }
 {
     let settings = load(rt, path)?;
-    let logged = Logged::new(*rt, most_logged(settings.log), Console(*rt));
+    let logged = Logged::new(*rt, level_filter(settings.log), Console(*rt));
     let bound = server::bind(&logged, &settings).map_err(ProgramFault::Server)?;
     let address = bound.text();
     let line = format!(in rt.alloc(); "listening {address}\n")?;
@@ -151,8 +154,10 @@ where
     Ok(DONE)
 }
 
-/// What is logged at a level of the settings.
-pub fn most_logged(level: LogLevel) -> LevelFilter {
+/// The filter of a level of the settings: the one of the same name.
+pub fn level_filter(level: LogLevel) -> LevelFilter
+    ensures { map to_ascii_lowercase (filter_name result) ≡ level_name level }
+{
     match level {
         LogLevel::Off => LevelFilter::Off,
         LogLevel::Error => LevelFilter::Error,

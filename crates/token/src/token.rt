@@ -49,7 +49,7 @@ impl Model for Token {
 impl Token {
     /// The token of an end.
     ///
-    /// Refuses with `SlotRange` where the slot is over 32,767, which is looked at first, and with
+    /// Refuses with `SlotRange` where the slot is over 32,767, which is checked first, and with
     /// `GenRange` where the generation is 0 or over 140,737,488,355,327, which is 2^47 - 1.
     pub fn pack(slot: usize, side: Side, generation: u64) -> Result<Token, TokenFault>
         ensures packed { IsSlot slot → IsGeneration generation → result ≡ Ok (record { slot = slot; side = side; generation = generation }) }
