@@ -178,7 +178,7 @@ fn wires(alloc: Global, scene: Scene) -> Result<(Settling, Settling), AllocError
     match scene {
         Scene::Silent => {}
         Scene::Stuck => {
-            given.push(Play::Bytes(b"abc".to_vec(alloc)?))?;
+            given.push(Play::Bytes(Bytes::new(b"abc".to_vec(alloc)?)))?;
             sent.push(Play::Blocked)?;
             taken.push(Play::Take(2))?;
         }
@@ -211,7 +211,7 @@ fn whole_wire(
     bytes: &[u8],
     takes: usize,
 ) -> Result<Settling, AllocError> {
-    let reads = vec![in alloc; Play::Bytes(bytes.to_vec(alloc)?), Play::End]?;
+    let reads = vec![in alloc; Play::Bytes(Bytes::new(bytes.to_vec(alloc)?)), Play::End]?;
     let writes = vec![in alloc; Play::Take(takes)]?;
     let closings = vec![in alloc; Play::Shut]?;
     let wire = ScriptWire::new(alloc, joined, reads, writes, closings)?;
