@@ -16,7 +16,7 @@ use crate::shared::{Own, Shared};
 use crate::worker::{Worked, worker_turn};
 use berths::{Berth, Berths};
 use claims::Claimed;
-use engine::{Play, PlayList, ScriptWire};
+use engine::{Bytes, Play, PlayList, ScriptWire};
 use log::sink::{Discard, Memory};
 use log::{Level, Log, Logged};
 use ready::Ticket;
