@@ -53,7 +53,9 @@ fn carries_out_steps_and_prints_their_report(rt: HostRuntime) -> Result<(), Fail
     let mut steps = Vec::new(rt.alloc());
     let bytes = Bytes::new(Vec::from_slice(rt.alloc(), b"\x00\xff")?);
     for (line, step) in [(7, Step::Arrive(bytes)), (8, Step::Read(1)), (9, Step::Fin)] {
-        steps.push(NumberedStep { line, step })?;
+        steps
+            .push(NumberedStep { line, step })
+            .map_err(AllocError::from)?;
     }
     let mut transfer = FlowScript::new(1, steps).carry_out(rt.alloc())?;
     let report = print_transfer(rt.alloc(), &transfer)?;
@@ -141,7 +143,7 @@ impl Explain for Count {
 /// is another count of explained faults than the outcome has.
 fn ran(alloc: Global, text: &[u8]) -> Result<(Outcome, Vec<u8>), Fail> {
     let mut reader = text;
-    let mut written = Vec::with_capacity(alloc, 100)?;
+    let mut written = Vec::with_capacity(alloc, 400)?;
     written.extend_from_slice(b"> ")?;
     let faults = Count(Cell::new(0));
     let outcome = run(alloc, &mut reader, &mut written, &faults)?;
