@@ -17,7 +17,7 @@ use std::marker::Model;
 
 pub(crate) type Words = Table<(), View, (usize, usize), OneHolder, Global>;
 
-const MOST_POSTS: u64 = 1 << 56;
+const MAX_POSTS: u64 = 1 << 56;
 
 /// The claim words of a table of slots, which the threads share by `&`.
 ///
@@ -71,7 +71,7 @@ impl Claims {
         ensures change { PostChange slot seat.old result seat.new }
         ensures lawful { PostStep slot seat.old result seat.new }
     {
-        if seat.posts == MOST_POSTS {
+        if seat.posts == MAX_POSTS {
             return Posted::Worn;
         }
         let words = &self.table.shared;

@@ -14,9 +14,9 @@ use atomic_table::{Seat, Table};
 use std::alloc::{AllocError, Global};
 use thiserror::Error;
 
-const MOST_SLOTS: usize = 32_768;
+const MAX_SLOTS: usize = 32_768;
 
-const MOST_SEATS: usize = 32;
+const MAX_SEATS: usize = 32;
 
 /// Why `Claims::open` made nothing.
 #[derive(Debug, Drop, Error)]
@@ -48,10 +48,10 @@ impl Claims {
         ensures opened { IfOk result (λ made. (made.0.words ≡ slots) × (made.1.items ≡ replicate seats (fresh made.0))) }
         ensures lawful { IfOk result (λ made. OpensLawful slots made.1.items) }
     {
-        if slots < 1 || MOST_SLOTS < slots {
+        if slots < 1 || MAX_SLOTS < slots {
             return Err(OpenFault::SlotRange);
         }
-        if seats < 1 || MOST_SEATS < seats {
+        if seats < 1 || MAX_SEATS < seats {
             return Err(OpenFault::SeatRange);
         }
         match made(alloc, slots, seats) {

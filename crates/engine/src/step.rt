@@ -13,11 +13,11 @@ ghost use Rattle.engine.specs.Steps.{IsStep, IsError};
 
 use crate::class::kind_of;
 use crate::wire::Wire;
-use relay_core::{Answer, Call, Kind, Pair, READ_MOST, Side};
+use relay_core::{Answer, Call, Kind, MAX_READ, Pair, Side};
 use std::io;
 
 /// Makes the call that comes next, and hands the pair the answer.
-pub(crate) fn step<W: Wire>(pair: &mut Pair, call: Call, wire: &mut W, buffer: &mut [u8; READ_MOST])
+pub(crate) fn step<W: Wire>(pair: &mut Pair, call: Call, wire: &mut W, buffer: &mut [u8; MAX_READ])
     requires next { next_call pair.old ≡ Some call }
     requires possible { IsPossible pair.old call }
     ensures { IsStep W.told W.does call pair.old pair.new wire.old wire.new }
@@ -35,7 +35,7 @@ fn read<W: Wire>(
     side: Side,
     most: usize,
     wire: &mut W,
-    buffer: &mut [u8; READ_MOST],
+    buffer: &mut [u8; MAX_READ],
 )
     requires next { next_call pair.old ≡ Some (call.Read side most) }
     requires possible { IsPossible pair.old (call.Read side most) }

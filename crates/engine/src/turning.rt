@@ -7,7 +7,7 @@ ghost use Rattle.engine.specs.Turns.{outcome_of, IsServed, IsTurn};
 use crate::outcome::Turn;
 use crate::step::step;
 use crate::wire::Wire;
-use relay_core::{Call, Pair, READ_MOST, Side, Verdict, laws};
+use relay_core::{Call, MAX_READ, Pair, Side, Verdict, laws};
 
 /// Makes the calls that a pair asks for, at most `budget` of them (1 to 1,024), each on the wire of its
 /// side, and hands the pair their answers. A pair that is done or has failed asks for none. It takes no
@@ -31,7 +31,7 @@ pub fn turn<A: Wire, B: Wire>(
     ensures run { IsTurn budget pair.old pair.new (IsServed A.told A.does client.old client.new) (IsServed B.told B.does target.old target.new) }
 {
     rests_on_laws();
-    let mut buffer = [0; READ_MOST];
+    let mut buffer = [0; MAX_READ];
     for _calls in 0..budget {
         let Some(call) = pair.next() else {
             return outcome(pair);
@@ -58,7 +58,7 @@ fn advance<A: Wire, B: Wire>(
     call: Call,
     client: &mut A,
     target: &mut B,
-    buffer: &mut [u8; READ_MOST],
+    buffer: &mut [u8; MAX_READ],
 )
     requires next { next_call pair.old ≡ Some call }
     requires possible { IsPossible pair.old call }

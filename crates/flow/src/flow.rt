@@ -36,7 +36,7 @@ impl Flow {
     ghost use Rattle.flow.specs.Lending.{with_ring, LendsRing};
 
     /// The most bytes that a ring may hold.
-    pub const MOST: usize = 65_536;
+    pub const MAX: usize = 65_536;
 
     /// An empty ring for at most `capacity` bytes, 1 to 65,536. This reserves all the memory that the
     /// ring will ever use.

@@ -18,10 +18,10 @@ use std::mem;
 use token::{Name, Token};
 
 /// The most connections that wait at the listener.
-pub const MOST_BACKLOG: usize = 4_096;
+pub const MAX_BACKLOG: usize = 4_096;
 
 /// The most names that one poll hands over.
-pub const MOST_POLLED: usize = 256;
+pub const MAX_POLLED: usize = 256;
 
 /// An open end, with the token under which it is registered.
 #[derive(Drop)]
@@ -177,12 +177,12 @@ impl Kernel {
     pub fn may_poll(&self, names: &[Name]) -> bool
         ensures { IsTrue result ↔ IsSome (poll self.now names.now) }
     {
-        names.len() <= MOST_POLLED && are_among(self.queue.as_slice(), names) && are_distinct(names)
+        names.len() <= MAX_POLLED && are_among(self.queue.as_slice(), names) && are_distinct(names)
     }
 
     /// A poll hands these names over, and they leave the queue (epoll_wait(2)).
     ///
-    /// Refuses with `NotAllowed`, and changes nothing, where there are more than [`MOST_POLLED`] names, or
+    /// Refuses with `NotAllowed`, and changes nothing, where there are more than [`MAX_POLLED`] names, or
     /// one that is not queued, or one twice. Never answers `NoMemory`.
     pub fn poll(&mut self, names: &[Name]) -> Result<(), Refusal>
         ensures { MeetsAlways (poll self.old names.now) self.old self.new result }
@@ -196,12 +196,12 @@ impl Kernel {
 
     /// A client connects, and waits at the listener (listen(2)).
     ///
-    /// Refuses with `NotAllowed` where [`MOST_BACKLOG`] wait already, and with `NoMemory` where the queue
+    /// Refuses with `NotAllowed` where [`MAX_BACKLOG`] wait already, and with `NoMemory` where the queue
     /// can't grow. A refusal changes nothing.
     pub fn connect_in(&mut self) -> Result<(), Refusal>
         ensures { Meets (connect_in self.old) self.old self.new result }
     {
-        if self.backlog >= MOST_BACKLOG {
+        if self.backlog >= MAX_BACKLOG {
             return Err(Refusal::NotAllowed);
         }
         self.queue.reserve(1)?;

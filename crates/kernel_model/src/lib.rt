@@ -31,7 +31,7 @@ mod watched;
 pub use accepting::Accepting;
 pub use both::{Descriptors, Sockets};
 pub use end::End;
-pub use kernel::{Kernel, MOST_BACKLOG, MOST_POLLED, Open};
+pub use kernel::{Kernel, MAX_BACKLOG, MAX_POLLED, Open};
 pub use refusal::Refusal;
 pub use reply::Reply;
 pub use watched::Watched;

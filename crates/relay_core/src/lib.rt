@@ -32,6 +32,6 @@ mod verdict;
 pub use answer::Answer;
 pub use call::{Call, CallKind};
 pub use flags::Flags;
-pub use pair::{Pair, READ_MOST};
+pub use pair::{MAX_READ, Pair};
 pub use token::{Direction, Kind, Side};
 pub use verdict::{Fault, Verdict};

@@ -19,7 +19,7 @@ use std::marker::Model;
 use token::{Direction, Side};
 
 /// The most bytes that one read asks for.
-pub const READ_MOST: usize = 16_384;
+pub const MAX_READ: usize = 16_384;
 
 /// One connection: both directions of bytes, and what the relay believes of both sockets.
 #[derive(Drop)]
@@ -324,7 +324,7 @@ impl Pair {
         } else if flow.end_seen() {
             self.call_at_end(direction)
         } else if flow.free() > 0 && self.flags(source).read {
-            Some(Call::Read(source, flow.free().min(READ_MOST)))
+            Some(Call::Read(source, flow.free().min(MAX_READ)))
         } else {
             None
         }

@@ -3,7 +3,7 @@
 
 use crate::header::{Header, read_header};
 use crate::lines::{Line, Lines, Pieces};
-use crate::parsing::MOST_BYTES;
+use crate::parsing::MAX_BYTES;
 use crate::parts::{EVENTS, Forms, HEADERS, STEPS, Wrong, first_wrong};
 use crate::reasons::{event_reason, step_reason};
 use crate::{Fault, Script, Word, parse};
@@ -47,7 +47,7 @@ fn malformed(alloc: Global, text: &[u8], number: u64) -> Option<String> {
 /// The line of this number, and the forms that it may have by its place: the first is a header, and says what the
 /// others are.
 fn line_and_forms(text: &[u8], number: u64) -> Option<(Line<'_>, Forms)> {
-    if text.len() > MOST_BYTES {
+    if text.len() > MAX_BYTES {
         return None;
     }
     let mut lines = Lines::new(text);

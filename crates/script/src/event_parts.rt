@@ -4,9 +4,9 @@ ghost use Rattle.script.specs.Events.{slot_of, worker_of, side_of, kind_of, gene
 
 use crate::lines::Pieces;
 use crate::values::{number, number_below};
-use kernel_model::{Accepting, MOST_POLLED, Reply};
+use kernel_model::{Accepting, MAX_POLLED, Reply};
 use std::alloc::{AllocError, Global};
-use token::{Kind, MAX_GEN, Name, Side, Token};
+use token::{Kind, MAX_GENERATION, Name, Side, Token};
 use world::{Act, Reported};
 
 /// The number of a slot, 0 to 63.
@@ -66,7 +66,7 @@ fn generation(word: &[u8]) -> Option<u64>
     ensures { result ≡ generation_of word.now }
 {
     let value = number(word)? as u64;
-    if 1 <= value && value <= MAX_GEN {
+    if 1 <= value && value <= MAX_GENERATION {
         Some(value)
     } else {
         None
@@ -113,7 +113,7 @@ pub(crate) fn names(alloc: Global, mut words: Pieces) -> Result<Option<Vec<Name>
         let Some(name) = name(word) else {
             return Ok(None);
         };
-        if names.len() == MOST_POLLED {
+        if names.len() == MAX_POLLED {
             return Ok(None);
         }
         names.push(name)?;

@@ -85,7 +85,7 @@ pub(crate) fn ring(word: &[u8]) -> Option<usize>
     ensures value { result ≡ ring_of word.now }
     ensures range { IfSome result IsRing }
 {
-    size(b"ring=", Flow::MOST, word)
+    size(b"ring=", Flow::MAX, word)
 }
 
 /// `KEY=N`, 1 to the most. The key ends with its `=`.

@@ -12,7 +12,7 @@ use crate::{Fault, FlowScript, NumberedEvent, NumberedStep, Script, WorldScript}
 use std::alloc::Global;
 
 /// The most bytes of a script.
-pub(crate) const MOST_BYTES: usize = 1_048_576;
+pub(crate) const MAX_BYTES: usize = 1_048_576;
 
 /// The script that a text is, or its first fault: too long before all else, then no line that says
 /// anything, then the first malformed line of the whole text. Or memory ran out, which is told only of a
@@ -21,7 +21,7 @@ pub fn parse(alloc: Global, text: &[u8]) -> Result<Script, Fault>
     ensures script { GivesBy said_by (parsed text.now) result }
     ensures memory { IsErrOf result Fault.NoMemory → (length text.now ≤ most_bytes) × IsSome (first_header (telling_lines 1 (lines_of text.now))) }
 {
-    if text.len() > MOST_BYTES {
+    if text.len() > MAX_BYTES {
         return Err(Fault::TooLong);
     }
     let mut lines = Lines::new(text);

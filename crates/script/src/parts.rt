@@ -4,7 +4,7 @@ use crate::event_parts::{accepting, kind, lone_who, name, side, slot, worker};
 use crate::header::{generation, ring, size};
 use crate::lines::Pieces;
 use crate::values::{is_hex_text, number};
-use kernel_model::MOST_POLLED;
+use kernel_model::MAX_POLLED;
 
 /// What a word may be, where it stands.
 #[derive(Clone, Copy)]
@@ -153,7 +153,7 @@ pub(crate) struct Wrong<'a> {
 /// The first word that is none of the parts that a line has to have behind its first.
 pub(crate) fn first_wrong<'a>(parts: &'static [Part], mut words: Pieces<'a>) -> Option<Wrong<'a>> {
     let mut left = parts;
-    for _place in 0..MOST_POLLED {
+    for _place in 0..MAX_POLLED {
         let word = words.next();
         let Some((part, rest)) = left.split_first() else {
             return malformed(word?, "the line should end before this word");

@@ -1,7 +1,7 @@
 //! Why a step is not allowed where it stands, by the state before it.
 
 use crate::{Step, Transfer};
-use kernel_model::{Accepting, End, Kernel, MOST_BACKLOG, Open, Reply};
+use kernel_model::{Accepting, End, Kernel, MAX_BACKLOG, Open, Reply};
 use relay_core::{Call, Verdict};
 use token::{Kind, Name, Side};
 use world::{
@@ -152,7 +152,7 @@ fn listen_reason(world: &World, listening: Listening) -> &'static str {
     let backlog = world.kernel().backlog();
     match listening {
         Listening::Connect => first_of(&[(
-            MOST_BACKLOG <= backlog,
+            MAX_BACKLOG <= backlog,
             "4096 connections wait at the listener",
         )]),
         Listening::Accept(reply) => first_of(&[

@@ -4,7 +4,7 @@ ghost use Rattle.script.specs.Scripts.{most_bytes};
 ghost use Rattle.input.specs.Fronts.{TakesAtMost};
 ghost use Rattle.script.specs.Runs.{LeadsTo, Tells, WritesReport, WritesFault, EveryByte, EveryEnd, EveryRun};
 
-use crate::parsing::MOST_BYTES;
+use crate::parsing::MAX_BYTES;
 use crate::report::fault_line;
 use crate::{Explain, Fault, Reached, parse};
 use input::InputFault;
@@ -67,7 +67,7 @@ pub fn run<R: Read, W: Write, X: Explain>(
     ensures every_run { IfSome (R.remaining reader.old) EveryRun }
 {
     every_run_holds();
-    let outcome = play(alloc, reader, MOST_BYTES + 1, explain)?;
+    let outcome = play(alloc, reader, MAX_BYTES + 1, explain)?;
     tell(alloc, writer, outcome)
 }
 

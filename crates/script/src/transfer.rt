@@ -7,11 +7,9 @@ ghost use Rattle.script.specs.Transfers.{opening, stepped, takes_memory, read_si
 use crate::{Fault, NumberedStep, Step};
 use flow::Flow;
 use kernel_model::{End, Refusal, Reply};
+use relay_core::MAX_READ;
 use std::alloc::{AllocError, Global};
 use token::Side;
-
-/// The most bytes that one read asks for.
-const READ_MOST: usize = 16_384;
 
 /// One direction: a source, a ring, and a destination that is connected.
 #[derive(Drop)]
@@ -81,7 +79,7 @@ impl Transfer {
     pub(crate) fn read_size(&self) -> usize
         ensures { result ≡ read_size self.now.flow }
     {
-        self.flow.free().min(READ_MOST)
+        self.flow.free().min(MAX_READ)
     }
 
     /// The source's read gives bytes, which go into the ring.

@@ -18,7 +18,7 @@ use relay_core::{Pair, Verdict};
 use relay_log::{log_done, log_fail};
 use std::alloc::Global;
 use std::sync::Wait;
-use token::MAX_GEN;
+use token::MAX_GENERATION;
 
 /// What a worker's turn came to.
 #[derive(Clone, Copy, Debug, PartialEq, Eq)]
@@ -60,7 +60,7 @@ pub fn worker_turn<F: Front, G: Gate, R: Wait + Log>(
     ensures change { TurnChange (account_at own.old.seat ticket.slot) result (account_at own.new.seat ticket.slot) }
     ensures exchanges { ticket.slot < shared.now.claims.words → own.new.seat.steps ≡ own.old.seat.steps + exchanges result }
     ensures ticket { (account_at own.new.seat ticket.slot).minted ≡ (account_at own.old.seat ticket.slot).minted + 1 → KeepsTicket ticket own.new.ready.history own.new.hand }
-    ensures slot { result ≡ Ok Worked.Ended → ticket.generation < MAX_GEN → KeepsSlot ticket.slot own.new.free.history own.new.hand }
+    ensures slot { result ≡ Ok Worked.Ended → ticket.generation < MAX_GENERATION → KeepsSlot ticket.slot own.new.free.history own.new.hand }
     ensures outside { shared.now.claims.words ≤ ticket.slot → (result ≡ Ok Worked.Gone) × (own.new.seat ≡ own.old.seat) }
 {
     put_tickets(rt, &mut own.ready, &mut own.hand);
@@ -92,7 +92,7 @@ fn claimed<F: Front, G: Gate, R: Wait + Log>(
     ensures change { TurnChange (account_at own.old.seat ticket.slot) result (account_at own.new.seat ticket.slot) }
     ensures exchanges { own.new.seat.steps + 1 ≡ own.old.seat.steps + exchanges result }
     ensures ticket { (account_at own.new.seat ticket.slot).minted ≡ (account_at own.old.seat ticket.slot).minted + 1 → KeepsTicket ticket own.new.ready.history own.new.hand }
-    ensures slot { result ≡ Ok Worked.Ended → ticket.generation < MAX_GEN → KeepsSlot ticket.slot own.new.free.history own.new.hand }
+    ensures slot { result ≡ Ok Worked.Ended → ticket.generation < MAX_GENERATION → KeepsSlot ticket.slot own.new.free.history own.new.hand }
 {
     match shared.berths.take_out(rt, &own.seat, ticket.slot) {
         Some(berth) if berth.pair.generation() == ticket.generation => {
@@ -145,7 +145,7 @@ fn run<F: Front, G: Gate, R: Wait + Log>(
     ensures change { TurnChange (account_at own.old.seat ticket.slot) result (account_at own.new.seat ticket.slot) }
     ensures exchanges { own.new.seat.steps + 1 ≡ own.old.seat.steps + exchanges result }
     ensures ticket { (account_at own.new.seat ticket.slot).minted ≡ (account_at own.old.seat ticket.slot).minted + 1 → KeepsTicket ticket own.new.ready.history own.new.hand }
-    ensures slot { result ≡ Ok Worked.Ended → ticket.generation < MAX_GEN → KeepsSlot ticket.slot own.new.free.history own.new.hand }
+    ensures slot { result ≡ Ok Worked.Ended → ticket.generation < MAX_GENERATION → KeepsSlot ticket.slot own.new.free.history own.new.hand }
 {
     match play(shared, &mut own.seat, gate, ticket.slot, &mut berth) {
         Turn::Done | Turn::Failed => {
@@ -274,13 +274,13 @@ fn end<F: Front, R: Wait + Log>(
     ensures only { OnlyAt ticket.slot own.old.seat own.new.seat }
     ensures change { TurnChange (account_at own.old.seat ticket.slot) (Ok Worked.Ended) (account_at own.new.seat ticket.slot) }
     ensures exchanges { own.new.seat.steps ≡ own.old.seat.steps + 1 }
-    ensures slot { ticket.generation < MAX_GEN → KeepsSlot ticket.slot own.new.free.history own.new.hand }
+    ensures slot { ticket.generation < MAX_GENERATION → KeepsSlot ticket.slot own.new.free.history own.new.hand }
 {
     log_end(rt, alloc, &berth.pair);
     drop(berth);
     shared.claims.retire(&mut own.seat, ticket.slot);
     // No connection can be opened in a slot after its last generation.
-    if ticket.generation < MAX_GEN {
+    if ticket.generation < MAX_GENERATION {
         give_slot(rt, own, ticket.slot);
     }
     wake_poller(shared, own, ticket);
@@ -288,7 +288,7 @@ fn end<F: Front, R: Wait + Log>(
 
 /// Wakes the poller, which may wait for the slot. Woken before the slot is given back, it could look and wait on.
 fn wake_poller<F: Front>(shared: &Shared<F>, _own: &Own, _ended: Ticket)
-    requires given { _ended.generation < MAX_GEN → KeepsSlot _ended.slot _own.now.free.history _own.now.hand }
+    requires given { _ended.generation < MAX_GENERATION → KeepsSlot _ended.slot _own.now.free.history _own.now.hand }
 {
     F::wake(&shared.waker);
 }

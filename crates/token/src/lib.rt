@@ -20,4 +20,4 @@ pub use direction::Direction;
 pub use kind::Kind;
 pub use name::{Name, unpack};
 pub use side::Side;
-pub use token::{MAX_GEN, MAX_SLOT, Token, TokenFault, next_gen};
+pub use token::{MAX_GENERATION, MAX_SLOT, Token, TokenFault, next_gen};

@@ -11,7 +11,7 @@ use thiserror::Error;
 pub const MAX_SLOT: usize = 32_767;
 
 /// The highest generation of a slot. A slot that has reached it is not opened again.
-pub const MAX_GEN: u64 = 140_737_488_355_327;
+pub const MAX_GENERATION: u64 = 140_737_488_355_327;
 
 /// Why a slot and a generation have no token.
 #[derive(Clone, Copy, Debug, PartialEq, Eq, Error)]
@@ -19,7 +19,7 @@ pub enum TokenFault {
     /// The slot is over [`MAX_SLOT`].
     #[error("slot out of range")]
     SlotRange,
-    /// The generation is 0 or over [`MAX_GEN`].
+    /// The generation is 0 or over [`MAX_GENERATION`].
     #[error("generation out of range")]
     GenRange,
 }
@@ -59,7 +59,7 @@ impl Token {
         if slot > MAX_SLOT {
             return Err(TokenFault::SlotRange);
         }
-        if generation == 0 || generation > MAX_GEN {
+        if generation == 0 || generation > MAX_GENERATION {
             return Err(TokenFault::GenRange);
         }
         Ok(Token {
@@ -102,13 +102,13 @@ impl Token {
 }
 
 /// The generation of a slot of generation `generation` once it is opened again: one more, or none after
-/// [`MAX_GEN`]. The caller may give 0, which is that of a slot that was never opened, and none over
-/// [`MAX_GEN`].
+/// [`MAX_GENERATION`]. The caller may give 0, which is that of a slot that was never opened, and none over
+/// [`MAX_GENERATION`].
 pub fn next_gen(generation: u64) -> Option<u64>
     requires { generation ≤ 140737488355327 }
     ensures { result ≡ generation_after generation }
 {
-    if generation == MAX_GEN {
+    if generation == MAX_GENERATION {
         None
     } else {
         Some(generation + 1)

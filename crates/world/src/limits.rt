@@ -1,5 +1,5 @@
 /// The most bytes that one arrival brings.
-pub(crate) const MOST_BYTES: usize = 1_024;
+pub(crate) const MAX_BYTES: usize = 1_024;
 
 /// The sizes of a world: 1 to 64 slots, 1 to 16 workers, a ring of 1 to 65,536 bytes for each direction,
 /// a budget of 1 to 1,024 calls for one turn, and the generation that every slot has had, which is at most

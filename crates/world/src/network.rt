@@ -4,7 +4,7 @@ ghost use Rattle.world.specs.Steps.{change_at};
 
 use crate::connection::Connection;
 use crate::event::{Change, Listening, Reported};
-use crate::limits::MOST_BYTES;
+use crate::limits::MAX_BYTES;
 use crate::world::World;
 use kernel_model::{Accepting, Kernel, Refusal, Watched};
 use token::Side;
@@ -124,7 +124,7 @@ fn change_at(kernel: &mut Kernel, descriptor: usize, change: &Change) -> Result<
 {
     match change {
         Change::Arrive(bytes) => {
-            if bytes.len() > MOST_BYTES {
+            if bytes.len() > MAX_BYTES {
                 return Err(Refusal::NotAllowed);
             }
             kernel.arrive(descriptor, bytes.as_slice())

@@ -9,7 +9,7 @@ use crate::slot::Slot;
 use crate::world::World;
 use kernel_model::Refusal;
 use relay_core::Pair;
-use token::{MAX_GEN, Name, Side, Token};
+use token::{MAX_GENERATION, Name, Side, Token};
 
 #[tactic(auto, using(std::proofs::lemmas::Option::gets, std::proofs::lemmas::Grind::common_steps))]
 impl World {
@@ -42,7 +42,7 @@ impl World {
             return Err(Refusal::NotAllowed);
         }
         let old = self.table[slot];
-        if old >= MAX_GEN {
+        if old >= MAX_GENERATION {
             return Err(Refusal::NotAllowed);
         }
         self.open_at(slot, old)

@@ -8,7 +8,7 @@ use crate::past::Past;
 use crate::world::World;
 use kernel_model::{Refusal, Reply};
 use relay_core::Verdict;
-use token::MAX_GEN;
+use token::MAX_GENERATION;
 
 /// Whether a connection is neither done nor failed.
 pub fn is_live(verdict: Verdict) -> bool
@@ -211,7 +211,7 @@ impl World {
         if slot >= self.slots.len() {
             return Err(Refusal::NotAllowed);
         }
-        if self.slots[slot].generation() < MAX_GEN {
+        if self.slots[slot].generation() < MAX_GENERATION {
             self.free.reserve(1)?;
             self.free.push(slot).unwrap();
         }

@@ -2,7 +2,7 @@ ghost use Rattle.std.specs.Prelude.{◌≡◌, ◌↔◌, true, false, IsTrue};
 ghost use Rattle.server.specs.SocketsDelays.{waiting, prompt, IsOffered};
 
 use crate::limits::BULK;
-use relay_core::READ_MOST;
+use relay_core::MAX_READ;
 use std::marker::Model;
 
 /// When a socket sends at once, by TCP_NODELAY of tcp(7): from its opening on, but for bulk until the connection is
@@ -45,7 +45,7 @@ impl Delay {
         ensures offered { IsOffered bytes self.old self.new }
         ensures switched { IsTrue result ↔ ((self.old.at_once ≡ true) × (self.new.at_once ≡ false)) }
     {
-        if bytes < READ_MOST {
+        if bytes < MAX_READ {
             self.full_offers = 0;
             return false;
         }

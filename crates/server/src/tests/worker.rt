@@ -31,7 +31,7 @@ use std::sync::atomic::Ordering::SeqCst;
 use std::test::Fail;
 use std::thread;
 use std::thread::Threads;
-use token::{MAX_GEN, Token};
+use token::{MAX_GENERATION, Token};
 
 /// How much is kept in hand here.
 const HAND: usize = 2;
@@ -384,8 +384,8 @@ const ROWS: [(Row, Option<&str>); 10] = [
     // A slot whose last generation has ended is not given back.
     (
         Row {
-            opened: Some((MAX_GEN, Scene::Reset)),
-            ticket: (0, MAX_GEN),
+            opened: Some((MAX_GENERATION, Scene::Reset)),
+            ticket: (0, MAX_GENERATION),
             given: None,
             ..FAILED
         },
