@@ -77,10 +77,10 @@ of_input most (Some input) text o front is to =
     leads_too text input o (ap parsed front ∙ ap (λ (n : ℕ). parsed (take n input)) is ∙ same_parsed input) to
 
 -- memory ran out before the line of a fault was made
-pub no_memory_told : (o : Result Reached Fault) (fault : Fault) (r : Result Outcome ScriptFault) (old new : Option (List ℕ)) → o ≡ Err fault
-    → IfOk r (λ told. (told ≡ Refused) × Appends old new (fault_line NoMemory)) → IfOk r (λ told. Tells o told old new)
-no_memory_told o fault (Ok told) old new is wrote = rw (is, wrote.0) (inr wrote.1)
-no_memory_told o fault (Err e) old new is wrote = tt
+pub no_memory_told : (fault : Fault) (r : Result Outcome ScriptFault) (old new : Option (List ℕ))
+    → IfOk r (λ told. (told ≡ Refused) × Appends old new (fault_line NoMemory)) → IfOk r (λ told. Tells (Err fault) told old new)
+no_memory_told fault (Ok told) old new wrote = rw wrote.0 (inr wrote.1)
+no_memory_told fault (Err e) old new wrote = tt
 
 -- the line of a fault was written, or that memory ran out
 refused_told : (text : List ℕ) (o : Result Reached Fault) (old new : Option (List ℕ)) → LeadsTo text o → Tells o Refused old new → WritesFault text old new

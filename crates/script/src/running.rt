@@ -119,14 +119,38 @@ fn tell<W: Write>(
     ensures err { IfErr result (λ fault. fault ≡ ScriptFault.Write) }
 {
     match outcome {
-        Ok(reached) => match reached.report(alloc) {
-            Ok(report) => write(writer, report.as_bytes(), Outcome::Report),
-            Err(_) => write(writer, NO_MEMORY, Outcome::Refused),
-        },
-        Err(fault) => match fault_line(alloc, fault) {
-            Ok(line) => write(writer, line.as_bytes(), Outcome::Refused),
-            Err(_) => write(writer, NO_MEMORY, Outcome::Refused),
-        },
+        Ok(reached) => tell_state(alloc, writer, &reached),
+        Err(fault) => tell_fault(alloc, writer, fault),
+    }
+}
+
+/// Writes the report of a state, or that there was no memory for it.
+fn tell_state<W: Write>(
+    alloc: Global,
+    writer: &mut W,
+    reached: &Reached,
+) -> Result<Outcome, ScriptFault>
+    ensures ok { IfOk result (λ told. Tells (Ok reached.now) told (W.contents writer.old) (W.contents writer.new)) }
+    ensures err { IfErr result (λ fault. fault ≡ ScriptFault.Write) }
+{
+    match reached.report(alloc) {
+        Ok(report) => write(writer, report.as_bytes(), Outcome::Report),
+        Err(_) => write(writer, NO_MEMORY, Outcome::Refused),
+    }
+}
+
+/// Writes the line of a fault, or that there was no memory for it.
+fn tell_fault<W: Write>(
+    alloc: Global,
+    writer: &mut W,
+    fault: Fault,
+) -> Result<Outcome, ScriptFault>
+    ensures ok { IfOk result (λ told. Tells (Err fault) told (W.contents writer.old) (W.contents writer.new)) }
+    ensures err { IfErr result (λ fault. fault ≡ ScriptFault.Write) }
+{
+    match fault_line(alloc, fault) {
+        Ok(line) => write(writer, line.as_bytes(), Outcome::Refused),
+        Err(_) => write(writer, NO_MEMORY, Outcome::Refused),
     }
 }
 
