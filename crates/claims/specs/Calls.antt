@@ -1,4 +1,4 @@
--- The answers of the calls, and what each says of the caller's account. Readers of the promises need it.
+-- The answers of the calls, and what each says of the caller's account. Part of the promises.
 use Rattle.std.specs.Prelude.{◌≡◌, ℕ, ◌^◌, true, false, sum_by}
 use Rattle.claims.specs.declared.answers.Posted.{Posted}
 use Rattle.claims.specs.declared.answers.Posted.TheVariants.{Wake, Quiet, Worn}

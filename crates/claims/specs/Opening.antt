@@ -1,4 +1,4 @@
--- What `open` refuses, and what it leaves. Readers of the promises need it.
+-- What `open` refuses, and what it leaves. Part of the promises.
 use Rattle.std.specs.Prelude.{◌≡◌, ◌↔◌, ℕ, ◌<◌, ◌≤◌, ◌⊎◌, List, map, replicate}
 use Rattle.claims.specs.Rule.{ClaimRule}
 use Rattle.claims.specs.Seats.{SeatState, view_of}

@@ -1,4 +1,4 @@
--- What callers see of a seat, and how a call changes it. Readers of the promises need it.
+-- What callers see of a seat, and how a call changes it. Part of the promises.
 use Rattle.std.specs.Prelude.{◌≡◌, ◌≢◌, ℕ, ◌+◌, ◌^◌, ◌≤◌, Bool, true, false, List, map, length, replicate, sum_by, slice_index, slice_index_or, slice_set}
 use mathlib.Core.Option.{some}
 use lib.ListN.{get_elem?}

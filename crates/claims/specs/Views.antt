@@ -1,4 +1,5 @@
--- What a seat has done at one slot, its account, and the view of a seat: an account for each slot. Readers of the promises need it.
+-- What a seat has done at one slot, its account, and the view of a seat: an account for each slot. Part of the
+-- promises.
 use Rattle.std.specs.Prelude.{ℕ, ◌+◌, Bool, true, false, List, map, replicate, if◌then◌else◌, slice_index_or}
 use Rattle.claims.specs.declared.view.Account.{Account}
 use Rattle.claims.specs.declared.view.View.{View}

@@ -189,7 +189,7 @@ fn open_refuses_at_the_edges(rt: HostRuntime) {
     }
 }
 
-// For runs in which one allocation fails, each in its turn: one of the three calls is then refused, for want of memory.
+// For runs in which one allocation fails, each in its turn: one of the three calls then answers that memory ran out.
 #[test]
 fn open_finds_memory_again(rt: HostRuntime) {
     let mut refused = 0u8;

@@ -1,4 +1,4 @@
--- Part of the promises: what is asked of a wire, call by call, and what it gives.
+-- What is asked of a wire, call by call, and what it gives. Part of the promises.
 use Rattle.std.specs.Prelude.{ℕ, List}
 use Rattle.std.specs.declared.io.ErrorKind.{ErrorKind}
 

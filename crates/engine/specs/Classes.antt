@@ -1,4 +1,4 @@
--- Part of the promises: what the errors of read(2), write(2), connect(2) and shutdown(2) mean to the relay.
+-- What the errors of read(2), write(2), connect(2) and shutdown(2) mean to the relay. Part of the promises.
 use Rattle.std.specs.Prelude.{Bool, true, false, not, ◌&&◌, if◌then◌else◌}
 use Rattle.std.specs.declared.io.ErrorKind.{ErrorKind}
 use Rattle.std.specs.declared.io.ErrorKind.TheVariants.{ConnectionReset, BrokenPipe, ConnectionAborted, ConnectionRefused, NotConnected, TimedOut, WouldBlock, Interrupted, Other}

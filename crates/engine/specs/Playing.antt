@@ -1,4 +1,4 @@
--- For proofs alone: how a wire over memory works its plays off.
+-- How a wire over memory works its plays off. For proofs alone.
 use Rattle.std.specs.Prelude.{ℕ, List, [], ◌∷◌, take, drop, Result, Ok, Err}
 use Rattle.std.specs.declared.io.ErrorKind.{ErrorKind}
 use Rattle.engine.specs.Asked.{Given, Brought, Took, Refused}

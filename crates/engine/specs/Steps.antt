@@ -1,4 +1,4 @@
--- For proofs alone: what one call of a turn comes to.
+-- What one call of a turn comes to. For proofs alone.
 use Rattle.std.specs.Prelude.{◌≡◌, ℕ, true, if◌then◌else◌, List, [], ◌∷◌}
 use Rattle.std.specs.Prelude.{Some}
 use Rattle.std.specs.Io.KnownBytes.{Consumes, Appends}

@@ -1,4 +1,4 @@
--- Part of the promises: what a wire knows of its answers.
+-- What a wire knows of its answers. Part of the promises.
 use Rattle.std.specs.Prelude.{ℕ, ◌+◌, ◌%◌, ◌^◌, Bool, true}
 use Rattle.engine.specs.declared.class.Class.{Class}
 use Rattle.engine.specs.declared.class.Class.TheVariants.{Interrupted, Blocked, Failed}

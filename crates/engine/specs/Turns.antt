@@ -1,4 +1,4 @@
--- Part of the promises: what a turn comes to, as the pair's run over the answers of two wires.
+-- What a turn comes to, as the pair's run over the answers of two wires. Part of the promises.
 use Rattle.std.specs.Prelude.{◌≡◌, ℕ, ◌+◌, ◌≤◌, Bool, true, false, ◌&&◌, if◌then◌else◌, List, [], ◌∷◌, ◌++◌, length, OnSome, unwrap_or, option_map}
 use Rattle.std.specs.Prelude.{Option}
 use Rattle.std.specs.Prelude.{Some, None}

@@ -1,5 +1,5 @@
--- Part of the promises: what a wire's calls do to the bytes that it tells, and to its counts of faults and
--- of answers "would block".
+-- What a wire's calls do to the bytes that it tells, and to its counts of faults and of answers "would block". Part of
+-- the promises.
 use Rattle.std.specs.Prelude.{◌≡◌, ◌⊎◌, ℕ, ◌+◌, ◌%◌, ◌^◌, ◌≤◌, List, [], length, take, MatchResult}
 use Rattle.std.specs.Prelude.{Option}
 use Rattle.std.specs.Prelude.{None}

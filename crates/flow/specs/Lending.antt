@@ -1,4 +1,4 @@
--- Part of the promises, for `front` alone: what a stream is once the borrow of its bytes has ended.
+-- What a stream is once the borrow of its bytes has ended. Part of the promises, for `front` alone.
 use Rattle.std.specs.Prelude.{ℕ, List, length}
 use Rattle.std.specs.List.{refill}
 use Rattle.std.specs.Borrow.{MutBor, Fml, Lends, Array, u8}

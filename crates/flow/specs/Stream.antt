@@ -1,6 +1,6 @@
--- Part of the promises: one direction of a connection, as the relay keeps it. These are the bytes that
--- were read at its source and not yet written at its destination, oldest first, whether the source's end
--- of input was seen, and whether it was passed on by a shutdown.
+-- One direction of a connection, as the relay keeps it. Part of the promises. These are the bytes that were read at its
+-- source and not yet written at its destination, oldest first, whether the source's end of input was seen, and whether
+-- it was passed on by a shutdown.
 use Rattle.std.specs.Prelude.{ℕ, ◌-◌, Bool, true, false, List, [], ◌++◌, length, drop}
 
 pub record Stream : Type 0 where

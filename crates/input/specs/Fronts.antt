@@ -1,4 +1,5 @@
--- What reads take from a reader whose bytes are known. Readers of the promises need `TakesAtMost`; the rest serves proofs alone.
+-- What reads take from a reader whose bytes are known. `TakesAtMost` is part of the promises, the rest is for proofs
+-- alone.
 use Rattle.std.specs.Prelude.{◌≡◌, ℕ, ◌+◌, ◌<◌, ◌≤◌, List, ◌++◌, length, Option}
 use Rattle.std.specs.Io.KnownBytes.{Consumes, IsAtEnd}
 

@@ -1,5 +1,5 @@
--- The kernel of one process. Needed to read the promises. It watches its sockets with edge triggering (epoll(7)): the
--- open ends by descriptor, the names that are queued for the next poll, and the listening socket.
+-- The kernel of one process. Part of the promises. It watches its sockets with edge triggering (epoll(7)): the open
+-- ends by descriptor, the names that are queued for the next poll, and the listening socket.
 use Rattle.std.specs.Prelude.{ℕ, ◌+◌, ◌-◌, ◌==◌, Bool, true, false, not, ◌&&◌, ◌||◌, nat_lt, nat_le, if◌then◌else◌, List, [], ◌∷◌, ◌++◌, length, slice_get, slice_set, position, Option, Some, None, option_map, option_and_then, unwrap_or}
 use Rattle.std.specs.Option.{is_none, option_flatten}
 use Rattle.token.specs.declared.name.Name.{Name}

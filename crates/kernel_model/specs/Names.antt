@@ -1,4 +1,4 @@
--- The names that a readiness queue holds, as a set: a list in which no two are equal. Needed to read the promises.
+-- The names that a readiness queue holds, as a set: a list in which no two are equal. Part of the promises.
 use Rattle.std.specs.Prelude.{◌==◌, Bool, true, false, not, ◌&&◌, if◌then◌else◌, List, [], ◌∷◌, ◌++◌}
 use Rattle.std.specs.List.{list_any, list_all, filter}
 use Rattle.token.specs.declared.name.Name.{Name}

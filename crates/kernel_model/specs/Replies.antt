@@ -1,5 +1,5 @@
--- Which replies an end may give to each call, and the end after it. Needed to read the promises. A reply that it may
--- not give has no value. Interrupted and a failure leave the end as it is. Only a write can fail by taking 0 bytes.
+-- Which replies an end may give to each call, and the end after it. Part of the promises. A reply that it may not give
+-- has no value. Interrupted and a failure leave the end as it is. Only a write can fail by taking 0 bytes.
 use Rattle.std.specs.Prelude.{ℕ, Bool, true, false, not, ◌&&◌, nat_lt, nat_le, List, ◌++◌, length, take, drop, Option, Some, None}
 use Rattle.token.specs.declared.kind.Kind.{Kind}
 use Rattle.token.specs.declared.kind.Kind.TheVariants.{Zero}

@@ -1,5 +1,5 @@
--- The queue rule. Readers of the promises need it.
--- It is what is true of a queue's items and of what each end has put and taken, between any two steps, in every schedule.
+-- The queue rule. Part of the promises. It is what is true of a queue's items and of what each end has put and taken,
+-- between any two steps, in every schedule.
 use Rattle.std.specs.Prelude.{◌≡◌, ℕ, ◌<◌, ◌==◌, nat_lt, if◌then◌else◌, true, List, [], ◌∷◌, ◌++◌, length, All, sum_by}
 use Rattle.std.specs.List.{AllPairs}
 use mathlib.Core.Option.{some}

@@ -1,5 +1,5 @@
--- What a call tells the end that made it. Readers of the promises need it.
--- The state is some state that meets the rule, since no clause can name what other threads do, but the end's own history stands in it.
+-- What a call tells the end that made it. Part of the promises. The state is some state that meets the rule, since no
+-- clause can name what other threads do, but the end's own history stands in it.
 use Rattle.std.specs.Prelude.{◌≡◌, ℕ, zero, suc, true, false, List, [], ◌∷◌, ◌++◌, length, slice_set}
 use mathlib.Core.Option.{some}
 use lib.ListN.{get_elem?}

@@ -98,7 +98,7 @@ impl ReadyQueue {
     }
 
     // Wakes an idle end for the ticket that this end has just put, unless this one comes back for it itself. An end
-    // that were woken before could look, find no ticket, and sleep beside it.
+    // woken before the ticket is in could look, find none, and go to sleep beside it.
     fn wake_for(&mut self, _ticket: Ticket)
         requires { PutLast _ticket self.old.history }
         ensures { self.new ≡ self.old }

@@ -1,4 +1,4 @@
--- Part of the promises: how a clause reads an answer of the program: with the bytes that it refers to.
+-- How a clause reads an answer of the program: with the bytes that it refers to. Part of the promises.
 use Rattle.relay_core.specs.declared.answer.Answer.{Answer}
 use Rattle.relay_core.specs.declared.answer.Answer.TheVariants as answer
 use Rattle.relay_core.specs.Replies.{Reply, Bytes, End, Wrote, Joined, Shut, Blocked, Interrupted, Failed}

@@ -1,4 +1,4 @@
--- Part of the promises: the calls that the relay makes on a connection's two sockets, and the answers that they get.
+-- The calls that the relay makes on a connection's two sockets, and the answers that they get. Part of the promises.
 use Rattle.std.specs.Prelude.{ℕ, List, codes}
 use Rattle.token.specs.declared.side.Side.{Side}
 use Rattle.token.specs.declared.direction.Direction.{Direction}

@@ -1,4 +1,4 @@
--- Part of the promises: what happens to a pair: its next call is answered, or a report comes.
+-- What happens to a pair: its next call is answered, or a report comes. Part of the promises.
 use Rattle.std.specs.Prelude.{List, [], ◌∷◌, ◌++◌, ℕ, Option, Some, option_and_then, option_map}
 use Rattle.token.specs.declared.direction.Direction.{Direction}
 use Rattle.relay_core.specs.declared.call.Call.{Call}

@@ -1,4 +1,4 @@
--- Part of the promises: the laws of every pair.
+-- The laws of every pair. Part of the promises.
 use Rattle.std.specs.Prelude.{◌≡◌, ◌↔◌, ℕ, ◌≤◌, ◌⊎◌, true, false, List, [], ◌++◌, length, map, Some, None}
 use Rattle.token.specs.declared.direction.Direction.{Direction}
 use Rattle.token.specs.Sides.{source, destination, inward, outward}

@@ -1,4 +1,4 @@
--- Part of the promises, for `offer` alone: what a pair is once the borrow of an offer's bytes has ended.
+-- What a pair is once the borrow of an offer's bytes has ended. Part of the promises, for `offer` alone.
 use Rattle.std.specs.Prelude.{ℕ, List}
 use Rattle.std.specs.Borrow.{MutBor, Fml, Lends, Array, u8}
 use Rattle.token.specs.declared.direction.Direction.{Direction}

@@ -1,5 +1,4 @@
--- Part of the promises: the bytes that answers move. Reads bring them into a direction, and writes take
--- them out.
+-- The bytes that answers move. Part of the promises. Reads bring them into a direction, and writes take them out.
 use Rattle.std.specs.Prelude.{ℕ, Bool, true, false, if◌then◌else◌, List, [], ◌∷◌, ◌++◌, take, Option, option_map, unwrap_or}
 use Rattle.token.specs.declared.direction.Direction.{Direction}
 use Rattle.token.specs.declared.direction.Direction.TheVariants.{Up, Down}

@@ -1,5 +1,5 @@
--- Part of the promises: one connection, as the relay keeps it. That is a stream of bytes for each
--- direction, and for each side's socket what the relay believes of its readiness.
+-- One connection, as the relay keeps it. Part of the promises. That is a stream of bytes for each direction, and for
+-- each side's socket what the relay believes of its readiness.
 use Rattle.std.specs.Prelude.{ℕ, Bool, true, false, ◌&&◌, Option, Some, None}
 use Rattle.token.specs.declared.side.Side.{Side}
 use Rattle.token.specs.declared.side.Side.TheVariants.{Client, Target}

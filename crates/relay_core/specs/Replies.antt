@@ -1,4 +1,4 @@
--- Part of the promises: what a socket may answer to a call, and what each answer does to the pair.
+-- What a socket may answer to a call, and what each answer does to the pair. Part of the promises.
 use Rattle.std.specs.Prelude.{ℕ, ◌+◌, ◌-◌, ◌^◌, Bool, true, false, ◌&&◌, nat_le, min, List, length, Some}
 use Rattle.token.specs.declared.kind.Kind.{Kind}
 use Rattle.token.specs.declared.direction.Direction.{Direction}

@@ -1,4 +1,4 @@
--- Part of the promises: what a list of answers does to the pair, each to the call that comes next at that point.
+-- What a list of answers does to the pair, each to the call that comes next at that point. Part of the promises.
 use Rattle.std.specs.Prelude.{List, [], ◌∷◌, Option, Some, None, option_and_then, if◌then◌else◌}
 use Rattle.relay_core.specs.declared.call.Call.{Call}
 use Rattle.relay_core.specs.Pairs.{Relay}

@@ -1,4 +1,4 @@
--- The exact bytes of the log messages.
+-- The exact bytes of the log messages. Part of the promises.
 use Rattle.std.specs.Prelude.{ℕ, List, ◌++◌, codes}
 use Rattle.std.specs.Fmt.{decimal}
 use Rattle.token.specs.Sides.{side_name}

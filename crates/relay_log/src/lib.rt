@@ -6,7 +6,7 @@
 //! | `peer s=3 g=1 from=192.0.2.7:50000` | debug | whose connection that is: the client's address and port |
 //! | `done s=3 g=1 up=120 down=400` | info | both its ends were passed on; bytes sent each way |
 //! | `fail s=3 g=1 side=target call=write kind=pipe` | warn | a call on one of its sockets failed |
-//! | `drop kind=memory` | warn | an accepted connection was closed at once: for want of memory, or because `connect` or `register` failed |
+//! | `drop kind=memory` | warn | an accepted connection was closed at once: memory ran out, or `connect` or `register` failed |
 //!
 //! A message that finds no memory is left out: the log is for people, and the relay goes on.
 #![tactic(auto)]

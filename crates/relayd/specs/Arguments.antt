@@ -1,4 +1,4 @@
--- Why the arguments of the command line can't be read, by the kind of the error. Readers of the promises need it.
+-- Why the arguments of the command line can't be read, by the kind of the error. Part of the promises.
 use Rattle.std.specs.declared.io.ErrorKind.{ErrorKind}
 use Rattle.std.specs.declared.io.ErrorKind.TheVariants.{OutOfMemory}
 use Rattle.relayd.specs.declared.faults.ArgumentsFault.{ArgumentsFault}

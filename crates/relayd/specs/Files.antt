@@ -1,4 +1,4 @@
--- What a settings file sets, or what is wrong with it, by its bytes. Readers of the promises need it.
+-- What a settings file sets, or what is wrong with it, by its bytes. Part of the promises.
 use Rattle.std.specs.Prelude.{ℕ, ◌<◌, ◌≤◌, List, length}
 use Rattle.settings.specs.Text.{IsSettingsOf, IsFaultOf}
 use Rattle.settings.specs.declared.fields.Settings.{Settings}

@@ -1,4 +1,4 @@
--- The events of a world's script, and the lines that say them. Readers of the promises need it.
+-- The events of a world's script, and the lines that say them. Part of the promises.
 use Rattle.std.specs.Prelude.{ℕ, nat_lt, nat_le, ◌&&◌, false, true, if◌then◌else◌, List, [], ◌∷◌, length, codes, Option, Some, None, option_map, option_and_then}
 use Rattle.std.specs.Str.{bytes_eq}
 use Rattle.token.specs.declared.side.Side.{Side}

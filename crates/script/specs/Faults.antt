@@ -1,4 +1,4 @@
--- The faults of a script, and the one line that tells each. Readers of the promises need it.
+-- The faults of a script, and the one line that tells each. Part of the promises.
 use Rattle.std.specs.Prelude.{◌≡◌, ℕ, List, [], ◌∷◌, ◌++◌, codes, Option, Some, None, IsSome, Result, Ok, Err}
 use Rattle.std.specs.Fmt.{decimal}
 use Rattle.script.specs.declared.word.Word.{Word}

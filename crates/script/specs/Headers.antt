@@ -1,4 +1,4 @@
--- The first line of a script that says something: what the script is of, and its sizes. Readers of the promises need it.
+-- The first line of a script that says something: what the script is of, and its sizes. Part of the promises.
 use Rattle.std.specs.Prelude.{ℕ, ◌≤◌, nat_lt, nat_le, ◌&&◌, if◌then◌else◌, List, [], ◌∷◌, codes, Option, Some, None, option_map, option_and_then}
 use Rattle.std.specs.Str.{bytes_eq}
 use Rattle.world.specs.declared.limits.Limits.{Limits}

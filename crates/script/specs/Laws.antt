@@ -1,4 +1,4 @@
--- What holds of every script of one direction, in terms of its steps alone. Readers of the promises need it.
+-- What holds of every script of one direction, in terms of its steps alone. Part of the promises.
 use Rattle.std.specs.Prelude.{◌≡◌, ℕ, Bool, true, false, ◌||◌, List, [], ◌∷◌, ◌++◌, Ok}
 use Rattle.script.specs.declared.step.Step.{Step}
 use Rattle.script.specs.declared.step.Step.TheVariants.{Arrive, Fin}

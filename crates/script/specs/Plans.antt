@@ -1,4 +1,4 @@
--- The two kinds of scripts, as values. Readers of the promises need it.
+-- The two kinds of scripts, as values. Part of the promises.
 use Rattle.std.specs.Prelude.{ℕ, List, map}
 use Rattle.world.specs.declared.limits.Limits.{Limits}
 use Rattle.world.specs.declared.event.Event.{Event}

@@ -1,4 +1,4 @@
--- What is written of a script of one direction: its report, or the line of a fault. Readers of the promises need it.
+-- What is written of a script of one direction: its report, or the line of a fault. Part of the promises.
 use Rattle.std.specs.Prelude.{ℕ, Bool, if◌then◌else◌, List, [], ◌∷◌, ◌++◌, codes}
 use Rattle.hex.specs.Hex.{encode_lower}
 use Rattle.kernel_model.specs.Ends.{is_nonempty}

@@ -1,4 +1,4 @@
--- The script that a text is, or its first fault. Readers of the promises need it.
+-- The script that a text is, or its first fault. Part of the promises.
 use Rattle.std.specs.Prelude.{ℕ, nat_lt, if◌then◌else◌, List, [], ◌∷◌, map, length, Option, Some, None, Result, Ok, Err}
 use Rattle.world.specs.declared.limits.Limits.{Limits}
 use Rattle.script.specs.declared.fault.Fault.{Fault}

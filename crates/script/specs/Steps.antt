@@ -1,4 +1,4 @@
--- The steps of a script of one direction, and the lines that say them. Readers of the promises need it.
+-- The steps of a script of one direction, and the lines that say them. Part of the promises.
 use Rattle.std.specs.Prelude.{ℕ, true, false, ◌&&◌, if◌then◌else◌, List, [], ◌∷◌, codes, Option, Some, None, option_map}
 use Rattle.std.specs.Str.{bytes_eq}
 use Rattle.script.specs.declared.word.Word.{Word}

@@ -1,5 +1,4 @@
--- How the lines and words of a script are cut, and what numbers and bytes look like in it. Readers of the promises
--- need it.
+-- How the lines and words of a script are cut, and what numbers and bytes look like in it. Part of the promises.
 use Rattle.std.specs.Prelude.{ℕ, ◌+◌, ◌-◌, ◌*◌, ◌^◌, ◌==◌, nat_lt, nat_le, Bool, true, false, not, ◌&&◌, ◌||◌, if◌then◌else◌, List, [], ◌∷◌, length, fold, Option, Some, None, take, drop, option_and_then}
 use Rattle.std.specs.List.{slice_split, list_all}
 use Rattle.std.specs.Str.{bytes_eq}

@@ -1,5 +1,5 @@
--- One direction as a machine: a source, a ring and a destination, and what each step of a script does. Readers of the
--- promises need it.
+-- One direction as a machine: a source, a ring and a destination, and what each step of a script does. Part of the
+-- promises.
 use Rattle.std.specs.Prelude.{ℕ, min, Bool, true, false, not, ◌&&◌, if◌then◌else◌, take, Option, None, option_map, Result}
 use Rattle.token.specs.declared.side.Side.TheVariants.{Client, Target}
 use Rattle.flow.specs.Stream.{Stream, empty_stream, free_room, taken_in, dropped, ended, closed}

@@ -1,4 +1,4 @@
--- The first word of an event, by which a fault names it. Readers of the promises need it.
+-- The first word of an event, by which a fault names it. Part of the promises.
 use Rattle.world.specs.declared.event.Event.{Event}
 use Rattle.world.specs.declared.event.Event.TheVariants.{Network, Spurious, Vanish, Listen, Poll, Work}
 use Rattle.world.specs.declared.event.Change.{Change}

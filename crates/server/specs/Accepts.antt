@@ -1,11 +1,11 @@
--- What the errors of accept(2) mean to the relay. Readers of the promises need it.
+-- What the errors of accept(2) mean to the relay. Part of the promises.
 use Rattle.std.specs.declared.io.ErrorKind.{ErrorKind}
 use Rattle.std.specs.declared.io.ErrorKind.TheVariants.{Interrupted, ConnectionAborted, NetworkDown, NetworkUnreachable, HostUnreachable, WouldBlock}
 use Rattle.server.specs.declared.accepting.Accepted.{Accepted}
 use Rattle.server.specs.declared.accepting.Accepted.TheVariants.{Again, Blocked, Starved}
 
 -- A signal, a connection that was given up before it was accepted, or a network error that the new socket had pending: the next
--- connection may be accepted at once. EAGAIN says that none waits. Anything else is taken as want of descriptors or memory
+-- connection may be accepted at once. EAGAIN says that none waits. Anything else counts as a lack of descriptors or memory
 abbrev pub accepted_of : ErrorKind → Accepted
 accepted_of Interrupted = Again
 accepted_of ConnectionAborted = Again

@@ -1,6 +1,5 @@
--- What delivering the reports of one poll does. Readers of the promises need it.
--- Each report that names an end of a connection which its slot still has becomes a note, and each note that found nobody at work
--- there makes a ticket.
+-- What delivering the reports of one poll does. Part of the promises. Each report that names an end of a connection
+-- which its slot still has becomes a note, and each note that found nobody at work there makes a ticket.
 use Rattle.std.specs.Prelude.{◌≡◌, ℕ, ◌+◌, ◌==◌, ◌⊎◌, List, [], ◌∷◌, ◌++◌, Option, Some, None, length, if◌then◌else◌, slice_index}
 use Rattle.std.specs.List.{filter_map, count_by}
 use Rattle.claims.specs.declared.view.Account.{Account}

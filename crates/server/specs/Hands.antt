@@ -1,4 +1,4 @@
--- What a thread has in hand: the tickets and the free slots that a queue refused, oldest first. Readers of the promises need it.
+-- What a thread has in hand: the tickets and the free slots that a queue refused, oldest first. Part of the promises.
 use Rattle.std.specs.Prelude.{◌≡◌, ◌⊎◌, ℕ, ◌-◌, ◌<◌, ◌≤◌, List, [], ◌∷◌, ◌++◌, length}
 use Rattle.ready.specs.declared.history.History.{History}
 use Rattle.ready.specs.declared.ticket.Ticket.{Ticket}

@@ -1,4 +1,4 @@
--- What an opening does to the poller's account of the slot and to its hand. Readers of the promises need it.
+-- What an opening does to the poller's account of the slot and to its hand. Part of the promises.
 use Rattle.std.specs.Prelude.{◌≡◌, ◌+◌, Bool, true, false, [], ◌∷◌, ◌++◌, Result, Ok, Err}
 use Rattle.claims.specs.Seats.{SeatState, account_at, one_step_later}
 use Rattle.ready.specs.declared.ticket.Ticket.{Ticket}

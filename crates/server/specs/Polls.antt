@@ -1,4 +1,4 @@
--- What the poller keeps between its rounds. Readers of the promises need it.
+-- What the poller keeps between its rounds. Part of the promises.
 use Rattle.std.specs.Prelude.{ℕ, ◌≤◌, Bool, false, List, All}
 use Rattle.server.specs.declared.accepting.Accepted.{Accepted}
 use Rattle.server.specs.declared.accepting.Accepted.TheVariants.{Again, Blocked, Starved}

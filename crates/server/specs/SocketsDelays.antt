@@ -1,4 +1,5 @@
--- When a socket sends at once (TCP_NODELAY of tcp(7)), and when it may wait for more to send along. Readers of the promises need it.
+-- When a socket sends at once (TCP_NODELAY of tcp(7)), and when it may wait for more to send along. Part of the
+-- promises.
 use Rattle.std.specs.Prelude.{◌≡◌, ◌↔◌, ℕ, ◌+◌, ◌<◌, ◌≤◌, min, Bool, true, false, IsTrue}
 
 -- whether it sends at once, and how many full offers came in a row, up to four

@@ -1,4 +1,4 @@
--- What is reported, and what the log says of a connection that could not be opened. Readers of the promises need it.
+-- What is reported, and what the log says of a connection that could not be opened. Part of the promises.
 use Rattle.std.specs.Prelude.{ℕ, List, map}
 use Rattle.std.specs.declared.net.SocketAddr.{SocketAddr}
 use Rattle.mio.specs.declared.event.event.Event.{Event}

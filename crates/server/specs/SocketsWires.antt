@@ -1,4 +1,4 @@
--- What a wire over a socket knows of it, and what each call on it changes. Readers of the promises need it.
+-- What a wire over a socket knows of it, and what each call on it changes. Part of the promises.
 use Rattle.std.specs.Prelude.{◌≡◌, ℕ, ◌==◌, Bool, if◌then◌else◌, length, Option}
 use Rattle.std.specs.declared.net.SocketAddr.{SocketAddr}
 use Rattle.token.specs.declared.side.Side.TheVariants.{Target}

@@ -1,4 +1,4 @@
--- What a worker's turn does to the account that its seat has of the ticket's slot, by its answer. Readers of the promises need it.
+-- What a worker's turn does to the account that its seat has of the ticket's slot, by its answer. Part of the promises.
 use Rattle.std.specs.Prelude.{◌≡◌, ◌≢◌, ℕ, ◌+◌, ◌≤◌, Result, Ok, Err}
 use Rattle.claims.specs.declared.view.Account.{Account}
 use Rattle.claims.specs.Seats.{SeatState, Holds, HoldsNot}

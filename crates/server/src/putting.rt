@@ -38,8 +38,8 @@ pub(crate) fn give_slots<R: Wait>(rt: &R, free: &mut FreeQueue, hand: &mut Hand)
     }
 }
 
-/// Puts the ticket of a slot that was released, which stays in hand if the queue is full. One that were put before
-/// the release could be taken at once, find its slot held, and be lost.
+/// Puts the ticket of a slot that was released, which stays in hand if the queue is full. A ticket put
+/// before the release could be taken at once, find its slot held, and be lost.
 pub(crate) fn put_ticket<R: Wait>(rt: &R, own: &mut Own, ticket: Ticket)
     requires released { HoldsNot own.old.seat ticket.slot }
     requires room { length own.old.hand.tickets < own.old.hand.capacity }

@@ -1,4 +1,4 @@
--- An IPv4 address with a port, and its one text. Readers of the promises need it.
+-- An IPv4 address with a port, and its one text. Part of the promises.
 use Rattle.std.specs.Prelude.{◌≡◌, ◌≢◌, ℕ, ◌<◌, ◌^◌, List, ◌∷◌, ◌++◌, length, map, slice_index, All}
 use Rattle.std.specs.List.{join_with_byte}
 use Rattle.std.specs.Fmt.{decimal}

@@ -1,4 +1,4 @@
--- What a TOML document sets, by the table of the settings, and what is wrong in one. Readers of the promises need it.
+-- What a TOML document sets, by the table of the settings, and what is wrong in one. Part of the promises.
 use Rattle.std.specs.Prelude.{◌≡◌, ◌≢◌, ℕ, ◌≤◌, List, [], ◌∷◌, Some, None, MatchOption, IsSome, pos, ◌⊎◌}
 use Rattle.std.specs.Ordering.{nat_cmp}
 use Rattle.std.specs.Cmp.Lexicographic.{slice_cmp}

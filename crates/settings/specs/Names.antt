@@ -1,4 +1,4 @@
--- The words that a settings text uses for its keys and for the levels of `log`. Readers of the promises need it.
+-- The words that a settings text uses for its keys and for the levels of `log`. Part of the promises.
 use Rattle.std.specs.Prelude.{ℕ, List, codes}
 use Rattle.settings.specs.declared.keys.Key.{Key}
 use Rattle.settings.specs.declared.keys.Key.TheVariants.{Listen, Target, Ring, Budget, Workers, Slots, StopAfter, Log}

@@ -1,4 +1,4 @@
--- The table of the settings: each key with the kind of its value, its range and its default. Readers of the promises need it.
+-- The table of the settings: each key with the kind of its value, its range and its default. Part of the promises.
 use Rattle.std.specs.Prelude.{ℕ, List, [], ◌∷◌, Option, Some, None}
 use Rattle.settings.specs.Addresses.{SocketAddress}
 use Rattle.settings.specs.declared.keys.Key.{Key}

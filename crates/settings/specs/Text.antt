@@ -1,4 +1,4 @@
--- The settings of a text, its fault, and how settings are printed. Readers of the promises need it.
+-- The settings of a text, its fault, and how settings are printed. Part of the promises.
 use Rattle.std.specs.Prelude.{◌≡◌, ℕ, List, [], ◌∷◌, ◌++◌, Some, ◌⊎◌}
 use Rattle.std.specs.Str.{IsUtf8}
 use Rattle.std.specs.Fmt.{decimal}

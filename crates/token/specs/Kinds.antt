@@ -1,4 +1,4 @@
--- The words for the kinds of a failed call. Readers of the promises need it.
+-- The words for the kinds of a failed call. Part of the promises.
 use Rattle.std.specs.Prelude.{ℕ, List, codes}
 use Rattle.token.specs.declared.kind.Kind.{Kind}
 use Rattle.token.specs.declared.kind.Kind.TheVariants.{Reset, Pipe, Aborted, Refused, NotConnected, TimedOut, Zero, Other}

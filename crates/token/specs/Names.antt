@@ -1,5 +1,5 @@
--- The name of an end: which end of which connection, told apart from every earlier connection in the
--- same slot by the slot's generation. Readers of the promises need it.
+-- The name of an end: which end of which connection, told apart from every earlier connection in the same slot by the
+-- slot's generation. Part of the promises.
 use Rattle.std.specs.Prelude.{ℕ, ◌+◌, ◌*◌, ◌≤◌}
 use Rattle.token.specs.declared.side.Side.{Side}
 use Rattle.token.specs.Sides.{side_number}

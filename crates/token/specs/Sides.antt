@@ -1,4 +1,4 @@
--- The two sides of a connection, and the two directions in which bytes go through it. Readers of the promises need it.
+-- The two sides of a connection, and the two directions in which bytes go through it. Part of the promises.
 use Rattle.std.specs.Prelude.{ℕ, List, codes}
 use Rattle.token.specs.declared.side.Side.{Side}
 use Rattle.token.specs.declared.side.Side.TheVariants.{Client, Target}

@@ -1,4 +1,4 @@
--- A connection's next call, made on the kernel, and its reply. Needed to read the promises.
+-- A connection's next call, made on the kernel, and its reply. Part of the promises.
 use Rattle.std.specs.Prelude.{ℕ, Bool, if◌then◌else◌, List, Option, Some, None, option_map, option_and_then}
 use Rattle.token.specs.declared.side.Side.{Side}
 use Rattle.token.specs.declared.side.Side.TheVariants.{Client, Target}

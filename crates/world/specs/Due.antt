@@ -1,5 +1,4 @@
--- What could move, and what is due to be tried. Needed to read the promises. Neither depends on a flag that the pair
--- keeps.
+-- What could move, and what is due to be tried. Part of the promises. Neither depends on a flag that the pair keeps.
 use Rattle.std.specs.Prelude.{ℕ, ◌==◌, Bool, false, not, ◌&&◌, ◌||◌, nat_lt, length, Option, Some, None, slice_get}
 use Rattle.std.specs.List.{list_any}
 use Rattle.token.specs.declared.direction.Direction.{Direction}

@@ -1,4 +1,4 @@
--- The bytes that the network gave to an end: a filter of the events. Needed to read the promises.
+-- The bytes that the network gave to an end: a filter of the events. Part of the promises.
 use Rattle.std.specs.Prelude.{ℕ, ◌==◌, Bool, false, ◌&&◌, if◌then◌else◌, List, [], ◌∷◌, ◌++◌, Option, Some, None, slice_get, option_map, unwrap_or}
 use Rattle.token.specs.declared.side.Side.{Side}
 use Rattle.token.specs.Sides.{side_number}

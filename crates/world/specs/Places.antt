@@ -1,4 +1,4 @@
--- What a slot and a worker are. Needed to read the promises.
+-- What a slot and a worker are. Part of the promises.
 use Rattle.std.specs.Prelude.{ℕ, Bool, true, false, List, Option}
 use Rattle.world.specs.declared.connection.Connection.{Connection}
 use Rattle.world.specs.declared.actors.Ticket.{Ticket}

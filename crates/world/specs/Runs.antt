@@ -1,4 +1,4 @@
--- A list of events, one after the other, and why one of them fails. Needed to read the promises.
+-- A list of events, one after the other, and why one of them fails. Part of the promises.
 use Rattle.std.specs.Prelude.{◌≡◌, ℕ, ◌+◌, ◌<◌, ◌⊎◌, List, [], ◌∷◌, length, take, Option, Some, None, IsSome, option_and_then}
 use Rattle.kernel_model.specs.declared.refusal.Refusal.{Refusal}
 use Rattle.kernel_model.specs.declared.refusal.Refusal.TheVariants.{NotAllowed, NoMemory}

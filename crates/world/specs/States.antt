@@ -1,4 +1,4 @@
--- The state of the whole machine, its limits, and how it begins. Needed to read the promises.
+-- The state of the whole machine, its limits, and how it begins. Part of the promises.
 use Rattle.std.specs.Prelude.{ℕ, suc, zero, ◌<◌, ◌≤◌, Bool, true, false, List, [], ◌∷◌, ◌++◌, replicate, None}
 use Rattle.token.specs.declared.name.Name.{Name}
 use Rattle.kernel_model.specs.Kernel.{Watcher, idle}

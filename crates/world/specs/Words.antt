@@ -1,5 +1,5 @@
--- The claim word of a slot. Needed to read only the clause `words` of `World::step`. It has what the word says of
--- the slot, what one step of each kind makes of it and answers, and which steps an event makes.
+-- The claim word of a slot. Part of the promises, for the clause `words` of `World::step` alone. It has what the word
+-- says of the slot, what one step of each kind makes of it and answers, and which steps an event makes.
 use Rattle.std.specs.Prelude.{◌≡◌, ℕ, ◌+◌, ◌*◌, ◌==◌, Bool, true, false, not, ◌||◌, nat_lt, if◌then◌else◌, List, [], ◌∷◌, length, slice_get, Option, Some, None}
 use Rattle.token.specs.declared.name.Name.{Name}
 use Rattle.token.specs.declared.name.Name.TheVariants as name

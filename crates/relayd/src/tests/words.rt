@@ -120,17 +120,13 @@ fn play_both(
     worker: &mut ClaimSeat,
     world: &mut World,
     events: &[NumberedEvent],
-)
+) -> Result<(), Fail>
     requires poller { poller.old.table ≡ claims.now }
     requires worker { worker.old.table ≡ claims.now }
     requires inside { 0 < claims.now.words }
 {
     for numbered in events {
-        assert!(rt;
-            world.step(&numbered.event).is_ok(),
-            "line {}",
-            numbered.line
-        );
+        world.step(&numbered.event)?;
         let word_of_event = word_of(&numbered.event);
         if is_of_poller(word_of_event) {
             make(rt, claims, poller, word_of_event);
@@ -142,6 +138,7 @@ fn play_both(
         };
         assert_eq!(rt; claims.peek(0), word(slot), "line {}", numbered.line);
     }
+    Ok(())
 }
 
 #[test]
@@ -162,7 +159,7 @@ fn words_of_the_model_are_those_of_the_threads(rt: HostRuntime) -> Result<(), Fa
         &mut worker,
         &mut world,
         script.events(),
-    );
+    )?;
     assert_eq!(rt; claims.peek(0), 4);
     Ok(())
 }

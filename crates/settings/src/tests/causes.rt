@@ -4,7 +4,7 @@ use crate::{OneLine, cause, parse};
 use std::alloc::{AllocError, Global};
 use std::test::Fail;
 
-/// The cause of the fault that a text has. Want of memory is a failure of the test.
+/// The cause of the fault that a text has. Running out of memory is a failure of the test.
 fn cause_of(alloc: Global, text: &[u8]) -> Result<String, Fail> {
     match parse(alloc, text) {
         Ok(_) => Err(Fail::from("it has no fault")),
