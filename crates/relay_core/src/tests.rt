@@ -239,10 +239,13 @@ fn answers_that_fit(rt: HostRuntime) -> Result<(), Fail> {
     Ok(())
 }
 
+// In the last slot, at its last generation.
 #[test]
 fn sizes_of_rings(rt: HostRuntime) -> Result<(), Fail> {
+    let (slot, generation) = (32_767, 140_737_488_355_327);
     for (capacity, most) in [(1, 1), (16_384, 16_384), (16_385, 16_384), (65_536, 16_384)] {
-        let pair = Pair::new(rt.alloc(), 0, 1, capacity)?;
+        let pair = Pair::new(rt.alloc(), slot, generation, capacity)?;
+        assert_eq!(rt; (pair.slot(), pair.generation()), (slot, generation));
         assert_eq!(rt;
             pair.next(),
             Some(Call::Read(CLIENT, most)),

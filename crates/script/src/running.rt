@@ -140,11 +140,7 @@ fn tell_state<W: Write>(
 }
 
 /// Writes the line of a fault, or that there was no memory for it.
-fn tell_fault<W: Write>(
-    alloc: Global,
-    writer: &mut W,
-    fault: Fault,
-) -> Result<Outcome, ScriptFault>
+fn tell_fault<W: Write>(alloc: Global, writer: &mut W, fault: Fault) -> Result<Outcome, ScriptFault>
     ensures ok { IfOk result (λ told. Tells (Err fault) told (W.contents writer.old) (W.contents writer.new)) }
     ensures err { IfErr result (λ fault. fault ≡ ScriptFault.Write) }
 {
