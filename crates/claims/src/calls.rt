@@ -6,18 +6,17 @@ ghost use Rattle.claims.specs.Seats.{account_at, Holds, Changed, Stepped};
 ghost use Rattle.claims.specs.Calls.{PostChange, PostStep, ClaimChange, claim_answer, ReleaseChange, release_answer, AdoptChange, adopt_answer};
 
 use crate::answers::{Adopted, Claimed, Posted, Released};
+use crate::limits::{FREE, HELD, MAX_POSTS, NOTE};
 use crate::plays::{Adopt, Claim, Post, Release, Retire, Take};
 use crate::rule::OneHolder;
 use crate::seat::ClaimSeat;
 use crate::view::View;
-use crate::word::{FREE, HELD, NOTE, is_free, is_held, notes, posted, released};
+use crate::word::{is_free, is_held, notes, posted, released};
 use atomic_table::Table;
 use std::alloc::Global;
 use std::marker::Model;
 
 pub(crate) type Words = Table<(), View, (usize, usize), OneHolder, Global>;
-
-const MAX_POSTS: u64 = 1 << 56;
 
 /// The claim words of a table of slots, which the threads share by `&`.
 ///

@@ -57,6 +57,7 @@
 mod answers;
 mod calls;
 pub mod laws;
+mod limits;
 mod opening;
 mod plays;
 mod rule;

@@ -6,17 +6,13 @@ ghost use Rattle.claims.specs.Seats.{fresh};
 ghost use Rattle.claims.specs.Opening.{IsWithin, IsOutside, OpensLawful};
 
 use crate::calls::{Claims, Words};
+use crate::limits::{MAX_SEATS, MAX_SLOTS, UNUSED};
 use crate::rule::NextSeat;
 use crate::seat::ClaimSeat;
 use crate::view::View;
-use crate::word::UNUSED;
 use atomic_table::{Seat, Table};
 use std::alloc::{AllocError, Global};
 use thiserror::Error;
-
-const MAX_SLOTS: usize = 32_768;
-
-const MAX_SEATS: usize = 32;
 
 /// Why `Claims::open` made nothing.
 #[derive(Debug, Drop, Error)]
@@ -54,25 +50,34 @@ impl Claims {
         if seats < 1 || MAX_SEATS < seats {
             return Err(OpenFault::SeatRange);
         }
-        match made(alloc, slots, seats) {
+        match words_and_seats(alloc, slots, seats) {
             Ok(both) => Ok(both),
             Err(AllocError) => Err(OpenFault::NoMemory),
         }
     }
 }
 
-fn made(alloc: Global, slots: usize, seats: usize) -> Result<(Claims, Vec<ClaimSeat>), AllocError>
+// The words, and all seats.
+fn words_and_seats(
+    alloc: Global,
+    slots: usize,
+    seats: usize,
+) -> Result<(Claims, Vec<ClaimSeat>), AllocError>
     requires slots { IsWithin 1 32768 slots }
     requires seats { IsWithin 1 32 seats }
     ensures { IfOk result (λ made. (made.0.words ≡ slots) × (made.1.items ≡ replicate seats (fresh made.0))) }
 {
-    let (table, first) = laid(alloc, slots, seats)?;
-    let all = seated(alloc, &table, first, slots, seats)?;
+    let (table, first) = words_and_first_seat(alloc, slots, seats)?;
+    let all = all_seats(alloc, &table, first, slots, seats)?;
     Ok((Claims::over(table), all))
 }
 
 // The words, and the seat that may make all others.
-fn laid(alloc: Global, slots: usize, seats: usize) -> Result<(Words, Seat<(), View>), AllocError>
+fn words_and_first_seat(
+    alloc: Global,
+    slots: usize,
+    seats: usize,
+) -> Result<(Words, Seat<(), View>), AllocError>
     requires slots { IsWithin 1 32768 slots }
     requires seats { IsWithin 1 32 seats }
     ensures table { IfOk result (λ t. (t.0.shared.table_id.words ≡ slots) × (t.0.shared.key.0 ≡ slots)) }
@@ -83,7 +88,7 @@ fn laid(alloc: Global, slots: usize, seats: usize) -> Result<(Words, Seat<(), Vi
 }
 
 // All seats: each but the last is made by a split of the first.
-fn seated(
+fn all_seats(
     alloc: Global,
     table: &Words,
     mut first: Seat<(), View>,

@@ -3,15 +3,7 @@ ghost use Rattle.std.specs.Prelude.{◌≡◌, if◌then◌else◌};
 ghost use Rattle.claims.specs.Words.{word_of, WordState, some_wait, wakes};
 
 use crate::answers::{Posted, Released};
-
-pub(crate) const HELD: u64 = 1;
-
-pub(crate) const FREE: u64 = 2;
-
-pub(crate) const NOTE: u64 = 4;
-
-// The word of a slot that is free, at the start.
-pub(crate) const UNUSED: u64 = FREE + HELD;
+use crate::limits::{FREE, HELD, NOTE};
 
 pub(crate) fn notes(found: u64) -> u64
     ensures { (w : WordState) → found ≡ word_of w → result ≡ w.pending }

@@ -9,6 +9,7 @@ ghost use Rattle.kernel_model.specs.Kernel.{Registered, idle, end_at, lowest_fre
 use crate::accepting::Accepting;
 use crate::connecting::place;
 use crate::end::End;
+use crate::limits::{MAX_BACKLOG, MAX_POLLED};
 use crate::queue::{add, are_among, are_distinct, has, remove, remove_all};
 use crate::refusal::Refusal;
 use crate::watched::Watched;
@@ -16,12 +17,6 @@ use std::alloc::Global;
 use std::marker::Model;
 use std::mem;
 use token::{Name, Token};
-
-/// The most connections that wait at the listener.
-pub const MAX_BACKLOG: usize = 4_096;
-
-/// The most names that one poll hands over.
-pub const MAX_POLLED: usize = 256;
 
 /// An open end, with the token under which it is registered.
 #[derive(Drop)]

@@ -10,6 +10,7 @@
 
 mod direction;
 mod kind;
+mod limits;
 mod name;
 mod side;
 #[cfg(test)]
@@ -18,6 +19,7 @@ mod token;
 
 pub use direction::Direction;
 pub use kind::Kind;
+pub use limits::{MAX_GENERATION, MAX_SLOT};
 pub use name::{Name, unpack};
 pub use side::Side;
-pub use token::{MAX_GENERATION, MAX_SLOT, Token, TokenFault, next_gen};
+pub use token::{Token, TokenFault, next_gen};

@@ -2,6 +2,7 @@ ghost use Rattle.std.specs.Prelude.{◌≡◌, ◌≤◌, ◌↔◌, Some};
 ghost use Rattle.token.specs.Numbers.{IsName, name_number, name_of};
 ghost use Rattle.token.specs.declared.name.Name.{Name};
 
+use crate::limits::NUMBERS_PER_GENERATION;
 use crate::side::Side;
 use crate::token::Token;
 
@@ -47,13 +48,13 @@ fn end_of(number: u64) -> Option<Name>
     requires { 2 ≤ number }
     ensures { result ≡ name_of number }
 {
-    let slot = (number % 65_536 / 2) as usize;
+    let slot = (number % NUMBERS_PER_GENERATION / 2) as usize;
     let side = if number % 2 == 0 {
         Side::Client
     } else {
         Side::Target
     };
-    match Token::pack(slot, side, number / 65_536) {
+    match Token::pack(slot, side, number / NUMBERS_PER_GENERATION) {
         Ok(token) => Some(Name::End(token)),
         Err(_) => None,
     }

@@ -3,15 +3,10 @@ ghost use Rattle.token.specs.Names.{EndName, IsSlot, IsGeneration, end_number};
 ghost use Rattle.token.specs.Numbers.{name_of, generation_after};
 ghost use Rattle.token.specs.declared.name.Name.TheVariants.{End};
 
+use crate::limits::{MAX_GENERATION, MAX_SLOT, NUMBERS_PER_GENERATION};
 use crate::side::Side;
 use std::marker::Model;
 use thiserror::Error;
-
-/// The highest number of a slot.
-pub const MAX_SLOT: usize = 32_767;
-
-/// The highest generation of a slot. A slot that has reached it is not opened again.
-pub const MAX_GENERATION: u64 = 140_737_488_355_327;
 
 /// Why a slot and a generation have no token.
 #[derive(Clone, Copy, Debug, PartialEq, Eq, Error)]
@@ -97,7 +92,7 @@ impl Token {
         ensures number { result ≡ end_number self }
         ensures unpacks { name_of result ≡ Some (End self) }
     {
-        self.generation * 65_536 + self.slot as u64 * 2 + self.side.bit()
+        self.generation * NUMBERS_PER_GENERATION + self.slot as u64 * 2 + self.side.bit()
     }
 }
 

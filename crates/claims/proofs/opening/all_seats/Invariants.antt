@@ -1,7 +1,7 @@
 use Rattle.std.proofs.Common.{◌≡◌, ◌-◌, replicate}
 use Rattle.claims.specs.Views.{unused_view}
 use Rattle.claims.specs.Seats.{fresh}
-use Rattle.claims.proofs.opening.seated.Given as goal
+use Rattle.claims.proofs.opening.all_seats.Given as goal
 
 -- the first seat may still make the seats that are left, and those that it made have done nothing
 abbrev pub invariant-loop-made : goal.invariant-loop-made

@@ -1,7 +1,7 @@
 use Rattle.std.proofs.Common.{arith, ap, ◌∙◌}
 use Rattle.claims.specs.Views.{spare_of}
 use Rattle.claims.proofs.Opens.{may_split, spare_used, one_seat_more}
-use Rattle.claims.proofs.opening.seated.Goals as goal
+use Rattle.claims.proofs.opening.all_seats.Goals as goal
 
 pub split_seat-next-requires : goal.split_seat-next-requires
 split_seat-next-requires c =
