@@ -2,16 +2,13 @@
 //! allowed where it stands.
 
 use crate::header::{Header, read_header};
+use crate::limits::{MAX_BYTES, MAX_SHOWN};
 use crate::lines::{Line, Lines, Pieces};
-use crate::parsing::MAX_BYTES;
 use crate::parts::{EVENTS, Forms, HEADERS, STEPS, Wrong, first_wrong};
 use crate::reasons::{event_reason, step_reason};
 use crate::{Fault, Script, Word, parse};
 use std::alloc::Global;
 use std::fmt;
-
-/// The most bytes of a word that are shown.
-const MAX_SHOWN: usize = 64;
 
 /// The cause of a fault, for a person, on one line: which word is malformed and what is wanted there, or why the step
 /// is not allowed. `text` is the script that has the fault. None where there is no more to tell, or no memory for it.

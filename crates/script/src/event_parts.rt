@@ -2,6 +2,7 @@
 ghost use Rattle.std.specs.Prelude.{◌≡◌, IfOk, option_map};
 ghost use Rattle.script.specs.Events.{slot_of, worker_of, side_of, kind_of, generation_of, end_of, name_of, names_of, lone_who, accepting_of, act_of, lone_reply, reply_with, full_write};
 
+use crate::limits::{MAX_SLOTS, MAX_WORKERS};
 use crate::lines::Pieces;
 use crate::values::{number, number_below};
 use kernel_model::{Accepting, MAX_POLLED, Reply};
@@ -13,14 +14,14 @@ use world::{Act, Reported};
 pub(crate) fn slot(word: &[u8]) -> Option<usize>
     ensures { result ≡ slot_of word.now }
 {
-    number_below(64, word)
+    number_below(MAX_SLOTS, word)
 }
 
 /// The number of a worker, 0 to 15.
 pub(crate) fn worker(word: &[u8]) -> Option<usize>
     ensures { result ≡ worker_of word.now }
 {
-    number_below(16, word)
+    number_below(MAX_WORKERS, word)
 }
 
 /// A side by its name.

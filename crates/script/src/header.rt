@@ -3,9 +3,11 @@ ghost use Rattle.std.specs.Prelude.{◌≡◌, ◌≤◌, ◌<◌, IfSome};
 ghost use Rattle.world.specs.States.{IsWithinLimits};
 ghost use Rattle.script.specs.Headers.{size_of, generation_of, ring_of, limits_with, limits_of, lone_ring, header_of, IsRing, IsWithin};
 
+use crate::limits::{MAX_BUDGET, MAX_SLOTS, MAX_WORKERS};
 use crate::lines::Pieces;
 use crate::values::value_after;
 use flow::Flow;
+use token::MAX_GENERATION;
 use world::Limits;
 
 /// What a script is of, and its sizes.
@@ -72,10 +74,10 @@ fn limits_with(
     ensures range { IfSome result IsWithinLimits }
 {
     Some(Limits {
-        slots: size(b"slots=", 64, slots)?,
-        workers: size(b"workers=", 16, workers)?,
+        slots: size(b"slots=", MAX_SLOTS, slots)?,
+        workers: size(b"workers=", MAX_WORKERS, workers)?,
         ring: ring(ring_size)?,
-        budget: size(b"budget=", 1024, budget)?,
+        budget: size(b"budget=", MAX_BUDGET, budget)?,
         generation,
     })
 }
@@ -107,7 +109,7 @@ pub(crate) fn generation(word: &[u8]) -> Option<u64>
     ensures range { IfSome result (λ generation. generation < 140737488355327) }
 {
     let generation = value_after(b"gen=", word)?;
-    if generation < 140_737_488_355_327 {
+    if generation < MAX_GENERATION as usize {
         Some(generation as u64)
     } else {
         None

@@ -22,6 +22,7 @@ mod explain;
 mod fault;
 mod flow_script;
 mod header;
+mod limits;
 mod lines;
 mod parsing;
 mod parts;

@@ -6,13 +6,11 @@ ghost use Rattle.script.specs.Scripts.{most_bytes, parsed, steps_of, events_of, 
 
 use crate::events::event;
 use crate::header::{Header, read_header};
+use crate::limits::MAX_BYTES;
 use crate::lines::Lines;
 use crate::steps::step;
 use crate::{Fault, FlowScript, NumberedEvent, NumberedStep, Script, WorldScript};
 use std::alloc::Global;
-
-/// The most bytes of a script.
-pub(crate) const MAX_BYTES: usize = 1_048_576;
 
 /// The script that a text is, or its first fault: too long before all else, then no line that says
 /// anything, then the first malformed line of the whole text. Or memory ran out, which is told only of a

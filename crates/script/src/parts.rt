@@ -2,6 +2,7 @@
 
 use crate::event_parts::{accepting, kind, lone_who, name, side, slot, worker};
 use crate::header::{generation, ring, size};
+use crate::limits::{MAX_BUDGET, MAX_SLOTS, MAX_WORKERS};
 use crate::lines::Pieces;
 use crate::values::{is_hex_text, number};
 use kernel_model::MAX_POLLED;
@@ -178,10 +179,10 @@ impl Part {
     /// Whether a word is of this kind.
     fn takes(self, word: &[u8]) -> bool {
         match self {
-            Part::Slots => size(b"slots=", 64, word).is_some(),
-            Part::Workers => size(b"workers=", 16, word).is_some(),
+            Part::Slots => size(b"slots=", MAX_SLOTS, word).is_some(),
+            Part::Workers => size(b"workers=", MAX_WORKERS, word).is_some(),
             Part::Ring => ring(word).is_some(),
-            Part::Budget => size(b"budget=", 1024, word).is_some(),
+            Part::Budget => size(b"budget=", MAX_BUDGET, word).is_some(),
             Part::Generation => generation(word).is_some(),
             Part::Slot => slot(word).is_some(),
             Part::Side => side(word).is_some(),

@@ -4,7 +4,7 @@ ghost use Rattle.script.specs.Scripts.{most_bytes};
 ghost use Rattle.input.specs.Fronts.{TakesAtMost};
 ghost use Rattle.script.specs.Runs.{LeadsTo, Tells, WritesReport, WritesFault, EveryByte, EveryEnd, EveryRun};
 
-use crate::parsing::MAX_BYTES;
+use crate::limits::MAX_BYTES;
 use crate::report::fault_line;
 use crate::{Explain, Fault, Reached, parse};
 use input::InputFault;

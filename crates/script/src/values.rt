@@ -3,6 +3,7 @@ ghost use Rattle.std.specs.List.{list_all};
 ghost use Rattle.script.specs.Texts.{number_of, number_below, value_after, bytes_of, is_digit, is_lower_hex, is_hex_text, is_plain};
 
 use crate::Bytes;
+use crate::limits::MAX_DIGITS;
 use std::alloc::{AllocError, Global};
 
 /// The number that a text is in decimal digits without leading zeros, if it is below 2^64.
@@ -75,7 +76,7 @@ pub(crate) fn bytes(alloc: Global, text: &[u8]) -> Result<Option<Bytes>, AllocEr
 pub(crate) fn is_hex_text(text: &[u8]) -> bool
     ensures { result ≡ is_hex_text text.now }
 {
-    0 < text.len() && text.len() <= 2048 && is_all_lower_hex(text)
+    0 < text.len() && text.len() <= MAX_DIGITS && is_all_lower_hex(text)
 }
 
 /// Whether each byte is a digit of lower-case hexadecimal.

@@ -1,0 +1,20 @@
+//! The limits of a script. A ring's is [`Flow::MAX`](flow::Flow::MAX), a generation's `token::MAX_GENERATION`, and a
+//! poll's `kernel_model::MAX_POLLED`.
+
+/// The most bytes of a script.
+pub(crate) const MAX_BYTES: usize = 1_048_576;
+
+/// The most bytes of a word that are shown to a person.
+pub(crate) const MAX_SHOWN: usize = 64;
+
+/// The most slots of a world.
+pub(crate) const MAX_SLOTS: usize = 64;
+
+/// The most workers of a world.
+pub(crate) const MAX_WORKERS: usize = 16;
+
+/// The most calls of one turn.
+pub(crate) const MAX_BUDGET: usize = 1_024;
+
+/// The most hexadecimal digits of a word, two for each byte.
+pub(crate) const MAX_DIGITS: usize = 2_048;
