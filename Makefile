@@ -11,47 +11,47 @@ DESTDIR ?=
 PROGRAM = crates/relayd/out/relayd
 
 help:
-	@echo 'make build         proves and builds crates/relayd/out/relayd; the first time takes minutes'
-	@echo 'make run           forwards connections by examples/relayd.toml, or CONFIG=FILE'
+	@echo 'make build         proves and builds crates/relayd/out/relayd; takes ten to twenty minutes the first time'
+	@echo 'make run           forwards connections as examples/relayd.toml says, or CONFIG=FILE'
 	@echo 'make sim           runs the script on standard input'
-	@echo 'make install       puts the program, manual pages and the rest below PREFIX=/usr/local; DESTDIR= stands before it'
-	@echo 'make test          the gate: every proof and test from nothing, and the built program'
-	@echo 'make test-program  runs the built program as its users do'
-	@echo 'make growths       refuses each growth of memory in turn, in the built tests and program'
-	@echo 'make bench         measures the relay beside other forwarders'
-	@echo 'make bench-turn    measures a turn over memory'
+	@echo 'make install       installs the program, its manual pages and the rest under PREFIX=/usr/local, with DESTDIR in front'
+	@echo 'make test          the gate: every proof and test from scratch, and the built program'
+	@echo 'make test-program  tests the built program as its users run it'
+	@echo 'make growths       makes each memory allocation of the built tests and program fail in turn'
+	@echo 'make bench         compares the relay with other forwarders'
+	@echo 'make bench-turn    measures how fast a turn moves bytes in memory'
 
-# Proves and builds the program where that is to be done.
+# Proves and builds the program if it is not up to date.
 build:
 	@.ci/build relayd
 
-# Forwards connections by a settings file, until it is interrupted.
+# Forwards connections as a settings file says, until it is interrupted.
 run: build
 	@$(PROGRAM) run --config $(CONFIG)
 
-# Runs the simulator on standard input, and writes nothing but its report to standard output.
+# Runs the simulator on standard input. Writes only its report to standard output.
 sim: build
 	@$(PROGRAM)
 
-# The gate: proves every crate and its tests from nothing, tries the edits that must be refused, runs the tests and
-# the programs, and then runs the program that it built as its users do. The last line counts it all.
+# The gate: proves every crate and its tests from scratch, tries the edits that must be refused, runs the tests and
+# the programs, and then runs the built program as its users do. The last line counts it all.
 test:
 	@.ci/test
 
-# Runs the built program over its rows, and the relay on loopback. A part of the gate; it needs Python 3.
+# Runs the built program over its rows, and the relay over loopback. Part of the gate; it needs Python 3.
 test-program: build
 	@tests/program/run $(PROGRAM)
 
-# Refuses each growth of memory in turn. No part of the gate; it needs Python 3, a C compiler, and the crates' tests
-# as the gate or `rt test` builds them.
+# Makes each memory allocation fail in turn. Not part of the gate; it needs Python 3, a C compiler, and the crates'
+# tests as the gate or `rt test` builds them.
 growths: build
 	@tests/growths/run
 
-# Measures the relay beside other forwarders. No part of the gate; docs/BENCHMARKS.md says what it needs.
+# Compares the relay with other forwarders. Not part of the gate; docs/BENCHMARKS.md says what it needs.
 bench: build
 	@bench/run --relayd $(PROGRAM)
 
-# How fast a turn moves bytes through memory, against a plain loop. No part of the gate.
+# How fast a turn moves bytes through memory, compared with a plain loop. Not part of the gate.
 bench-turn:
 	@.ci/build bench_turn
 	@crates/bench_turn/out/bench_turn run
