@@ -1,6 +1,6 @@
-//! How fast a turn moves bytes, against a plain loop: `bench_turn run` prints both, in megabytes per
-//! second, and their ratio, where each write takes all that it is offered and where it takes an eighth of
-//! a ring. Without the word `run` it does nothing, so that the gate can run it.
+//! How fast a turn moves bytes, compared with a plain loop: `bench_turn run` prints both, in megabytes per second, and
+//! their ratio, for writes that take everything and for writes that take an eighth of a ring. Without the argument
+//! `run` it does nothing, so that the gate can run it.
 #![tactic(auto)]
 
 mod memory;
@@ -19,10 +19,10 @@ const RING: usize = 16_384;
 
 const BUDGET: usize = 64;
 
-/// What a short write takes: an eighth of a ring.
+/// How much a short write takes: an eighth of a ring.
 const SHORT: usize = 2_048;
 
-/// Rounds of both ways, so that a change of the machine's pace between them shows.
+/// Rounds of both ways, so that changes in the machine's speed between them show.
 const ROUNDS: u32 = 3;
 
 fn main(rt: HostRuntime) -> io::Result<()> {
@@ -34,7 +34,7 @@ fn main(rt: HostRuntime) -> io::Result<()> {
     Ok(())
 }
 
-/// Times both ways in turn, over whole writes and over short ones, and prints what came.
+/// Times both ways alternately, with whole writes and with short ones, and prints the results.
 fn compare(rt: &HostRuntime) -> io::Result<()> {
     for _ in 0..ROUNDS {
         compare_writes(rt, "whole writes", RING)?;
@@ -43,7 +43,7 @@ fn compare(rt: &HostRuntime) -> io::Result<()> {
     Ok(())
 }
 
-/// Times both ways once, where a write takes at most so many bytes.
+/// Times both ways once, with writes that take at most `most` bytes.
 fn compare_writes(rt: &HostRuntime, what: &str, most: usize) -> io::Result<()> {
     let start = Instant::now(rt)?;
     let by_turns = by_turns(rt, most)?;
@@ -59,7 +59,7 @@ fn compare_writes(rt: &HostRuntime, what: &str, most: usize) -> io::Result<()> {
     println!(rt; "{what}: turn {turns} MB/s, plain loop {plain} MB/s, ratio {percent} %")
 }
 
-/// Megabytes per second, for a run of so many nanoseconds.
+/// Megabytes per second, for a run of this many nanoseconds.
 fn rate(nanoseconds: u128) -> u64 {
     let nanoseconds = u64::try_from(nanoseconds).unwrap_or(u64::MAX).max(1);
     (BYTES / 1_000).saturating_mul(1_000_000) / nanoseconds
@@ -95,7 +95,7 @@ fn by_loop(most: usize) -> io::Result<(u64, u8)> {
     Ok(target.taken())
 }
 
-/// Writes all of `bytes`, by as many writes as it takes.
+/// Writes all of `bytes`, in as many writes as it takes.
 fn write_out(target: &mut MemoryWire, bytes: &[u8]) -> io::Result<()> {
     let mut rest = bytes;
     for _ in 0..bytes.len() {

@@ -1,4 +1,4 @@
-//! A wire over memory, as cheap as one can be: it copies each byte once.
+//! An in-memory wire that is as cheap as possible: it copies each byte once.
 
 ghost use Rattle.engine.specs.Wires.{counts_alone};
 
@@ -6,9 +6,9 @@ use crate::RING;
 use engine::Wire;
 use std::io;
 
-/// A wire that has so many bytes to read, and takes what is written, at most so many bytes in one write.
-/// Its calls are not inlined, as a system call isn't, and it counts what it took, so that no copy can be
-/// left out.
+/// A wire that has a given number of bytes to read, and takes what is written, up to a given number of bytes per write.
+/// Its calls are not inlined, as a system call is not, and it counts what it took, so that no copy can be optimized
+/// away.
 #[derive(Drop)]
 pub struct MemoryWire {
     left: u64,
@@ -19,8 +19,8 @@ pub struct MemoryWire {
 }
 
 impl MemoryWire {
-    /// A wire with so many bytes to read, whose writes take at most `most` bytes each, but 1 at least and
-    /// 16,384 at most.
+    /// A wire with `bytes` bytes to read, whose writes take at most `most` bytes each, but at least 1 and at most
+    /// 16,384.
     pub fn new(bytes: u64, most: usize) -> MemoryWire {
         MemoryWire {
             left: bytes,
@@ -31,7 +31,7 @@ impl MemoryWire {
         }
     }
 
-    /// How many bytes were written, and the first of the last piece, so that no copy can be left out.
+    /// How many bytes were written, and the first byte of the last piece, so that no copy can be optimized away.
     pub fn taken(&self) -> (u64, u8) {
         (self.taken, self.sink[0])
     }

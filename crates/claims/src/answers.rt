@@ -3,9 +3,9 @@
 /// What a post found.
 #[derive(Clone, Copy, Debug, PartialEq, Eq)]
 pub enum Posted {
-    /// No note waited and nobody held the slot. The caller has to put a ticket for it.
+    /// No note waited and nobody held the slot. The caller has to put a ticket for the slot.
     Wake,
-    /// A ticket for the slot is under way, or its holder will see the note.
+    /// A ticket for the slot is under way, or its holder will find the note.
     Quiet,
     /// This seat has posted 2^56 times, and nothing was done.
     Worn,
@@ -29,7 +29,7 @@ pub enum Released {
     Quiet,
 }
 
-/// What an adopt found.
+/// What an adoption found.
 #[derive(Clone, Copy, Debug, PartialEq, Eq)]
 pub enum Adopted {
     /// The slot was free, and the caller's seat now holds it.

@@ -20,7 +20,7 @@ pub(crate) type Words = Table<(), View, (usize, usize), OneHolder, Global>;
 
 /// The claim words of a table of slots, which the threads share by `&`.
 ///
-/// Each call takes a seat of the same `open` and a slot below the number of slots. In a clause it is the identity of
+/// Each call takes a seat of the same `open`, and a slot below the number of slots. In a clause it is the identity of
 /// its table, whose `words` is the number of slots.
 #[derive(Drop)]
 pub struct Claims {
@@ -53,7 +53,7 @@ impl Claims {
         self.table.word_count()
     }
 
-    /// The word of a slot, for tests. It promises nothing: the next exchange may have come already.
+    /// The word of a slot, for tests. It promises nothing: another exchange may already have changed the word.
     pub fn peek(&self, slot: usize) -> u64
         requires { slot < self.now.words }
     {
@@ -62,8 +62,8 @@ impl Claims {
 
     /// Leaves a note at the slot.
     ///
-    /// Wake obliges the caller to put a ticket for the slot. A post by the slot's holder answers Quiet. Worn comes
-    /// once this seat has posted 2^56 times, and then nothing was done.
+    /// Wake obliges the caller to put a ticket for the slot. A post by the slot's holder answers Quiet. Worn is
+    /// answered once this seat has posted 2^56 times, and then nothing is done.
     pub fn post(&self, seat: &mut ClaimSeat, slot: usize) -> Posted
         requires same { seat.old.table ≡ self.now }
         requires inside { slot < self.now.words }
@@ -79,9 +79,9 @@ impl Claims {
         posted(found)
     }
 
-    /// Holds the slot for the caller's seat, unless it is held or free.
+    /// Takes hold of the slot for the caller's seat, unless it is held or free.
     ///
-    /// Held redeems the ticket that the slot's notes had, if any waited. Busy changes nothing.
+    /// Held redeems the ticket for the slot's notes, if any waited. Busy changes nothing.
     pub fn claim(&self, seat: &mut ClaimSeat, slot: usize) -> Claimed
         requires same { seat.old.table ≡ self.now }
         requires inside { slot < self.now.words }
@@ -99,7 +99,7 @@ impl Claims {
 
     /// Takes all notes of a slot that the caller's seat holds, and answers how many there were.
     ///
-    /// All that a seat ever takes at one slot is at most 2^61, so its answers can be added up.
+    /// A seat takes at most 2^61 notes in all at one slot, so its answers can be added up.
     pub fn take(&self, seat: &mut ClaimSeat, slot: usize) -> u64
         requires same { seat.old.table ≡ self.now }
         requires inside { slot < self.now.words }
@@ -114,7 +114,7 @@ impl Claims {
         notes(found)
     }
 
-    /// Gives up a slot that the caller's seat holds, so that others can claim it.
+    /// Releases a slot that the caller's seat holds, so that others can claim it.
     ///
     /// Wake obliges the caller to put a ticket for the slot.
     pub fn release(&self, seat: &mut ClaimSeat, slot: usize) -> Released
@@ -130,7 +130,7 @@ impl Claims {
         released(found)
     }
 
-    /// Gives up a slot that the caller's seat holds, and leaves it free, so that it can only be adopted.
+    /// Releases a slot that the caller's seat holds and leaves it free, so that it can only be adopted.
     pub fn retire(&self, seat: &mut ClaimSeat, slot: usize)
         requires same { seat.old.table ≡ self.now }
         requires inside { slot < self.now.words }
@@ -143,7 +143,7 @@ impl Claims {
         seat.held[slot] = false;
     }
 
-    /// Holds a free slot for the caller's seat. NotFree changes nothing.
+    /// Takes hold of a free slot for the caller's seat. NotFree changes nothing.
     pub fn adopt(&self, seat: &mut ClaimSeat, slot: usize) -> Adopted
         requires same { seat.old.table ≡ self.now }
         requires inside { slot < self.now.words }

@@ -1,9 +1,9 @@
-//! What is true in every state that meets the claim rule. The functions do nothing: each one's contract
-//! is the law that it is named for.
+//! What is true in every state that meets the claim rule. The functions do nothing: the contract of each is the law
+//! that it is named after.
 
 ghost use Rattle.claims.specs.Laws.{OneHolderEach, NotesAreKept, TicketsAreNeeded};
 
-/// Two seats that hold one slot are one seat.
+/// Two seats that hold the same slot are the same seat.
 pub fn one_holder_each()
     ensures { OneHolderEach }
 {}
@@ -13,8 +13,8 @@ pub fn notes_are_kept()
     ensures { NotesAreKept }
 {}
 
-/// The tickets that are out for a slot are those that it needs by its word: one while notes wait and
-/// nobody holds it, otherwise none.
+/// The tickets that are out for a slot are those that its word needs: one while notes wait and nobody holds it,
+/// otherwise none.
 pub fn tickets_are_needed()
     ensures { TicketsAreNeeded }
 {}

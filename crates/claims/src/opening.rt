@@ -1,4 +1,4 @@
-// `Claims::open`: the words at their start, and a seat for each thread.
+// `Claims::open`: the words as they start, and a seat for each thread.
 ghost use Rattle.std.specs.Prelude.{◌≡◌, ◌+◌, ◌<◌, ◌≤◌, ◌↔◌, IfOk, OnOk, IsErrOf, false, replicate};
 ghost use Rattle.claims.specs.Views.{unused_view};
 ghost use Rattle.claims.specs.Steps.{first_view};
@@ -29,10 +29,11 @@ pub enum OpenFault {
 }
 
 impl Claims {
-    /// Makes a word for each slot, free and with no note, and the seats, which are all that these words ever have.
+    /// Makes a word for each slot, free and without notes, and the seats, which are the only ones that these words ever
+    /// have.
     ///
     /// Errors are checked in this order: a number of slots that is not from 1 to 32,768 (`SlotRange`), a number of
-    /// seats that is not from 1 to 32 (`SeatRange`), and out of memory (`NoMemory`).
+    /// seats that is not from 1 to 32 (`SeatRange`), and too little memory (`NoMemory`).
     pub fn open(
         alloc: Global,
         slots: usize,

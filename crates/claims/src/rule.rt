@@ -1,4 +1,4 @@
-// The claim rule as the rule of a table of words.
+// The claim rule, as the rule of a table of words.
 ghost use Rattle.claims.specs.Rule.{ClaimRule};
 ghost use Rattle.claims.specs.Steps.{first_view, one_spare_less, newcomer};
 

@@ -13,7 +13,7 @@ use std::marker::Model;
 #[derive(Drop)]
 pub struct ClaimSeat {
     pub(crate) seat: Seat<(), View>,
-    // How often this seat has posted.
+    // How many times this seat has posted.
     pub(crate) posts: u64,
     // Whether it holds the slot, for each slot: the words name no holder.
     pub(crate) held: Vec<bool>,

@@ -1,4 +1,4 @@
-// The view of a seat, what its thread knows. It stands in proofs alone: no value of it is ever made.
+// The view of a seat: what its thread knows. It exists only in proofs: no value of it is ever made.
 use std::collections::LinkedList;
 
 /// What one seat has done at one slot.
@@ -13,7 +13,7 @@ pub struct Account {
     pub redeemed: u64,
     /// Whether it holds the slot.
     pub holds: bool,
-    /// Notes that it knows to wait, while it holds the slot.
+    /// Notes that it knows are waiting, while it holds the slot.
     pub known: u64,
     /// Its adopts that found the slot free.
     pub adopts: u64,
@@ -25,7 +25,7 @@ pub struct Account {
 pub struct View {
     /// An account for each slot.
     pub accounts: LinkedList<Account>,
-    /// The seats that it may still make.
+    /// How many further seats it may still make.
     pub spare: u64,
     /// The exchanges that it has made, at all slots together.
     pub steps: u64,

@@ -1,4 +1,4 @@
-// How a claim word is read: 4 for each note that waits, 2 where the slot is free, 1 where it is held.
+// How a claim word is read: 4 for each note that waits, plus 2 if the slot is free, plus 1 if it is held.
 ghost use Rattle.std.specs.Prelude.{◌≡◌, if◌then◌else◌};
 ghost use Rattle.claims.specs.Words.{word_of, WordState, some_wait, wakes};
 
@@ -29,7 +29,7 @@ pub(crate) fn is_held(found: u64) -> bool
     found % FREE == HELD
 }
 
-// What a post answers that found this word.
+// What a post answers if it found this word.
 pub(crate) fn posted(found: u64) -> Posted
     ensures { (w : WordState) → found ≡ word_of w → result ≡ (if wakes w then Posted.Wake else Posted.Quiet) }
 {
@@ -40,7 +40,7 @@ pub(crate) fn posted(found: u64) -> Posted
     }
 }
 
-// What a release answers that found this word.
+// What a release answers if it found this word.
 pub(crate) fn released(found: u64) -> Released
     ensures { (w : WordState) → found ≡ word_of w → result ≡ (if some_wait w.pending then Released.Wake else Released.Quiet) }
 {

@@ -16,8 +16,8 @@ pub enum Class {
     Failed(Kind),
 }
 
-/// The class of an error by its kind. `joined` tells whether the socket is known to be connected, as the
-/// client's always is: a call on a target that is still connecting would have to wait.
+/// The class of an error by its kind. `joined` says whether the socket is known to be connected, as the client's always
+/// is: a call on a target that is still connecting would have to wait.
 pub fn class_of(call: &Call, kind: ErrorKind, joined: bool) -> Class
     requires client { side_of call.now ≡ Side.Client → joined ≡ true }
     ensures { result ≡ class_of call.now joined kind }
@@ -31,8 +31,8 @@ pub fn class_of(call: &Call, kind: ErrorKind, joined: bool) -> Class
     }
 }
 
-/// The kind under which a socket's pending error (SO_ERROR) is told that a join finds. Such an error is
-/// always a failure, so a kind that the answer of a call may have without one becomes `Other`.
+/// The kind with which a socket's pending error (SO_ERROR), found by a join, is reported. Such an error is always a
+/// failure, so a kind that could also mean that a call has to wait or was interrupted becomes `Other`.
 pub fn pending(kind: ErrorKind) -> ErrorKind
     ensures told { result ≡ pending_kind kind }
     ensures fails { (call : Call) (joined : Bool) → class_of call joined result ≡ Class.Failed (kind_of_error result) }
@@ -45,7 +45,7 @@ pub fn pending(kind: ErrorKind) -> ErrorKind
     }
 }
 
-/// How a call failed, by its error's kind.
+/// How a call failed, by the kind of its error.
 pub(crate) fn kind_of(kind: ErrorKind) -> Kind
     ensures { result ≡ kind_of_error kind }
 {

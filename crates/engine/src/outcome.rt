@@ -3,7 +3,7 @@
 pub enum Turn {
     /// The budget is spent, and there is a next call.
     Again,
-    /// The connection is live, and no call is worth a try before the next report.
+    /// The connection is live, and no call is worth trying before the next report.
     Quiet,
     /// Both ends of input were passed on.
     Done,

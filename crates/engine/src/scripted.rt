@@ -1,5 +1,5 @@
-//! A wire over memory that plays lists of answers. [`Play`] is one answer, [`ScriptWire`] the wire; `Plays` and
-//! `Reads` are its lists, used from the front.
+//! An in-memory wire that plays lists of answers. [`Play`] is one answer, [`ScriptWire`] the wire; `Plays` and `Reads`
+//! are its lists, used from the front.
 mod play;
 mod plays;
 mod reads;

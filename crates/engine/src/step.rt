@@ -16,7 +16,7 @@ use crate::wire::Wire;
 use relay_core::{Answer, Call, Kind, MAX_READ, Pair, Side};
 use std::io;
 
-/// Makes the call that comes next, and hands the pair the answer.
+/// Makes the call that comes next, and gives the pair the answer.
 pub(crate) fn step<W: Wire>(pair: &mut Pair, call: Call, wire: &mut W, buffer: &mut [u8; MAX_READ])
     requires next { next_call pair.old ≡ Some call }
     requires possible { IsPossible pair.old call }
@@ -70,7 +70,7 @@ fn write<W: Wire>(pair: &mut Pair, side: Side, wire: &mut W)
     }
 }
 
-/// Offers a side all bytes that are bound for it, in one write.
+/// Offers a side all bytes that are bound for it in one write.
 fn offer_all<W: Wire>(pair: &mut Pair, side: Side, wire: &mut W) -> io::Result<usize>
     ensures same { pair.new ≡ pair.old }
     ensures most { WritesAtMost result (offer pair.old side) }
@@ -108,7 +108,7 @@ fn shut<W: Wire>(pair: &mut Pair, side: Side, wire: &mut W)
     }
 }
 
-/// What an error was, by what the wire has counted since the call began.
+/// What an error means, by what the wire has counted since the call began.
 fn error_answer<W: Wire>(wire: &W, faults: u64, blocks: u64, error: &io::Error) -> Answer<'static>
     requires { CountsError faults (W.told wire.now).faults blocks (W.told wire.now).blocks }
     ensures { IsError (kind_of_error (error_kind error.now)) (reply_of result) faults (W.told wire.now).faults blocks (W.told wire.now).blocks }

@@ -8,8 +8,8 @@ use relay_core::{Call, Side};
 use std::io::ErrorKind;
 use std::marker::Model;
 
-/// What a [`Wire`](crate::Wire) knows of its answers: whether its socket is known to be connected, how many
-/// of its answers were faults, and how many "would block". Both counts go round at 2^64.
+/// What a [`Wire`](crate::Wire) keeps about its answers: whether its socket is known to be connected, how many of its
+/// answers were faults, and how many were "would block". Both counts wrap around at 2^64.
 #[derive(Debug, Drop)]
 pub struct Tally {
     joined: bool,
@@ -26,7 +26,7 @@ impl Model for Tally {
 }
 
 impl Tally {
-    /// No answer yet, on a socket that is known to be connected or not. The client's always is.
+    /// No answers yet, on a socket that is or is not known to be connected. The client's always is.
     pub fn new(joined: bool) -> Tally
         ensures { result ≡ tally joined 0 0 }
     {
@@ -44,29 +44,29 @@ impl Tally {
         self.joined
     }
 
-    /// How many answers were faults; it goes round at 2^64.
+    /// How many answers were faults; wraps around at 2^64.
     pub fn faults(&self) -> u64
         ensures { result ≡ self.now.faults }
     {
         self.faults
     }
 
-    /// How many answers were "would block"; it goes round at 2^64.
+    /// How many answers were "would block"; wraps around at 2^64.
     pub fn blocks(&self) -> u64
         ensures { result ≡ self.now.blocks }
     {
         self.blocks
     }
 
-    /// The socket is known to be connected from now on.
+    /// From now on the socket is known to be connected.
     pub fn connect(&mut self)
         ensures { self.new ≡ connected self.old }
     {
         self.joined = true;
     }
 
-    /// A call answered by an error of this kind, which is counted by its class. A client's socket has to
-    /// be known to be connected.
+    /// A call answered with an error of this kind, which is counted by its class. A client's socket has to be known to
+    /// be connected.
     pub fn refuse(&mut self, call: Call, kind: ErrorKind)
         requires client { side_of call ≡ Side.Client → self.old.joined ≡ true }
         ensures { self.new ≡ counted (class_of call self.old.joined kind) self.old }
@@ -78,7 +78,7 @@ impl Tally {
         }
     }
 
-    /// A write took no byte of an offer that isn't empty, which is a fault.
+    /// A write took no byte of an offer that is not empty, which is a fault.
     pub fn none_taken(&mut self)
         ensures { self.new ≡ fault_more self.old }
     {

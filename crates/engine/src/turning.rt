@@ -9,16 +9,15 @@ use crate::step::step;
 use crate::wire::Wire;
 use relay_core::{Call, MAX_READ, Pair, Side, Verdict, laws};
 
-/// Makes the calls that a pair asks for, at most `budget` of them (1 to 1,024), each on the wire of its
-/// side, and hands the pair their answers. A pair that is done or has failed asks for none. It takes no
-/// memory.
+/// Makes the calls that a pair asks for, at most `budget` of them (1 to 1,024), each on the wire of its side, and gives
+/// the pair the answers. A pair that is done or failed asks for none. It allocates no memory.
 ///
-/// What it asks of each wire are exactly the calls that come next along the answers, in order and each
-/// once: a read of as many bytes as the pair asks for, and a write of all bytes that are bound for that
-/// side. It makes no answer up, and a failure has the kind of the error that the call gave.
+/// The calls made on each wire are exactly those that come next along the answers, in order and once each: a read of as
+/// many bytes as the pair asks for, and a write of all bytes that are bound for that side. It invents no answer, and a
+/// failure has the kind of the error that the call gave.
 ///
-/// An error is a failure where the wire counted a fault, "would block" where it counted that, and an
-/// interruption where it counted neither. A write that took no byte is a failure.
+/// An error is a failure if the wire counted a fault, "would block" if it counted that, and an interruption if it
+/// counted neither. A write that took no byte is a failure.
 pub fn turn<A: Wire, B: Wire>(
     pair: &mut Pair,
     client: &mut A,
@@ -41,7 +40,7 @@ pub fn turn<A: Wire, B: Wire>(
     outcome(pair)
 }
 
-/// What the core says of every pair, by which a pair that was live fails only by its last answer.
+/// The core's laws for every pair, from which it follows that a pair that was live fails only by its last answer.
 fn rests_on_laws()
     ensures answers { AnswersAreToNextCalls }
     ensures calls { CallsComeWhileLive }
@@ -70,7 +69,7 @@ fn advance<A: Wire, B: Wire>(
     }
 }
 
-/// The outcome of a turn that leaves this pair.
+/// The outcome of a turn that leaves the pair in this state.
 fn outcome(pair: &Pair) -> Turn
     ensures { result ≡ outcome_of pair.now }
 {

@@ -7,26 +7,24 @@ ghost use Rattle.engine.specs.Wires.{Told, ReadTakes, CountsAnswer, CountsWrite,
 
 use std::io;
 
-/// A connection's socket, or what stands for one: none of its calls waits.
+/// A connection's socket, or something that stands for one. None of its calls waits.
 ///
-/// A wire tells its two counts, and it may tell two lists: the bytes that it has left to read, and those
-/// that were written to it. It may also tell what a call does to it, all of it, by what was asked and what
-/// the call gave. A socket tells its counts alone.
+/// A wire specifies its two counts. It may specify two lists: the bytes that are left to read from it, and those that
+/// were written to it. It may also specify everything that a call does to it, by what was asked and what the call gave.
+/// A socket specifies its counts and its calls, but not its bytes.
 ///
-/// It counts its answers that are faults and those that are "would block", by
-/// [`class_of`](crate::class_of), and [`turn`](crate::turn) tells an error's class by which of the two
-/// rose. An answer without error leaves both, but a write of 0 bytes to an offer that isn't empty is a
-/// fault. An error raises one of the two by one, or neither where it is an interruption. A shutdown never
-/// raises the second. Both go round at 2^64.
+/// It counts its answers that are faults and those that are "would block", by [`class_of`](crate::class_of), and
+/// [`turn`](crate::turn) tells an error's class by which of the two counts rose. An answer without an error leaves both
+/// unchanged, except that a write of 0 bytes of an offer that is not empty is a fault. An error raises one of the two
+/// by one, or neither if it is an interruption. A shutdown never raises the second. Both wrap around at 2^64.
 pub trait Wire {
-    // The bytes left to read and those written, where the wire tells them, and its two counts.
+    // The bytes left to read and those written, if the wire specifies them, and its two counts.
     ghost told: { Self → Told };
 
-    // What one call may do, where the wire tells it: what was asked, what it gave, and the wire before and
-    // after.
+    // What one call may do, if the wire specifies it: what was asked, what it gave, and the wire before and after.
     ghost does: { Asked → Given → Self → Self → Type 0 } = { λ _ _ _ _. Unit {0} };
 
-    /// read(2): gives a count of at most the buffer's length, and 0 at the end of input.
+    /// read(2): gives at most as many bytes as the buffer is long, and 0 at the end of input.
     fn read(&mut self, buffer: &mut [u8]) -> io::Result<usize>
         ensures most { WritesAtMost result buffer.new }
         ensures bytes { ReadTakes result buffer.new (told self.old) (told self.new) }
@@ -34,7 +32,7 @@ pub trait Wire {
         ensures counts { CountsAnswer result (told self.old) (told self.new) }
         ensures did { does (ask.Read (length buffer.old)) (read_gave result buffer.new) self.old self.new };
 
-    /// write(2): takes the first bytes of an offer, at most all, and tells how many.
+    /// write(2): takes the first bytes of an offer, at most all of them, and returns how many.
     fn write(&mut self, offer: &[u8]) -> io::Result<usize>
         ensures most { WritesAtMost result offer.now }
         ensures bytes { WriteAppends (told self.old).written (told self.new).written result offer.now }
@@ -50,18 +48,18 @@ pub trait Wire {
         ensures blocks { (told self.new).blocks ≡ (told self.old).blocks }
         ensures did { does ask.Shut (call_gave result) self.old self.new };
 
-    /// Whether connect(2) has ended: an error while it goes on, or where it failed.
+    /// Whether connect(2) has completed: an error while it is in progress, or if it failed.
     fn joined(&mut self) -> io::Result<()>
         ensures left { Keeps (told self.old).remaining (told self.new).remaining }
         ensures kept { Keeps (told self.old).written (told self.new).written }
         ensures counts { CountsAnswer result (told self.old) (told self.new) }
         ensures did { does ask.Join (call_gave result) self.old self.new };
 
-    /// How many answers of this wire were faults; it goes round at 2^64.
+    /// How many answers of this wire were faults; wraps around at 2^64.
     fn faults(&self) -> u64
         ensures { result ≡ (told self.now).faults };
 
-    /// How many answers of this wire were "would block"; it goes round at 2^64.
+    /// How many answers of this wire were "would block"; wraps around at 2^64.
     fn blocks(&self) -> u64
         ensures { result ≡ (told self.now).blocks };
 }

@@ -8,9 +8,8 @@ use std::marker::Model;
 
 /// One direction's ring of bytes, with its end of input and its shutdown.
 ///
-/// The buffer never wraps, so that the whole ring can be offered to one write(2). Bytes that have left stay
-/// in it until others take their place: overwriting bytes is one copy, but the buffer appends them in a
-/// loop.
+/// The buffer never wraps, so that the whole ring can be offered to one write(2). Bytes that have left stay in it until
+/// others take their place: overwriting bytes is a single copy, but the buffer appends bytes in a loop.
 #[derive(Drop)]
 pub struct Flow {
     bytes: HeapCircularBuffer<u8>,
@@ -35,13 +34,13 @@ impl Flow {
     ghost use Rattle.std.specs.Borrow.{sem};
     ghost use Rattle.flow.specs.Lending.{with_ring, LendsRing};
 
-    /// The most bytes that a ring may hold.
+    /// The maximum capacity of a ring, in bytes.
     pub const MAX: usize = 65_536;
 
-    /// An empty ring for at most `capacity` bytes, 1 to 65,536. This reserves all the memory that the
-    /// ring will ever use.
+    /// An empty ring for at most `capacity` bytes, 1 to 65,536. This allocates all the memory that the ring will ever
+    /// use.
     ///
-    /// Fails only where there is no such memory, and then no ring is made.
+    /// Fails only if there is not enough memory; then no ring is made.
     pub fn new(alloc: Global, capacity: usize) -> Result<Flow, AllocError>
         requires least { 1 ≤ capacity }
         requires most { capacity ≤ 65536 }
@@ -77,8 +76,8 @@ impl Flow {
         self.bytes.capacity() - self.len()
     }
 
-    /// All bytes that wait, oldest first: what is offered to the destination's next write(2). They are
-    /// lent to be read: the ring stays as it was if nothing is written into them.
+    /// All bytes that wait, oldest first: what is offered to the destination's next write(2). They are lent to be read:
+    /// if nothing is written into them, the ring stays as it was.
     pub fn front(&mut self) -> &mut [u8]
         ensures* lends { sem 𝓛 (LendsRing self.entry result) }
         ensures value { result.now ≡ self.old.ring }
@@ -89,7 +88,7 @@ impl Flow {
         self.bytes.make_contiguous()
     }
 
-    /// A copy of all bytes that wait, oldest first; or memory for it was refused.
+    /// A copy of all bytes that wait, oldest first. Fails only if there is no memory for it.
     pub fn to_vec(&self, alloc: Global) -> Result<Vec<u8>, AllocError>
         ensures { IfOk result (λ bytes. bytes.items ≡ self.now.ring) }
     {
@@ -111,7 +110,7 @@ impl Flow {
         }
     }
 
-    /// Appends bytes that the source gave, behind all others.
+    /// Appends bytes that were read from the source.
     pub fn take_in(&mut self, bytes: &[u8])
         requires fits { length bytes.now ≤ free_room self.old }
         requires open { self.old.end_seen ≡ false }
@@ -135,7 +134,7 @@ impl Flow {
         self.gone = self.bytes.len() - left;
     }
 
-    /// Notes the source's end of input: read(2) answered 0.
+    /// Marks the source's end of input as seen: read(2) answered 0.
     pub fn mark_end(&mut self)
         ensures { self.new ≡ ended self.old }
     {
@@ -149,8 +148,8 @@ impl Flow {
         self.end_seen
     }
 
-    /// Notes that the end was passed on to the destination, by shutdown(2) with `SHUT_WR`. That may
-    /// only be once the source has ended and every byte has left.
+    /// Marks the end as passed on to the destination, by shutdown(2) with `SHUT_WR`. This is allowed only once the
+    /// source has ended and every byte has left.
     pub fn mark_shut(&mut self)
         requires after_end { self.old.end_seen ≡ true }
         requires after_bytes { self.old.ring ≡ [] }
@@ -167,7 +166,7 @@ impl Flow {
     }
 }
 
-/// Drops the `n` oldest bytes of a buffer, and moves those behind them to its front in one piece.
+/// Drops the `n` oldest bytes of a buffer, and moves the rest to its start in one piece.
 fn drop_first(bytes: &mut HeapCircularBuffer<u8>, n: usize)
     requires { n ≤ length bytes.old.items }
     ensures { bytes.new ≡ buffer (drop n bytes.old.items) bytes.old.capacity }
@@ -180,7 +179,7 @@ fn drop_first(bytes: &mut HeapCircularBuffer<u8>, n: usize)
     bytes.truncate_back(left);
 }
 
-/// Puts other bytes in the place of all that a buffer holds.
+/// Replaces all that a buffer holds by other bytes.
 fn replace(bytes: &mut HeapCircularBuffer<u8>, others: &[u8])
     requires { length others.now ≤ bytes.old.capacity }
     ensures { bytes.new ≡ buffer others.now bytes.old.capacity }

@@ -1,12 +1,12 @@
 //! One direction of a relayed connection: a bounded ring of bytes between a source and a destination.
 //!
-//! Bytes go in behind ([`Flow::take_in`]) and leave at the front ([`Flow::drop_front`]) in the same
-//! order. When the source is at its end of input ([`Flow::mark_end`]) nothing more goes in, and once
-//! the ring is empty the end may be passed on to the destination ([`Flow::mark_shut`], shutdown(2)).
+//! Bytes enter at the back ([`Flow::take_in`]) and leave at the front ([`Flow::drop_front`]) in the same order. When
+//! the source is at its end of input ([`Flow::mark_end`]), nothing more enters, and once the ring is empty the end may
+//! be passed on to the destination ([`Flow::mark_shut`], shutdown(2)).
 //!
-//! Contracts see a [`Flow`] as the record `Stream` of `specs/Stream.antt`: a list of bytes, its
-//! capacity, and the two marks. How the bytes lie in memory shows nowhere; [`Flow::front`] takes `&mut`
-//! since they may have to be put into one piece, and `specs/Lending.antt` says what it lends.
+//! Contracts see a [`Flow`] as the record `Stream` of `specs/Stream.antt`: a list of bytes, its capacity, and the two
+//! marks. How the bytes lie in memory is not visible; [`Flow::front`] takes `&mut` since they may have to be made
+//! contiguous, and `specs/Lending.antt` says what it lends.
 #![tactic(auto)]
 
 mod flow;

@@ -1,4 +1,4 @@
-//! Reads at most N bytes from the start of an input: of a script on standard input, of a settings file.
+//! Reads at most N bytes from the start of an input, such as a script on standard input or a settings file.
 #![tactic(auto)]
 
 mod reading;

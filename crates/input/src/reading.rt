@@ -5,7 +5,7 @@ use std::alloc::Global;
 use std::io::Read;
 use thiserror::Error;
 
-/// Why an input was not read.
+/// Why an input could not be read.
 #[derive(Clone, Copy, Debug, PartialEq, Eq, Error)]
 pub enum InputFault {
     /// The reader gave an error.
@@ -16,11 +16,11 @@ pub enum InputFault {
     NoMemory,
 }
 
-/// The front of an input: at most `most` bytes from its start, and all of it where it has no more. A caller that
-/// allows n bytes asks for n + 1, and knows by the last one that the input is too long.
+/// Reads the start of an input: at most `most` bytes, and all of it if it has no more. A caller that allows n bytes
+/// asks for n + 1, and if it gets n + 1 knows that the input is too long.
 ///
-/// It makes at most `most` reads. The first error of the reader, also an interruption by a signal, ends it with
-/// [`InputFault::Unreadable`]. After any fault the bytes that were read are lost.
+/// It makes at most `most` reads. The first error of the reader, even an interruption by a signal, ends it with
+/// [`InputFault::Unreadable`]. After a fault, the bytes that were read are lost.
 pub fn read_front<R: Read>(
     alloc: Global,
     reader: &mut R,
@@ -44,7 +44,7 @@ pub fn read_front<R: Read>(
     Ok(text)
 }
 
-/// One read, whose bytes are appended to the text.
+/// Makes one read and appends its bytes to the text.
 fn read_on<R: Read>(reader: &mut R, text: &mut Vec<u8>, most: usize) -> Result<usize, InputFault>
     requires { vec_len text.old ≤ most }
     ensures reads { IfOk result (λ count. ReadsOn most (R.remaining reader.old) (R.remaining reader.new) text.old.items text.new.items count) }

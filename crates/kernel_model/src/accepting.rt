@@ -5,7 +5,7 @@ pub enum Accepting {
     Accepted,
     /// Nobody waits (EAGAIN).
     Blocked,
-    /// This connection is gone, or a signal came first: another try may do (ECONNABORTED, EINTR).
+    /// This connection is gone, or a signal came first: another try may succeed (ECONNABORTED, EINTR).
     Again,
     /// Descriptors or memory are used up for now (EMFILE, ENFILE, ENOBUFS, ENOMEM).
     Starved,

@@ -13,10 +13,10 @@ use token::Token;
 
 #[tactic(auto, using(std::proofs::lemmas::Option::gets, std::proofs::lemmas::Grind::common_steps))]
 impl Kernel {
-    /// Opens both ends of a connection, the client's first, as [`Kernel::open_end`] does, and tells their
+    /// Opens both ends of a connection, the client's first, as [`Kernel::open_end`] does, and returns their
     /// descriptors.
     ///
-    /// Refuses with `NoMemory`, and opens neither, where the table of descriptors can't grow.
+    /// Refuses with `NoMemory`, and opens neither, if the table of descriptors cannot grow.
     pub fn open_both(&mut self, client: Token, target: Token) -> Result<Descriptors, Refusal>
         ensures { Tells (Some (open_both self.old client target)) self.old self.new result }
     {
@@ -26,7 +26,7 @@ impl Kernel {
         Ok(Descriptors { client, target })
     }
 
-    /// Whether these are two descriptors, and both are open.
+    /// Whether these are two different descriptors, and both are open.
     pub fn may_close_both(&self, ends: Descriptors) -> bool
         ensures { IsTrue result ↔ IsSome (close_both self.now ends) }
     {
@@ -35,10 +35,10 @@ impl Kernel {
             && self.end(ends.target).is_some()
     }
 
-    /// Closes both ends of a connection, as [`Kernel::close`] does, and hands them out.
+    /// Closes both ends of a connection, as [`Kernel::close`] does, and returns them.
     ///
-    /// Refuses with `NotAllowed`, and closes neither, where a descriptor is not open, or both are the same.
-    /// Never answers `NoMemory`.
+    /// Refuses with `NotAllowed`, and closes neither, if a descriptor is not open, or both are the same. Never answers
+    /// `NoMemory`.
     pub fn close_both(&mut self, ends: Descriptors) -> Result<Sockets, Refusal>
         ensures { TellsAlways (close_both self.old ends) self.old self.new result }
     {
@@ -51,7 +51,7 @@ impl Kernel {
     }
 }
 
-/// Opens an end at the lowest descriptor that is free, and tells it. The caller has made room.
+/// Opens an end at the lowest free descriptor, and returns that. The caller has made room.
 pub fn place(alloc: Global, ends: &mut Vec<Option<Open>>, token: Token) -> usize
     requires { vec_len ends.old < vec_capacity ends.old }
     ensures descriptor { result ≡ lowest_free ends.old.items }

@@ -10,7 +10,7 @@ use std::marker::Model;
 use std::mem;
 use token::{Kind, Side};
 
-/// One end of a connection: a stream socket by plain values.
+/// One end of a connection: a stream socket as plain values.
 #[derive(Drop)]
 pub struct End {
     arrived: Vec<u8>,
@@ -47,8 +47,8 @@ impl Model for End {
 }
 
 impl End {
-    /// An end as its connection opens. The client's is connected and has room; the target's is still
-    /// connecting, and gets room when the connect has ended.
+    /// An end as it is when its connection opens. The client's is connected and has room; the target's is still
+    /// connecting, and gets room when the connect has completed.
     pub fn new(alloc: Global, side: Side) -> End
         ensures { result ≡ opened side }
     {
@@ -65,14 +65,14 @@ impl End {
         }
     }
 
-    /// Every byte that ever came.
+    /// Every byte that ever arrived.
     pub fn arrived(&self) -> &[u8]
         ensures { result.now ≡ self.now.arrived }
     {
         self.arrived.as_slice()
     }
 
-    /// The bytes that were not read yet: the last of those that came.
+    /// The bytes that were not read yet: the last of those that arrived.
     pub fn unread(&self) -> &[u8]
         ensures value { result.now ≡ self.now.unread }
         ensures last { IsTailOf self.now.arrived result.now }
@@ -87,14 +87,14 @@ impl End {
         self.taken.as_slice()
     }
 
-    /// Whether the peer's end of input has come. Unread bytes may stand before it.
+    /// Whether the peer's end of input has arrived. There may be unread bytes before it.
     pub fn has_fin(&self) -> bool
         ensures { result ≡ self.now.fin }
     {
         self.fin
     }
 
-    /// Whether an error has come, as a reset by the peer.
+    /// Whether an error has arrived, such as a reset by the peer.
     pub fn has_err(&self) -> bool
         ensures { result ≡ self.now.err }
     {
@@ -115,14 +115,14 @@ impl End {
         self.shut
     }
 
-    /// Whether the next thing to read is to be reported, since a read answered blocked.
+    /// Whether the next time that there is something to read is to be reported, since a read answered blocked.
     pub fn is_read_armed(&self) -> bool
         ensures { result ≡ self.now.read_armed }
     {
         self.read_armed
     }
 
-    /// Whether the next room is to be reported, since a write or a join answered blocked.
+    /// Whether the next time that there is room is to be reported, since a write or a join answered blocked.
     pub fn is_write_armed(&self) -> bool
         ensures { result ≡ self.now.write_armed }
     {
@@ -143,18 +143,18 @@ impl End {
         self.room || self.err
     }
 
-    /// Whether these bytes may come from the peer: there are some, and neither the end of input nor an
-    /// error came before.
+    /// Whether these bytes may arrive from the peer: there is at least one, and neither the end of input nor an error
+    /// has arrived before.
     pub fn may_arrive(&self, bytes: &[u8]) -> bool
         ensures { IsTrue result ↔ IsSome (arrival self.now bytes.now) }
     {
         !bytes.is_empty() && !self.fin && !self.err
     }
 
-    /// Bytes come from the peer. Tells whether that is to be reported.
+    /// Bytes arrive from the peer. Returns whether that is to be reported.
     ///
-    /// Refuses with `NotAllowed` where there are none, or behind the end of input or an error, and with
-    /// `NoMemory` where the list of what came can't grow. A refusal changes nothing.
+    /// Refuses with `NotAllowed` if there are none, or after the end of input or an error, and with `NoMemory` if the
+    /// list of what arrived cannot grow. A refusal changes nothing.
     pub fn arrive(&mut self, bytes: &[u8]) -> Result<bool, Refusal>
         ensures { Tells (arrival self.old bytes.now) self.old self.new result }
     {
@@ -165,10 +165,10 @@ impl End {
         Ok(self.report_read())
     }
 
-    /// The peer's end of input comes. Tells whether that is to be reported.
+    /// The peer's end of input arrives. Returns whether that is to be reported.
     ///
-    /// Refuses with `NotAllowed`, and changes nothing, where it has come before, or behind an error.
-    /// Never answers `NoMemory`.
+    /// Refuses with `NotAllowed`, and changes nothing, if it has arrived before, or after an error. Never answers
+    /// `NoMemory`.
     pub fn fin(&mut self) -> Result<bool, Refusal>
         ensures { TellsAlways (finish self.old) self.old self.new result }
     {
@@ -179,9 +179,9 @@ impl End {
         Ok(self.report_read())
     }
 
-    /// An error comes, as a reset by the peer. Tells whether that is to be reported.
+    /// An error arrives, such as a reset by the peer. Returns whether that is to be reported.
     ///
-    /// Refuses with `NotAllowed`, and changes nothing, where one has come before. Never answers `NoMemory`.
+    /// Refuses with `NotAllowed`, and changes nothing, if one has arrived before. Never answers `NoMemory`.
     pub fn reset(&mut self) -> Result<bool, Refusal>
         ensures { TellsAlways (failure self.old) self.old self.new result }
     {
@@ -194,10 +194,9 @@ impl End {
         Ok(read || write)
     }
 
-    /// Room for writes comes. Tells whether that is to be reported.
+    /// The end gets room for writes. Returns whether that is to be reported.
     ///
-    /// Refuses with `NotAllowed`, and changes nothing, where there is room, or behind an error. Never
-    /// answers `NoMemory`.
+    /// Refuses with `NotAllowed`, and changes nothing, if it has room, or after an error. Never answers `NoMemory`.
     pub fn room(&mut self) -> Result<bool, Refusal>
         ensures { TellsAlways (new_room self.old) self.old self.new result }
     {
@@ -208,9 +207,8 @@ impl End {
         Ok(self.report_write())
     }
 
-    /// The bytes that a read of at most `most` hands over where it answers with `count` of them: the
-    /// first that are unread. None where it may not answer so: where `count` is 0, or more than `most`
-    /// or than are unread.
+    /// The bytes that a read of at most `most` gives if it answers with `count` of them: the first that are unread.
+    /// None if it may not answer so, because `count` is 0, or more than `most` or than are unread.
     pub fn bytes_read(&self, most: usize, count: usize) -> Option<&[u8]>
         ensures { option_copied result ≡ bytes_read self.now most count }
     {
@@ -222,10 +220,10 @@ impl End {
 
     /// A read of at most `most` bytes gets this reply (read(2)).
     ///
-    /// Refuses with `NotAllowed`, and changes nothing, where a read may not be answered so: by bytes
-    /// that are none, or more than `most` or than are unread; by the end of input before it has come or
-    /// while bytes are unread; by blocked where the end is readable; by a failure of the kind `Zero`; or
-    /// by a reply to another call. Never answers `NoMemory`.
+    /// Refuses with `NotAllowed`, and changes nothing, if a read may not be answered so: with no bytes, or more than
+    /// `most` or than are unread; with the end of input before it has arrived or while bytes are unread; with blocked
+    /// if the end is readable; with a failure of the kind `Zero`; or with a reply to another call. Never answers
+    /// `NoMemory`.
     pub fn read(&mut self, most: usize, reply: Reply) -> Result<(), Refusal>
         ensures { MeetsAlways (after_read self.old most reply) self.old self.new result }
     {
@@ -253,10 +251,10 @@ impl End {
 
     /// A write of `offer` gets this reply (write(2)).
     ///
-    /// Refuses with `NotAllowed` where a write may not be answered so: by a count without room, or one
-    /// that is 0 or more than were offered; by blocked where the end is writable; or by a reply to
-    /// another call. Refuses with `NoMemory` where the write takes bytes and their list can't grow; to
-    /// another reply it never answers so. A refusal changes nothing.
+    /// Refuses with `NotAllowed` if a write may not be answered so: with a count when there is no room, or one that is
+    /// 0 or more than were offered; with blocked if the end is writable; or with a reply to another call. Refuses with
+    /// `NoMemory` if the write takes bytes and their list cannot grow; for any other reply it never answers so. A
+    /// refusal changes nothing.
     pub fn write(&mut self, offer: &[u8], reply: Reply) -> Result<(), Refusal>
         ensures outcome { Meets (after_write self.old offer.now reply) self.old self.new result }
         ensures memory { IsErrOf result Refusal.NoMemory → IsTrue (needs_memory reply) }
@@ -269,11 +267,11 @@ impl End {
         }
     }
 
-    /// The question whether the connect has ended gets this reply (connect(2)).
+    /// The question whether the connect has completed gets this reply (connect(2)).
     ///
-    /// Refuses with `NotAllowed`, and changes nothing, where it may not be answered so: by joined without
-    /// room; by blocked where the end is writable; by a failure of the kind `Zero`; or by a reply to
-    /// another call. Never answers `NoMemory`.
+    /// Refuses with `NotAllowed`, and changes nothing, if it may not be answered so: with joined when there is no room;
+    /// with blocked if the end is writable; with a failure of the kind `Zero`; or with a reply to another call. Never
+    /// answers `NoMemory`.
     pub fn join(&mut self, reply: Reply) -> Result<(), Refusal>
         ensures { MeetsAlways (after_join self.old reply) self.old self.new result }
     {
@@ -290,8 +288,8 @@ impl End {
 
     /// A shutdown of sending gets this reply (shutdown(2) with `SHUT_WR`).
     ///
-    /// Refuses with `NotAllowed`, and changes nothing, where it may not be answered so: by blocked, by a
-    /// failure of the kind `Zero`, or by a reply to another call. Never answers `NoMemory`.
+    /// Refuses with `NotAllowed`, and changes nothing, if it may not be answered so: with blocked, with a failure of
+    /// the kind `Zero`, or with a reply to another call. Never answers `NoMemory`.
     pub fn shut(&mut self, reply: Reply) -> Result<(), Refusal>
         ensures { MeetsAlways (after_shut self.old reply) self.old self.new result }
     {
@@ -308,7 +306,7 @@ impl End {
         }
     }
 
-    /// A read is to be reported, or not: tells it and clears the arm.
+    /// Whether a read is to be reported. Clears the arm.
     fn report_read(&mut self) -> bool
         ensures told { result ≡ self.old.read_armed }
         ensures cleared { self.new ≡ record self.old { read_armed = false } }
@@ -316,7 +314,7 @@ impl End {
         mem::replace(&mut self.read_armed, false)
     }
 
-    /// Room is to be reported, or not: tells it and clears the arm.
+    /// Whether room is to be reported. Clears the arm.
     fn report_write(&mut self) -> bool
         ensures told { result ≡ self.old.write_armed }
         ensures cleared { self.new ≡ record self.old { write_armed = false } }
@@ -348,7 +346,7 @@ impl End {
     }
 }
 
-/// A reply that changes nothing, where it is allowed.
+/// A reply that changes nothing, if it is allowed.
 fn allowed(is_allowed: bool) -> Result<(), Refusal>
     ensures { result ≡ (if is_allowed then Ok tt else Err Refusal.NotAllowed) }
 {

@@ -1,5 +1,5 @@
-// The kernel of one process: its open ends, its readiness queue and its listener. The calls on single
-// ends stand in `sockets.rt`.
+// The kernel of one process: its open ends, its readiness queue and its listener. The calls on single ends are in
+// `sockets.rt`.
 ghost use Rattle.std.specs.Prelude.{◌≡◌, ◌<◌, vec_len, vec_capacity, Some, IsSome, IsTrue, ◌↔◌, position};
 ghost use Rattle.std.specs.Option.{option_copied, is_none};
 ghost use Rattle.kernel_model.specs.Outcome.{Meets, MeetsAlways, Tells, TellsAlways};
@@ -33,7 +33,7 @@ impl Model for Open {
     ghost view = { λ o. record { token = o.token; socket = o.socket } };
 }
 
-/// A kernel, by plain values.
+/// A kernel, as plain values.
 #[derive(Drop)]
 pub struct Kernel {
     pub(crate) alloc: Global,
@@ -77,7 +77,7 @@ impl Kernel {
         }
     }
 
-    /// The names that are queued, in the order in which they came.
+    /// The names that are queued, oldest first.
     pub fn queue(&self) -> &[Name]
         ensures { result.now ≡ self.now.queue }
     {
@@ -105,10 +105,10 @@ impl Kernel {
         self.armed
     }
 
-    /// Opens an end and registers it, for reads and writes, under its token. It gets the lowest
-    /// descriptor that is not open (open(2)), which is told.
+    /// Opens an end and registers it, for reads and writes, under its token. It gets the lowest descriptor that is not
+    /// open (open(2)), which is returned.
     ///
-    /// Refuses with `NoMemory`, and changes nothing, where the table of descriptors can't grow.
+    /// Refuses with `NoMemory`, and changes nothing, if the table of descriptors cannot grow.
     pub fn open_end(&mut self, token: Token) -> Result<usize, Refusal>
         ensures { Tells (Some (open_end self.old token)) self.old self.new result }
     {
@@ -116,9 +116,9 @@ impl Kernel {
         Ok(place(self.alloc, &mut self.ends, token))
     }
 
-    /// Closes an end, takes its name off the queue, and hands the end out (close(2)).
+    /// Closes an end, removes its name from the queue, and returns the end (close(2)).
     ///
-    /// Refuses with `NotAllowed`, and changes nothing, where the descriptor is not open. Never answers `NoMemory`.
+    /// Refuses with `NotAllowed`, and changes nothing, if the descriptor is not open. Never answers `NoMemory`.
     pub fn close(&mut self, descriptor: usize) -> Result<End, Refusal>
         ensures { TellsAlways (close self.old descriptor) self.old self.new result }
     {
@@ -134,10 +134,10 @@ impl Kernel {
         }
     }
 
-    /// A report comes without cause.
+    /// A report is queued without cause.
     ///
-    /// Refuses with `NotAllowed` where the descriptor is not open, and with `NoMemory` where the queue
-    /// can't grow. A refusal changes nothing.
+    /// Refuses with `NotAllowed` if the descriptor is not open, and with `NoMemory` if the queue cannot grow. A refusal
+    /// changes nothing.
     pub fn spurious(&mut self, who: Watched) -> Result<(), Refusal>
         ensures { Meets (spurious self.old who) self.old self.new result }
     {
@@ -149,11 +149,10 @@ impl Kernel {
         Ok(())
     }
 
-    /// A report is taken back before it was polled.
+    /// A queued report is withdrawn before it is polled.
     ///
-    /// Refuses with `NotAllowed`, and changes nothing, where it is not queued, or where something could
-    /// be done there: at an end that is readable or writable, or at the listener while somebody waits.
-    /// Never answers `NoMemory`.
+    /// Refuses with `NotAllowed`, and changes nothing, if it is not queued, or if something could be done there: at an
+    /// end that is readable or writable, or at the listener while somebody waits. Never answers `NoMemory`.
     pub fn vanish(&mut self, who: Watched) -> Result<(), Refusal>
         ensures { MeetsAlways (vanish self.old who) self.old self.new result }
     {
@@ -167,18 +166,17 @@ impl Kernel {
         Ok(())
     }
 
-    /// Whether a poll may hand these names over: there are not too many, each is queued, and none stands
-    /// there twice.
+    /// Whether a poll may give these names: there are not too many, each is queued, and no two are equal.
     pub fn may_poll(&self, names: &[Name]) -> bool
         ensures { IsTrue result ↔ IsSome (poll self.now names.now) }
     {
         names.len() <= MAX_POLLED && are_among(self.queue.as_slice(), names) && are_distinct(names)
     }
 
-    /// A poll hands these names over, and they leave the queue (epoll_wait(2)).
+    /// A poll gives these names, and they leave the queue (epoll_wait(2)).
     ///
-    /// Refuses with `NotAllowed`, and changes nothing, where there are more than [`MAX_POLLED`] names, or
-    /// one that is not queued, or one twice. Never answers `NoMemory`.
+    /// Refuses with `NotAllowed`, and changes nothing, if there are more than [`MAX_POLLED`] names, or one that is not
+    /// queued, or one twice. Never answers `NoMemory`.
     pub fn poll(&mut self, names: &[Name]) -> Result<(), Refusal>
         ensures { MeetsAlways (poll self.old names.now) self.old self.new result }
     {
@@ -191,8 +189,8 @@ impl Kernel {
 
     /// A client connects, and waits at the listener (listen(2)).
     ///
-    /// Refuses with `NotAllowed` where [`MAX_BACKLOG`] wait already, and with `NoMemory` where the queue
-    /// can't grow. A refusal changes nothing.
+    /// Refuses with `NotAllowed` if [`MAX_BACKLOG`] wait already, and with `NoMemory` if the queue cannot grow. A
+    /// refusal changes nothing.
     pub fn connect_in(&mut self) -> Result<(), Refusal>
         ensures { Meets (connect_in self.old) self.old self.new result }
     {
@@ -207,10 +205,10 @@ impl Kernel {
         Ok(())
     }
 
-    /// The listener replies so to accept(2).
+    /// The listener replies to accept(2) in this way.
     ///
-    /// Refuses with `NotAllowed`, and changes nothing, `Accepted` where nobody waits, and `Blocked` where
-    /// somebody does. Never answers `NoMemory`.
+    /// Refuses with `NotAllowed`, and changes nothing, `Accepted` if nobody waits, and `Blocked` if somebody does.
+    /// Never answers `NoMemory`.
     pub fn accept(&mut self, reply: Accepting) -> Result<(), Refusal>
         ensures { MeetsAlways (accept self.old reply) self.old self.new result }
     {
@@ -232,7 +230,7 @@ impl Kernel {
         Ok(())
     }
 
-    /// The name of what is watched; a descriptor that is not open has none.
+    /// The name of what is watched. A descriptor that is not open has none.
     fn name_of(&self, who: Watched) -> Option<Name>
         ensures { result ≡ name_of self.now who }
     {

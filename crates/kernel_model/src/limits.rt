@@ -1,7 +1,7 @@
 //! The limits of the modelled kernel.
 
-/// The most connections that wait at the listener.
+/// The most connections that can wait at the listener.
 pub const MAX_BACKLOG: usize = 4_096;
 
-/// The most names that one poll hands over.
+/// The most names that one poll gives.
 pub const MAX_POLLED: usize = 256;

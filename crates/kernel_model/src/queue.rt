@@ -11,14 +11,14 @@ fn same(a: &Name, b: &Name) -> bool
     *a == *b
 }
 
-/// Whether a name is among these.
+/// Whether a name is one of these.
 pub fn has(name: &Name, names: &[Name]) -> bool
     ensures { result ≡ has name.now names.now }
 {
     names.iter().any(|other| same(name, other))
 }
 
-/// Adds a name where it is not there. The caller has made room.
+/// Adds a name if it is not there. The caller has made room.
 pub fn add(names: &mut Vec<Name>, name: Name)
     requires { vec_len names.old < vec_capacity names.old }
     ensures { names.new.items ≡ with_name name names.old.items }
@@ -28,21 +28,21 @@ pub fn add(names: &mut Vec<Name>, name: Name)
     }
 }
 
-/// Takes a name away where it is there.
+/// Removes a name if it is there.
 pub fn remove(names: &mut Vec<Name>, name: &Name)
     ensures { names.new.items ≡ without_name name.now names.old.items }
 {
     names.retain(|other| !same(name, other));
 }
 
-/// Takes names away.
+/// Removes these names.
 pub fn remove_all(names: &mut Vec<Name>, taken: &[Name])
     ensures { names.new.items ≡ without_names taken.now names.old.items }
 {
     names.retain(|other| !has(other, taken));
 }
 
-/// Whether no name stands there twice.
+/// Whether no two names are equal.
 pub fn are_distinct(names: &[Name]) -> bool
     ensures { result ≡ are_distinct names.now }
 {

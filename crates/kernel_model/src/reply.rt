@@ -1,7 +1,7 @@
 use token::Kind;
 
-/// What a socket replies to a call, by its sizes. Which replies a call may get, and what each does to
-/// the end, stands in `specs/Replies.antt`.
+/// What a socket replies to a call, with sizes in place of bytes. `specs/Replies.antt` says which replies a call may
+/// get, and what each does to the end.
 #[derive(Clone, Copy, Debug, PartialEq, Eq)]
 pub enum Reply {
     /// To a read: this many bytes, at least one (read(2)).
@@ -10,7 +10,7 @@ pub enum Reply {
     End,
     /// To a write: it took this many bytes, at least one. With `true` there is no room left (write(2)).
     Wrote(usize, bool),
-    /// To the question whether the connect has ended: it has (connect(2)).
+    /// To the question whether the connect has completed: it has (connect(2)).
     Joined,
     /// To a shutdown: sending is shut down (shutdown(2)).
     Shut,
@@ -18,6 +18,6 @@ pub enum Reply {
     Blocked,
     /// To any call: a signal came first, and nothing was done (EINTR).
     Interrupted,
-    /// To any call: it failed. A write alone may fail by taking 0 bytes.
+    /// To any call: it failed. Only a write may fail by taking 0 bytes.
     Failed(Kind),
 }

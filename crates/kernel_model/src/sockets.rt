@@ -1,4 +1,4 @@
-// What comes to the open ends of a kernel, and the calls on them.
+// What arrives at the open ends of a kernel, and the calls on them.
 ghost use Rattle.std.specs.Prelude.{◌≡◌, ◌<◌, IsErrOf, IsTrue};
 ghost use Rattle.kernel_model.specs.Outcome.{Meets, MeetsAlways};
 ghost use Rattle.kernel_model.specs.Replies.{needs_memory};
@@ -12,11 +12,10 @@ use token::Name;
 
 #[tactic(auto, using(std::proofs::lemmas::Option::gets, std::proofs::lemmas::Grind::common_steps))]
 impl Kernel {
-    /// Bytes come to an end, and are reported where reads are armed there.
+    /// Bytes arrive at an end, and are reported if reads are armed there.
     ///
-    /// Refuses with `NotAllowed` where the descriptor is not open, where there are no bytes, and behind
-    /// the end of input or an error; and with `NoMemory` where a list can't grow. A refusal changes
-    /// nothing.
+    /// Refuses with `NotAllowed` if the descriptor is not open, if there are no bytes, and after the end of input or an
+    /// error; and with `NoMemory` if a list cannot grow. A refusal changes nothing.
     pub fn arrive(&mut self, descriptor: usize, bytes: &[u8]) -> Result<(), Refusal>
         ensures { Meets (arrive self.old descriptor bytes.now) self.old self.new result }
     {
@@ -35,10 +34,10 @@ impl Kernel {
         Ok(())
     }
 
-    /// The peer's end of input comes to an end, and is reported where reads are armed there.
+    /// The peer's end of input arrives at an end, and is reported if reads are armed there.
     ///
-    /// Refuses with `NotAllowed` where the descriptor is not open, where it has come before, and behind an
-    /// error; and with `NoMemory` where the queue can't grow. A refusal changes nothing.
+    /// Refuses with `NotAllowed` if the descriptor is not open, if it has arrived before, and after an error; and with
+    /// `NoMemory` if the queue cannot grow. A refusal changes nothing.
     pub fn fin(&mut self, descriptor: usize) -> Result<(), Refusal>
         ensures { Meets (fin self.old descriptor) self.old self.new result }
     {
@@ -57,11 +56,10 @@ impl Kernel {
         Ok(())
     }
 
-    /// An error comes to an end, as a reset by the peer, and is reported where reads or writes are armed
-    /// there.
+    /// An error arrives at an end, such as a reset by the peer, and is reported if reads or writes are armed there.
     ///
-    /// Refuses with `NotAllowed` where the descriptor is not open, and where one has come before; and with
-    /// `NoMemory` where the queue can't grow. A refusal changes nothing.
+    /// Refuses with `NotAllowed` if the descriptor is not open, and if an error has arrived before; and with `NoMemory`
+    /// if the queue cannot grow. A refusal changes nothing.
     pub fn reset(&mut self, descriptor: usize) -> Result<(), Refusal>
         ensures { Meets (reset self.old descriptor) self.old self.new result }
     {
@@ -80,10 +78,10 @@ impl Kernel {
         Ok(())
     }
 
-    /// Room for writes comes to an end, and is reported where writes are armed there.
+    /// An end gets room for writes, which is reported if writes are armed there.
     ///
-    /// Refuses with `NotAllowed` where the descriptor is not open, where there is room, and behind an
-    /// error; and with `NoMemory` where the queue can't grow. A refusal changes nothing.
+    /// Refuses with `NotAllowed` if the descriptor is not open, if there is room, and after an error; and with
+    /// `NoMemory` if the queue cannot grow. A refusal changes nothing.
     pub fn room(&mut self, descriptor: usize) -> Result<(), Refusal>
         ensures { Meets (room self.old descriptor) self.old self.new result }
     {
@@ -104,8 +102,8 @@ impl Kernel {
 
     /// A read of at most `most` bytes gets this reply ([`End::read`]).
     ///
-    /// Refuses with `NotAllowed`, and changes nothing, where the descriptor is not open, or where a read
-    /// may not be answered so. Never answers `NoMemory`.
+    /// Refuses with `NotAllowed`, and changes nothing, if the descriptor is not open, or if a read may not be answered
+    /// so. Never answers `NoMemory`.
     pub fn read(&mut self, descriptor: usize, most: usize, reply: Reply) -> Result<(), Refusal>
         ensures { MeetsAlways (read self.old descriptor most reply) self.old self.new result }
     {
@@ -120,9 +118,8 @@ impl Kernel {
 
     /// A write of `offer` gets this reply ([`End::write`]).
     ///
-    /// Refuses with `NotAllowed` where the descriptor is not open, or where a write may not be answered so;
-    /// and with `NoMemory` where the write takes bytes and their list can't grow. A refusal changes
-    /// nothing.
+    /// Refuses with `NotAllowed` if the descriptor is not open, or if a write may not be answered so; and with
+    /// `NoMemory` if the write takes bytes and their list cannot grow. A refusal changes nothing.
     pub fn write(&mut self, descriptor: usize, offer: &[u8], reply: Reply) -> Result<(), Refusal>
         ensures outcome { Meets (write self.old descriptor offer.now reply) self.old self.new result }
         ensures memory { IsErrOf result Refusal.NoMemory → IsTrue (needs_memory reply) }
@@ -136,10 +133,10 @@ impl Kernel {
         }
     }
 
-    /// The question whether the connect has ended gets this reply ([`End::join`]).
+    /// The question whether the connect has completed gets this reply ([`End::join`]).
     ///
-    /// Refuses with `NotAllowed`, and changes nothing, where the descriptor is not open, or where the
-    /// question may not be answered so. Never answers `NoMemory`.
+    /// Refuses with `NotAllowed`, and changes nothing, if the descriptor is not open, or if the question may not be
+    /// answered so. Never answers `NoMemory`.
     pub fn join(&mut self, descriptor: usize, reply: Reply) -> Result<(), Refusal>
         ensures { MeetsAlways (join self.old descriptor reply) self.old self.new result }
     {
@@ -154,8 +151,8 @@ impl Kernel {
 
     /// A shutdown of sending gets this reply ([`End::shut`]).
     ///
-    /// Refuses with `NotAllowed`, and changes nothing, where the descriptor is not open, or where a
-    /// shutdown may not be answered so. Never answers `NoMemory`.
+    /// Refuses with `NotAllowed`, and changes nothing, if the descriptor is not open, or if a shutdown may not be
+    /// answered so. Never answers `NoMemory`.
     pub fn shut(&mut self, descriptor: usize, reply: Reply) -> Result<(), Refusal>
         ensures { MeetsAlways (shut self.old descriptor reply) self.old self.new result }
     {

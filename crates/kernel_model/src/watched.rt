@@ -3,8 +3,8 @@
 pub enum Watched {
     /// The listening socket.
     Listener,
-    /// The waker, by which another thread ends a wait for reports.
+    /// The waker, with which another thread ends a wait for reports.
     Waker,
-    /// The end of this descriptor.
+    /// The end with this descriptor.
     End(usize),
 }

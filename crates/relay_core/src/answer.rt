@@ -7,7 +7,7 @@ pub enum Answer<'a> {
     Bytes(&'a [u8]),
     /// A read met the end of input.
     End,
-    /// A write took so many of the bytes that it was offered, at least one.
+    /// A write took this many of the bytes that it was offered, at least one.
     Wrote(usize),
     /// The socket is connected.
     Joined,

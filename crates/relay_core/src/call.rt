@@ -3,17 +3,17 @@ ghost use Rattle.relay_core.specs.Calls.{side_of, kind_of, call_name, direction_
 
 use token::{Direction, Side};
 
-/// A call on one of a connection's two sockets, which never waits.
+/// A call on one of a connection's two sockets. It never waits.
 #[derive(Clone, Copy, Debug, PartialEq, Eq)]
 pub enum Call {
     /// write(2) to this side, offering all bytes that are bound for it.
     Write(Side),
-    /// Asks whether this side's connect(2) has ended, so that no shutdown(2) meets a socket that is
-    /// still connecting.
+    /// Asks whether this side's connect(2) has completed, so that shutdown(2) is not called on a socket that is still
+    /// connecting.
     Join(Side),
     /// shutdown(2) of this side with `SHUT_WR`, which passes the end of input on.
     Shut(Side),
-    /// read(2) from this side, of at most so many bytes.
+    /// read(2) from this side, of at most this many bytes.
     Read(Side, usize),
 }
 
@@ -22,7 +22,7 @@ pub enum Call {
 pub enum CallKind {
     /// write(2): bytes that wait go out.
     Write,
-    /// The question whether connect(2) has ended.
+    /// The question whether connect(2) has completed.
     Join,
     /// shutdown(2) with `SHUT_WR`: the end of input is passed on.
     Shut,
@@ -66,7 +66,8 @@ impl Call {
         }
     }
 
-    /// The direction that the call serves: a read the one from its side, the others the one to it.
+    /// The direction that the call serves: for a read the one that starts at its side, for the others the one that ends
+    /// there.
     pub fn direction(self) -> Direction
         ensures { result ≡ direction_of self }
     {

@@ -1,17 +1,17 @@
-/// What the relay believes of one socket's readiness.
+/// What the relay knows about one socket's readiness.
 ///
-/// epoll(7) on edge triggering reports a change once. So a flag stays set, and its call is tried again
-/// and again, until a try is answered "would block"; then it waits for the next report.
+/// Edge-triggered epoll(7) reports a change once. So a flag stays set, and its call is tried again and again, until a
+/// try is answered "would block"; then the call waits for the next report.
 #[derive(Clone, Copy, Debug, PartialEq, Eq)]
 pub struct Flags {
-    /// A read is worth a try.
+    /// A read is worth trying.
     pub read: bool,
-    /// A write, or a look at whether the connect has ended, is worth a try.
+    /// A write is worth trying, and so is asking whether the connect has completed.
     pub write: bool,
 }
 
 impl Flags {
-    /// Both calls are worth a try.
+    /// Both calls are worth trying.
     pub const READY: Flags = Flags {
         read: true,
         write: true,

@@ -1,23 +1,23 @@
-//! What holds of every pair, whatever answers and reports come. The functions do nothing: each one's
-//! contract is the law that it is named for, so that the layers above can call on it.
+//! What holds for every pair, whatever answers and reports arrive. The functions do nothing: the contract of each is
+//! the law that it is named after, so that the layers above can use it.
 //!
-//! The first laws are of one answer, of the next call and of a report, and the last of whole runs: any
+//! The first laws are about one answer, about the next call and about a report, and the last ones about whole runs: any
 //! list of answers and reports.
 
 ghost use Rattle.relay_core.specs.Laws.{AnswersAreEvents, AnswersAreToNextCalls, AnswersKeepOrder, AnswersKeepPlace, AnswersPassEndLast, CallsComeWhileLive, FailuresAreTold, FreshPairsKeepEndLast, LivePairsRest, OnlyEndsAreSeen, ReportsKeepStreams, ReportsSetFlags, RunsKeepOrder, RunsKeepPlace, RunsPassEndLast};
 
-/// In each direction the bytes that were there and came in by an answer are, in order, those that went out
-/// by it and those that are there now.
+/// In each direction, the bytes that were there and those that an answer brings in are, in order, those that it takes
+/// out and those that are there afterwards.
 pub fn answers_keep_order()
     ensures { AnswersKeepOrder }
 {}
 
-/// An answer passes an end of input on only after every byte, and for good.
+/// An answer passes an end of input on only after every byte, and this is final.
 pub fn answers_pass_end_last()
     ensures { AnswersPassEndLast }
 {}
 
-/// The end of a direction is seen where a call of that direction is answered by an end, and then for good.
+/// The end of a direction is seen when a call of that direction is answered with an end, and this is final.
 pub fn only_ends_are_seen()
     ensures { OnlyEndsAreSeen }
 {}
@@ -27,45 +27,45 @@ pub fn answers_keep_place()
     ensures { AnswersKeepPlace }
 {}
 
-/// A pair fails by a failed call and by nothing else, and its fault tells of that call.
+/// A pair fails only by a failed call, and its fault describes that call.
 pub fn failures_are_told()
     ensures { FailuresAreTold }
 {}
 
-/// What one answer of a list does is what the answer to the call that comes next does.
+/// Each answer of a list does what an answer to the call that comes next does.
 pub fn answers_are_to_next_calls()
     ensures { AnswersAreToNextCalls }
 {}
 
-/// A call comes next only while the pair is live.
+/// There is a next call only while the pair is live.
 pub fn calls_come_while_live()
     ensures { CallsComeWhileLive }
 {}
 
-/// Where a live pair has no next call, nothing in either direction is worth a try before a report.
+/// If a live pair has no next call, nothing in either direction is worth trying before a report.
 pub fn live_pairs_rest()
     ensures { LivePairsRest }
 {}
 
-/// A report makes all four calls worth a try, and changes nothing else.
+/// A report makes all four calls worth trying, and changes nothing else.
 pub fn reports_change_flags_alone()
     ensures flags { ReportsSetFlags }
     ensures streams { ReportsKeepStreams }
 {}
 
-/// Over any list of answers and reports the bytes that writes take are, in each direction and in order,
-/// those that waited and those that reads bring; none is lost or doubled.
+/// Over any list of answers and reports, the bytes that writes take are, in each direction and in order, those that
+/// waited and those that reads bring; none is lost or duplicated.
 pub fn runs_keep_order()
     ensures { RunsKeepOrder }
 {}
 
-/// Where every end that was passed on came last, it is so after any list of answers and reports, and an end
-/// that is passed on then came after every byte that waited or was ever read.
+/// If every end that was passed on came last, this is still so after any list of answers and reports, and an end that
+/// is passed on then comes after every byte that waited or was ever read.
 pub fn runs_pass_end_last()
     ensures { RunsPassEndLast }
 {}
 
-/// A pair that was just made has passed no end on.
+/// A new pair has passed no end on.
 pub fn fresh_pairs_keep_end_last()
     ensures { FreshPairsKeepEndLast }
 {}
@@ -75,7 +75,7 @@ pub fn runs_keep_place()
     ensures { RunsKeepPlace }
 {}
 
-/// A list of answers is a list of events with no report: it does the same, and moves the same bytes.
+/// A list of answers is a list of events without reports: it does the same, and moves the same bytes.
 pub fn answers_are_events()
     ensures { AnswersAreEvents }
 {}

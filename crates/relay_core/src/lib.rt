@@ -1,23 +1,23 @@
-//! The core of the relay as a pure value: which call comes next on which of a connection's two
-//! sockets, and what each answer does.
+//! The core of the relay as a pure value: which call comes next on which of a connection's two sockets, and what each
+//! answer does.
 //!
-//! A [`Pair`] is one connection. It makes no call itself. Its owner asks for the [`Pair::next`] call,
-//! makes it, and hands the [`Answer`] back:
+//! A [`Pair`] is one connection. It makes no calls itself. Its owner asks for the [`Pair::next`] call, makes it, and
+//! gives the [`Answer`] back:
 //!
 //! - a write offers all bytes that are bound for a side ([`Pair::offer`]);
-//! - once a source has ended and every byte has left, the destination's socket is asked whether it is
-//!   connected, and then its end is shut, so a half-closed connection goes on in the other direction;
+//! - once a source has ended and every byte has left, sending is shut down on the destination's socket, so a
+//!   half-closed connection continues in the other direction; if no call has shown yet that the destination is
+//!   connected, it is asked first;
 //! - a read asks for at most what the ring has room for.
 //!
-//! On edge triggering a socket is reported once for each change. So a call is tried until it is
-//! answered "would block", and only that answer, never a short count, stops it from being tried again
-//! before the next report ([`Pair::note`], epoll(7)). When nothing is left to try, `next` is none.
+//! With edge triggering a socket is reported once for each change. So a call is tried until it is answered "would
+//! block", and only that answer, never a short count, keeps it from being tried again before the next report
+//! ([`Pair::note`], epoll(7)). When nothing is left to try, `next` is none.
 //!
-//! The definitions stand in `specs/`: the pair and its verdict in `Pairs.antt`, the order of work in
-//! `Order.antt`, what each answer does in `Replies.antt`, lists of answers in `Runs.antt`, the bytes
-//! that they move in `Moved.antt`, answers and reports in `Events.antt`, what an offer lends in
-//! `Lending.antt`, and what all that comes to in `Laws.antt`. [`laws`] has each law of all pairs as the
-//! contract of a function.
+//! The definitions are in `specs/`: the pair and its verdict in `Pairs.antt`, the order of work in `Order.antt`, what
+//! each answer does in `Replies.antt`, lists of answers in `Runs.antt`, the bytes that they move in `Moved.antt`,
+//! answers and reports in `Events.antt`, what an offer lends in `Lending.antt`, and what follows from all this in
+//! `Laws.antt`. [`laws`] states each law about all pairs as the contract of a function.
 #![tactic(auto)]
 
 mod answer;

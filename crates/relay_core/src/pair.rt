@@ -21,7 +21,7 @@ use token::{Direction, Side};
 /// The most bytes that one read asks for.
 pub const MAX_READ: usize = 16_384;
 
-/// One connection: both directions of bytes, and what the relay believes of both sockets.
+/// One connection: both directions of bytes, and what the relay knows about both sockets.
 #[derive(Drop)]
 pub struct Pair {
     slot: usize,
@@ -49,11 +49,10 @@ impl Pair {
     ghost use Rattle.std.specs.Borrow.{sem};
     ghost use Rattle.relay_core.specs.Lending.{with_offer, LendsOffer, LendsStream};
 
-    /// A connection that was just made, in a slot that has been opened `generation` times, with a ring
-    /// of `capacity` bytes, 1 to 65,536, for each direction. This takes all the memory that the pair
-    /// will ever use.
+    /// A new connection, in a slot that has been opened `generation` times, with a ring of `capacity` bytes, 1 to
+    /// 65,536, for each direction. This allocates all the memory that the pair will ever use.
     ///
-    /// Fails only where there is no memory for one of the two rings, and then no pair is made.
+    /// Fails only if there is no memory for one of the two rings; then no pair is made.
     pub fn new(
         alloc: Global,
         slot: usize,
@@ -79,8 +78,8 @@ impl Pair {
         })
     }
 
-    /// The call to make next, or none: then nothing can be done before the next report ([`Pair::note`]),
-    /// or the pair is done or failed ([`Pair::verdict`]).
+    /// The call to make next. If there is none, nothing can be done before the next report ([`Pair::note`]), or the
+    /// pair is done or failed ([`Pair::verdict`]).
     pub fn next(&self) -> Option<Call>
         ensures value { result ≡ next_call self.now }
         ensures possible { IfSome result (IsPossible self.now) }
@@ -95,8 +94,8 @@ impl Pair {
         }
     }
 
-    /// The bytes that are bound for a side: what a write to it offers. They are lent to be read: the pair
-    /// stays as it was if nothing is written into them.
+    /// The bytes that are bound for a side, which a write to it offers. They are lent to be read: if nothing is written
+    /// into them, the pair stays as it was.
     pub fn offer(&mut self, side: Side) -> &mut [u8]
         ensures* lends { sem 𝓛 (LendsOffer self.entry side result) }
         ensures value { result.now ≡ offer self.old side }
@@ -108,8 +107,7 @@ impl Pair {
         }
     }
 
-    /// Whether a call may get an answer: the answer is one for this call, and its number of bytes is in
-    /// range.
+    /// Whether a call may get this answer: it is an answer to such a call, and its number of bytes is in range.
     pub fn fits(&self, call: Call, answer: Answer<'_>) -> bool
         ensures { result ≡ fits self.now call (reply_of answer.entry) }
     {
@@ -125,7 +123,7 @@ impl Pair {
         }
     }
 
-    /// Takes in the answer to the call that comes next.
+    /// Takes the answer to the call that comes next.
     pub fn answer(&mut self, call: Call, answer: Answer<'_>)
         requires next { next_call self.old ≡ Some call }
         requires fits { fits self.old call (reply_of answer) ≡ true }
@@ -140,7 +138,7 @@ impl Pair {
         self.take_answer(call, answer);
     }
 
-    /// A report came for one of the sockets, of whatever kind: every call is worth a try again.
+    /// A report of any kind arrived for one of the sockets: every call is worth trying again.
     pub fn note(&mut self)
         ensures value { self.new ≡ noted self.old }
         ensures verdict_stays { verdict self.new ≡ verdict self.old }
@@ -160,7 +158,7 @@ impl Pair {
         }
     }
 
-    /// How many bytes writes took, up and down; each count stays at the largest `u64`.
+    /// How many bytes writes took, up and down; each count stops at the largest `u64`.
     pub fn counts(&self) -> (u64, u64)
         ensures up { result.0 ≡ self.now.sent_up }
         ensures down { result.1 ≡ self.now.sent_down }
@@ -168,14 +166,14 @@ impl Pair {
         (self.sent_up, self.sent_down)
     }
 
-    /// The slot in which the connection lies.
+    /// The slot of the connection.
     pub fn slot(&self) -> usize
         ensures { result ≡ self.now.slot }
     {
         self.slot
     }
 
-    /// How often the slot had been opened when the connection began.
+    /// How many times the slot had been opened when the connection began.
     pub fn generation(&self) -> u64
         ensures { result ≡ self.now.generation }
     {
@@ -192,7 +190,7 @@ impl Pair {
         }
     }
 
-    /// What the pair believes of the readiness of one side's socket.
+    /// What the pair knows about the readiness of one side's socket.
     pub fn flags(&self, side: Side) -> Flags
         ensures { result ≡ flags_of self.now side }
     {
@@ -202,7 +200,7 @@ impl Pair {
         }
     }
 
-    /// The direction whose calls are looked at first: the one that the last answered call did not serve.
+    /// The direction whose calls are considered first: the one that the last answered call did not serve.
     pub fn turn(&self) -> Direction
         ensures { result ≡ self.now.turn }
     {
@@ -330,8 +328,8 @@ impl Pair {
         }
     }
 
-    /// The same once the source has ended: the end is passed on after every byte, and not before the
-    /// destination's connect has ended.
+    /// The same once the source has ended: the end is passed on after every byte, and not before the destination is
+    /// known to be connected.
     fn call_at_end(&self, direction: Direction) -> Option<Call>
         requires ended { (stream_of self.now direction).end_seen ≡ true }
         requires stuck { (is_waiting (stream_of self.now direction) && (flags_of self.now (destination direction)).write) ≡ false }
@@ -368,7 +366,7 @@ impl Pair {
         }
     }
 
-    /// Notes that a call had to wait.
+    /// Clears the flag of a call that would have had to wait.
     fn clear_flag(&mut self, call: Call)
         ensures { self.new ≡ with_flags self.old (side_of call) (without_flag call (flags_of self.old (side_of call))) }
     {

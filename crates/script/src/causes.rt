@@ -1,5 +1,5 @@
-//! What a person is told beside a fault: the word that is malformed and what is wanted there, or why a step is not
-//! allowed where it stands.
+//! What a person is told in addition to a fault: the word that is malformed and what is expected there, or why a step
+//! is not allowed at that point.
 
 use crate::header::{Header, read_header};
 use crate::limits::{MAX_BYTES, MAX_SHOWN};
@@ -10,8 +10,9 @@ use crate::{Fault, Script, Word, parse};
 use std::alloc::Global;
 use std::fmt;
 
-/// The cause of a fault, for a person, on one line: which word is malformed and what is wanted there, or why the step
-/// is not allowed. `text` is the script that has the fault. None where there is no more to tell, or no memory for it.
+/// The cause of a fault, for a person, on one line: which word is malformed and what is expected there, or why the step
+/// is not allowed. `text` is the script that has the fault. None if nothing more is known, or there is no memory for
+/// it.
 pub fn cause(alloc: Global, text: &[u8], fault: Fault) -> Option<String> {
     match fault {
         Fault::TooLong => String::from_str(alloc, "a script has at most 1048576 bytes").ok(),
@@ -22,7 +23,7 @@ pub fn cause(alloc: Global, text: &[u8], fault: Fault) -> Option<String> {
     }
 }
 
-/// Which word of a line is malformed, and what is wanted there.
+/// Which word of a line is malformed, and what is expected there.
 fn malformed(alloc: Global, text: &[u8], number: u64) -> Option<String> {
     let (line, forms) = line_and_forms(text, number)?;
     let mut words = Pieces::new(line.text, b' ');
@@ -41,8 +42,8 @@ fn malformed(alloc: Global, text: &[u8], number: u64) -> Option<String> {
     }
 }
 
-/// The line of this number, and the forms that it may have by its place: the first is a header, and says what the
-/// others are.
+/// The line with this number, and the forms that it may have: the first line is a header, which decides on the forms of
+/// the others.
 fn line_and_forms(text: &[u8], number: u64) -> Option<(Line<'_>, Forms)> {
     if text.len() > MAX_BYTES {
         return None;
@@ -59,7 +60,7 @@ fn line_and_forms(text: &[u8], number: u64) -> Option<(Line<'_>, Forms)> {
     Some((numbered(lines, number)?, forms))
 }
 
-/// The line of this number among those that are left.
+/// The line with this number among those that are left.
 fn numbered(mut lines: Lines<'_>, number: u64) -> Option<Line<'_>> {
     for _line in 0..number {
         let line = lines.next()?;
@@ -70,7 +71,7 @@ fn numbered(mut lines: Lines<'_>, number: u64) -> Option<Line<'_>> {
     None
 }
 
-/// Why the step of a line is not allowed, by the state before it.
+/// Why the step of a line is not allowed, given the state before it.
 fn not_allowed(alloc: Global, text: &[u8], number: u64, word: Word) -> Option<String> {
     let reason = match parse(alloc, text).ok()? {
         Script::Flow(script) => {
@@ -85,8 +86,8 @@ fn not_allowed(alloc: Global, text: &[u8], number: u64, word: Word) -> Option<St
     format!(in alloc; "line {number}: {word}: {reason}").ok()
 }
 
-/// A word of a script in quotes: bytes that are no printable ASCII are escaped, and what is behind the 64th is left
-/// out.
+/// A word of a script in quotes: bytes that are not printable ASCII are escaped, and whatever follows the 64th byte is
+/// left out.
 #[derive(Clone, Copy)]
 struct Shown<'a>(&'a [u8]);
 

@@ -4,16 +4,16 @@ ghost use Rattle.script.specs.Words.{change_word, listening_word, polling_word, 
 use crate::Word;
 use world::{Act, Change, Event, Listening, Polling};
 
-/// An event of a world, and the number of its line in the text, from 1 on.
+/// An event of a world, and its line number in the text, from 1.
 #[derive(Drop)]
 pub struct NumberedEvent {
-    /// The number of the line, skipped lines counted.
+    /// The line number; skipped lines count.
     pub line: u64,
     /// What the line says.
     pub event: Event,
 }
 
-/// The first word of the line that says an event.
+/// The first word of the line for an event.
 pub fn word_of(event: &Event) -> Word
     ensures { result ≡ event_word event.now }
 {

@@ -1,4 +1,4 @@
-// The words behind the first in a line that says an event.
+// The words after the first one in the line for an event.
 ghost use Rattle.std.specs.Prelude.{◌≡◌, IfOk, option_map};
 ghost use Rattle.script.specs.Events.{slot_of, worker_of, side_of, kind_of, generation_of, end_of, name_of, names_of, lone_who, accepting_of, act_of, lone_reply, reply_with, full_write};
 
@@ -105,7 +105,7 @@ pub(crate) fn name(word: &[u8]) -> Option<Name>
     }
 }
 
-/// The names of a poll, 256 at most.
+/// The names of a poll, at most 256.
 pub(crate) fn names(alloc: Global, mut words: Pieces) -> Result<Option<Vec<Name>>, AllocError>
     ensures { IfOk result (λ names. option_map (λ ns. ns.items) names ≡ names_of words.entry) }
 {
@@ -122,7 +122,7 @@ pub(crate) fn names(alloc: Global, mut words: Pieces) -> Result<Option<Vec<Name>
     Ok(Some(names))
 }
 
-/// What a report without a cause is about, where it is no end.
+/// What a report without cause is about, if it is not an end.
 pub(crate) fn lone_who(word: &[u8]) -> Option<Reported>
     ensures { result ≡ lone_who word.now }
 {
@@ -152,7 +152,7 @@ pub(crate) fn accepting(word: &[u8]) -> Option<Accepting>
     }
 }
 
-/// What a worker does, where its number says all else.
+/// What a worker does, if its number is the only further word.
 pub(crate) fn act(word: &[u8]) -> Option<Act>
     ensures { result ≡ act_of word.now }
 {

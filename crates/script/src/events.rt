@@ -1,4 +1,4 @@
-// The events of a world's script: a function for each number of words.
+// The events in a script of a world: one function for each number of words.
 ghost use Rattle.std.specs.Prelude.{◌≡◌, ◌∷◌, IfOk, option_map};
 ghost use Rattle.script.specs.Events.{said_of, lone_event, worker_event, event_with_one, end_event, call_event, event_with_two, event_with_three, event_with_four, event_of_counted, event_of, full_write};
 
@@ -12,7 +12,7 @@ use std::alloc::{AllocError, Global};
 use token::Side;
 use world::{Act, Change, Event, Listening, Polling, Reported};
 
-/// The event that a line says, if it says one.
+/// The event that a line stands for, if any.
 pub(crate) fn event(alloc: Global, line: &[u8]) -> Result<Option<Event>, AllocError>
     ensures { IfOk result (λ event. option_map said_of event ≡ event_of line.now) }
 {
@@ -27,7 +27,7 @@ pub(crate) fn event(alloc: Global, line: &[u8]) -> Result<Option<Event>, AllocEr
     }
 }
 
-/// The event of a line by its first word, and by how many follow.
+/// The event of a line, by its first word and by how many words follow.
 fn event_of_counted(
     alloc: Global,
     word: &[u8],
@@ -84,7 +84,7 @@ fn event_with_one(word: &[u8], one: &[u8]) -> Option<Event>
     }
 }
 
-/// What the worker of a number does.
+/// What the worker with this number does.
 fn worker_event(word: &[u8], number: &[u8]) -> Option<Event>
     ensures { option_map said_of result ≡ worker_event word.now number.now }
 {
@@ -123,7 +123,7 @@ fn end_event(word: &[u8], slot: usize, side: Side) -> Option<Event>
     }
 }
 
-/// The next call of the worker of a number gets a reply.
+/// The next call of the worker with this number gets a reply.
 fn call_event(number: &[u8], reply: Option<Reply>) -> Option<Event>
     ensures { option_map said_of result ≡ call_event number.now reply }
 {

@@ -1,7 +1,7 @@
 use crate::Fault;
 
-/// Who is told of a script's fault beside the line that is written of it.
+/// Something that is told a script's fault, in addition to the line that is written for it.
 pub trait Explain {
-    /// This script has this fault. `text` is what was read of it: all of a script that is not too long.
+    /// This script has this fault. `text` is what was read of it, which is all of it unless it is too long.
     fn explain(&self, text: &[u8], fault: Fault);
 }

@@ -5,16 +5,16 @@ use std::alloc::{AllocError, AllocFailed};
 use std::error::Error;
 use std::fmt;
 
-/// Why a script has no report. Its text is the line that a run writes in the report's place.
+/// Why a script has no report. Its text is the line that a run writes in place of the report.
 #[derive(Clone, Copy, Debug, PartialEq, Eq)]
 pub enum Fault {
-    /// The text has over 1,048,576 bytes.
+    /// The text has more than 1,048,576 bytes.
     TooLong,
-    /// No line says anything.
+    /// Every line is empty or a comment.
     NoWorld,
-    /// This line is not of any known form. The first such line of the whole text is told.
+    /// This line has no known form. It is the first such line of the whole text.
     Malformed(u64),
-    /// The step of this line can't happen where it stands.
+    /// The step of this line cannot happen at that point.
     NotAllowed(u64, Word),
     /// Memory ran out.
     NoMemory,

@@ -6,7 +6,7 @@ use crate::{Fault, NumberedStep, Step, Transfer};
 use std::alloc::Global;
 use std::marker::Model;
 
-/// A script of one direction: the most bytes of its ring, and its steps.
+/// A script of one direction: the maximum size of its ring, and its steps.
 #[derive(Debug, Drop)]
 pub struct FlowScript {
     ring: usize,
@@ -25,7 +25,7 @@ impl Model for FlowScript {
 }
 
 impl FlowScript {
-    /// A script of these steps. Takes no memory.
+    /// A script of these steps. Allocates no memory.
     pub fn new(ring: usize, steps: Vec<NumberedStep>) -> FlowScript
         requires least { 1 ≤ ring }
         requires most { ring ≤ 65536 }
@@ -34,7 +34,7 @@ impl FlowScript {
         FlowScript { ring, steps }
     }
 
-    /// The most bytes of the ring, 1 to 65,536.
+    /// The maximum size of the ring in bytes, 1 to 65,536.
     pub fn ring(&self) -> usize
         ensures { result ≡ self.now.ring }
     {
@@ -59,8 +59,8 @@ impl FlowScript {
         Ok(transfer)
     }
 
-    /// The state before the step of a line, and that step. None where no step has that line, one before it is
-    /// refused, or memory ran out.
+    /// The state before the step of a line, and that step. None if no step has that line, if one before it is refused,
+    /// or if memory ran out.
     pub(crate) fn before(&self, alloc: Global, line: u64) -> Option<(Transfer, &Step)> {
         let mut transfer = Transfer::new(alloc, self.ring).ok()?;
         for numbered in self.steps() {

@@ -1,4 +1,4 @@
-// The first line of a script that says something.
+// The header: the first line of a script that is not skipped.
 ghost use Rattle.std.specs.Prelude.{◌≡◌, ◌≤◌, ◌<◌, IfSome};
 ghost use Rattle.world.specs.States.{IsWithinLimits};
 ghost use Rattle.script.specs.Headers.{size_of, generation_of, ring_of, limits_with, limits_of, lone_ring, header_of, IsRing, IsWithin};
@@ -10,16 +10,16 @@ use flow::Flow;
 use token::MAX_GENERATION;
 use world::Limits;
 
-/// What a script is of, and its sizes.
+/// What a script covers, and its sizes.
 #[derive(Clone, Copy, Debug, PartialEq, Eq)]
 pub enum Header {
-    /// One direction, with a ring of so many bytes.
+    /// One direction, with a ring of at most this many bytes.
     Flow(usize),
-    /// A world of these sizes.
+    /// A world with these sizes.
     World(Limits),
 }
 
-/// The header that a line is, if it is one.
+/// The header that a line stands for, if any.
 pub(crate) fn read_header(line: &[u8]) -> Option<Header>
     ensures value { result ≡ header_of line.now }
     ensures range { IfSome result IsWithin }
@@ -35,7 +35,7 @@ pub(crate) fn read_header(line: &[u8]) -> Option<Header>
     }
 }
 
-/// `ring=R` and no more.
+/// `ring=R` and nothing else.
 fn lone_ring(mut words: Pieces) -> Option<usize>
     ensures value { result ≡ lone_ring words.entry }
     ensures range { IfSome result IsRing }
@@ -61,7 +61,7 @@ fn limits(mut words: Pieces) -> Option<Limits>
     }
 }
 
-/// The sizes of a world whose slots have had this generation.
+/// The sizes of a world whose slots start at this generation.
 fn limits_with(
     generation: u64,
     slots: &[u8],
@@ -90,7 +90,7 @@ pub(crate) fn ring(word: &[u8]) -> Option<usize>
     size(b"ring=", Flow::MAX, word)
 }
 
-/// `KEY=N`, 1 to the most. The key ends with its `=`.
+/// `KEY=N`, from 1 to `most`. The key ends with its `=`.
 pub(crate) fn size(key: &[u8], most: usize, word: &[u8]) -> Option<usize>
     ensures value { result ≡ size_of key.now most word.now }
     ensures range { IfSome result (λ size. (1 ≤ size) × (size ≤ most)) }

@@ -1,17 +1,18 @@
-//! The simulator: a script of steps goes in, and a report of the state after them comes out.
+//! The simulator: it takes a script of steps, and gives a report of the state after them.
 //!
-//! A script is a text. Its first line that says something is the header: `flow ring=R` for one direction with a
-//! ring of at most R bytes, or `world slots=S workers=W ring=R budget=B` for the whole relay. Each further one is a
-//! step: what comes from the network, what a socket replies to the relay's next call, or what the poller or a worker
-//! does. [`parse`] reads the whole text before the first step is made, [`Script::carry_out`] makes the steps one by
-//! one, and [`Reached::report`] is the report. [`run`] does all three from a reader to a writer.
+//! A script is a text. Its first line that is not skipped is the header: `flow ring=R` for one direction with a ring of
+//! at most R bytes, or `world slots=S workers=W ring=R budget=B` for the whole relay. Each further line is a step: what
+//! arrives from the network, what a socket replies to the relay's next call, or what the poller or a worker does.
+//! [`parse`] reads the whole text before the first step is made, [`Script::carry_out`] makes the steps one by one, and
+//! [`Reached::report`] is the report. [`run`] does all three, from a reader to a writer.
 //!
-//! A script that has a fault has one line in the report's place. [`cause`] tells a person more: which word is
-//! malformed and what is wanted there, or why a step is not allowed. [`run`] hands text and fault to its [`Explain`].
+//! A script that has a fault gives one line in place of the report. [`cause`] tells a person more: which word is
+//! malformed and what is expected there, or why a step is not allowed. [`run`] passes text and fault to its
+//! [`Explain`].
 //!
-//! `docs/FORMATS.md` has the form of scripts and reports; `specs/` has the same as definitions: `Texts`, `Headers`,
-//! `Steps`, `Events` and `Scripts` for the text, `Transfers` and `Plays` for the steps, `Reports` and `WorldReports`
-//! for what is written, and `Laws` and `Runs` for what holds of every run.
+//! `docs/FORMATS.md` describes scripts and reports; `specs/` has the same as definitions: `Texts`, `Headers`, `Steps`,
+//! `Events` and `Scripts` for the text, `Transfers` and `Plays` for the steps, `Reports` and `WorldReports` for what is
+//! written, and `Laws` and `Runs` for what holds for every run.
 #![tactic(auto)]
 
 mod causes;

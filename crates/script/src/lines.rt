@@ -4,7 +4,7 @@ ghost use Rattle.script.specs.Texts.{pieces_of, pieces_left, lines_of, says_noth
 
 use std::marker::Model;
 
-/// A text that is cut at each separator: the pieces that are left.
+/// A text that is split at each separator: the pieces that are left.
 #[derive(Drop)]
 pub(crate) struct Pieces<'a> {
     rest: Option<&'a [u8]>,
@@ -43,7 +43,7 @@ impl<'a> Pieces<'a> {
     }
 }
 
-/// The first piece, and what stands behind its separator, if one comes.
+/// The first piece, and what follows its separator, if there is one.
 fn cut(text: &[u8], separator: u8) -> (&[u8], Option<&[u8]>)
     ensures { pieces_of separator text.now ≡ result.0.now ∷ pieces_left separator (option_copied result.1) }
 {
@@ -53,22 +53,22 @@ fn cut(text: &[u8], separator: u8) -> (&[u8], Option<&[u8]>)
     }
 }
 
-/// Where a byte first stands.
+/// The index of the first such byte.
 fn first(text: &[u8], sought: u8) -> Option<usize>
     ensures { result ≡ position (λ byte. byte == sought) text.now }
 {
     text.iter().position(|byte| *byte == sought)
 }
 
-/// A line that says something.
+/// A line that is not skipped.
 #[derive(Clone, Copy)]
 pub(crate) struct Line<'a> {
-    /// Its number in the text, from 1 on.
+    /// Its number in the text, from 1.
     pub(crate) number: u64,
     pub(crate) text: &'a [u8],
 }
 
-/// The lines of a text that say something: those that are left.
+/// The lines of a text that are not skipped: those that are left.
 #[derive(Drop)]
 pub(crate) struct Lines<'a> {
     texts: Pieces<'a>,
@@ -99,7 +99,7 @@ impl<'a> Lines<'a> {
         }
     }
 
-    /// The next line that says something.
+    /// The next line that is not skipped.
     pub(crate) fn next(&mut self) -> Option<Line<'a>>
         ensures { MatchOption result (self.old ≡ []) (λ line. self.old ≡ (record { number = line.number; text = line.text.now }) ∷ self.new) }
     {

@@ -12,9 +12,9 @@ use crate::steps::step;
 use crate::{Fault, FlowScript, NumberedEvent, NumberedStep, Script, WorldScript};
 use std::alloc::Global;
 
-/// The script that a text is, or its first fault: too long before all else, then no line that says
-/// anything, then the first malformed line of the whole text. Or memory ran out, which is told only of a
-/// text that begins as a script does.
+/// The script that a text stands for, or its first fault: too long before all else, then no line that is not skipped,
+/// then the first malformed line of the whole text. Or memory ran out, which is answered only for a text that begins as
+/// a script does.
 pub fn parse(alloc: Global, text: &[u8]) -> Result<Script, Fault>
     ensures script { GivesBy said_by (parsed text.now) result }
     ensures memory { IsErrOf result Fault.NoMemory → (length text.now ≤ most_bytes) × IsSome (first_header (telling_lines 1 (lines_of text.now))) }
@@ -36,7 +36,7 @@ pub fn parse(alloc: Global, text: &[u8]) -> Result<Script, Fault>
     }
 }
 
-/// The steps that the lines say, or the first fault of them.
+/// The steps that the lines stand for, or their first fault.
 fn steps(alloc: Global, mut lines: Lines) -> Result<Vec<NumberedStep>, Fault>
     ensures { GivesBy (λ steps. steps.items) (steps_of lines.entry) result }
 {
@@ -53,7 +53,7 @@ fn steps(alloc: Global, mut lines: Lines) -> Result<Vec<NumberedStep>, Fault>
     Ok(steps)
 }
 
-/// The events that the lines say, or the first fault of them.
+/// The events that the lines stand for, or their first fault.
 fn events(alloc: Global, mut lines: Lines) -> Result<Vec<NumberedEvent>, Fault>
     ensures { GivesBy (λ events. said_lines events.items) (events_of lines.entry) result }
 {

@@ -1,4 +1,4 @@
-//! The forms of a script's lines: which words may follow the first.
+//! The forms of a script's lines: which words may follow the first one.
 
 use crate::event_parts::{accepting, kind, lone_who, name, side, slot, worker};
 use crate::header::{generation, ring, size};
@@ -7,7 +7,7 @@ use crate::lines::Pieces;
 use crate::values::{is_hex_text, number};
 use kernel_model::MAX_POLLED;
 
-/// What a word may be, where it stands.
+/// What a word may be, at its position.
 #[derive(Clone, Copy)]
 pub(crate) enum Part {
     /// `slots=S`.
@@ -34,7 +34,7 @@ pub(crate) enum Part {
     Accepting,
     /// `listener`, `waker`, or a slot and then a side.
     Reported,
-    /// A name in the queue, and any number of further ones; or nothing.
+    /// A queued name and any number of further ones, or nothing.
     Name,
     /// The answer to a call.
     Reply,
@@ -49,9 +49,9 @@ pub(crate) enum Part {
 /// The forms of one kind of line.
 #[derive(Clone, Copy)]
 pub(crate) struct Forms {
-    /// Each first word, and the parts behind it.
+    /// Each first word, and the parts that follow it.
     rows: &'static [(&'static str, &'static [Part])],
-    /// What is wanted where a line has another first word.
+    /// What is expected if a line has another first word.
     pub(crate) wanted: &'static str,
 }
 
@@ -132,7 +132,7 @@ const REPLIES: Forms = Forms {
 };
 
 impl Forms {
-    /// The first word as a text, and the parts behind it, if a line may begin so.
+    /// The first word as a text, and the parts that follow it, if a line may begin with it.
     pub(crate) fn row(self, first: &[u8]) -> Option<(&'static str, &'static [Part])> {
         for (name, parts) in self.rows {
             if name.as_bytes() == first {
@@ -143,15 +143,15 @@ impl Forms {
     }
 }
 
-/// What is wrong behind the first word of a line.
+/// What is wrong after the first word of a line.
 pub(crate) struct Wrong<'a> {
     /// The malformed word, or none where one is missing.
     pub(crate) word: Option<&'a [u8]>,
-    /// What is wanted in its place.
+    /// What is expected in its place.
     pub(crate) wanted: &'static str,
 }
 
-/// The first word that is none of the parts that a line has to have behind its first.
+/// The first word that does not match the parts which have to follow the line's first word.
 pub(crate) fn first_wrong<'a>(parts: &'static [Part], mut words: Pieces<'a>) -> Option<Wrong<'a>> {
     let mut left = parts;
     for _place in 0..MAX_POLLED {
@@ -199,7 +199,7 @@ impl Part {
         }
     }
 
-    /// The parts behind a word of this kind: the rest of the line's, or what the word itself asks for.
+    /// The parts that follow a word of this kind: the rest of the line's, or those that the word itself requires.
     fn rest(self, word: &[u8], rest: &'static [Part]) -> &'static [Part] {
         match self {
             Part::Name => &[Part::Name],
@@ -212,7 +212,7 @@ impl Part {
         }
     }
 
-    /// What is wrong where the line ends before a word of this kind.
+    /// What is wrong if the line ends before a word of this kind.
     fn missing(self) -> Option<Wrong<'static>> {
         match self {
             Part::Generation | Part::Name | Part::Full => None,
@@ -223,7 +223,7 @@ impl Part {
         }
     }
 
-    /// What is wanted in the place of a word that is not of this kind.
+    /// What is expected in place of a word that is not of this kind.
     fn wanted(self) -> &'static str {
         match self {
             Part::Slots => "slots=1 to slots=64 is wanted",

@@ -1,4 +1,4 @@
-//! Why a step is not allowed where it stands, by the state before it.
+//! Why a step is not allowed at that point, by the state before it.
 
 use crate::{Step, Transfer};
 use kernel_model::{Accepting, End, Kernel, MAX_BACKLOG, Open, Reply};
@@ -8,7 +8,7 @@ use world::{
     Act, Change, Connection, Doing, Event, Listening, Polling, Reported, Slot, Worker, World,
 };
 
-/// What is told where no closer reason is known.
+/// What is said if no more specific reason is known.
 const NOT_HERE: &str = "it is not possible in this state";
 
 const BROKEN: &str = "an error has come to the socket";
@@ -297,7 +297,7 @@ fn call_reason(kernel: &Kernel, connection: &Connection, reply: Reply) -> &'stat
     }
 }
 
-/// Which call is next, where it never gets such an answer.
+/// Which call is next, if it never gets such an answer.
 fn other_call(call: Call) -> &'static str {
     match call {
         Call::Read(Side::Client, _) => "the next call is a read of the client",

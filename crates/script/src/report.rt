@@ -7,8 +7,8 @@ use crate::{Fault, Reached, Transfer};
 use std::alloc::{AllocError, Global};
 
 impl Reached {
-    /// The report of the state: [`print`] of a world, and [`print_transfer`] of one direction. Or memory for
-    /// it ran out.
+    /// The report of the state: [`print`] for a world, and [`print_transfer`] for one direction. Fails only if memory
+    /// for it ran out.
     pub fn report(&self, alloc: Global) -> Result<String, AllocError>
         ensures { IfOk result (λ text. string_bytes text ≡ report_of self.now) }
     {
@@ -19,9 +19,8 @@ impl Reached {
     }
 }
 
-/// The report of one direction, one line: `up sent=H ring=H unread=H end=yes|no shut=yes|no`. Bytes are
-/// shown in lower-case hexadecimal, `-` for none; sent is what the destination took. Or memory for it ran
-/// out.
+/// The report of one direction, one line: `up sent=H ring=H unread=H end=yes|no shut=yes|no`. Bytes are shown in
+/// lower-case hexadecimal, `-` for none; `sent` is what the destination took. Fails only if memory for it ran out.
 pub fn print_transfer(alloc: Global, transfer: &Transfer) -> Result<String, AllocError>
     ensures { IfOk result (λ text. string_bytes text ≡ report transfer.now) }
 {
@@ -37,8 +36,8 @@ pub fn print_transfer(alloc: Global, transfer: &Transfer) -> Result<String, Allo
     format!(in alloc; "up{stream}")
 }
 
-/// One direction behind its name: the bytes that were sent, those in the ring, those that wait unread;
-/// whether the end was read, and whether it was passed on.
+/// One direction after its name: the bytes that were sent, those in the ring, those that wait unread; whether the end
+/// was read, and whether it was passed on.
 pub(crate) fn stream_text(
     alloc: Global,
     sent: &[u8],
@@ -56,14 +55,14 @@ pub(crate) fn stream_text(
     format!(in alloc; " sent={sent} ring={ring} unread={unread} end={end} shut={shut}\n")
 }
 
-/// The line of a fault, or memory for it ran out.
+/// The line of a fault. Fails only if memory for it ran out.
 pub fn fault_line(alloc: Global, fault: Fault) -> Result<String, AllocError>
     ensures { IfOk result (λ text. string_bytes text ≡ fault_line fault) }
 {
     format!(in alloc; "{fault}\n")
 }
 
-/// Bytes as a report shows them.
+/// Bytes as shown in a report.
 pub(crate) fn shown_bytes(alloc: Global, bytes: &[u8]) -> Result<String, AllocError>
     ensures { IfOk result (λ text. string_bytes text ≡ shown_bytes bytes.now) }
 {
@@ -74,7 +73,7 @@ pub(crate) fn shown_bytes(alloc: Global, bytes: &[u8]) -> Result<String, AllocEr
     }
 }
 
-/// A mark as a report shows it.
+/// A truth value as shown in a report.
 pub(crate) fn yes_or_no(is_so: bool) -> &'static str
     ensures { result.now ≡ yes_or_no is_so }
 {

@@ -22,48 +22,48 @@ pub enum Outcome {
     Refused,
 }
 
-/// Why a run could not tell its outcome.
+/// Why a run could not write its outcome.
 #[derive(Clone, Copy, Debug, PartialEq, Eq, Error)]
 pub enum ScriptFault {
     /// The script could not be read. Nothing was written.
     #[error("input: cannot be read")]
     Read,
-    /// The outcome could not be written. How much went out is not known.
+    /// The outcome could not be written. It is not known how much was.
     #[error("output: cannot be written")]
     Write,
 }
 
-/// Reads a script to its end, or one byte past the most that it may have, then computes, and then
-/// writes the report of the state after it or the one line of its fault.
+/// Reads a script to its end, or to one byte more than it may have, then computes, and then writes the report of the
+/// state after it or the one line of its fault.
 ///
-/// It makes at most 1,048,577 reads. Any error of the reader, a signal too, is [`ScriptFault::Read`] at
-/// once. Where memory runs out, the line is `out of memory`.
+/// It makes at most 1,048,577 reads. Any error of the reader, even one that a signal causes, is [`ScriptFault::Read`]
+/// at once. If memory runs out, the line is `out of memory`.
 ///
-/// Where the script that was read has a fault, `explain` is told so once, before anything is written, and never
-/// otherwise; nor where memory runs out before the script was read, or for what is to be written.
+/// If the script that was read has a fault, `explain` is called once, before anything is written. Otherwise it is not
+/// called; nor is it if memory runs out before the script was read, or for what is to be written.
 pub fn run<R: Read, W: Write, X: Explain>(
     alloc: Global,
     reader: &mut R,
     writer: &mut W,
     explain: &X,
 ) -> Result<Outcome, ScriptFault>
-    // What is written is the report of the script that was read, or the line of its fault, or that
-    // memory ran out; and nothing else.
+    // What is written is the report of the script that was read, or the line of its fault, or that memory ran out, and
+    // nothing else.
     ensures report { result ≡ Ok Outcome.Report → IfSome (R.remaining reader.old) (λ text. WritesReport text (W.contents writer.old) (W.contents writer.new)) }
     ensures refused { result ≡ Ok Outcome.Refused → IfSome (R.remaining reader.old) (λ text. WritesFault text (W.contents writer.old) (W.contents writer.new)) }
 
-    // Where the script could not be read, nothing is written.
+    // If the script could not be read, nothing is written.
     ensures unread { result ≡ Err ScriptFault.Read → writer.new ≡ writer.old }
 
-    // At most one byte past the most that a script may have is taken from the reader.
+    // At most one byte more than a script may have is taken from the reader.
     ensures taken { TakesAtMost (most_bytes + 1) (R.remaining reader.old) (R.remaining reader.new) }
 
-    // In every script of one direction, the bytes that arrived are the sent bytes, then the ring, then the unread bytes;
-    // and the end is passed on only after every byte.
+    // In every script of one direction, the bytes that arrived are the sent bytes, then the ring, then the unread
+    // bytes; and the end is passed on only after every byte.
     ensures every_byte { IfSome (R.remaining reader.old) EveryByte }
     ensures every_end { IfSome (R.remaining reader.old) EveryEnd }
 
-    // In every script of a world, the headline holds of its events and of the world after them.
+    // In every script of a world, the headline holds for its events and for the world after them.
     ensures every_run { IfSome (R.remaining reader.old) EveryRun }
 {
     every_run_holds();
@@ -71,8 +71,8 @@ pub fn run<R: Read, W: Write, X: Explain>(
     tell(alloc, writer, outcome)
 }
 
-/// Reads a script, of which one byte too many is enough to tell, and computes the state after it or its fault. An
-/// `Err` is that it was not read.
+/// Reads a script, of which one byte too many is enough to know that it is too long, and computes the state after it or
+/// its fault. `Err` means that it could not be read.
 fn play<R: Read, X: Explain>(
     alloc: Global,
     reader: &mut R,
@@ -91,7 +91,7 @@ fn play<R: Read, X: Explain>(
     }
 }
 
-/// The state after the script that a text is, or its fault, of which the other is told.
+/// The state after the script that a text stands for, or its fault, which `explain` is told.
 fn explained<X: Explain>(alloc: Global, text: &[u8], explain: &X) -> Result<Reached, Fault>
     ensures { LeadsTo text.now result }
 {
@@ -102,7 +102,7 @@ fn explained<X: Explain>(alloc: Global, text: &[u8], explain: &X) -> Result<Reac
     outcome
 }
 
-/// The state after the script that a text is, or its fault.
+/// The state after the script that a text stands for, or its fault.
 fn compute(alloc: Global, text: &[u8]) -> Result<Reached, Fault>
     ensures { LeadsTo text.now result }
 {
@@ -150,10 +150,10 @@ fn tell_fault<W: Write>(alloc: Global, writer: &mut W, fault: Fault) -> Result<O
     }
 }
 
-/// The line that tells that memory ran out, and takes none.
+/// The line that says that memory ran out, which needs no memory itself.
 const NO_MEMORY: &[u8] = b"out of memory\n";
 
-/// Writes a line, all of it.
+/// Writes all of a line, and flushes it.
 fn write<W: Write>(writer: &mut W, line: &[u8], told: Outcome) -> Result<Outcome, ScriptFault>
     ensures ok { IfOk result (λ outcome. (outcome ≡ told) × Appends (W.contents writer.old) (W.contents writer.new) line.now) }
     ensures err { IfErr result (λ fault. fault ≡ ScriptFault.Write) }

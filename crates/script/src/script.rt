@@ -6,7 +6,7 @@ use crate::{Fault, FlowScript, Transfer, WorldScript};
 use std::alloc::Global;
 use world::World;
 
-/// A script, by what it is of.
+/// A script, by what it covers.
 #[derive(Drop)]
 pub enum Script {
     /// One direction of a connection.

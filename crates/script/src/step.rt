@@ -19,7 +19,7 @@ impl Model for Bytes {
 }
 
 impl Bytes {
-    /// These bytes. Takes no memory.
+    /// Takes these bytes. Allocates no memory.
     pub fn new(bytes: Vec<u8>) -> Bytes
         ensures { result ≡ bytes.items }
     {
@@ -33,7 +33,7 @@ impl Bytes {
         self.bytes.as_slice()
     }
 
-    /// The same bytes as a vector. Takes no memory.
+    /// The same bytes as a vector. Allocates no memory.
     pub fn into_vec(self) -> Vec<u8>
         ensures { result.items ≡ self }
     {
@@ -44,15 +44,15 @@ impl Bytes {
 /// A step of a script of one direction.
 #[derive(Debug, Drop)]
 pub enum Step {
-    /// Bytes come to the source.
+    /// Bytes arrive at the source.
     Arrive(Bytes),
-    /// The source's end of input comes.
+    /// The source's end of input arrives.
     Fin,
-    /// Room comes at the destination.
+    /// The destination gets room for writes.
     Room,
-    /// The read of the source is answered with this many bytes.
+    /// The read from the source is answered with this many bytes.
     Read(usize),
-    /// The read of the source is answered with the end of input.
+    /// The read from the source is answered with the end of input.
     End,
     /// The write to the destination took this many bytes; with `true`, no room is left.
     Wrote(usize, bool),
@@ -60,10 +60,10 @@ pub enum Step {
     Shut,
 }
 
-/// A step, and the number of its line in the text, from 1 on.
+/// A step, and its line number in the text, from 1.
 #[derive(Debug, Drop)]
 pub struct NumberedStep {
-    /// The number of the line, skipped lines counted.
+    /// The line number; skipped lines count.
     pub line: u64,
     /// What the line says.
     pub step: Step,

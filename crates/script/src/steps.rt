@@ -1,4 +1,4 @@
-// The steps of a script of one direction: a function for each number of words.
+// The steps in a script of one direction: one function for each number of words.
 ghost use Rattle.std.specs.Prelude.{◌≡◌, IfOk};
 ghost use Rattle.script.specs.Steps.{lone_step, step_with, full_step, step_of};
 
@@ -7,7 +7,7 @@ use crate::lines::Pieces;
 use crate::values::{bytes, number};
 use std::alloc::{AllocError, Global};
 
-/// The step that a line says, if it says one.
+/// The step that a line stands for, if any.
 pub(crate) fn step(alloc: Global, line: &[u8]) -> Result<Option<Step>, AllocError>
     ensures { IfOk result (λ step. step ≡ step_of line.now) }
 {

@@ -14,7 +14,7 @@ use token::Side;
 /// One direction: a source, a ring, and a destination that is connected.
 #[derive(Drop)]
 pub struct Transfer {
-    /// The socket that the relay reads.
+    /// The socket that the relay reads from.
     pub source: End,
     /// What was read and not yet written.
     pub flow: Flow,
@@ -23,8 +23,8 @@ pub struct Transfer {
 }
 
 impl Transfer {
-    /// One direction to which nothing has come, with a ring of at most `ring` bytes; or memory for the
-    /// ring was refused.
+    /// One direction in its initial state, with a ring of at most `ring` bytes. Fails only if there is no memory for
+    /// the ring.
     pub fn new(alloc: Global, ring: usize) -> Result<Transfer, AllocError>
         requires least { 1 ≤ ring }
         requires most { ring ≤ 65536 }
@@ -64,7 +64,7 @@ impl Transfer {
         Ok(())
     }
 
-    /// Makes the step of a line, or tells the fault of that line.
+    /// Makes the step of a line, or returns the fault of that line.
     pub(crate) fn carry_out(&mut self, numbered: &NumberedStep) -> Result<(), Fault>
         ensures { Carries numbered.now.line (word_of numbered.now.step) (stepped self.old numbered.now.step) self.old result self.new }
     {
@@ -82,7 +82,7 @@ impl Transfer {
         self.flow.free().min(MAX_READ)
     }
 
-    /// The source's read gives bytes, which go into the ring.
+    /// The read from the source gives bytes, which go into the ring.
     fn read(&mut self, count: usize) -> Result<(), Refusal>
         ensures { MeetsAlways (stepped self.old (Step.Read count)) self.old self.new result }
     {
@@ -97,7 +97,7 @@ impl Transfer {
         self.source.read(most, Reply::Bytes(count))
     }
 
-    /// The source's read gives the end of input.
+    /// The read from the source gives the end of input.
     fn end(&mut self) -> Result<(), Refusal>
         ensures { MeetsAlways (stepped self.old Step.End) self.old self.new result }
     {

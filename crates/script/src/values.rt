@@ -6,7 +6,7 @@ use crate::Bytes;
 use crate::limits::MAX_DIGITS;
 use std::alloc::{AllocError, Global};
 
-/// The number that a text is in decimal digits without leading zeros, if it is below 2^64.
+/// The number that a text stands for in decimal digits without leading zeros, if it is below 2^64.
 pub(crate) fn number(text: &[u8]) -> Option<usize>
     ensures { result ≡ number_of text.now }
 {
@@ -25,7 +25,7 @@ pub(crate) fn number(text: &[u8]) -> Option<usize>
     Some(value)
 }
 
-/// The same, if it is below a bound too.
+/// The same, if it is also below a bound.
 pub(crate) fn number_below(bound: usize, text: &[u8]) -> Option<usize>
     ensures { result ≡ number_below bound text.now }
 {
@@ -33,7 +33,7 @@ pub(crate) fn number_below(bound: usize, text: &[u8]) -> Option<usize>
     if value < bound { Some(value) } else { None }
 }
 
-/// The number behind a key, which ends with its `=`.
+/// The number after a key, which ends with its `=`.
 pub(crate) fn value_after(key: &[u8], word: &[u8]) -> Option<usize>
     ensures { result ≡ value_after key.now word.now }
 {
@@ -47,7 +47,7 @@ fn is_digit(byte: u8) -> bool
     b'0' <= byte && byte <= b'9'
 }
 
-/// Whether a text has a byte, and no leading zero but a lone one.
+/// Whether a text is not empty, and has no leading zero unless it is a single zero.
 fn is_plain(text: &[u8]) -> bool
     ensures { result ≡ is_plain text.now }
 {
@@ -58,7 +58,7 @@ fn is_plain(text: &[u8]) -> bool
     }
 }
 
-/// The bytes that a text is in lower-case hexadecimal, 1 to 1,024 of them.
+/// The bytes that a text stands for in lower-case hexadecimal, 1 to 1,024 of them.
 pub(crate) fn bytes(alloc: Global, text: &[u8]) -> Result<Option<Bytes>, AllocError>
     ensures { IfOk result (λ bytes. bytes ≡ bytes_of text.now) }
 {
@@ -72,21 +72,21 @@ pub(crate) fn bytes(alloc: Global, text: &[u8]) -> Result<Option<Bytes>, AllocEr
     }
 }
 
-/// Whether a text is 1 to 1,024 bytes in lower-case hexadecimal, but for an odd length.
+/// Whether a text is 1 to 1,024 bytes in lower-case hexadecimal, except that its length may be odd.
 pub(crate) fn is_hex_text(text: &[u8]) -> bool
     ensures { result ≡ is_hex_text text.now }
 {
     0 < text.len() && text.len() <= MAX_DIGITS && is_all_lower_hex(text)
 }
 
-/// Whether each byte is a digit of lower-case hexadecimal.
+/// Whether each byte is a lower-case hexadecimal digit.
 fn is_all_lower_hex(text: &[u8]) -> bool
     ensures { result ≡ list_all is_lower_hex text.now }
 {
     text.iter().all(|byte| is_lower_hex(*byte))
 }
 
-/// Whether a byte is a digit of lower-case hexadecimal.
+/// Whether a byte is a lower-case hexadecimal digit.
 fn is_lower_hex(byte: u8) -> bool
     ensures { result ≡ is_lower_hex byte }
 {

@@ -3,7 +3,7 @@ ghost use Rattle.script.specs.Faults.{word_text};
 
 use std::fmt;
 
-/// The first word of a step or an event, by which a fault names it.
+/// The first word of a step or an event, with which a fault names it.
 #[derive(Clone, Copy, Debug, PartialEq, Eq)]
 pub enum Word {
     /// `accept`.
@@ -61,7 +61,7 @@ pub enum Word {
 }
 
 impl Word {
-    /// The word as it stands in a script.
+    /// The word as written in a script.
     pub fn text(self) -> &'static str
         ensures { result.now ≡ word_text self }
     {

@@ -31,7 +31,7 @@ impl Model for WorldScript {
 }
 
 impl WorldScript {
-    /// A script of these events. Takes no memory.
+    /// A script of these events. Allocates no memory.
     pub fn new(limits: Limits, events: Vec<NumberedEvent>) -> WorldScript
         requires { IsWithinLimits limits }
         ensures { result ≡ record { limits = limits; events = events.items } }
@@ -53,7 +53,7 @@ impl WorldScript {
         self.events.as_slice()
     }
 
-    /// The world after all events, or the fault of the first that is not allowed, or that memory ran out.
+    /// The world after all events, or the fault of the first one that is not allowed, or that memory ran out.
     pub fn carry_out(&self, alloc: Global) -> Result<World, Fault>
         ensures { Gives (world_of self.now) result }
     {
@@ -64,8 +64,8 @@ impl WorldScript {
         Ok(world)
     }
 
-    /// The world before the event of a line, and that event. None where no event has that line, one before it is
-    /// refused, or memory ran out.
+    /// The world before the event of a line, and that event. None if no event has that line, if one before it is
+    /// refused, or if memory ran out.
     pub(crate) fn before(&self, alloc: Global, line: u64) -> Option<(World, &Event)> {
         let mut world = World::new(alloc, self.limits).ok()?;
         for numbered in self.events() {
@@ -78,7 +78,7 @@ impl WorldScript {
     }
 }
 
-/// Makes the event of a line happen, or tells the fault of that line.
+/// Makes the event of a line happen, or returns the fault of that line.
 fn happen(world: &mut World, numbered: &NumberedEvent) -> Result<(), Fault>
     ensures { Carries numbered.now.line (event_word numbered.now.event) (step world.old numbered.now.event) world.old result world.new }
 {

@@ -1,15 +1,15 @@
-//! Addresses as they are written in a settings text.
+//! Addresses as written in a settings text.
 ghost use Rattle.std.specs.Prelude.{◌≡◌, ◌≢◌, ℕ, ◌<◌, ◌^◌, ◌∷◌, ◌++◌, ◌⊎◌, List, Some, IfSome, IfNone, IsTrue, ◌↔◌};
 ghost use Rattle.std.specs.Fmt.{decimal};
 ghost use Rattle.settings.specs.Addresses.{SocketAddress, IsAddress, IsPlain, address_text};
 
 use std::fmt;
 
-/// The four numbers of an IPv4 address, the first first, and a port.
+/// The four numbers of an IPv4 address, from left to right, and a port.
 pub type Address = ([u8; 4], u16);
 
-/// The address that a text writes: four numbers joined by `.`, then `:` and the port, all decimal
-/// without leading zeros.
+/// The address that a text stands for: four numbers separated by `.`, then `:` and the port, all decimal without
+/// leading zeros.
 pub(crate) fn address_of(text: &str) -> Option<Address>
     ensures some { IfSome result (λ a. IsAddress a × (text.now ≡ address_text a)) }
     ensures only { IfSome result (λ a. (b : SocketAddress) → IsAddress b → text.now ≡ address_text b → b ≡ a) }
@@ -23,7 +23,7 @@ pub(crate) fn address_of(text: &str) -> Option<Address>
     Some(([first, second, third, fourth], port))
 }
 
-/// The number below 256 that stands before the separator, and the text after it.
+/// The number below 256 before the separator, and the text after the separator.
 fn octet_before(text: &str, separator: char) -> Option<(u8, &str)>
     requires { (separator ≡ 46) ⊎ (separator ≡ 58) }
     ensures some { IfSome result (λ x. text.now ≡ decimal x.0 ++ separator ∷ x.1.now) }
@@ -36,7 +36,7 @@ fn octet_before(text: &str, separator: char) -> Option<(u8, &str)>
     Some((number, rest))
 }
 
-/// The number below 256 that a text writes in decimal without leading zeros.
+/// The number below 256 that a text stands for in decimal, without leading zeros.
 fn octet(text: &str) -> Option<u8>
     ensures some { IfSome result (λ n. text.now ≡ decimal n) }
     ensures none { IfNone result ((n : ℕ) → n < 2 ^ 8 → text.now ≢ decimal n) }
@@ -49,7 +49,7 @@ fn octet(text: &str) -> Option<u8>
     }
 }
 
-/// The number below 65,536 that a text writes in decimal without leading zeros.
+/// The number below 65,536 that a text stands for in decimal, without leading zeros.
 fn decimal_number(text: &str) -> Option<u16>
     ensures some { IfSome result (λ n. text.now ≡ decimal n) }
     ensures none { IfNone result ((n : ℕ) → n < 2 ^ 16 → text.now ≢ decimal n) }
@@ -60,7 +60,7 @@ fn decimal_number(text: &str) -> Option<u16>
     text.parse::<u16>().ok()
 }
 
-/// Neither a plus sign nor a leading zero is in front, which `parse` would let through.
+/// Whether the text starts with neither a plus sign nor a leading zero, which `parse` would accept.
 fn is_plain(text: &[u8]) -> bool
     ensures { IsTrue result ↔ IsPlain text.now }
 {

@@ -1,12 +1,12 @@
-//! The causes of faults, for a person: the line, what it says, and what is wanted there.
+//! The causes of faults, for a person: the line, what it says, and what is expected there.
 
 use crate::limits::MAX_LOOKS;
 use crate::{Key, OneLine, SettingsFault};
 use std::alloc::{AllocError, Global};
 use toml::Table;
 
-/// The cause of a fault, for a person: the line, what it says, and what is wanted there. `bytes` is the text with the
-/// fault. `None` where there is no memory for the cause.
+/// The cause of a fault, for a person: the line, what it says, and what is expected there. `bytes` is the text with the
+/// fault. `None` if there is no memory for the cause.
 pub fn cause(alloc: Global, bytes: &[u8], fault: &SettingsFault) -> Option<String> {
     let text = match std::str::from_utf8(bytes) {
         Ok(text) => text,
@@ -26,7 +26,7 @@ pub fn cause(alloc: Global, bytes: &[u8], fault: &SettingsFault) -> Option<Strin
     }
 }
 
-/// The line, from 1, of the byte at this index.
+/// The line number, from 1, of the byte at this index.
 fn line_at(bytes: &[u8], index: usize) -> usize {
     let mut line = 1usize;
     for byte in bytes.iter().take(index) {
@@ -48,7 +48,7 @@ fn not_toml(alloc: Global, text: &str) -> Option<String> {
     format!(in alloc; "line {line}: {message}").ok()
 }
 
-/// A key that isn't known, and those that are.
+/// An unknown key, and the keys that are known.
 fn unknown(alloc: Global, text: &str, name: &str) -> Option<String> {
     let place = place_of(alloc, text, name).ok()?;
     let name = OneLine(name);
@@ -57,13 +57,13 @@ fn unknown(alloc: Global, text: &str, name: &str) -> Option<String> {
     ).ok()
 }
 
-/// A key that is required, and what it takes.
+/// A required key, and what it takes.
 fn missing(alloc: Global, key: Key) -> Result<String, AllocError> {
     let wanted = wanted(key);
     format!(in alloc; "{key}: {wanted}")
 }
 
-/// A value that a key doesn't take, and what it takes.
+/// A value that a key does not take, and what the key takes.
 fn refused(alloc: Global, text: &str, key: Key) -> Option<String> {
     let place = place_of(alloc, text, key.name()).ok()?;
     let document = toml::table_from_str(alloc, text).ok()?;
@@ -88,7 +88,7 @@ fn wanted(key: Key) -> &'static str {
     }
 }
 
-/// The words `line N: ` for the line that sets a key, or none where it is not found.
+/// The words `line N: ` for the line that sets a key, or nothing if it is not found.
 fn place_of(alloc: Global, text: &str, name: &str) -> Result<String, AllocError> {
     match line_of(alloc, text, name)? {
         Some(line) => format!(in alloc; "line {line}: "),
@@ -96,8 +96,8 @@ fn place_of(alloc: Global, text: &str, name: &str) -> Result<String, AllocError>
     }
 }
 
-/// The first line, from 1, by whose end the text sets a key. Only lines that contain the name as it is are tried, and
-/// at most [`MAX_LOOKS`] of them.
+/// The first line, from 1, at whose end the text so far sets a key. Only lines that contain the name as it is are
+/// tried, and at most [`MAX_LOOKS`] of them.
 fn line_of(alloc: Global, text: &str, name: &str) -> Result<Option<usize>, AllocError> {
     let mut looks = 0usize;
     let mut start = 0usize;

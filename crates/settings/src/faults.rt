@@ -8,7 +8,7 @@ use std::error::Error;
 use std::fmt;
 use std::marker::Model;
 
-/// A key that no table knows, as it stands in the text.
+/// An unknown key, as it is in the text.
 #[derive(Debug, Drop)]
 pub struct KeyText {
     text: String,
@@ -30,7 +30,7 @@ impl KeyText {
         })
     }
 
-    /// The key as it stands in the text, without quotes and escapes.
+    /// The key as it is in the text, without quotes and escapes.
     pub fn as_str(&self) -> &str
         ensures { result.now ≡ self.now }
     {
@@ -49,29 +49,29 @@ impl fmt::Display for KeyText {
     }
 }
 
-/// The first thing that is wrong in a settings text, or that there was no memory to look.
+/// The first thing that is wrong in a settings text, or that there was no memory to find out.
 ///
-/// Errors are checked in this order: a text that is no TOML; the first unknown key, by the order of its bytes; and then
-/// key by key, in the order of `Key`, one that is missing, of the wrong kind, out of range or a bad address.
+/// Errors are checked in this order: a text that is not TOML; the first unknown key, in byte order; and then key by
+/// key, in the order of `Key`, one that is missing, of the wrong kind, out of range or a bad address.
 #[derive(Debug, Drop)]
 pub enum SettingsFault {
-    /// The bytes are not UTF-8, or no TOML document.
+    /// The bytes are not UTF-8, or not a TOML document.
     NotToml,
-    /// A key at the top level that is none of the eight.
+    /// A key at the top level that is not one of the eight.
     UnknownKey(KeyText),
     /// A required key that the text leaves out.
     Missing(Key),
-    /// A value of another kind than its key takes, as a number for a text.
+    /// A value of another kind than its key takes, such as a number for a text.
     WrongKind(Key),
-    /// A number out of its range, or a text that names no level.
+    /// A number outside its range, or a text that is not a level.
     OutOfRange(Key),
-    /// A text that is no address with a port in range.
+    /// A text that is not an address, or whose port is out of range.
     BadAddress(Key),
-    /// An allocation was refused, which says nothing of the text.
+    /// Memory ran out, which says nothing about the text.
     NoMemory,
 }
 
-/// One line, without its end. No text of a file can write a line of its own.
+/// One line, without its line feed. No text from a file can start a line of its own.
 impl fmt::Display for SettingsFault {
     ghost use Rattle.settings.specs.Faults.{fault_line};
 

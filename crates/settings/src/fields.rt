@@ -5,27 +5,26 @@ use crate::addresses::{Address, AddressText};
 use crate::levels::LogLevel;
 use std::fmt;
 
-/// What a settings text sets, with the defaults for the keys that it leaves out.
+/// What a settings text sets, with defaults for the keys that it leaves out.
 #[derive(Clone, Copy, Debug, PartialEq, Eq)]
 pub struct Settings {
-    /// The IPv4 address and the port on which clients connect. At port 0 the system picks one.
+    /// The IPv4 address and port to which clients connect. With port 0 the system picks a port.
     pub listen: Address,
-    /// The IPv4 address and the port, at least 1, to which each connection is forwarded.
+    /// The IPv4 address and port, at least 1, to which each connection is forwarded.
     pub target: Address,
     /// Bytes buffered for each direction of a connection, 1 to 65,536.
     pub ring: usize,
-    /// The most system calls that a worker makes for one connection before others get their turn,
-    /// 1 to 1,024.
+    /// The most calls of the core that a thread makes for one connection before another gets its turn, 1 to 1,024.
     pub budget: u32,
     /// Worker threads, 1 to 16.
     pub workers: usize,
-    /// The most connections at a time, 1 to 4,096.
+    /// The maximum number of connections at a time, 1 to 4,096.
     pub slots: usize,
-    /// The relay ends after this many connections, or never at 0.
+    /// The relay ends once it has opened this many connections and all of them are closed; 0 for no such limit.
     pub stop_after: u32,
     /// The level of the messages on standard error.
     pub log: LogLevel,
-    // What each reader may rely on: the ranges hold of every value of the type.
+    // What every reader may rely on: the ranges hold for every value of the type.
     pub ghost target_port: { 1 ≤ target.1 },
     pub ghost ring_range: { (1 ≤ ring) × (ring ≤ 65536) },
     pub ghost budget_range: { (1 ≤ budget) × (budget ≤ 1024) },

@@ -7,26 +7,26 @@ use std::fmt;
 /// A key of a settings text, in the order in which keys are read and printed.
 #[derive(Clone, Copy, Debug, PartialEq, Eq)]
 pub enum Key {
-    /// The address on which clients connect.
+    /// The address to which clients connect.
     Listen,
     /// The address to which each connection is forwarded.
     Target,
     /// Bytes buffered for each direction of a connection.
     Ring,
-    /// The most system calls made for one connection before others get their turn.
+    /// The most calls of the core that are made for one connection before another gets its turn.
     Budget,
     /// Worker threads.
     Workers,
-    /// The most connections at a time.
+    /// The maximum number of connections at a time.
     Slots,
-    /// Connections after which the relay ends, or 0 for never.
+    /// How many connections are opened before the relay ends; 0 for no such limit.
     StopAfter,
     /// The level of the messages on standard error.
     Log,
 }
 
 impl Key {
-    /// The key as it is written in a settings text.
+    /// The key as written in a settings text.
     pub fn name(self) -> &'static str
         ensures { result.now ≡ key_name self }
     {
@@ -42,7 +42,7 @@ impl Key {
         }
     }
 
-    /// The key of this name, if there is one.
+    /// The key with this name, if there is one.
     pub fn named(text: &str) -> Option<Key>
         ensures named { IfSome result (λ key. text.now ≡ key_name key) }
         ensures none { IfNone result ((key : Key) → text.now ≢ key_name key) }

@@ -4,8 +4,8 @@ ghost use Rattle.settings.specs.Names.{level_name};
 
 use std::fmt;
 
-/// The least important messages that are still written to standard error. Each level includes
-/// those before it, and `Off` has none.
+/// The least important messages that are written to standard error. Each level includes those before it, and `Off`
+/// includes none.
 #[derive(Clone, Copy, Debug, PartialEq, Eq)]
 pub enum LogLevel {
     Off,
@@ -17,7 +17,7 @@ pub enum LogLevel {
 }
 
 impl LogLevel {
-    /// The level as it is written in a settings text.
+    /// The level as written in a settings text.
     pub fn name(self) -> &'static str
         ensures { result.now ≡ level_name self }
     {
@@ -31,7 +31,7 @@ impl LogLevel {
         }
     }
 
-    /// The level of this name, if there is one. Case matters.
+    /// The level with this name, if there is one. Case matters.
     pub fn named(text: &str) -> Option<LogLevel>
         ensures named { IfSome result (λ level. text.now ≡ level_name level) }
         ensures none { IfNone result ((level : LogLevel) → text.now ≢ level_name level) }

@@ -1,7 +1,7 @@
-//! The fixed numbers beside the table of the settings, which stands in `read.rt`.
+//! The fixed numbers apart from the table of the settings, which is in `read.rt`.
 
-/// The most characters of a text from outside that are shown on a line.
+/// The most characters of an outside text that are shown on a line.
 pub const MAX_SHOWN: usize = 64;
 
-/// The most lines that are looked at for a key.
+/// The most lines that are searched for a key.
 pub const MAX_LOOKS: usize = 64;

@@ -1,11 +1,12 @@
-//! A text from outside, as it is shown to a person.
+//! A text from outside, as shown to a person.
 ghost use Rattle.std.specs.Prelude.{Some};
 ghost use Rattle.settings.specs.Shown.{shown_character, one_line};
 
 use crate::limits::MAX_SHOWN;
 use std::fmt;
 
-/// A text from outside on one line: control characters are escaped, and after 64 characters `..` stands for the rest.
+/// A text from outside on one line: control characters are escaped, and `..` stands for whatever follows the first 64
+/// characters.
 #[derive(Clone, Copy)]
 pub struct OneLine<'a>(pub &'a str);
 
@@ -26,7 +27,7 @@ impl fmt::Display for OneLine<'_> {
     }
 }
 
-/// A character as it is shown: a control character by its number.
+/// A character as shown: a control character by its number.
 #[derive(Clone, Copy)]
 struct ShownCharacter(char);
 

@@ -19,8 +19,8 @@ use toml::{Table, Value};
 
 /// The settings of a text, or the first fault in it.
 ///
-/// `NoMemory` comes where an allocation was refused, and then says nothing of the text; a blank
-/// text and bytes that are not UTF-8 take no memory.
+/// `NoMemory` means that memory ran out, and says nothing about the text; a blank text and bytes that are not UTF-8
+/// need no memory.
 pub fn parse(alloc: Global, bytes: &[u8]) -> Result<Settings, SettingsFault>
     ensures settings { IfOk result (λ s. IsSettingsOf bytes.now s) }
     ensures fault { IfErr result (λ fault. fault ≢ SettingsFault.NoMemory → IsFaultOf bytes.now fault) }
@@ -52,7 +52,7 @@ fn unknown_key(alloc: Global, name: &str) -> SettingsFault
     }
 }
 
-/// The first name at the top level, by the order of bytes, that is no key.
+/// The first name at the top level, in byte order, that is not a key.
 fn first_unknown(document: &Table) -> Option<&String>
     ensures some { IfSome result (λ name. IsFirstUnknown (table_view document.now) (string_bytes name.now)) }
     ensures none { IfNone result (HasNoUnknown (table_view document.now)) }
@@ -82,7 +82,7 @@ fn settings_of(document: &Table) -> Result<Settings, SettingsFault>
     })
 }
 
-/// The address of a required key, whose port is `lowest_port` at least.
+/// The address of a required key, whose port is at least `lowest_port`.
 fn address_at(document: &Table, key: Key, lowest_port: u16) -> Result<Address, SettingsFault>
     ensures gives { IfOk result (λ a. Gives (required key (an_address lowest_port)) (table_view document.now) (address a)) }
     ensures range { IfOk result (λ a. lowest_port ≤ a.1) }
@@ -131,7 +131,7 @@ fn value_at(document: &Table, key: Key) -> Option<&Value>
     document.get(key.name())
 }
 
-/// The address that a value writes, whose port is `lowest_port` at least.
+/// The address that a value stands for, whose port is at least `lowest_port`.
 fn as_address(value: &Value, key: Key, lowest_port: u16) -> Result<Address, SettingsFault>
     ensures writes { IfOk result (λ a. Writes (an_address lowest_port) (view value.now) (address a)) }
     ensures fault { IfErr result (Refuses (an_address lowest_port) key (view value.now)) }
@@ -145,7 +145,7 @@ fn as_address(value: &Value, key: Key, lowest_port: u16) -> Result<Address, Sett
     }
 }
 
-/// The whole number that a value writes, from `low` to `high`.
+/// The whole number that a value stands for, from `low` to `high`.
 fn as_number(value: &Value, key: Key, low: u32, high: u32) -> Result<u32, SettingsFault>
     ensures writes { IfOk result (λ n. Writes (a_number low high) (view value.now) (number n)) }
     ensures fault { IfErr result (Refuses (a_number low high) key (view value.now)) }

@@ -3,7 +3,7 @@ ghost use Rattle.token.specs.Sides.{opposite, source, destination};
 
 use crate::side::Side;
 
-/// One of the two ways that bytes go through a connection.
+/// One of the two ways in which bytes travel through a connection.
 #[derive(Clone, Copy, Debug, PartialEq, Eq)]
 pub enum Direction {
     /// From the client to the target.
@@ -23,7 +23,7 @@ impl Direction {
         }
     }
 
-    /// The side whose bytes go this way.
+    /// The side that the bytes come from.
     pub fn source(self) -> Side
         ensures { result ≡ source self }
     {
@@ -33,7 +33,7 @@ impl Direction {
         }
     }
 
-    /// The side to which bytes go this way.
+    /// The side that the bytes go to.
     pub fn destination(self) -> Side
         ensures { result ≡ destination self }
     {

@@ -1,8 +1,8 @@
 ghost use Rattle.std.specs.Prelude.{◌≡◌};
 ghost use Rattle.token.specs.Kinds.{kind_name};
 
-/// How a call on a socket failed: the errors of read(2), write(2), connect(2) and shutdown(2) that the
-/// relay tells apart.
+/// How a call on a socket failed: the errors of read(2), write(2), connect(2) and shutdown(2) that the relay
+/// distinguishes.
 #[derive(Clone, Copy, Debug, PartialEq, Eq)]
 pub enum Kind {
     /// The peer reset the connection (ECONNRESET).
@@ -17,9 +17,9 @@ pub enum Kind {
     NotConnected,
     /// The peer did not answer in time (ETIMEDOUT).
     TimedOut,
-    /// A write took none of the bytes that it was offered.
+    /// A write took none of the bytes that it was given.
     Zero,
-    /// Every other error.
+    /// Any other error.
     Other,
 }
 

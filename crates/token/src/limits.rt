@@ -1,10 +1,10 @@
 //! The limits of a token's parts, and its layout as one number.
 
-/// The highest number of a slot.
+/// The highest slot number.
 pub const MAX_SLOT: usize = 32_767;
 
 /// The highest generation of a slot, 2^47 - 1. A slot that has reached it is not opened again.
 pub const MAX_GENERATION: u64 = 140_737_488_355_327;
 
-/// How many numbers one generation has: two for each slot, one a side.
+/// How many numbers one generation has: two for each slot, one for each side.
 pub(crate) const NUMBERS_PER_GENERATION: u64 = 65_536;

@@ -11,14 +11,14 @@ use crate::token::Token;
 pub enum Name {
     /// The listening socket: number 0.
     Listener,
-    /// The waker, by which another thread ends a wait for reports: number 1.
+    /// The waker, with which another thread ends a wait for reports: number 1.
     Waker,
     /// One end of one connection.
     End(Token),
 }
 
 impl Name {
-    /// The name as one number: 0 for the listener, 1 for the waker, and an end's [`Token::value`].
+    /// The name as one number: 0 for the listener, 1 for the waker, and [`Token::value`] for an end.
     pub fn number(self) -> u64
         ensures number { result ≡ name_number self }
         ensures unpacks { name_of result ≡ Some self }
@@ -31,7 +31,7 @@ impl Name {
     }
 }
 
-/// The name of a number, if it has one: the reverse of [`Name::number`].
+/// The name that a number stands for, if any: the inverse of [`Name::number`].
 pub fn unpack(number: u64) -> Option<Name>
     ensures value { result ≡ name_of number }
     ensures inverse { (name : Name) → IsName name → (result ≡ Some name) ↔ (name_number name ≡ number) }
@@ -43,7 +43,7 @@ pub fn unpack(number: u64) -> Option<Name>
     }
 }
 
-/// The end that a number names, if it names one: it is neither the listener's nor the waker's.
+/// The end that a number stands for, if any. The number is not that of the listener or the waker.
 fn end_of(number: u64) -> Option<Name>
     requires { 2 ≤ number }
     ensures { result ≡ name_of number }

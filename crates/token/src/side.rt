@@ -11,7 +11,7 @@ pub enum Side {
 }
 
 impl Side {
-    /// The side across from this one.
+    /// The other side.
     pub fn other(self) -> Side
         ensures { result ≡ other_side self }
     {

@@ -19,8 +19,8 @@ pub enum TokenFault {
     GenRange,
 }
 
-/// The name of one end of one connection, by which a readiness queue reports on it: the slot, the side
-/// and the slot's generation.
+/// The name of one end of one connection, by which a readiness queue reports on it: the slot, the side and the slot's
+/// generation.
 #[derive(Clone, Copy, Debug, PartialEq, Eq)]
 pub struct Token {
     slot: usize,
@@ -44,8 +44,8 @@ impl Model for Token {
 impl Token {
     /// The token of an end.
     ///
-    /// Refuses with `SlotRange` where the slot is over 32,767, which is checked first, and with
-    /// `GenRange` where the generation is 0 or over 140,737,488,355,327, which is 2^47 - 1.
+    /// Refuses with `SlotRange` if the slot is over 32,767, which is checked first, and with `GenRange` if the
+    /// generation is 0 or over 140,737,488,355,327, which is 2^47 - 1.
     pub fn pack(slot: usize, side: Side, generation: u64) -> Result<Token, TokenFault>
         ensures packed { IsSlot slot → IsGeneration generation → result ≡ Ok (record { slot = slot; side = side; generation = generation }) }
         ensures slot_range { IsErrOf result TokenFault.SlotRange ↔ (32767 < slot) }
@@ -64,7 +64,7 @@ impl Token {
         })
     }
 
-    /// The slot in which the connection lies.
+    /// The slot of the connection.
     pub fn slot(self) -> usize
         ensures value { result ≡ self.slot }
         ensures range { IsSlot result }
@@ -72,14 +72,14 @@ impl Token {
         self.slot
     }
 
-    /// The side of the connection on which the end is.
+    /// The side of the connection that the end is on.
     pub fn side(self) -> Side
         ensures { result ≡ self.side }
     {
         self.side
     }
 
-    /// How often the slot had been opened when the connection began.
+    /// How many times the slot had been opened when the connection began.
     pub fn generation(self) -> u64
         ensures value { result ≡ self.generation }
         ensures range { IsGeneration result }
@@ -96,8 +96,8 @@ impl Token {
     }
 }
 
-/// The generation of a slot of generation `generation` once it is opened again: one more, or none after
-/// [`MAX_GENERATION`]. The caller may give 0, which is that of a slot that was never opened, and none over
+/// The generation that a slot of generation `generation` gets when it is opened again: one more, or none after
+/// [`MAX_GENERATION`]. The caller may pass 0, the generation of a slot that was never opened, but none over
 /// [`MAX_GENERATION`].
 pub fn next_gen(generation: u64) -> Option<u64>
     requires { generation ≤ 140737488355327 }

@@ -9,9 +9,9 @@ pub struct Ticket {
 #[derive(Clone, Copy, Debug, PartialEq, Eq)]
 pub enum Holder {
     Nobody,
-    /// The worker of this number.
+    /// The worker with this number.
     By(usize),
-    /// Nobody may hold it, since no connection lies in it. It counts as held.
+    /// Nobody may hold it, since there is no connection in it. It counts as held.
     Free,
 }
 
@@ -19,7 +19,7 @@ pub enum Holder {
 #[derive(Clone, Copy, Debug, PartialEq, Eq)]
 pub enum Doing {
     Idle,
-    /// It took this ticket off the ready queue.
+    /// It has taken this ticket from the ready queue.
     Tries(Ticket),
     /// It holds a slot, with so many calls left in its turn.
     Holds(usize, usize),

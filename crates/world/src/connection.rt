@@ -34,7 +34,7 @@ impl Connection {
         }
     }
 
-    /// Takes a report, if there is `any`: every call is worth a try again.
+    /// Takes a report, if `any`: every call is worth trying again.
     pub fn hear(&mut self, any: bool)
         ensures { self.new ≡ (if any then record self.old { pair = noted self.old.pair } else self.old) }
     {
@@ -43,8 +43,8 @@ impl Connection {
         }
     }
 
-    /// Whether a worker may release it: it is live, and there is no call to try, or a note is there, so that
-    /// it is tried again.
+    /// Whether a worker may release it: it is live, and there is no call to try, or there is a note, so that it is
+    /// tried again.
     #[tactic(auto, unfolding(crate::specs::Steps::may_release))]
     pub fn may_release(&self, noted: bool) -> bool
         ensures { result ≡ may_release self.now noted }
@@ -54,8 +54,8 @@ impl Connection {
 
     /// Makes the next call on the kernel's end, which gets this reply.
     ///
-    /// Refuses with `NotAllowed` where there is no next call, or where it may not be answered so, and with
-    /// `NoMemory` where there is no memory for the bytes that a write takes. A refusal changes nothing.
+    /// Refuses with `NotAllowed` if there is no next call, or if it may not be answered so, and with `NoMemory` if
+    /// there is no memory for the bytes that a write takes. A refusal changes nothing.
     #[tactic(auto, unfolding(crate::specs::Calls::called))]
     pub fn call(&mut self, kernel: &mut Kernel, reply: Reply) -> Result<(), Refusal>
         ensures { Meets (called (record { kernel = kernel.old; connection = self.old }) reply) (record { kernel = kernel.old; connection = self.old }) (record { kernel = kernel.new; connection = self.new }) result }
@@ -71,7 +71,7 @@ impl Connection {
         }
     }
 
-    /// A read that brings bytes, where a read is the next call.
+    /// A read that brings bytes, if a read is the next call.
     fn read(
         &mut self,
         kernel: &mut Kernel,
@@ -97,7 +97,7 @@ impl Connection {
         kernel.read(descriptor, most, Reply::Bytes(count))
     }
 
-    /// A call whose reply brings no bytes, where it is the next one.
+    /// A call whose reply brings no bytes, if it is the next one.
     fn make(&mut self, kernel: &mut Kernel, call: Call, reply: Reply) -> Result<(), Refusal>
         requires next { next_call self.old.pair ≡ Some call }
         requires no_bytes { told_of (record { kernel = kernel.old; connection = self.old }) call reply ≡ plain reply }

@@ -17,9 +17,9 @@ use token::{Direction, Name};
 
 #[tactic(auto, using(std::proofs::lemmas::Option::gets, std::proofs::lemmas::Grind::common_steps))]
 impl World {
-    /// Whether the connection in a slot could move: it is done or failed and not closed yet; or it is live,
-    /// and in some direction bytes or an end could come in, bytes could go out, or the end could be passed
-    /// on. `false` where no connection lies there.
+    /// Whether the connection in a slot could move: it is done or failed and not closed yet; or it is live, and in some
+    /// direction bytes or an end of input could come in, bytes could go out, or the end could be passed on. `false` if
+    /// there is no connection.
     pub fn movable(&self, slot: usize) -> bool
         ensures { result ≡ movable self.now slot }
     {
@@ -29,9 +29,9 @@ impl World {
         }
     }
 
-    /// Whether the connection in a slot is due to be tried: a report of it is queued or in the batch, a
-    /// ticket of it is in the ready queue or with the poller or a worker, or a worker holds the slot.
-    /// `false` where no connection lies there.
+    /// Whether the connection in a slot is due to be tried: a report about it is queued or in the batch, a ticket for
+    /// it is in the ready queue or with the poller or a worker, or a worker holds the slot. `false` if there is no
+    /// connection.
     pub fn due(&self, slot: usize) -> bool
         ensures { result ≡ due self.now slot }
     {

@@ -1,33 +1,33 @@
 use kernel_model::{Accepting, Reply};
 use token::{Name, Side};
 
-/// One event of the machine, by the actor that makes it.
+/// One event of the machine, by the actor that causes it.
 #[derive(Drop)]
 pub enum Event {
     /// The network changes something at one end of the connection in a slot.
     Network(usize, Side, Change),
-    /// A report comes without cause.
+    /// A report is queued without cause.
     Spurious(Reported),
-    /// A report is taken back before it was polled.
+    /// A queued report is withdrawn before it is polled.
     Vanish(Reported),
-    /// The listener's queue of connections.
+    /// Something happens at the listener.
     Listen(Listening),
-    /// The poller.
+    /// The poller does something.
     Poll(Polling),
-    /// The worker of this number.
+    /// The worker with this number does something.
     Work(usize, Act),
 }
 
 /// What the network does to an end.
 #[derive(Drop)]
 pub enum Change {
-    /// Bytes come, 1 to 1,024.
+    /// Bytes arrive, 1 to 1,024.
     Arrive(Vec<u8>),
-    /// The end of input comes.
+    /// The end of input arrives.
     Fin,
-    /// An error comes, as a reset by the peer.
+    /// An error arrives, such as a reset by the peer.
     Reset,
-    /// Room for writes comes.
+    /// The end gets room for writes.
     Room,
 }
 
@@ -36,7 +36,7 @@ pub enum Change {
 pub enum Reported {
     Listener,
     Waker,
-    /// One end of the connection that lies in a slot.
+    /// One end of the connection in a slot.
     End(usize, Side),
 }
 
@@ -56,20 +56,20 @@ pub enum Listening {
 pub enum Polling {
     /// It opens a free slot for the connection that it accepted.
     Open,
-    /// It takes these names off the queue as a batch, 256 at most.
+    /// It takes these names from the queue as a batch, at most 256.
     Poll(Vec<Name>),
     /// It delivers the first name of its batch.
     Deliver,
-    /// It puts the first ticket of its hand into the ready queue.
+    /// It puts the first ticket in its hand into the ready queue.
     Put,
 }
 
 /// What a worker does.
 #[derive(Clone, Copy, Debug, PartialEq, Eq)]
 pub enum Act {
-    /// It puts the first ticket of its hand into the ready queue.
+    /// It puts the first ticket in its hand into the ready queue.
     Put,
-    /// It takes the first ticket off the ready queue.
+    /// It takes the first ticket from the ready queue.
     Pop,
     /// It tries to hold its ticket's slot.
     Claim,
@@ -83,7 +83,7 @@ pub enum Act {
     Release,
     /// It closes the connection of its slot.
     Close,
-    /// It retires its slot, which is free from now on.
+    /// It retires its slot, which is free from then on.
     Retire,
     /// It puts the slot that it retired into the free queue.
     Free,

@@ -1,28 +1,27 @@
-//! The whole relay as a pure machine: the network, the kernel with its readiness queue, the poller, the
-//! workers, and the slots in which connections lie.
+//! The whole relay as a pure machine: the network, the kernel with its readiness queue, the poller, the workers, and
+//! the slots with their connections.
 //!
-//! A [`World`] begins by its [`Limits`], and changes by one [`Event`] at a time. Each choice stands in the
-//! event: what the network brings, which names a poll hands over, what a call is answered. So
-//! [`World::step`] has one outcome, or refuses the event and changes nothing. [`replay`] takes a list of
-//! events from the opening world on.
+//! A [`World`] starts from its [`Limits`], and changes by one [`Event`] at a time. Every choice is part of the event:
+//! what the network brings, which names a poll gives, what a call is answered. So [`World::step`] has one outcome, or
+//! refuses the event and changes nothing. [`replay`] makes a list of events happen, starting with the opening world.
 //!
-//! An accepted connection is opened in a free slot, for a new generation of it. A report of one of its ends
-//! becomes a note in the slot, if the report is of the slot's generation; the first note of a slot that
-//! nobody holds makes a ticket, by which a worker claims the slot. [`World::movable`] tells whether a
-//! connection could move, and [`World::due`] whether it is due to be tried.
+//! An accepted connection is opened in a free slot, for a new generation of that slot. A report about one of its ends
+//! becomes a note in the slot, if it has the slot's generation; the first note at a slot that nobody holds makes a
+//! ticket, with which a worker claims the slot. [`World::movable`] says whether a connection could move, and
+//! [`World::due`] whether it is due to be tried.
 //!
-//! Each event is exactly its definition ([`World::step`]), and moves the claim word of its slot as the table of
-//! the words' steps says. Of the world after every list of events [`replay`] promises more: the bytes of each
-//! connection keep their order and none is lost, an end is passed on after every byte, no connection is tried on
-//! a report for another generation, a connection fails only after a failed call, and whatever could move is due
-//! to be tried. There are no texts of events here, nor is a slot's word one atomic number: a slot has its holder
-//! and its notes.
+//! Each event does exactly what its definition says ([`World::step`]), and changes the claim word of its slot as the
+//! table of the words' steps says. [`replay`] promises more about the world after every list of events: the bytes of
+//! each connection keep their order and none is lost, an end is passed on after every byte, no connection is tried on a
+//! report for another generation, a connection fails only after a failed call, and whatever could move is due to be
+//! tried. Events have no textual form here, and a slot's word is not one atomic number: a slot has its holder and its
+//! notes.
 //!
-//! The definitions stand in `specs/`: slots and workers in `Places.antt`, the whole state in `States.antt`,
-//! a connection's calls in `Calls.antt`, one event in `Steps.antt`, lists of events in `Runs.antt`, what could
-//! move and what is due in `Due.antt`, the bytes that came in `Given.antt`, what holds after every list of events
-//! in `Headline.antt`, and the claim words in `Words.antt`. The lemmas stand in `proofs/`: `Turns*.antt` of who has
-//! a slot, its notes and its tickets, and `Ends*.antt` of the bytes, the ends and the flags.
+//! The definitions are in `specs/`: slots and workers in `Places.antt`, the whole state in `States.antt`, a
+//! connection's calls in `Calls.antt`, one event in `Steps.antt`, lists of events in `Runs.antt`, what could move and
+//! what is due in `Due.antt`, the bytes that arrived in `Given.antt`, what holds after every list of events in
+//! `Headline.antt`, and the claim words in `Words.antt`. The lemmas are in `proofs/`: `Turns*.antt` about who has a
+//! slot, its notes and its tickets, and `Ends*.antt` about the bytes, the ends and the flags.
 #![tactic(auto)]
 
 mod actors;

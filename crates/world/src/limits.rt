@@ -1,9 +1,8 @@
 /// The most bytes that one arrival brings.
 pub(crate) const MAX_BYTES: usize = 1_024;
 
-/// The sizes of a world: 1 to 64 slots, 1 to 16 workers, a ring of 1 to 65,536 bytes for each direction,
-/// a budget of 1 to 1,024 calls for one turn, and the generation that every slot has had, which is at most
-/// 2^47 - 2.
+/// The sizes of a world: 1 to 64 slots, 1 to 16 workers, a ring of 1 to 65,536 bytes for each direction, a budget of 1
+/// to 1,024 calls per turn, and the generation at which every slot starts, which is at most 2^47 - 2.
 #[derive(Clone, Copy, Debug, PartialEq, Eq)]
 pub struct Limits {
     pub slots: usize,

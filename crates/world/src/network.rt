@@ -1,4 +1,4 @@
-// What comes from outside: the network's changes, reports, and connections at the listener.
+// What happens outside the relay: the network's changes, reports, and connections at the listener.
 ghost use Rattle.kernel_model.specs.Outcome.{Meets};
 ghost use Rattle.world.specs.Steps.{change_at};
 
@@ -16,7 +16,7 @@ impl World {
     ghost use Rattle.kernel_model.specs.Outcome.{Meets};
     ghost use Rattle.world.specs.Steps.{connection_at, network, watched_of, spurious, vanish, may_accept, listen};
 
-    /// The connection that lies in a slot.
+    /// The connection in a slot.
     pub fn connection(&self, slot: usize) -> Option<&Connection>
         ensures { option_copied result ≡ connection_at self.now slot }
     {
@@ -43,7 +43,7 @@ impl World {
         change_at(&mut self.kernel, descriptor, change)
     }
 
-    /// A report comes without cause.
+    /// A report is queued without cause.
     pub(crate) fn spurious(&mut self, who: Reported) -> Result<(), Refusal>
         ensures { Meets (spurious self.old who) self.old self.new result }
     {
@@ -53,7 +53,7 @@ impl World {
         }
     }
 
-    /// A report is taken back.
+    /// A queued report is withdrawn.
     pub(crate) fn vanish(&mut self, who: Reported) -> Result<(), Refusal>
         ensures { Meets (vanish self.old who) self.old self.new result }
     {

@@ -48,7 +48,7 @@ impl World {
         self.open_at(slot, old)
     }
 
-    /// It opens this slot for the generation after the old one.
+    /// It opens this slot for the generation after `old`.
     fn open_at(&mut self, slot: usize, old: u64) -> Result<(), Refusal>
         requires accepted { self.old.accepted ≡ true }
         requires first { slice_get self.old.free 0 ≡ Some slot }
@@ -98,7 +98,7 @@ impl World {
         Ok(())
     }
 
-    /// It takes these names off the queue as its batch.
+    /// It takes these names from the queue as its batch.
     fn take_batch(&mut self, names: &[Name]) -> Result<(), Refusal>
         ensures { Meets (batched self.old names.now) self.old self.new result }
     {
@@ -136,7 +136,7 @@ impl World {
         }
     }
 
-    /// It posts to the slot of a token, unless the token is of another generation than the table's.
+    /// It posts to the slot of a token, unless the token's generation differs from the table's.
     fn deliver_end(&mut self, token: Token) -> Result<(), Refusal>
         ensures { Meets (delivered_at self.old token (slice_get self.old.table token.slot)) self.old self.new result }
     {
@@ -155,7 +155,7 @@ impl World {
         self.table.get(slot).copied()
     }
 
-    /// It posts to a slot, and takes in hand the ticket that this may make.
+    /// It posts to a slot, and takes in hand the ticket that this may create.
     fn post_at(&mut self, slot: usize, generation: u64) -> Result<(), Refusal>
         ensures { Meets (post_at self.old slot generation) self.old self.new result }
     {
@@ -173,7 +173,7 @@ impl World {
         Ok(())
     }
 
-    /// It puts the first ticket of its hand into the ready queue.
+    /// It puts the first ticket in its hand into the ready queue.
     fn put_by_poller(&mut self) -> Result<(), Refusal>
         ensures { Meets (put_by_poller self.old self.old.hand) self.old self.new result }
     {
@@ -187,7 +187,7 @@ impl World {
     }
 }
 
-/// The token of one end in a slot, where slot and generation have one.
+/// The token of one end in a slot, if slot and generation have one.
 fn token_of(slot: usize, side: Side, generation: u64) -> Option<Token>
     ensures { result ≡ token_of slot side generation }
 {

@@ -1,4 +1,4 @@
-// What a report of the machine shows.
+// The parts of a world that a report shows.
 use crate::actors::Ticket;
 use crate::past::Past;
 use crate::slot::Slot;
@@ -17,28 +17,28 @@ impl World {
         &self.kernel
     }
 
-    /// Whether an accept is worth a try.
+    /// Whether an accept is worth trying.
     pub fn accept_flag(&self) -> bool
         ensures { result ≡ self.now.flag }
     {
         self.flag
     }
 
-    /// Whether the poller has an accepted connection that it did not open yet.
+    /// Whether the poller has an accepted connection that it has not opened yet.
     pub fn has_accepted(&self) -> bool
         ensures { result ≡ self.now.accepted }
     {
         self.accepted
     }
 
-    /// The names that the poller took off the queue and did not deliver yet, in order.
+    /// The names that the poller has taken from the queue and not delivered yet, in order.
     pub fn batch(&self) -> &[Name]
         ensures { result.now ≡ self.now.batch }
     {
         self.batch.as_slice()
     }
 
-    /// The tickets that the poller has to put, in order.
+    /// The tickets that the poller still has to put, in order.
     pub fn poller_hand(&self) -> &[Ticket]
         ensures { result.now ≡ self.now.hand }
     {

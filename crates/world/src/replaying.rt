@@ -11,27 +11,26 @@ use crate::world::World;
 use kernel_model::Refusal;
 use std::alloc::{AllocError, Global};
 
-/// The world after these events, from the opening world on.
+/// The world after these events, starting with the opening world.
 ///
-/// Where not all of them can happen, the answer is the index of the first that fails, and why: `NotAllowed`
-/// where the events before it can happen and it can't happen after them; `NoMemory` where it can happen too,
-/// but a list could not grow for it or, at index 0, for the world itself.
+/// If not all of them can happen, the answer is the index of the first that fails, and why: `NotAllowed` if the events
+/// before it can happen and it cannot happen after them; `NoMemory` if it can happen too, but a list could not grow for
+/// it or, at index 0, for the world itself.
 ///
-/// Of the world after every list of events:
+/// About the world after every list of events:
 ///
-/// - In each direction of a connection that lies in a slot, the bytes that came are those that were sent, then
-///   those in the ring, then those that are unread; and where its end was passed on, that came after every byte
-///   (`bytes`). What a closed connection sent is a beginning of what came for it, and all of that if it was done
-///   (`closed`).
+/// - In each direction of a connection in a slot, the bytes that arrived are those that were sent, then those in the
+///   ring, then those that are unread; and if its end was passed on, that was after every byte (`bytes`). What a closed
+///   connection sent is a prefix of what arrived for it, and all of it if the connection was done (`closed`).
 /// - No connection was tried on a note or a ticket of another generation (`own`).
 /// - A connection failed only after a failed call (`failures`).
 /// - A connection that could move is due to be tried (`due`). While the accept flag is down, nobody waits at the
-///   listener or its name is queued or in the batch (`listener`).
+///   listener, or its name is queued or in the batch (`listener`).
 ///
-/// And what that rests on: a slot with notes that is neither held nor free has one ticket, and every other none
-/// (`tickets`); a connection that nobody holds and that has no notes has no call to make (`rest`); the poller's
-/// table tells each slot's generation (`table`); and where the pair holds a call not worth a try, its end is
-/// armed for it and not ready, or it is ready and a report of it is queued, in the batch or noted (`edges`).
+/// And what this depends on: a slot with notes that is neither held nor free has one ticket, and every other slot none
+/// (`tickets`); a connection that nobody holds and that has no notes has no call to make (`rest`); the poller's table
+/// has each slot's generation (`table`); and if a pair's flag says that a call is not worth trying, its end is armed
+/// for it and not ready, or it is ready and a report of it is queued, in the batch or noted (`edges`).
 #[tactic(auto, using(crate::proofs::Runs::run_more, std::proofs::lemmas::Option::gets, std::proofs::lemmas::Grind::common_steps))]
 pub fn replay(alloc: Global, limits: Limits, events: &[Event]) -> Result<World, (usize, Refusal)>
     requires { IsWithinLimits limits }

@@ -32,7 +32,7 @@ impl Slot {
     ghost use Rattle.world.specs.States.{unused};
     ghost use Rattle.world.specs.Steps.{with_note, noted_place, Lodging, lodged_call};
 
-    /// A slot in which no connection lies.
+    /// A slot without a connection.
     pub fn new(alloc: Global, generation: u64) -> Slot
         ensures { result ≡ unused generation }
     {
@@ -44,14 +44,14 @@ impl Slot {
         }
     }
 
-    /// The generation of the connection that was opened in it last.
+    /// The generation of the connection that was last opened in it.
     pub fn generation(&self) -> u64
         ensures { result ≡ self.now.generation }
     {
         self.generation
     }
 
-    /// The connection that lies in it.
+    /// The connection in it.
     pub fn connection(&self) -> Option<&Connection>
         ensures { option_copied result ≡ self.now.connection }
     {
@@ -65,7 +65,7 @@ impl Slot {
         self.holder
     }
 
-    /// Its notes, each by the generation that it was for, in the order in which they came.
+    /// Its notes, oldest first, each with the generation that it is for.
     pub fn notes(&self) -> &[u64]
         ensures { result.now ≡ self.now.notes }
     {
@@ -98,9 +98,9 @@ impl Slot {
         Ok(())
     }
 
-    /// Takes away all notes. If there was one, every call is worth a try again.
+    /// Removes all notes. If there was one, every call is worth trying again.
     ///
-    /// Refuses with `NotAllowed`, and changes nothing, where no connection lies here.
+    /// Refuses with `NotAllowed`, and changes nothing, if there is no connection.
     pub fn take_notes(&mut self) -> Result<(), Refusal>
         ensures { MeetsAlways (noted_place self.old) self.old self.new result }
     {
@@ -115,7 +115,7 @@ impl Slot {
 
     /// Makes the connection's next call, which gets this reply ([`Connection::call`]).
     ///
-    /// Refuses with `NotAllowed`, and changes nothing, where no connection lies here either.
+    /// Also refuses with `NotAllowed`, and changes nothing, if there is no connection.
     #[tactic(auto, unfolding(crate::specs::Steps::lodged_call))]
     pub fn call(&mut self, kernel: &mut Kernel, reply: Reply) -> Result<(), Refusal>
         ensures { Meets (lodged_call (record { kernel = kernel.old; place = self.old }) reply) (record { kernel = kernel.old; place = self.old }) (record { kernel = kernel.new; place = self.new }) result }

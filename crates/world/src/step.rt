@@ -12,11 +12,11 @@ impl World {
 
     /// One event happens.
     ///
-    /// Refuses with `NotAllowed` where it can't happen now, and with `NoMemory` where a list can't grow. A
-    /// refusal changes nothing.
+    /// Refuses with `NotAllowed` if it cannot happen now, and with `NoMemory` if a list cannot grow. A refusal changes
+    /// nothing.
     ///
-    /// In a world that a run reaches, the event moves the claim word of its slot by the steps of the event's
-    /// kinds in order, and no other slot's, and a ticket is made exactly where a step answers so (`words`).
+    /// In a world that a run reaches, the event changes the claim word of its slot by the steps of the event's kinds in
+    /// order, and no other slot's, and a ticket is made exactly when a step says so (`words`).
     pub fn step(&mut self, event: &Event) -> Result<(), Refusal>
         ensures event { Meets (step self.old event.now) self.old self.new result }
         ensures words { IfOk result (λ _. WordsMoveInRuns self.old event.now self.new) }

@@ -3,7 +3,7 @@ use crate::actors::{Doing, Ticket};
 use std::alloc::{AllocError, Global};
 use std::marker::Model;
 
-/// A worker: what it is doing, and the tickets that it has to put.
+/// A worker: what it is doing, and the tickets that it still has to put.
 #[derive(Drop)]
 pub struct Worker {
     pub(crate) doing: Doing,
@@ -41,15 +41,15 @@ impl Worker {
         self.doing
     }
 
-    /// The tickets that it has to put, the first that goes first.
+    /// The tickets that it still has to put, in order.
     pub fn hand(&self) -> &[Ticket]
         ensures { result.now ≡ self.now.hand }
     {
         self.hand.as_slice()
     }
 
-    /// It is idle again. Where there are notes in the slot that it held, it takes in hand a ticket of it.
-    /// An error changes nothing.
+    /// It is idle again. If there are notes in the slot that it held, it takes a ticket for it in hand. An error
+    /// changes nothing.
     pub fn release(&mut self, noted: bool, slot: usize, generation: u64) -> Result<(), AllocError>
         ensures released { OnOk result (self.new ≡ record { doing = Doing.Idle; hand = with_ticket noted slot generation self.old.hand }) }
         ensures kept { OnErr result (self.new ≡ self.old) }

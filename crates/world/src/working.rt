@@ -49,7 +49,7 @@ impl World {
         }
     }
 
-    /// It puts the first ticket of its hand into the ready queue.
+    /// It puts the first ticket in its hand into the ready queue.
     fn put_by_worker(&mut self, worker: usize) -> Result<(), Refusal>
         requires { worker < length self.old.workers }
         ensures { Meets (worked self.old worker Act.Put) self.old self.new result }
@@ -63,7 +63,7 @@ impl World {
         Ok(())
     }
 
-    /// With nothing to put, it takes the first ticket off the ready queue.
+    /// With nothing to put, it takes the first ticket from the ready queue.
     fn pop(&mut self, worker: usize) -> Result<(), Refusal>
         requires { worker < length self.old.workers }
         ensures { Meets (of_worker self.old worker (λ (k : Actor). pop self.old worker k Doing.Idle)) self.old self.new result }
@@ -76,7 +76,7 @@ impl World {
         Ok(())
     }
 
-    /// It holds its ticket's slot, or drops the ticket where the slot is held.
+    /// It takes hold of its ticket's slot, or drops the ticket if the slot is held.
     fn claim(&mut self, worker: usize, ticket: Ticket) -> Result<(), Refusal>
         requires { worker < length self.old.workers }
         ensures { Meets (of_worker self.old worker (λ (k : Actor). claim self.old worker k (Doing.Tries ticket))) self.old self.new result }
@@ -139,7 +139,7 @@ impl World {
         Ok(())
     }
 
-    /// It releases its slot, and takes in hand the ticket that the notes make.
+    /// It releases its slot, and takes in hand the ticket that the notes create.
     fn release(&mut self, worker: usize, slot: usize, left: usize) -> Result<(), Refusal>
         requires { worker < length self.old.workers }
         ensures { Meets (of_worker self.old worker (λ (k : Actor). release self.old worker k (Doing.Holds slot left))) self.old self.new result }
@@ -190,7 +190,7 @@ impl World {
         Ok(())
     }
 
-    /// It retires its slot, which is free from now on.
+    /// It retires its slot, which is free from then on.
     fn retire(&mut self, worker: usize, slot: usize) -> Result<(), Refusal>
         requires { worker < length self.old.workers }
         ensures { Meets (of_worker self.old worker (λ (k : Actor). retire self.old worker k (Doing.Closed slot))) self.old self.new result }

@@ -1,4 +1,4 @@
-// The machine's state, its opening, and what it lets be read.
+// The machine's state, how it starts, and its readers.
 ghost use Rattle.std.specs.Prelude.{◌≡◌, IfOk, replicate};
 ghost use Rattle.world.specs.States.{numbers_below, unused, resting};
 
@@ -58,9 +58,9 @@ impl World {
     ghost use Rattle.std.specs.Prelude.{◌≡◌, IfOk, replicate};
     ghost use Rattle.world.specs.States.{IsWithinLimits, opening};
 
-    /// A world as it begins: every slot is free and has had the generation of the limits.
+    /// A world as it starts: every slot is free and has the generation of the limits.
     ///
-    /// Fails only where there is no memory for its slots, workers and queues, and then no world is made.
+    /// Fails only if there is no memory for its slots, workers and queues; then no world is made.
     pub fn new(alloc: Global, limits: Limits) -> Result<World, AllocError>
         requires { IsWithinLimits limits }
         ensures { IfOk result (λ world. world ≡ opening limits) }

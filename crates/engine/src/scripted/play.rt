@@ -22,7 +22,7 @@ impl Model for Bytes {
 }
 
 impl Bytes {
-    /// These bytes. Takes no memory.
+    /// Takes these bytes. Allocates no memory.
     pub fn new(bytes: Vec<u8>) -> Bytes
         ensures { result ≡ bytes.items }
     {
@@ -48,11 +48,11 @@ impl Bytes {
 /// One answer that a [`ScriptWire`](crate::ScriptWire) gives.
 #[derive(Debug, Drop)]
 pub enum Play {
-    /// A read gives these bytes, or as many of the first as its buffer holds; what is left is given next.
+    /// A read gives these bytes, or as many of the first ones as fit into its buffer; what is left is given next.
     Bytes(Bytes),
     /// A read meets the end of input.
     End,
-    /// A write takes so many bytes, or its whole offer where that is shorter.
+    /// A write takes this many bytes, or its whole offer if that is shorter.
     Take(usize),
     /// A write takes none.
     Zero,
@@ -64,13 +64,13 @@ pub enum Play {
     Interrupted,
     /// The call would have had to wait (EAGAIN).
     Blocked,
-    /// The call fails. [`Kind::Zero`] comes out as [`Kind::Other`]: the kind `zero` is of a write that
-    /// answers 0, which is [`Play::Zero`].
+    /// The call fails. [`Kind::Zero`] is reported as [`Kind::Other`]: the kind `zero` is for a write that answers 0,
+    /// which is [`Play::Zero`].
     Fault(Kind),
 }
 
 impl Play {
-    /// The error by which a call answers where this play is one, or does not fit the call.
+    /// The error with which a call answers if this play is an error or does not fit the call.
     pub(crate) fn error(&self) -> ErrorKind
         ensures { result ≡ error_of self.now }
     {
@@ -82,7 +82,7 @@ impl Play {
         }
     }
 
-    /// How many bytes a write takes that offers so many, or its error.
+    /// How many bytes a write of this many takes, or its error.
     pub(crate) fn taken(&self, offered: usize) -> Result<usize, ErrorKind>
         ensures { took result ≡ written_by offered self.now }
     {
@@ -93,7 +93,7 @@ impl Play {
         }
     }
 
-    /// The most bytes that a write takes by it.
+    /// The most bytes that a write takes with this play.
     pub(crate) fn most_taken(&self) -> usize
         ensures { result ≡ most_taken self.now }
     {
@@ -103,7 +103,7 @@ impl Play {
         }
     }
 
-    /// Whether it shows, where it fits its call, that the socket is connected.
+    /// Whether this play, if it fits its call, shows that the socket is connected.
     pub(crate) fn connects(&self) -> bool
         ensures { result ≡ connects self.now }
     {

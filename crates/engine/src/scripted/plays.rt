@@ -5,7 +5,7 @@ use super::play::Play;
 use std::alloc::AllocError;
 use std::marker::Model;
 
-/// A list of plays, used from the front without moving any.
+/// A list of plays that is used from the front, without moving any.
 #[derive(Drop)]
 pub(crate) struct Plays {
     plays: Vec<Play>,
@@ -37,7 +37,7 @@ impl Plays {
         self.plays.len() - self.used
     }
 
-    /// The one that comes next.
+    /// The next one.
     pub(crate) fn first(&self) -> Option<&Play>
         ensures none { IsNone result → self.now ≡ [] }
         ensures some { IfSome result (λ play. self.now ≡ play.now ∷ drop 1 self.now) }
@@ -45,7 +45,7 @@ impl Plays {
         self.plays.as_slice().get(self.used)
     }
 
-    /// Leaves it behind.
+    /// Skips the next one.
     pub(crate) fn pass(&mut self)
         requires { 1 ≤ length self.old }
         ensures { self.new ≡ drop 1 self.old }
@@ -60,7 +60,7 @@ impl Plays {
         &self.plays[self.used..]
     }
 
-    /// Drops the first `n` bytes of the one that comes next.
+    /// Drops the first `n` bytes of the next one.
     pub(crate) fn trim(&mut self, n: usize)
         requires { n ≤ length (first_bytes self.old) }
         ensures { self.new ≡ trimmed n self.old }
@@ -73,7 +73,7 @@ impl Plays {
         }
     }
 
-    /// Puts one before the one at this index; or there is no memory for it, and it is dropped.
+    /// Inserts a play before the one at this index. If there is no memory for it, it is dropped.
     pub(crate) fn insert(&mut self, index: usize, play: Play) -> Result<(), AllocError>
         requires { index ≤ length self.old }
         ensures done { IfOk result (λ x. self.new ≡ insert self.old index play) }

@@ -11,7 +11,7 @@ use std::alloc::AllocError;
 use std::io::ErrorKind;
 use std::marker::Model;
 
-/// The plays of reads. The first may have given some of its bytes, and counts as what is left of it.
+/// The plays for reads. The first may have given some of its bytes, and then counts as what is left of it.
 #[derive(Drop)]
 pub(crate) struct Reads {
     plays: Plays,
@@ -80,8 +80,8 @@ impl Reads {
         }
     }
 
-    /// Puts a play before the one at this index; or there is no memory for it, and it is dropped. Before the
-    /// first it comes before what is left of that.
+    /// Inserts a play before the one at this index; if there is no memory for it, it is dropped. Index 0 is before what
+    /// is left of the first play.
     pub(crate) fn insert(&mut self, index: usize, play: Play) -> Result<(), AllocError>
         requires { index ≤ length self.old }
         ensures done { IfOk result (λ x. self.new ≡ insert self.old index play) }
@@ -93,7 +93,7 @@ impl Reads {
     }
 }
 
-/// Copies the first bytes of one slice to the front of another, as many as both hold.
+/// Copies the first bytes of one slice to the start of another, as many as fit.
 fn copy_front(from: &[u8], to: &mut [u8]) -> usize
     ensures count { result ≡ min (length from.now) (length to.old) }
     ensures bytes { take result to.new ≡ take result from.now }

@@ -20,21 +20,20 @@ use std::marker::Model;
 /// One of the three lists of answers that a [`ScriptWire`] plays.
 #[derive(Clone, Copy, Debug, PartialEq, Eq)]
 pub enum PlayList {
-    /// Those to reads.
+    /// The answers to reads.
     Reads,
-    /// Those to writes.
+    /// The answers to writes.
     Writes,
-    /// Those to the questions whether the socket is connected, and to shutdowns.
+    /// The answers to the question whether the socket is connected, and to shutdowns.
     Closings,
 }
 
-/// A wire over memory that plays lists of answers: one for reads, one for writes, and one for
-/// [`Wire::joined`] and [`Wire::shut_write`].
+/// An in-memory wire that plays lists of answers: one for reads, one for writes, and one for [`Wire::joined`] and
+/// [`Wire::shut_write`].
 ///
-/// A play that does not fit its call is a fault of kind `other`, and is used. An empty list answers
-/// "would block", and a shutdown that it is done. The wire is joined from its first Bytes, End, Take or
-/// Joined on; until then the error that it is not connected counts as "would block" for all calls but a
-/// shutdown.
+/// A play that does not fit its call is a fault of kind `other`, and is used up. With an empty list the answer is
+/// "would block", but a shutdown succeeds. The wire is joined from its first Bytes, End, Take or Joined on; until then
+/// the error "not connected" counts as "would block" for all calls but a shutdown.
 #[derive(Drop)]
 pub struct ScriptWire {
     reads: Reads,
@@ -57,9 +56,9 @@ impl Model for ScriptWire {
 }
 
 impl ScriptWire {
-    /// A wire with these answers, on a socket that is known to be connected or not. This takes the memory
-    /// for the bytes of every Take, and nothing later takes any. [`AllocError`] where there is not so much
-    /// memory, also where no number of bytes is so large; the plays are dropped then.
+    /// A wire with these answers, on a socket that is or is not known to be connected. This allocates the memory for
+    /// the bytes of every Take, and no later call allocates any. Fails with [`AllocError`] if there is not enough
+    /// memory, also if the number of bytes is too large for any memory; then the plays are dropped.
     pub fn new(
         alloc: Global,
         joined: bool,
@@ -82,11 +81,11 @@ impl ScriptWire {
         })
     }
 
-    /// Puts a play before the one at `index` of a list, 0 for the one that comes next. Where a read has given
-    /// the first bytes of a Bytes, what is left of it counts as that play.
+    /// Inserts a play before the one at `index` of a list; 0 is the next one. If a read has already given the first
+    /// bytes of a Bytes, what is left of it counts as that play.
     ///
-    /// This takes the memory for the play and, in the list of writes, for a Take's bytes. [`AllocError`] where
-    /// there is not so much: then the play is dropped, and the wire is as it was.
+    /// This allocates the memory for the play and, in the list for writes, for a Take's bytes. Fails with
+    /// [`AllocError`] if there is not enough: then the play is dropped, and the wire is as it was.
     pub fn disturb(&mut self, list: PlayList, index: usize, play: Play) -> Result<(), AllocError>
         requires { index ≤ length (plays_of list self.old) }
         ensures done { IfOk result (λ x. self.new ≡ disturbed list index play self.old) }
@@ -111,7 +110,7 @@ impl ScriptWire {
         self.taken.as_slice()
     }
 
-    /// How many plays were not used, up to the largest `usize`.
+    /// How many plays are left, up to the largest `usize`.
     pub fn left(&self) -> usize
         ensures { result ≡ min (plays_left self.now) (2 ^ 64 - 1) }
     {
@@ -121,7 +120,7 @@ impl ScriptWire {
             .saturating_add(self.closings.len())
     }
 
-    /// How many plays of one list were not used.
+    /// How many plays of one list are left.
     pub fn left_of(&self, list: PlayList) -> usize
         ensures { result ≡ length (plays_of list self.now) }
     {
@@ -132,7 +131,7 @@ impl ScriptWire {
         }
     }
 
-    /// An error of a call, which is counted.
+    /// Counts an error of a call, and gives it.
     fn refuse(&mut self, call: Call, kind: ErrorKind) -> io::Error
         requires { side_of call ≡ Side.Target }
         ensures kind { error_kind result ≡ kind }
@@ -143,7 +142,7 @@ impl ScriptWire {
     }
 }
 
-/// The room for the bytes of every Take, or none where no memory is so large.
+/// How many bytes every Take together needs, or none if no memory is that large.
 fn room_for(plays: &[Play]) -> Option<usize>
     ensures { IfSome result (λ room. room ≡ sum_by most_taken plays.now) }
 {
