@@ -1,4 +1,4 @@
--- What the claim rule says of all seats together, in a reader's words. Part of the promises.
+-- What follows from the claim rule for all seats together, in plain terms. Part of the promises.
 use Rattle.std.specs.Prelude.{◌≡◌, ℕ, ◌+◌, ◌<◌, true, List, sum_by, slice_index, slice_index_or}
 use Rattle.claims.specs.declared.view.View.{View}
 use Rattle.claims.specs.Words.{word_of, WordState}

@@ -1,4 +1,4 @@
--- What one exchange tells the seat that made it. For proofs alone.
+-- What one exchange tells the seat that made it. Only for proofs.
 use Rattle.std.specs.Prelude.{◌≡◌, ℕ, ◌+◌, ◌-◌, ◌^◌, ◌<◌, true, List, length, sum_by, slice_index, slice_set}
 use mathlib.Core.Option.{some}
 use lib.ListN.{get_elem?}

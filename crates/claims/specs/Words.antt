@@ -1,5 +1,5 @@
--- The claim word of a slot, and what one step of each kind makes of it and answers. Part of the promises. This file
--- stands by itself, so that a model of the server can state its own steps by the same words.
+-- The claim word of a slot, how a step of each kind changes it, and what the step answers. Part of the promises. This
+-- file stands alone, so that a model of the server can describe its own steps with the same words.
 use Rattle.std.specs.Prelude.{◌≡◌, ℕ, zero, suc, ◌+◌, ◌*◌, Bool, true, false, if◌then◌else◌}
 
 -- what a word says of its slot: how many notes wait, whether the slot is free, and whether it is held

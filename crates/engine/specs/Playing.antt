@@ -1,4 +1,4 @@
--- How a wire over memory works its plays off. For proofs alone.
+-- How an in-memory wire uses up its plays. Only for proofs.
 use Rattle.std.specs.Prelude.{ℕ, List, [], ◌∷◌, take, drop, Result, Ok, Err}
 use Rattle.std.specs.declared.io.ErrorKind.{ErrorKind}
 use Rattle.engine.specs.Asked.{Given, Brought, Took, Refused}

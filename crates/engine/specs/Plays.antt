@@ -1,4 +1,4 @@
--- The plays of a wire over memory, one by one, and what each gives to a call. Part of the promises.
+-- The plays of an in-memory wire, and what each gives to a call. Part of the promises.
 use Rattle.std.specs.Prelude.{ℕ, min, Bool, true, false, List, [], take}
 use Rattle.std.specs.declared.io.ErrorKind.{ErrorKind}
 use Rattle.std.specs.declared.io.ErrorKind.TheVariants as error

@@ -1,4 +1,4 @@
--- A wire over memory that plays answers, as its callers see it. Part of the promises.
+-- An in-memory wire that plays answers, as its callers see it. Part of the promises.
 use Rattle.std.specs.Prelude.{◌≡◌, ℕ, ◌+◌, ◌&&◌, nat_eq, nat_lt, nat_le, if◌then◌else◌, Bool, false, List, [], ◌∷◌, ◌++◌, length, take, drop, insert}
 use Rattle.std.specs.declared.io.ErrorKind.TheVariants.{WouldBlock}
 use Rattle.relay_core.specs.declared.Side.TheVariants.{Target}

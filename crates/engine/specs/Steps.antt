@@ -1,4 +1,4 @@
--- What one call of a turn comes to. For proofs alone.
+-- What one call of a turn does. Only for proofs.
 use Rattle.std.specs.Prelude.{◌≡◌, ℕ, true, if◌then◌else◌, List, [], ◌∷◌}
 use Rattle.std.specs.Prelude.{Some}
 use Rattle.std.specs.Io.KnownBytes.{Consumes, Appends}

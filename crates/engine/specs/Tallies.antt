@@ -1,4 +1,4 @@
--- What a wire knows of its answers. Part of the promises.
+-- What a wire keeps about its answers. Part of the promises.
 use Rattle.std.specs.Prelude.{ℕ, ◌+◌, ◌%◌, ◌^◌, Bool, true}
 use Rattle.engine.specs.declared.class.Class.{Class}
 use Rattle.engine.specs.declared.class.Class.TheVariants.{Interrupted, Blocked, Failed}

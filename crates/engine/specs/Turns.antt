@@ -1,4 +1,4 @@
--- What a turn comes to, as the pair's run over the answers of two wires. Part of the promises.
+-- What a turn does, as the pair's run over the answers of two wires. Part of the promises.
 use Rattle.std.specs.Prelude.{◌≡◌, ℕ, ◌+◌, ◌≤◌, Bool, true, false, ◌&&◌, if◌then◌else◌, List, [], ◌∷◌, ◌++◌, length, OnSome, unwrap_or, option_map}
 use Rattle.std.specs.Prelude.{Option}
 use Rattle.std.specs.Prelude.{Some, None}
@@ -140,9 +140,9 @@ pub record IsServed {S : Type 0} (told : S → Told) (does : Asked → Given →
   pub blocks : Rises (told old).blocks (told new).blocks (count_on is_blocked side p replies)
   pub made : AreMade told does (made_on side p replies) old new
 
--- a turn of at most `budget` calls: there is a list of answers over which the pair ran, and both wires
--- gave them. Fewer came than the budget allows only where there is no next call, and a pair that was live
--- fails by the last answer
+-- a turn of at most `budget` calls: there is a list of answers over which the pair ran, and each wire served its side
+-- of it, as `client` and `target` say: its bytes, its counts of faults and blocks, and its calls. The list is shorter
+-- than the budget only if there is no next call, and a pair that was live fails only by the last answer
 pub record IsTurn (budget : ℕ) (old new : Relay) (client target : Side → Relay → List Reply → Type 0) : Type 0 where
   pub replies : List Reply
   pub few : length replies ≤ budget

@@ -1,4 +1,4 @@
--- The order of work, or which call comes next. Part of the promises.
+-- The order of work: which call comes next. Part of the promises.
 use Rattle.std.specs.Prelude.{ℕ, Bool, not, ◌&&◌, nat_lt, min, if◌then◌else◌, List, length, Option, Some, None}
 use Rattle.std.specs.Option.{option_or}
 use Rattle.token.specs.declared.side.Side.{Side}

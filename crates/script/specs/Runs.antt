@@ -1,4 +1,4 @@
--- What a run leaves at its writer, given what its reader had. Part of the promises.
+-- What a run writes, given what its reader had. Part of the promises.
 use Rattle.std.specs.Prelude.{◌≡◌, ◌⊎◌, ℕ, List, Option, Result, Ok, Err}
 use Rattle.std.specs.Io.KnownBytes.{Appends}
 use Rattle.world.specs.States.{State}

@@ -1,4 +1,4 @@
--- The seats of threads that have not begun. For proofs alone.
+-- The seats of threads that have not begun. Only for proofs.
 use Rattle.std.specs.Prelude.{◌≡◌, List, length, replicate}
 use Rattle.claims.specs.Seats.{TableId, SeatState, fresh}
 

@@ -1,4 +1,4 @@
--- The line that tells a settings fault. Part of the promises.
+-- The line for a settings fault. Part of the promises.
 use Rattle.std.specs.Prelude.{ℕ, List, ◌++◌, codes}
 use Rattle.settings.specs.Names.{key_name}
 use Rattle.settings.specs.Shown.{one_line}

@@ -1,4 +1,4 @@
--- How a text from outside, as a key that a person wrote, is shown within a line. Part of the promises.
+-- How a text from outside, such as a key that a person wrote, is shown within a line. Part of the promises.
 use Rattle.std.specs.Prelude.{ℕ, List, [], ◌++◌, false, length, take, codes, if◌then◌else◌, nat_lt, encode_utf8}
 use Rattle.std.specs.Char.{is_control}
 use Rattle.std.specs.Fmt.{digits}

@@ -1,4 +1,4 @@
--- What the core says of every pair, on which a run of the machine rests. For proofs alone.
+-- The core's laws for every pair, on which a run of the machine depends. Only for proofs.
 use Rattle.relay_core.specs.Laws.{AnswersKeepPlace, FailuresAreTold, LivePairsRest}
 
 pub record CoreLaws : Type 0 where

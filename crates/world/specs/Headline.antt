@@ -1,5 +1,5 @@
 -- What holds after every run of events, clause by clause. Part of the promises. No definition here depends on how the
--- relay comes to it.
+-- relay achieves it.
 use Rattle.std.specs.Prelude.{◌≡◌, ℕ, ◌+◌, ◌==◌, Bool, true, false, not, ◌&&◌, ◌||◌, ◌⊎◌, List, [], ◌∷◌, ◌++◌, Option, Some, None, IsSome, slice_get}
 use Rattle.std.specs.List.{list_all}
 use Rattle.token.specs.declared.side.Side.{Side}
