@@ -7,7 +7,7 @@ use mathlib.Core.Logic.{dite}
 use native.Mathlib.Decide.{ℕ_discrete}
 use lib.ListN.{get_elem?}
 use Rattle.claims.specs.declared.view.Account.{Account}
-use Rattle.claims.specs.Words.{one, some_wait, wakes, word_of, word_after, WordState, Kind, post, claim, take, release, retire, adopt}
+use Rattle.claims.specs.Words.{one, some_wait, wakes, word_of, word_after, WordState, StepKind, post, claim, take, release, retire, adopt}
 use Rattle.claims.specs.Views.{posted_of, taken_of, minted_of, redeemed_of, holding_of, adopts_of, retires_of, account_after, after_post, after_claim, after_take, after_release, after_retire, after_adopt}
 use Rattle.claims.specs.Rule.{due, Knows, SlotRule}
 use Rattle.claims.specs.Steps.{NeedsHolder}
@@ -86,7 +86,7 @@ module _ (accounts : List Account) (k : ℕ) (v : Account) (at : get_elem? accou
       false_from_zero (get_or accounts j d).holds (omega arith)
 
   -- a step of the kind that the seat may do keeps the rule of the slot
-  step_by : (kind : Kind) (p : ℕ) (f h : Bool) → NeedsHolder kind v
+  step_by : (kind : StepKind) (p : ℕ) (f h : Bool) → NeedsHolder kind v
       → p + sum_by taken_of accounts ≡ sum_by posted_of accounts
       → sum_by holding_of accounts + one f ≡ one h
       → sum_by minted_of accounts ≡ sum_by redeemed_of accounts + due (word_state p f h)
@@ -136,5 +136,5 @@ module _ (accounts : List Account) (k : ℕ) (v : Account) (at : get_elem? accou
       let s = word_state p false h in
       turned v s s notes holders tickets freed (omega arith) refl (omega arith) (omega arith) (all_put (Knows p) accounts k v (each_at (Knows p) accounts k v at known) (λ j d other lt. known j d lt))
 
-  pub slot_kept : (kind : Kind) (n : ℕ) → NeedsHolder kind v → (rule : SlotRule n accounts) → SlotRule (word_of (word_after kind rule.state)) (set accounts k (account_after kind rule.state v))
+  pub slot_kept : (kind : StepKind) (n : ℕ) → NeedsHolder kind v → (rule : SlotRule n accounts) → SlotRule (word_of (word_after kind rule.state)) (set accounts k (account_after kind rule.state v))
   slot_kept kind n may rule = step_by kind rule.state.pending rule.state.free rule.state.held may rule.notes rule.holders rule.tickets rule.known rule.freed

@@ -8,16 +8,16 @@ use lib.ListN.{get_elem?}
 use Rattle.atomic_table.proofs.Lists.{at_map, set_here}
 use Rattle.claims.specs.declared.view.Account.{Account}
 use Rattle.claims.specs.declared.view.View.{View}
-use Rattle.claims.specs.Words.{one, word_of, word_after, answer_of, WordState, Kind, Answer}
+use Rattle.claims.specs.Words.{one, word_of, word_after, answer_of, WordState, StepKind, Answer}
 use Rattle.claims.specs.Views.{blank, posted_of, taken_of, holds_of, holding_of, account_in, column, account_after}
 use Rattle.claims.specs.Rule.{Knows, ClaimRule}
-use Rattle.claims.specs.Steps.{state_at, Told}
+use Rattle.claims.specs.Steps.{state_at, StepEffect}
 use Rattle.claims.specs.Seats.{TableId, SeatState, seat_state, view_of, account_at, Holds, HoldsNot, one_step_later, Changed, KeepsRule, Stepped, SeatOk}
 use Rattle.claims.proofs.Totals.{inside, each_at, term-le}
 use Rattle.claims.proofs.OneSlot.{false_from_zero}
 use Rattle.claims.proofs.AllSlots.{few_posts}
 
-module _ {kind : Kind} {slot found : ℕ} {v w : View} (told : Told kind slot found v w) where
+module _ {kind : StepKind} {slot found : ℕ} {v w : View} (told : StepEffect kind slot found v w) where
   -- what the number found says
   abbrev pub state : WordState
   state = state_at told.before told.inside

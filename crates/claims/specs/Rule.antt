@@ -1,5 +1,5 @@
--- The claim rule: what is true of all words and of the views of all seats between any two steps, in every schedule.
--- Part of the promises.
+-- The claim rule. Part of the promises. It is true of all words and of the views of all seats between any two steps, in
+-- every schedule.
 use Rattle.std.specs.Prelude.{◌≡◌, ℕ, ◌+◌, ◌^◌, ◌<◌, ◌≤◌, false, List, length, All, sum_by, if◌then◌else◌, slice_index}
 use Rattle.claims.specs.declared.view.Account.{Account}
 use Rattle.claims.specs.declared.view.View.{View}

@@ -5,7 +5,7 @@ use lib.ListN.{get_elem?}
 pub use Rattle.atomic_table.specs.Seated.{TableId}
 use Rattle.claims.specs.declared.view.Account.{Account}
 use Rattle.claims.specs.declared.view.View.{View}
-use Rattle.claims.specs.Words.{Kind, Answer, WordStep}
+use Rattle.claims.specs.Words.{StepKind, Answer, WordStep}
 use Rattle.claims.specs.Views.{blank, posted_of, holds_of, account_after}
 use Rattle.claims.specs.Rule.{ClaimRule}
 
@@ -59,7 +59,7 @@ pub record Changed (slot : ℕ) (old new : SeatState) (account : Account) : Type
 -- In a state that met the rule the seat did one step of this kind at the slot's word, which answered so. Its account became what
 -- the kind makes of it by what the word said, and the rule was kept. The state is some state, since no clause can name what other
 -- threads do, but the seat's own view stands in it, before and after
-pub record KeepsRule (kind : Kind) (slot : ℕ) (old new : SeatState) (answer : Answer) : Type 0 where
+pub record KeepsRule (kind : StepKind) (slot : ℕ) (old new : SeatState) (answer : Answer) : Type 0 where
   pub words : List ℕ
   pub views : List View
   pub seat : ℕ
@@ -71,7 +71,7 @@ pub record KeepsRule (kind : Kind) (slot : ℕ) (old new : SeatState) (answer : 
   pub after : ClaimRule old.table.words (slice_set words slot word) (slice_set views seat (view_of new))
 
 -- the same, closed: a caller's proof does not open it unasked
-unfoldable pub Stepped : Kind → ℕ → SeatState → SeatState → Answer → Type 0
+unfoldable pub Stepped : StepKind → ℕ → SeatState → SeatState → Answer → Type 0
 Stepped kind slot old new answer = KeepsRule kind slot old new answer
 
 -- what a seat keeps beside its view: how often it has posted, and which slots it holds

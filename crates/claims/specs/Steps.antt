@@ -1,19 +1,19 @@
 -- What one exchange tells the seat that made it. Only for proofs.
-use Rattle.std.specs.Prelude.{◌≡◌, ℕ, ◌+◌, ◌-◌, ◌^◌, ◌<◌, true, List, length, sum_by, slice_index, slice_set}
+use Rattle.std.specs.Prelude.{◌≡◌, ℕ, ◌+◌, ◌-◌, ◌<◌, true, List, length, slice_index, slice_set}
 use mathlib.Core.Option.{some}
 use lib.ListN.{get_elem?}
 use Rattle.claims.specs.declared.view.Account.{Account}
 use Rattle.claims.specs.declared.view.View.{View}
-use Rattle.claims.specs.Words.{word_of, word_after, WordState, Kind, post, claim, take, release, retire, adopt}
-use Rattle.claims.specs.Views.{posted_of, unused_view, account_in, account_after}
+use Rattle.claims.specs.Words.{word_of, word_after, WordState, StepKind, post, claim, take, release, retire, adopt}
+use Rattle.claims.specs.Views.{unused_view, account_in, account_after}
 use Rattle.claims.specs.Rule.{ClaimRule}
 
 -- the view that a step of this kind leaves, with one step more
-abbrev pub view_after : Kind → WordState → ℕ → View → View
+abbrev pub view_after : StepKind → WordState → ℕ → View → View
 view_after kind w slot v = record v { accounts = slice_set v.accounts slot (account_after kind w (account_in slot v)); steps = v.steps + 1 }
 
 -- what each kind of step asks of its seat's account: take, release and retire are for the holder
-abbrev pub NeedsHolder : Kind → Account → Type 0
+abbrev pub NeedsHolder : StepKind → Account → Type 0
 NeedsHolder post a = Unit {0}
 NeedsHolder claim a = Unit {0}
 NeedsHolder take a = a.holds ≡ true
@@ -21,17 +21,12 @@ NeedsHolder release a = a.holds ≡ true
 NeedsHolder retire a = a.holds ≡ true
 NeedsHolder adopt a = Unit {0}
 
--- what each kind of step asks of its seat
-abbrev pub MayDo : Kind → ℕ → View → Type 0
-MayDo post slot v = sum_by posted_of v.accounts < 2 ^ 56
-MayDo kind slot v = NeedsHolder kind (account_in slot v)
-
 -- what the word of this slot says
 abbrev pub state_at : {slots slot : ℕ} {words : List ℕ} {views : List View} → ClaimRule slots words views → slot < slots → WordState
 state_at rule inside = (rule.slot_rules _ inside).state
 
 -- Where the number was found the rule held, with the seat's view in it. It holds after the step, with the view that the step leaves
-pub record Told (kind : Kind) (slot found : ℕ) (v w : View) : Type 0 where
+pub record StepEffect (kind : StepKind) (slot found : ℕ) (v w : View) : Type 0 where
   pub slots : ℕ
   pub seat : ℕ
   pub words : List ℕ

@@ -1,9 +1,9 @@
--- What a seat has done at one slot, its account, and the view of a seat: an account for each slot. Part of the
--- promises.
+-- What a seat has done. Part of the promises. Its account is what it has done at one slot, and its view has an account
+-- for each slot.
 use Rattle.std.specs.Prelude.{ℕ, ◌+◌, Bool, true, false, List, map, replicate, if◌then◌else◌, slice_index_or}
 use Rattle.claims.specs.declared.view.Account.{Account}
 use Rattle.claims.specs.declared.view.View.{View}
-use Rattle.claims.specs.Words.{one, some_wait, wakes, WordState, Kind, post, claim, take, release, retire, adopt}
+use Rattle.claims.specs.Words.{one, some_wait, wakes, WordState, StepKind, post, claim, take, release, retire, adopt}
 
 -- the account of a seat that has done nothing at the slot
 abbrev pub blank : Account
@@ -77,7 +77,7 @@ abbrev pub after_adopt : ℕ → Account → Account
 after_adopt pending a = record a { holds = true; known = pending; adopts = a.adopts + 1 }
 
 -- the same by the kind of step and by what the word said
-abbrev pub account_after : Kind → WordState → Account → Account
+abbrev pub account_after : StepKind → WordState → Account → Account
 account_after post w a = after_post (wakes w) a
 account_after claim w a = if w.held then a else after_claim w.pending a
 account_after take w a = after_take w.pending a

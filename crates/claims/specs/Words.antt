@@ -18,13 +18,13 @@ abbrev pub word_of : WordState → ℕ
 word_of w = 4 * w.pending + (2 * one w.free + one w.held)
 
 -- the kinds of step, each an exchange of one word
-pub data Kind : Type 0 where
-  post : Kind
-  claim : Kind
-  take : Kind
-  release : Kind
-  retire : Kind
-  adopt : Kind
+pub data StepKind : Type 0 where
+  post : StepKind
+  claim : StepKind
+  take : StepKind
+  release : StepKind
+  retire : StepKind
+  adopt : StepKind
 
 -- what a step answers, by the word that it found
 pub data Answer : Type 0 where
@@ -47,7 +47,7 @@ abbrev pub wakes : WordState → Bool
 wakes w = if w.held then false else (if some_wait w.pending then false else true)
 
 -- post adds a note, claim sets `held` and release clears it, take clears the notes, retire sets `free` and adopt clears it
-abbrev pub word_after : Kind → WordState → WordState
+abbrev pub word_after : StepKind → WordState → WordState
 word_after post w = record w { pending = suc w.pending }
 word_after claim w = record w { held = true }
 word_after take w = record w { pending = zero }
@@ -56,7 +56,7 @@ word_after retire w = record w { free = true }
 word_after adopt w = record w { free = false }
 
 -- A claim of a free slot is answered busy, since a free slot is marked as held
-abbrev pub answer_of : Kind → WordState → Answer
+abbrev pub answer_of : StepKind → WordState → Answer
 answer_of post w = if wakes w then wake else quiet
 answer_of claim w = if w.held then busy else held
 answer_of take w = count w.pending
@@ -65,7 +65,7 @@ answer_of retire w = nothing
 answer_of adopt w = if w.free then adopted else not_free
 
 -- A step of this kind makes `new` of the word `old`, and answers so. A number says one state, so kind and old word determine both
-pub record WordStep (kind : Kind) (old new : ℕ) (answer : Answer) : Type 0 where
+pub record WordStep (kind : StepKind) (old new : ℕ) (answer : Answer) : Type 0 where
   pub found : WordState
   pub old_is : old ≡ word_of found
   pub new_is : new ≡ word_of (word_after kind found)

@@ -15,17 +15,17 @@ use Rattle.relay_core.specs.declared.call.Call.TheVariants.{Write, Read, Join}
 use Rattle.relay_core.specs.Calls.{side_of}
 use Rattle.relay_core.specs.Pairs.{Relay}
 use Rattle.relay_core.specs.Order.{offer}
-use Rattle.relay_core.specs.Replies.{Reply, Bytes, End, Wrote, Joined, Shut, Blocked, Interrupted, Failed, fits, after}
+use Rattle.relay_core.specs.Replies.{AnswerValue, Bytes, End, Wrote, Joined, Shut, Blocked, Interrupted, Failed, fits, after}
 use Rattle.relay_core.specs.Moved.{brought, carried}
 use Rattle.engine.specs.Classes.{kind_of_error}
 use Rattle.engine.specs.Asked as ask
 use Rattle.engine.specs.Asked.{Asked, Given, Brought, Took, Refused}
-use Rattle.engine.specs.Wires.{Told, Rises}
+use Rattle.engine.specs.Wires.{WireView, Rises}
 use Rattle.engine.specs.Turns.{asked, made, is_failed, is_blocked, way_from, way_to, IsCalled}
 use Rattle.engine.specs.Steps.{IsErrorReply, IsError, IsStep}
 
 -- nothing moved, and no count changed
-pub record Stays (old new : Told) : Type 0 where
+pub record Stays (old new : WireView) : Type 0 where
   pub remaining : Keeps old.remaining new.remaining
   pub written : Keeps old.written new.written
   pub faults : new.faults ≡ old.faults
@@ -45,7 +45,7 @@ pub stays_at : (n m : ℕ) → m ≡ n → Rises n m 0
 stays_at n m e = ap (λ (k : ℕ). k % 2 ^ 64) (e ∙ sym (add-zero n))
 
 -- an answer that moves nothing and that no wire counts
-pub still : {S : Type 0} (told : S → Told) (does : Asked → Given → S → S → Type 0) (call : Call) (p q : Relay) (reply : Reply) (old new : S) → fits p call reply ≡ true → q ≡ after p call reply →
+pub still : {S : Type 0} (told : S → WireView) (does : Asked → Given → S → S → Type 0) (call : Call) (p q : Relay) (reply : AnswerValue) (old new : S) → fits p call reply ≡ true → q ≡ after p call reply →
     brought (way_from (side_of call)) call reply ≡ [] → carried p (way_to (side_of call)) call reply ≡ [] →
     is_failed reply ≡ false → is_blocked reply ≡ false → Stays (told old) (told new) → IsCalled does (made (asked p call) reply) old new → IsStep told does call p q old new
 still told does call p q reply old new fit run brings carries sound free s m = record {
@@ -75,7 +75,7 @@ fitting n most buffer some within small =
     rw (length-take-le n buffer within, le-leb 1 n some, le-leb n most small) refl
 
 -- a read brought bytes, which stand at the front of the buffer
-pub bytes_in : {S : Type 0} (told : S → Told) (does : Asked → Given → S → S → Type 0) (side : Side) (most : ℕ) (p q : Relay) (n : ℕ) (room buffer rest : List ℕ) (old new : S) → 1 ≤ n → n ≤ length buffer → n ≤ most →
+pub bytes_in : {S : Type 0} (told : S → WireView) (does : Asked → Given → S → S → Type 0) (side : Side) (most : ℕ) (p q : Relay) (n : ℕ) (room buffer rest : List ℕ) (old new : S) → 1 ≤ n → n ≤ length buffer → n ≤ most →
     q ≡ after p (Read side most) (Bytes (take n (buffer ++ rest))) → Consumes (told old).remaining (told new).remaining (take n buffer) →
     Stays (record (told old) { remaining = None }) (record (told new) { remaining = None }) → length room ≡ most → does (ask.Read (length room)) (Brought (take n buffer)) old new → IsStep told does (Read side most) p q old new
 bytes_in told does side most p q n room buffer rest old new some within small run taken s all did =
@@ -110,7 +110,7 @@ raised f g moved (inl same) = absurd (moved same)
 raised f g moved (inr rose) = rose
 
 -- a write took bytes
-pub bytes_out : {S : Type 0} (told : S → Told) (does : Asked → Given → S → S → Type 0) (side : Side) (p q : Relay) (n : ℕ) (offered : List ℕ) (old new : S) → 1 ≤ n → n ≤ length offered → offered ≡ offer p side → q ≡ after p (Write side) (Wrote n) →
+pub bytes_out : {S : Type 0} (told : S → WireView) (does : Asked → Given → S → S → Type 0) (side : Side) (p q : Relay) (n : ℕ) (offered : List ℕ) (old new : S) → 1 ≤ n → n ≤ length offered → offered ≡ offer p side → q ≡ after p (Write side) (Wrote n) →
     Appends (told old).written (told new).written (take n offered) → Stays (record (told old) { written = None }) (record (told new) { written = None }) → does (ask.Write offered) (Took n) old new → IsStep told does (Write side) p q old new
 bytes_out told does side p q n offered old new some within same run taken s did = record {
   reply = Wrote n;
@@ -126,7 +126,7 @@ bytes_out told does side p q n offered old new some within same run taken s did 
 }
 
 -- a call failed
-pub failed : {S : Type 0} (told : S → Told) (does : Asked → Given → S → S → Type 0) (call : Call) (p q : Relay) (kind : Kind) (old new : S) → fits p call (Failed kind) ≡ true → q ≡ after p call (Failed kind) →
+pub failed : {S : Type 0} (told : S → WireView) (does : Asked → Given → S → S → Type 0) (call : Call) (p q : Relay) (kind : Kind) (old new : S) → fits p call (Failed kind) ≡ true → q ≡ after p call (Failed kind) →
     Keeps (told old).remaining (told new).remaining → Keeps (told old).written (told new).written → Rises (told old).faults (told new).faults 1 → (told new).blocks ≡ (told old).blocks →
     IsCalled does (made (asked p call) (Failed kind)) old new → IsStep told does call p q old new
 failed told does call p q kind old new fit run left kept faults blocks m = record {
@@ -157,7 +157,7 @@ pub read_of : {S : Type 0} (does : Asked → Given → S → S → Type 0) (most
 read_of does most given room old new all did = rw all at did
 
 -- an error, told as what it is
-pub refused : {S : Type 0} (does : Asked → Given → S → S → Type 0) (call : Asked) (error : ErrorKind) (reply : Reply) (old new : S) → IsErrorReply (kind_of_error error) reply → does call (Refused error) old new → IsCalled does (made call reply) old new
+pub refused : {S : Type 0} (does : Asked → Given → S → S → Type 0) (call : Asked) (error : ErrorKind) (reply : AnswerValue) (old new : S) → IsErrorReply (kind_of_error error) reply → does call (Refused error) old new → IsCalled does (made call reply) old new
 refused does call error Blocked old new sort did = record { given = Refused error; told = (error, refl); did = did }
 refused does call error Interrupted old new sort did = record { given = Refused error; told = (error, refl); did = did }
 refused does call error (Failed kind) old new sort did = record { given = Refused error; told = sort; did = did }
@@ -180,7 +180,7 @@ failed_fits p (Join side) kind = refl
 failed_fits p (call.Shut side) kind = refl
 
 -- an error, classed by what the wire counted
-pub erred : {S : Type 0} (told : S → Told) (does : Asked → Given → S → S → Type 0) (call : Call) (p q : Relay) (error : ErrorKind) (reply : Reply) (faults blocks : ℕ) (old new : S) → fits p call Blocked ≡ true → q ≡ after p call reply →
+pub erred : {S : Type 0} (told : S → WireView) (does : Asked → Given → S → S → Type 0) (call : Call) (p q : Relay) (error : ErrorKind) (reply : AnswerValue) (faults blocks : ℕ) (old new : S) → fits p call Blocked ≡ true → q ≡ after p call reply →
     Keeps (told old).remaining (told new).remaining → Keeps (told old).written (told new).written → faults ≡ (told old).faults → blocks ≡ (told old).blocks →
     IsError (kind_of_error error) reply faults (told new).faults blocks (told new).blocks → does (asked p call) (Refused error) old new → IsStep told does call p q old new
 erred told does call p q error Blocked faults blocks old new may run left kept f b e did = record {

@@ -8,22 +8,22 @@ use Rattle.relay_core.specs.declared.Kind.{Kind}
 use Rattle.relay_core.specs.declared.call.Call.{Call}
 use Rattle.relay_core.specs.Calls.{side_of}
 use Rattle.relay_core.specs.Pairs.{Relay}
-use Rattle.relay_core.specs.Replies.{Reply, Blocked, Interrupted, Failed, fits, after}
+use Rattle.relay_core.specs.Replies.{AnswerValue, Blocked, Interrupted, Failed, fits, after}
 use Rattle.relay_core.specs.Runs.{answered}
 use Rattle.relay_core.specs.Moved.{brought, carried}
 use Rattle.engine.specs.Asked.{Asked, Given}
-use Rattle.engine.specs.Wires.{Told, Rises}
+use Rattle.engine.specs.Wires.{WireView, Rises}
 use Rattle.engine.specs.Turns.{asked, made, is_failed, is_blocked, way_from, way_to, IsCalled}
 
 -- the answers that an error of this kind may be
-abbrev pub IsErrorReply : Kind → Reply → Type 0
+abbrev pub IsErrorReply : Kind → AnswerValue → Type 0
 IsErrorReply kind Blocked = Unit {0}
 IsErrorReply kind Interrupted = Unit {0}
 IsErrorReply kind (Failed other) = other ≡ kind
 IsErrorReply kind reply = ⊥
 
 -- what one answer to a call did to the wire that gave it
-pub record IsAnswered {S : Type 0} (told : S → Told) (does : Asked → Given → S → S → Type 0) (call : Call) (p : Relay) (reply : Reply) (old new : S) : Type 0 where
+pub record IsAnswered {S : Type 0} (told : S → WireView) (does : Asked → Given → S → S → Type 0) (call : Call) (p : Relay) (reply : AnswerValue) (old new : S) : Type 0 where
   pub read : Consumes (told old).remaining (told new).remaining (brought (way_from (side_of call)) call reply)
   pub written : Appends (told old).written (told new).written (carried p (way_to (side_of call)) call reply)
   pub faults : Rises (told old).faults (told new).faults (if is_failed reply then 1 else 0)
@@ -31,21 +31,21 @@ pub record IsAnswered {S : Type 0} (told : S → Told) (does : Asked → Given �
   pub made : IsCalled does (made (asked p call) reply) old new
 
 -- a call was made, and the pair has its answer
-pub record IsStep {S : Type 0} (told : S → Told) (does : Asked → Given → S → S → Type 0) (call : Call) (old new : Relay) (wire wire_now : S) : Type 0 where
-  pub reply : Reply
+pub record IsStep {S : Type 0} (told : S → WireView) (does : Asked → Given → S → S → Type 0) (call : Call) (old new : Relay) (wire wire_now : S) : Type 0 where
+  pub reply : AnswerValue
   pub fit : fits old call reply ≡ true
   pub run : new ≡ after old call reply
   pub served : IsAnswered told does call old reply wire wire_now
 
 -- an error's answer: what the wire counted tells a failure from "would block", and both from an interruption
-pub record IsError (kind : Kind) (reply : Reply) (faults faults_now blocks blocks_now : ℕ) : Type 0 where
+pub record IsError (kind : Kind) (reply : AnswerValue) (faults faults_now blocks blocks_now : ℕ) : Type 0 where
   pub sort : IsErrorReply kind reply
   pub failed : Rises faults faults_now (if is_failed reply then 1 else 0)
   pub waited : Rises blocks blocks_now (if is_blocked reply then 1 else 0)
 
 -- the next call of a pair was made on the wire of its side, and the pair has its answer
-pub record IsMove (old new : Relay) (client target : Side → Relay → List Reply → Type 0) : Type 0 where
-  pub reply : Reply
+pub record IsMove (old new : Relay) (client target : Side → Relay → List AnswerValue → Type 0) : Type 0 where
+  pub reply : AnswerValue
   pub run : answered old reply ≡ Some new
   pub by_client : client Client old (reply ∷ [])
   pub by_target : target Target old (reply ∷ [])

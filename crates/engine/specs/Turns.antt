@@ -17,13 +17,13 @@ use Rattle.relay_core.specs.declared.verdict.Verdict.TheVariants as verdict
 use Rattle.relay_core.specs.Calls.{side_of, direction_of}
 use Rattle.relay_core.specs.Pairs.{Relay, verdict}
 use Rattle.relay_core.specs.Order.{next_call, offer}
-use Rattle.relay_core.specs.Replies.{Reply, Bytes, End, Wrote, Joined, Shut, Blocked, Interrupted, Failed}
+use Rattle.relay_core.specs.Replies.{AnswerValue, Bytes, End, Wrote, Joined, Shut, Blocked, Interrupted, Failed}
 use Rattle.relay_core.specs.Runs.{answered, over}
 use Rattle.relay_core.specs.Moved.{all_brought, all_carried}
 use Rattle.engine.specs.Classes.{kind_of_error}
 use Rattle.engine.specs.Asked as ask
 use Rattle.engine.specs.Asked.{Asked, Given, Brought, Took, Done, Refused}
-use Rattle.engine.specs.Wires.{Told, Rises}
+use Rattle.engine.specs.Wires.{WireView, Rises}
 use Rattle.engine.specs.declared.outcome.Turn.{Turn}
 use Rattle.engine.specs.declared.outcome.Turn.TheVariants as turn
 
@@ -45,11 +45,11 @@ way_from side = direction_of (call.Read side 1)
 abbrev pub way_to : Side → Direction
 way_to side = direction_of (call.Write side)
 
-abbrev pub is_failed : Reply → Bool
+abbrev pub is_failed : AnswerValue → Bool
 is_failed (Failed kind) = true
 is_failed reply = false
 
-abbrev pub is_blocked : Reply → Bool
+abbrev pub is_blocked : AnswerValue → Bool
 is_blocked Blocked = true
 is_blocked reply = false
 
@@ -60,12 +60,12 @@ same_side Target Client = false
 same_side Target Target = true
 
 -- one, for an answer of this sort to a call on this side
-abbrev pub one_if : (Reply → Bool) → Side → Call → Reply → ℕ
+abbrev pub one_if : (AnswerValue → Bool) → Side → Call → AnswerValue → ℕ
 one_if test side call reply = if same_side (side_of call) side && test reply then 1 else 0
 
 -- how many answers of a list are of a sort, of those to calls on one side, each to the call that comes
 -- next at that point
-abbrev pub count_on : (Reply → Bool) → Side → Relay → List Reply → ℕ
+abbrev pub count_on : (AnswerValue → Bool) → Side → Relay → List AnswerValue → ℕ
 count_on test side p [] = 0
 count_on test side p (reply ∷ replies) =
     unwrap_or (option_map (λ (call : Call). one_if test side call reply) (next_call p)) 0
@@ -81,16 +81,16 @@ asked p (call.Shut side) = ask.Shut
 -- a call that was made, and the answer that the pair had
 pub record Made : Type 0 where
   pub asked : Asked
-  pub reply : Reply
+  pub reply : AnswerValue
 
-abbrev pub made : Asked → Reply → Made
+abbrev pub made : Asked → AnswerValue → Made
 made asked reply = record { asked = asked; reply = reply }
 
-abbrev pub made_if : Side → Relay → Call → Reply → List Made
+abbrev pub made_if : Side → Relay → Call → AnswerValue → List Made
 made_if side p call reply = if same_side (side_of call) side then made (asked p call) reply ∷ [] else []
 
 -- the calls on one side along a list of answers, each the one that comes next at that point
-abbrev pub made_on : Side → Relay → List Reply → List Made
+abbrev pub made_on : Side → Relay → List AnswerValue → List Made
 made_on side p [] = []
 made_on side p (reply ∷ replies) =
     unwrap_or (option_map (λ (call : Call). made_if side p call reply) (next_call p)) []
@@ -103,7 +103,7 @@ IsFailure (Refused error) kind = kind ≡ kind_of_error error
 IsFailure given kind = ⊥
 
 -- what a call gave is told to the pair by this answer. Which of the three an error is, its wire counts.
-abbrev pub IsToldBy : Given → Reply → Type 0
+abbrev pub IsToldBy : Given → AnswerValue → Type 0
 IsToldBy given (Bytes bytes) = given ≡ Brought bytes
 IsToldBy given End = given ≡ Brought []
 IsToldBy given (Wrote n) = given ≡ Took n
@@ -120,20 +120,20 @@ pub record IsCalled {S : Type 0} (does : Asked → Given → S → S → Type 0)
   pub did : does call.asked given old new
 
 -- and it counted the answer to this very call, where that is a fault or "would block"
-pub record IsMade {S : Type 0} (told : S → Told) (does : Asked → Given → S → S → Type 0) (call : Made) (old new : S) : Type 0 where
+pub record IsMade {S : Type 0} (told : S → WireView) (does : Asked → Given → S → S → Type 0) (call : Made) (old new : S) : Type 0 where
   pub called : IsCalled does call old new
   pub faults : Rises (told old).faults (told new).faults (if is_failed call.reply then 1 else 0)
   pub blocks : Rises (told old).blocks (told new).blocks (if is_blocked call.reply then 1 else 0)
 
 -- these were made, in order, each once, and nothing else
-abbrev pub AreMade : {S : Type 0} → (S → Told) → (Asked → Given → S → S → Type 0) → List Made → S → S → Type 0
+abbrev pub AreMade : {S : Type 0} → (S → WireView) → (Asked → Given → S → S → Type 0) → List Made → S → S → Type 0
 AreMade told does [] old new = new ≡ old
 AreMade {S} told does (call ∷ calls) old new = (between : S) × IsMade told does call old between × AreMade told does calls between new
 
 -- what the answers of a list did to the wire on one side: the bytes that they brought were read from it,
 -- and those that they carried were written to it, in order and nothing else; it counted each answer that
 -- was a fault, and each that was "would block"; and the calls on its side were made on it and no other
-pub record IsServed {S : Type 0} (told : S → Told) (does : Asked → Given → S → S → Type 0) (old new : S) (side : Side) (p : Relay) (replies : List Reply) : Type 0 where
+pub record IsServed {S : Type 0} (told : S → WireView) (does : Asked → Given → S → S → Type 0) (old new : S) (side : Side) (p : Relay) (replies : List AnswerValue) : Type 0 where
   pub read : Consumes (told old).remaining (told new).remaining (all_brought p (way_from side) replies)
   pub written : Appends (told old).written (told new).written (all_carried p (way_to side) replies)
   pub faults : Rises (told old).faults (told new).faults (count_on is_failed side p replies)
@@ -143,11 +143,11 @@ pub record IsServed {S : Type 0} (told : S → Told) (does : Asked → Given →
 -- a turn of at most `budget` calls: there is a list of answers over which the pair ran, and each wire served its side
 -- of it, as `client` and `target` say: its bytes, its counts of faults and blocks, and its calls. The list is shorter
 -- than the budget only if there is no next call, and a pair that was live fails only by the last answer
-pub record IsTurn (budget : ℕ) (old new : Relay) (client target : Side → Relay → List Reply → Type 0) : Type 0 where
-  pub replies : List Reply
+pub record IsTurn (budget : ℕ) (old new : Relay) (client target : Side → Relay → List AnswerValue → Type 0) : Type 0 where
+  pub replies : List AnswerValue
   pub few : length replies ≤ budget
   pub run : over old replies ≡ Some new
   pub whole : OnSome (next_call new) (length replies ≡ budget)
-  pub failed_last : (fault : Fault) → verdict old ≡ verdict.Live → verdict new ≡ verdict.Failed fault → (front : List Reply) × (replies ≡ front ++ Failed fault.kind ∷ [])
+  pub failed_last : (fault : Fault) → verdict old ≡ verdict.Live → verdict new ≡ verdict.Failed fault → (front : List AnswerValue) × (replies ≡ front ++ Failed fault.kind ∷ [])
   pub by_client : client Client old replies
   pub by_target : target Target old replies

@@ -1,5 +1,5 @@
--- What a wire's calls do to the bytes that it tells, and to its counts of faults and of answers "would block". Part of
--- the promises.
+-- What a wire's calls do to it. Part of the promises. They change the bytes that it specifies, and its counts of faults
+-- and of answers "would block".
 use Rattle.std.specs.Prelude.{◌≡◌, ◌⊎◌, ℕ, ◌+◌, ◌%◌, ◌^◌, ◌≤◌, List, [], length, take, MatchResult}
 use Rattle.std.specs.Prelude.{Option}
 use Rattle.std.specs.Prelude.{None}
@@ -11,18 +11,18 @@ use Rattle.engine.specs.Asked.{Given, Brought, Took, Done, Refused}
 
 -- what a wire tells: the bytes left to read and those written, where it tells them, and how many of its
 -- answers were faults, and how many "would block"
-pub record Told : Type 0 where
+pub record WireView : Type 0 where
   pub remaining : Option (List ℕ)
   pub written : Option (List ℕ)
   pub faults : ℕ
   pub blocks : ℕ
 
 -- of a wire that tells no bytes
-abbrev pub counts_alone : ℕ → ℕ → Told
+abbrev pub counts_alone : ℕ → ℕ → WireView
 counts_alone faults blocks = record { remaining = None; written = None; faults = faults; blocks = blocks }
 
 -- a read took the bytes that it gave from those left, and none at an error
-abbrev pub ReadTakes : {E : Type 0} → Result ℕ E → List ℕ → Told → Told → Type 0
+abbrev pub ReadTakes : {E : Type 0} → Result ℕ E → List ℕ → WireView → WireView → Type 0
 ReadTakes result buffer old new =
     MatchResult result (λ n. Consumes old.remaining new.remaining (take n buffer)) (λ error. Keeps old.remaining new.remaining)
 
@@ -38,25 +38,25 @@ CountsError faults faults_now blocks blocks_now =
     ⊎ ((faults_now ≡ faults) × Rises blocks blocks_now 1))
 
 -- an answer without error leaves both
-abbrev pub CountsAnswer : {T E : Type 0} → Result T E → Told → Told → Type 0
+abbrev pub CountsAnswer : {T E : Type 0} → Result T E → WireView → WireView → Type 0
 CountsAnswer result old new =
     MatchResult result
     (λ answer. (new.faults ≡ old.faults) × (new.blocks ≡ old.blocks))
     (λ error. CountsError old.faults new.faults old.blocks new.blocks)
 
 -- n bytes of an offer were taken: none of an offer that isn't empty is a fault
-pub record CountsTaken (n : ℕ) (offer : List ℕ) (old new : Told) : Type 0 where
+pub record CountsTaken (n : ℕ) (offer : List ℕ) (old new : WireView) : Type 0 where
   pub none : n ≡ 0 → 1 ≤ length offer → Rises old.faults new.faults 1
   pub some : 1 ≤ n → new.faults ≡ old.faults
   pub nothing_offered : offer ≡ [] → new.faults ≡ old.faults
   pub same_blocks : new.blocks ≡ old.blocks
 
-abbrev pub CountsWrite : {E : Type 0} → Result ℕ E → List ℕ → Told → Told → Type 0
+abbrev pub CountsWrite : {E : Type 0} → Result ℕ E → List ℕ → WireView → WireView → Type 0
 CountsWrite result offer old new =
     MatchResult result (λ n. CountsTaken n offer old new) (λ error. CountsError old.faults new.faults old.blocks new.blocks)
 
 -- a shutdown never has to wait: its error is a fault, or it is none
-abbrev pub CountsShut : {T E : Type 0} → Result T E → Told → Told → Type 0
+abbrev pub CountsShut : {T E : Type 0} → Result T E → WireView → WireView → Type 0
 CountsShut result old new =
     MatchResult result
     (λ answer. new.faults ≡ old.faults)

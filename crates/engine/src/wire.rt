@@ -3,7 +3,7 @@ ghost use Rattle.std.specs.Io.{WritesAtMost};
 ghost use Rattle.std.specs.Io.KnownBytes.{Keeps, WriteAppends};
 ghost use Rattle.engine.specs.Asked as ask;
 ghost use Rattle.engine.specs.Asked.{Asked, Given};
-ghost use Rattle.engine.specs.Wires.{Told, ReadTakes, CountsAnswer, CountsWrite, CountsShut, read_gave, write_gave, call_gave};
+ghost use Rattle.engine.specs.Wires.{WireView, ReadTakes, CountsAnswer, CountsWrite, CountsShut, read_gave, write_gave, call_gave};
 
 use std::io;
 
@@ -19,7 +19,7 @@ use std::io;
 /// by one, or neither if it is an interruption. A shutdown never raises the second. Both wrap around at 2^64.
 pub trait Wire {
     // The bytes left to read and those written, if the wire specifies them, and its two counts.
-    ghost told: { Self → Told };
+    ghost told: { Self → WireView };
 
     // What one call may do, if the wire specifies it: what was asked, what it gave, and the wire before and after.
     ghost does: { Asked → Given → Self → Self → Type 0 } = { λ _ _ _ _. Unit {0} };

@@ -9,7 +9,7 @@ use Rattle.flow.specs.Stream.{Stream}
 use Rattle.relay_core.specs.declared.call.Call.{Call}
 use Rattle.relay_core.specs.Calls.{side_of, direction_of}
 use Rattle.relay_core.specs.Pairs.{Flags, Relay, stream_of, with_stream, with_flags, mark_joined, with_sent, noted}
-use Rattle.relay_core.specs.Replies.{Reply, Bytes, End, Wrote, Joined, Shut, Blocked, Interrupted, Failed, after}
+use Rattle.relay_core.specs.Replies.{AnswerValue, Bytes, End, Wrote, Joined, Shut, Blocked, Interrupted, Failed, after}
 use Rattle.relay_core.specs.Runs.{answered, over}
 use Rattle.relay_core.specs.Moved.{same_way, or_nothing, all_brought, all_carried}
 use Rattle.relay_core.specs.Events.{Event, Answered, Reported, happened, through, brought_by, carried_by, ever_brought, ever_carried}
@@ -44,7 +44,7 @@ way_of Down Up h = absurd (cc)
 way_of Down Down h = refl
 
 -- what was seen was seen before, or by this answer
-seen_by : (b : Bool) (reply : Reply) (s : Stream) → (if b then served reply s else s).end_seen ≡ true → (s.end_seen ≡ true) ⊎ ((b ≡ true) × (reply ≡ End))
+seen_by : (b : Bool) (reply : AnswerValue) (s : Stream) → (if b then served reply s else s).end_seen ≡ true → (s.end_seen ≡ true) ⊎ ((b ≡ true) × (reply ≡ End))
 seen_by false reply s h = inl h
 seen_by true End s h = inr (refl, refl)
 seen_by true (Bytes bytes) s h = inl h
@@ -55,7 +55,7 @@ seen_by true Blocked s h = inl h
 seen_by true Interrupted s h = inl h
 seen_by true (Failed kind) s h = inl h
 
-stays_seen : (b : Bool) (reply : Reply) (s : Stream) → s.end_seen ≡ true → (if b then served reply s else s).end_seen ≡ true
+stays_seen : (b : Bool) (reply : AnswerValue) (s : Stream) → s.end_seen ≡ true → (if b then served reply s else s).end_seen ≡ true
 stays_seen false reply s h = h
 stays_seen true End s h = refl
 stays_seen true (Bytes bytes) s h = h
@@ -70,11 +70,11 @@ by_end : (b : Bool) (s : Stream) → b ≡ true → (if b then served End s else
 by_end true s h = refl
 by_end false s h = absurd (cc)
 
-named_way : (e d : Direction) (reply : Reply) (S : Type 0) → S ⊎ ((same_way e d ≡ true) × (reply ≡ End)) → S ⊎ ((e ≡ d) × (reply ≡ End))
+named_way : (e d : Direction) (reply : AnswerValue) (S : Type 0) → S ⊎ ((same_way e d ≡ true) × (reply ≡ End)) → S ⊎ ((e ≡ d) × (reply ≡ End))
 named_way e d reply S (inl h) = inl h
 named_way e d reply S (inr h) = inr (same_direction e d h.0, h.1)
 
-seen_again : (p : Relay) (call : Call) (reply : Reply) (d : Direction) → ((stream_of p d).end_seen ≡ true) ⊎ ((direction_of call ≡ d) × (reply ≡ End)) → (if same_way (direction_of call) d then served reply (stream_of p d) else stream_of p d).end_seen ≡ true
+seen_again : (p : Relay) (call : Call) (reply : AnswerValue) (d : Direction) → ((stream_of p d).end_seen ≡ true) ⊎ ((direction_of call ≡ d) × (reply ≡ End)) → (if same_way (direction_of call) d then served reply (stream_of p d) else stream_of p d).end_seen ≡ true
 seen_again p call reply d (inl h) = stays_seen (same_way (direction_of call) d) reply (stream_of p d) h
 seen_again p call reply d (inr h) = rw h.1 (by_end (same_way (direction_of call) d) (stream_of p d) (way_of (direction_of call) d h.0))
 
@@ -190,7 +190,7 @@ runs_keep_place p q events h = run_kept (λ (x : Relay). place_of x ≡ place_of
 
 -- answers alone
 
-same_run : (replies : List Reply) (o : Option Relay) → ((m : Relay) → through m (map Answered replies) ≡ over m replies) → option_and_then (λ (m : Relay). through m (map Answered replies)) o ≡ option_and_then (λ (m : Relay). over m replies) o
+same_run : (replies : List AnswerValue) (o : Option Relay) → ((m : Relay) → through m (map Answered replies) ≡ over m replies) → option_and_then (λ (m : Relay). through m (map Answered replies)) o ≡ option_and_then (λ (m : Relay). over m replies) o
 same_run replies None rest = refl
 same_run replies (Some m) rest = rest m
 
@@ -198,16 +198,16 @@ same_bytes : (f g : Relay → List ℕ) (o : Option Relay) → ((m : Relay) → 
 same_bytes f g None rest = refl
 same_bytes f g (Some m) rest = rest m
 
-run_of_answers : (p : Relay) (replies : List Reply) → through p (map Answered replies) ≡ over p replies
+run_of_answers : (p : Relay) (replies : List AnswerValue) → through p (map Answered replies) ≡ over p replies
 run_of_answers p [] = refl
 run_of_answers p (reply ∷ replies) = same_run replies (answered p reply) (λ m. run_of_answers m replies)
 
-brought_by_answers : (p : Relay) (d : Direction) (replies : List Reply) → ever_brought p d (map Answered replies) ≡ all_brought p d replies
+brought_by_answers : (p : Relay) (d : Direction) (replies : List AnswerValue) → ever_brought p d (map Answered replies) ≡ all_brought p d replies
 brought_by_answers p d [] = refl
 brought_by_answers p d (reply ∷ replies) =
     ap (λ (rest : List ℕ). brought_by p d (Answered reply) ++ rest) (same_bytes (λ m. ever_brought m d (map Answered replies)) (λ m. all_brought m d replies) (answered p reply) (λ m. brought_by_answers m d replies))
 
-carried_by_answers : (p : Relay) (d : Direction) (replies : List Reply) → ever_carried p d (map Answered replies) ≡ all_carried p d replies
+carried_by_answers : (p : Relay) (d : Direction) (replies : List AnswerValue) → ever_carried p d (map Answered replies) ≡ all_carried p d replies
 carried_by_answers p d [] = refl
 carried_by_answers p d (reply ∷ replies) =
     ap (λ (rest : List ℕ). carried_by p d (Answered reply) ++ rest) (same_bytes (λ m. ever_carried m d (map Answered replies)) (λ m. all_carried m d replies) (answered p reply) (λ m. carried_by_answers m d replies))

@@ -12,7 +12,7 @@ use Rattle.relay_core.specs.declared.verdict.Verdict.TheVariants as verdict
 use Rattle.relay_core.specs.Calls.{side_of, direction_of}
 use Rattle.relay_core.specs.Pairs.{Flags, Relay, with_stream, with_flags, mark_joined, with_sent, verdict_of, verdict, is_live}
 use Rattle.relay_core.specs.Order.{next_call}
-use Rattle.relay_core.specs.Replies.{Reply, Bytes, End, Wrote, Joined, Shut, Blocked, Interrupted, Failed, after}
+use Rattle.relay_core.specs.Replies.{AnswerValue, Bytes, End, Wrote, Joined, Shut, Blocked, Interrupted, Failed, after}
 use Rattle.relay_core.specs.Laws.{TellsOf}
 
 asked_of_live : (b : Bool) (o : Option Call) (call : Call) → (if b then o else None) ≡ Some call → b ≡ true
@@ -54,10 +54,10 @@ none_is_no_failure None true fault e h = absurd (cc)
 none_is_no_failure None false fault e h = absurd (cc)
 
 -- an answer by which no call failed leaves the pair without a fault
-sound : (p : Relay) (call : Call) (reply : Reply) (fault : Fault) → p.failure ≡ None → (after p call reply).failure ≡ p.failure → verdict (after p call reply) ≡ verdict.Failed fault → TellsOf call reply fault
+sound : (p : Relay) (call : Call) (reply : AnswerValue) (fault : Fault) → p.failure ≡ None → (after p call reply).failure ≡ p.failure → verdict (after p call reply) ≡ verdict.Failed fault → TellsOf call reply fault
 sound p call reply fault none same failed = absurd (none_is_no_failure (after p call reply).failure _ fault (same ∙ none) failed)
 
-told : (p : Relay) (call : Call) (reply : Reply) (fault : Fault) → p.failure ≡ None → verdict (after p call reply) ≡ verdict.Failed fault → TellsOf call reply fault
+told : (p : Relay) (call : Call) (reply : AnswerValue) (fault : Fault) → p.failure ≡ None → verdict (after p call reply) ≡ verdict.Failed fault → TellsOf call reply fault
 told p call (Bytes bytes) fault none = sound p call (Bytes bytes) fault none
     (failure_joined _ (side_of call) ∙ failure_with_stream p (direction_of call) _)
 told p call End fault none = sound p call End fault none
@@ -70,15 +70,15 @@ told p call Blocked fault none = sound p call Blocked fault none (failure_with_f
 told p call Interrupted fault none = sound p call Interrupted fault none refl
 told p call (Failed kind) fault none = λ failed. record { side = cc; call = cc; kind = cc }
 
-tells : (p : Relay) (call : Call) (reply : Reply) (fault : Fault) → TellsOf call reply fault → verdict (after p call reply) ≡ verdict.Failed fault
+tells : (p : Relay) (call : Call) (reply : AnswerValue) (fault : Fault) → TellsOf call reply fault → verdict (after p call reply) ≡ verdict.Failed fault
 tells p call reply fault t = rw (t.kind, ← t.side, ← t.call)
 
 -- the pair fails by a failed call and by nothing else, and its fault tells of that call
-pub fails_by_call : (p : Relay) (call : Call) (reply : Reply) (q : Relay) → next_call p ≡ Some call → q ≡ after p call reply → (fault : Fault) → (verdict q ≡ verdict.Failed fault) ↔ TellsOf call reply fault
+pub fails_by_call : (p : Relay) (call : Call) (reply : AnswerValue) (q : Relay) → next_call p ≡ Some call → q ≡ after p call reply → (fault : Fault) → (verdict q ≡ verdict.Failed fault) ↔ TellsOf call reply fault
 fails_by_call p call reply q next e fault =
     let none : p.failure ≡ None = faultless p.failure _ (asked_while_live p call next) in
     rw e (told p call reply fault none, tells p call reply fault)
 
 -- an interrupted call changes nothing but the turn
-pub interrupted_changes_turn : (p : Relay) (call : Call) (reply : Reply) (q : Relay) → q ≡ after p call reply → reply ≡ Interrupted → q ≡ record p { turn = q.turn }
+pub interrupted_changes_turn : (p : Relay) (call : Call) (reply : AnswerValue) (q : Relay) → q ≡ after p call reply → reply ≡ Interrupted → q ≡ record p { turn = q.turn }
 interrupted_changes_turn p call reply q e i = rw (e, i)

@@ -11,14 +11,14 @@ use Rattle.relay_core.specs.declared.call.Call.{Call}
 use Rattle.relay_core.specs.Calls.{side_of, direction_of}
 use Rattle.relay_core.specs.Pairs.{Flags, Relay, stream_of, with_stream, with_flags, flags_of, mark_joined, with_sent}
 use Rattle.relay_core.specs.Order.{next_call}
-use Rattle.relay_core.specs.Replies.{Reply, Bytes, End, Wrote, Joined, Shut, Blocked, Interrupted, Failed, fits, change_stream, without_flag, effect, after}
+use Rattle.relay_core.specs.Replies.{AnswerValue, Bytes, End, Wrote, Joined, Shut, Blocked, Interrupted, Failed, fits, change_stream, without_flag, effect, after}
 use Rattle.relay_core.specs.Moved.{same_way, carried}
 use Rattle.relay_core.specs.Laws.{IsDrained, IsClosedLast, PassesEndLast, KeepsOrder}
 use Rattle.std.proofs.Math.Seq.{drop-nil}
 use Rattle.relay_core.proofs.Possible.{bytes_fit, shut_fits}
 
 -- what an answer does to the stream that its call serves
-abbrev pub served : Reply → Stream → Stream
+abbrev pub served : AnswerValue → Stream → Stream
 served (Bytes bytes) s = taken_in s bytes
 served End s = ended s
 served (Wrote n) s = dropped s n
@@ -57,7 +57,7 @@ alike true s = refl
 alike false s = refl
 
 -- only the direction that the call serves changes, and only by the answer
-pub stream_after : (p : Relay) (d : Direction) (call : Call) (reply : Reply) → stream_of (after p call reply) d ≡ (if same_way (direction_of call) d then served reply (stream_of p d) else stream_of p d)
+pub stream_after : (p : Relay) (d : Direction) (call : Call) (reply : AnswerValue) → stream_of (after p call reply) d ≡ (if same_way (direction_of call) d then served reply (stream_of p d) else stream_of p d)
 stream_after p d call (Bytes bytes) =
     stream_with_turn (effect p call (Bytes bytes)) (opposite (direction_of call)) d
     ∙ (stream_joined (change_stream p call (λ s. taken_in s bytes)) (side_of call) d
@@ -105,10 +105,10 @@ same_order : (b : Bool) (s t : Stream) → t.ring ≡ s.ring → s.ring ++ [] �
 same_order true s t e = append-nil s.ring ∙ sym e
 same_order false s t e = append-nil s.ring
 
-ring_after : (p : Relay) (d : Direction) (call : Call) (reply : Reply) → (if same_way (direction_of call) d then served reply (stream_of p d) else stream_of p d).ring ≡ (stream_of (after p call reply) d).ring
+ring_after : (p : Relay) (d : Direction) (call : Call) (reply : AnswerValue) → (if same_way (direction_of call) d then served reply (stream_of p d) else stream_of p d).ring ≡ (stream_of (after p call reply) d).ring
 ring_after p d call reply = sym (ap (λ (s : Stream). s.ring) (stream_after p d call reply))
 
-pub after_keeps_order : (p : Relay) (call : Call) (reply : Reply) → KeepsOrder p call reply (after p call reply)
+pub after_keeps_order : (p : Relay) (call : Call) (reply : AnswerValue) → KeepsOrder p call reply (after p call reply)
 after_keeps_order p call (Bytes bytes) = λ d. read_order (same_way (direction_of call) d) (stream_of p d) bytes ∙ ring_after p d call (Bytes bytes)
 after_keeps_order p call End = λ d. same_order (same_way (direction_of call) d) (stream_of p d) (ended (stream_of p d)) refl ∙ ring_after p d call End
 after_keeps_order p call (Wrote n) = λ d.
@@ -121,7 +121,7 @@ after_keeps_order p call Interrupted = λ d. same_order (same_way (direction_of 
 after_keeps_order p call (Failed kind) = λ d. same_order (same_way (direction_of call) d) (stream_of p d) (stream_of p d) refl ∙ ring_after p d call (Failed kind)
 
 -- bytes leave in the order in which they came
-pub order_kept : (p : Relay) (call : Call) (reply : Reply) (q : Relay) → q ≡ after p call reply → KeepsOrder p call reply q
+pub order_kept : (p : Relay) (call : Call) (reply : AnswerValue) (q : Relay) → q ≡ after p call reply → KeepsOrder p call reply q
 order_kept p call reply q e = rw e (after_keeps_order p call reply)
 
 pub same_direction : (e d : Direction) → same_way e d ≡ true → e ≡ d
@@ -131,7 +131,7 @@ same_direction Down Up h = absurd (cc)
 same_direction Down Down h = refl
 
 -- only a shutdown marks the end as passed on
-marked : (b : Bool) (reply : Reply) (s : Stream) (D : Type 0) → (b ≡ true → reply ≡ Shut → D) → (if b then served reply s else s).shut ≡ true → (s.shut ≡ true) ⊎ D
+marked : (b : Bool) (reply : AnswerValue) (s : Stream) (D : Type 0) → (b ≡ true → reply ≡ Shut → D) → (if b then served reply s else s).shut ≡ true → (s.shut ≡ true) ⊎ D
 marked false reply s D drained h = inl h
 marked true Shut s D drained h = inr (drained refl refl)
 marked true (Bytes bytes) s D drained h = inl h
@@ -143,7 +143,7 @@ marked true Interrupted s D drained h = inl h
 marked true (Failed kind) s D drained h = inl h
 
 -- and nothing takes the mark away
-stays : (b : Bool) (reply : Reply) (s : Stream) → s.shut ≡ true → (if b then served reply s else s).shut ≡ true
+stays : (b : Bool) (reply : AnswerValue) (s : Stream) → s.shut ≡ true → (if b then served reply s else s).shut ≡ true
 stays false reply s h = h
 stays true Shut s h = refl
 stays true (Bytes bytes) s h = h
@@ -154,13 +154,13 @@ stays true Blocked s h = h
 stays true Interrupted s h = h
 stays true (Failed kind) s h = h
 
-drained_before : (p : Relay) (d : Direction) (call : Call) (reply : Reply) → next_call p ≡ Some call → fits p call reply ≡ true → same_way (direction_of call) d ≡ true → reply ≡ Shut → IsDrained (stream_of p d)
+drained_before : (p : Relay) (d : Direction) (call : Call) (reply : AnswerValue) → next_call p ≡ Some call → fits p call reply ≡ true → same_way (direction_of call) d ≡ true → reply ≡ Shut → IsDrained (stream_of p d)
 drained_before p d call reply next fit way shut =
     let e : direction_of call ≡ d = same_direction (direction_of call) d way in
     let fit_shut : fits p call Shut ≡ true = rw shut at fit in
     rw e at (shut_fits p call next fit_shut)
 
-open_before : (p : Relay) (d : Direction) (call : Call) (reply : Reply) → next_call p ≡ Some call → fits p call reply ≡ true → same_way (direction_of call) d ≡ true → (bytes : List ℕ) → reply ≡ Bytes bytes → (stream_of p d).end_seen ≡ false
+open_before : (p : Relay) (d : Direction) (call : Call) (reply : AnswerValue) → next_call p ≡ Some call → fits p call reply ≡ true → same_way (direction_of call) d ≡ true → (bytes : List ℕ) → reply ≡ Bytes bytes → (stream_of p d).end_seen ≡ false
 open_before p d call reply next fit way bytes came =
     let e : direction_of call ≡ d = same_direction (direction_of call) d way in
     let fit_bytes : fits p call (Bytes bytes) ≡ true = rw came at fit in
@@ -168,7 +168,7 @@ open_before p d call reply next fit way bytes came =
     rw e at (room.1)
 
 -- nothing comes after the end, and the end is passed on after everything
-closed_last : (b : Bool) (reply : Reply) (s : Stream) → (b ≡ true → (bytes : List ℕ) → reply ≡ Bytes bytes → s.end_seen ≡ false) → (b ≡ true → reply ≡ Shut → IsDrained s) → IsClosedLast s → IsClosedLast (if b then served reply s else s)
+closed_last : (b : Bool) (reply : AnswerValue) (s : Stream) → (b ≡ true → (bytes : List ℕ) → reply ≡ Bytes bytes → s.end_seen ≡ false) → (b ≡ true → reply ≡ Shut → IsDrained s) → IsClosedLast s → IsClosedLast (if b then served reply s else s)
 closed_last false reply s open_end drained c = c
 closed_last true (Bytes bytes) s open_end drained c = record { ended = c.ended; empty = λ h. let seen : s.end_seen ≡ true = c.ended h in let unseen : s.end_seen ≡ false = open_end refl bytes refl in absurd (cc) }
 closed_last true End s open_end drained c = record { ended = λ h. refl; empty = c.empty }
@@ -180,7 +180,7 @@ closed_last true Interrupted s open_end drained c = c
 closed_last true (Failed kind) s open_end drained c = c
 
 -- the end of input is passed on last, and for good
-pub end_passed_last : (p : Relay) (call : Call) (reply : Reply) (q : Relay) → next_call p ≡ Some call → fits p call reply ≡ true → q ≡ after p call reply → (d : Direction) → PassesEndLast (stream_of p d) (stream_of q d)
+pub end_passed_last : (p : Relay) (call : Call) (reply : AnswerValue) (q : Relay) → next_call p ≡ Some call → fits p call reply ≡ true → q ≡ after p call reply → (d : Direction) → PassesEndLast (stream_of p d) (stream_of q d)
 end_passed_last p call reply q next fit e d =
     let is : stream_of q d ≡ (if same_way (direction_of call) d then served reply (stream_of p d) else stream_of p d) = rw e (stream_after p d call reply) in
     record {

@@ -4,12 +4,12 @@ use Rattle.token.specs.declared.direction.Direction.{Direction}
 use Rattle.relay_core.specs.declared.call.Call.{Call}
 use Rattle.relay_core.specs.Pairs.{Relay, noted}
 use Rattle.relay_core.specs.Order.{next_call}
-use Rattle.relay_core.specs.Replies.{Reply}
+use Rattle.relay_core.specs.Replies.{AnswerValue}
 use Rattle.relay_core.specs.Runs.{answered}
 use Rattle.relay_core.specs.Moved.{brought, carried, or_nothing}
 
 pub data Event : Type 0 where
-  Answered : Reply → Event
+  Answered : AnswerValue → Event
   Reported : Event
 
 -- the pair afterwards, if there is a next call and the answer fits it; a report may come at any time

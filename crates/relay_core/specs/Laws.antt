@@ -10,7 +10,7 @@ use Rattle.relay_core.specs.declared.verdict.Verdict.TheVariants as Verdict
 use Rattle.relay_core.specs.Calls.{side_of, kind_of, direction_of}
 use Rattle.relay_core.specs.Pairs.{Relay, ready, fresh, stream_of, flags_of, is_joined, noted, verdict}
 use Rattle.relay_core.specs.Order.{next_call, offer}
-use Rattle.relay_core.specs.Replies.{Reply, End, Failed, fits, after}
+use Rattle.relay_core.specs.Replies.{AnswerValue, End, Failed, fits, after}
 use Rattle.relay_core.specs.Runs.{answered, over}
 use Rattle.relay_core.specs.Moved.{brought, carried, all_brought, all_carried}
 use Rattle.relay_core.specs.Events.{Event, Answered, through, ever_brought, ever_carried}
@@ -48,18 +48,18 @@ pub record PassesEndLast (old new : Stream) : Type 0 where
   pub closed_last : IsClosedLast old → IsClosedLast new
 
 -- in each direction: what was there and what came in is what went out and what is there now, in order
-abbrev pub KeepsOrder : Relay → Call → Reply → Relay → Type 0
+abbrev pub KeepsOrder : Relay → Call → AnswerValue → Relay → Type 0
 KeepsOrder old call reply new =
     (d : Direction) → (stream_of old d).ring ++ brought d call reply ≡ carried old d call reply ++ (stream_of new d).ring
 
 -- the fault tells of this call, and how it failed
-pub record TellsOf (made : Call) (reply : Reply) (fault : Fault) : Type 0 where
+pub record TellsOf (made : Call) (reply : AnswerValue) (fault : Fault) : Type 0 where
   pub side : fault.side ≡ side_of made
   pub call : fault.call ≡ kind_of made
   pub kind : reply ≡ Failed fault.kind
 
 -- the answer fits the call that comes next
-pub record AnswersNext (p : Relay) (call : Call) (reply : Reply) : Type 0 where
+pub record AnswersNext (p : Relay) (call : Call) (reply : AnswerValue) : Type 0 where
   pub next : next_call p ≡ Some call
   pub fit : fits p call reply ≡ true
 
@@ -88,36 +88,36 @@ pub record IsAtRest (p : Relay) (d : Direction) : Type 0 where
 -- laws of one answer
 
 abbrev pub AnswersKeepOrder : Type 0
-AnswersKeepOrder = (p : Relay) (call : Call) (reply : Reply) → KeepsOrder p call reply (after p call reply)
+AnswersKeepOrder = (p : Relay) (call : Call) (reply : AnswerValue) → KeepsOrder p call reply (after p call reply)
 
 abbrev pub AnswersPassEndLast : Type 0
 AnswersPassEndLast =
-    (p : Relay) (call : Call) (reply : Reply) → AnswersNext p call reply →
+    (p : Relay) (call : Call) (reply : AnswerValue) → AnswersNext p call reply →
     (d : Direction) → PassesEndLast (stream_of p d) (stream_of (after p call reply) d)
 
 -- the end of a direction is seen by an End that a call on it is answered, and then for good
 abbrev pub OnlyEndsAreSeen : Type 0
 OnlyEndsAreSeen =
-    (p : Relay) (call : Call) (reply : Reply) (d : Direction) →
+    (p : Relay) (call : Call) (reply : AnswerValue) (d : Direction) →
     ((stream_of (after p call reply) d).end_seen ≡ true) ↔ (((stream_of p d).end_seen ≡ true) ⊎ ((direction_of call ≡ d) × (reply ≡ End)))
 
 abbrev pub AnswersKeepPlace : Type 0
-AnswersKeepPlace = (p : Relay) (call : Call) (reply : Reply) → place_of (after p call reply) ≡ place_of p
+AnswersKeepPlace = (p : Relay) (call : Call) (reply : AnswerValue) → place_of (after p call reply) ≡ place_of p
 
 -- a pair fails by a failed call alone, and its fault tells of that call
 abbrev pub FailuresAreTold : Type 0
 FailuresAreTold =
-    (p : Relay) (call : Call) (reply : Reply) (fault : Fault) → AnswersNext p call reply →
+    (p : Relay) (call : Call) (reply : AnswerValue) (fault : Fault) → AnswersNext p call reply →
     (verdict (after p call reply) ≡ Verdict.Failed fault) ↔ TellsOf call reply fault
 
 -- what one answer does is what the answer to some next call does
-pub record IsAnswerOf (p : Relay) (reply : Reply) (q : Relay) : Type 0 where
+pub record IsAnswerOf (p : Relay) (reply : AnswerValue) (q : Relay) : Type 0 where
   pub call : Call
   pub answers : AnswersNext p call reply
   pub after_it : q ≡ after p call reply
 
 abbrev pub AnswersAreToNextCalls : Type 0
-AnswersAreToNextCalls = (p q : Relay) (reply : Reply) → answered p reply ≡ Some q → IsAnswerOf p reply q
+AnswersAreToNextCalls = (p q : Relay) (reply : AnswerValue) → answered p reply ≡ Some q → IsAnswerOf p reply q
 
 -- laws of the next call
 
@@ -161,10 +161,10 @@ abbrev pub RunsKeepPlace : Type 0
 RunsKeepPlace = (p q : Relay) (events : List Event) → through p events ≡ Some q → place_of q ≡ place_of p
 
 -- a list of answers alone, as events
-pub record IsRunOf (p : Relay) (replies : List Reply) : Type 0 where
+pub record IsRunOf (p : Relay) (replies : List AnswerValue) : Type 0 where
   pub run : through p (map Answered replies) ≡ over p replies
   pub brought : (d : Direction) → ever_brought p d (map Answered replies) ≡ all_brought p d replies
   pub carried : (d : Direction) → ever_carried p d (map Answered replies) ≡ all_carried p d replies
 
 abbrev pub AnswersAreEvents : Type 0
-AnswersAreEvents = (p : Relay) (replies : List Reply) → IsRunOf p replies
+AnswersAreEvents = (p : Relay) (replies : List AnswerValue) → IsRunOf p replies

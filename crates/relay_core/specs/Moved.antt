@@ -6,7 +6,7 @@ use Rattle.relay_core.specs.declared.call.Call.{Call}
 use Rattle.relay_core.specs.Calls.{direction_of}
 use Rattle.relay_core.specs.Pairs.{Relay, stream_of}
 use Rattle.relay_core.specs.Order.{next_call}
-use Rattle.relay_core.specs.Replies.{Reply, Bytes, Wrote}
+use Rattle.relay_core.specs.Replies.{AnswerValue, Bytes, Wrote}
 use Rattle.relay_core.specs.Runs.{answered}
 
 abbrev pub same_way : Direction → Direction → Bool
@@ -16,12 +16,12 @@ same_way Down Up = false
 same_way Down Down = true
 
 -- the bytes that an answer brings in
-abbrev pub brought : Direction → Call → Reply → List ℕ
+abbrev pub brought : Direction → Call → AnswerValue → List ℕ
 brought d call (Bytes bytes) = if same_way (direction_of call) d then bytes else []
 brought d call reply = []
 
 -- the bytes that an answer takes out
-abbrev pub carried : Relay → Direction → Call → Reply → List ℕ
+abbrev pub carried : Relay → Direction → Call → AnswerValue → List ℕ
 carried p d call (Wrote n) = if same_way (direction_of call) d then take n (stream_of p d).ring else []
 carried p d call reply = []
 
@@ -30,14 +30,14 @@ abbrev pub or_nothing : Option (List ℕ) → List ℕ
 or_nothing bytes = unwrap_or bytes []
 
 -- all bytes that a list of answers brings in, each to the call that comes next at that point
-abbrev pub all_brought : Relay → Direction → List Reply → List ℕ
+abbrev pub all_brought : Relay → Direction → List AnswerValue → List ℕ
 all_brought p d [] = []
 all_brought p d (reply ∷ replies) =
     or_nothing (option_map (λ (call : Call). brought d call reply) (next_call p))
     ++ or_nothing (option_map (λ (q : Relay). all_brought q d replies) (answered p reply))
 
 -- and all bytes that it takes out
-abbrev pub all_carried : Relay → Direction → List Reply → List ℕ
+abbrev pub all_carried : Relay → Direction → List AnswerValue → List ℕ
 all_carried p d [] = []
 all_carried p d (reply ∷ replies) =
     or_nothing (option_map (λ (call : Call). carried p d call reply) (next_call p))

@@ -13,19 +13,19 @@ use Rattle.relay_core.specs.Order.{offer}
 -- read(2) gave bytes, or the end of input; write(2) took the first n bytes of the offer; the socket is
 -- connected; shutdown(2) passed the end on; the call would have to wait; a signal interrupted it; or it
 -- failed
-pub data Reply : Type 0 where
-  Bytes : List ℕ → Reply
-  End : Reply
-  Wrote : ℕ → Reply
-  Joined : Reply
-  Shut : Reply
-  Blocked : Reply
-  Interrupted : Reply
-  Failed : Kind → Reply
+pub data AnswerValue : Type 0 where
+  Bytes : List ℕ → AnswerValue
+  End : AnswerValue
+  Wrote : ℕ → AnswerValue
+  Joined : AnswerValue
+  Shut : AnswerValue
+  Blocked : AnswerValue
+  Interrupted : AnswerValue
+  Failed : Kind → AnswerValue
 
 -- the answers that a call may get: a read gives 1 byte to as many as it asks for, a write takes 1 byte
 -- to all that it offers, and a shutdown never has to wait
-abbrev pub fits : Relay → Call → Reply → Bool
+abbrev pub fits : Relay → Call → AnswerValue → Bool
 fits p (call.Read side most) (Bytes bytes) = nat_le 1 (length bytes) && nat_le (length bytes) most
 fits p (call.Read side most) End = true
 fits p (call.Read side most) Blocked = true
@@ -52,7 +52,7 @@ abbrev pub count_more : Relay → Direction → ℕ → Relay
 count_more p d n = with_sent p d (min (sent p d + n) (2 ^ 64 - 1))
 
 -- what an answer does, but for the turn. A socket that moved bytes or an end is connected.
-abbrev pub effect : Relay → Call → Reply → Relay
+abbrev pub effect : Relay → Call → AnswerValue → Relay
 effect p call (Bytes bytes) = mark_joined (change_stream p call (λ stream. taken_in stream bytes)) (side_of call)
 effect p call End = mark_joined (change_stream p call ended) (side_of call)
 effect p call (Wrote n) = count_more (mark_joined (change_stream p call (λ stream. dropped stream n)) (side_of call)) (direction_of call) n
@@ -63,5 +63,5 @@ effect p call Interrupted = p
 effect p call (Failed kind) = record p { failure = Some (record { side = side_of call; call = kind_of call; kind = kind }) }
 
 -- the pair after an answered call: the turn goes to the direction that the call did not serve
-abbrev pub after : Relay → Call → Reply → Relay
+abbrev pub after : Relay → Call → AnswerValue → Relay
 after p call reply = record (effect p call reply) { turn = opposite (direction_of call) }

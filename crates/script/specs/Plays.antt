@@ -1,5 +1,5 @@
--- What a script leads to: the state after all of it, or the fault of the first line that is not allowed. Part of the
--- promises.
+-- What a script leads to. Part of the promises. It is the state after all of it, or the fault of the first line that is
+-- not allowed.
 use Rattle.std.specs.Prelude.{Result, Ok}
 use Rattle.world.specs.States.{State, opening}
 use Rattle.world.specs.Steps.{step}

@@ -1,5 +1,5 @@
--- One direction as a machine: a source, a ring and a destination, and what each step of a script does. Part of the
--- promises.
+-- One direction as a machine. Part of the promises. It has a source, a ring and a destination; here is what each step
+-- of a script does to them.
 use Rattle.std.specs.Prelude.{ℕ, min, Bool, true, false, not, ◌&&◌, if◌then◌else◌, take, Option, None, option_map, Result}
 use Rattle.token.specs.declared.side.Side.TheVariants.{Client, Target}
 use Rattle.flow.specs.Stream.{Stream, empty_stream, free_room, taken_in, dropped, ended, closed}

@@ -1,5 +1,5 @@
--- When a socket sends at once (TCP_NODELAY of tcp(7)), and when it may wait for more to send along. Part of the
--- promises.
+-- When a socket sends at once. Part of the promises. It does (TCP_NODELAY of tcp(7)), or it may wait for more to send
+-- along.
 use Rattle.std.specs.Prelude.{◌≡◌, ◌↔◌, ℕ, ◌+◌, ◌<◌, ◌≤◌, min, Bool, true, false, IsTrue}
 
 -- whether it sends at once, and how many full offers came in a row, up to four

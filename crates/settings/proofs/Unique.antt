@@ -6,7 +6,7 @@ use Rattle.std.specs.Fmt.{decimal}
 use Rattle.toml.specs.Data.{Data, Members, get_member}
 use Rattle.settings.specs.Names.{key_name, level_name}
 use Rattle.settings.specs.Addresses.{SocketAddress, IsAddress, address_text}
-use Rattle.settings.specs.Table.{Setting, address, number, level, Kind, an_address, a_number, a_level, Row, required, optional, table}
+use Rattle.settings.specs.Table.{Setting, address, number, level, ValueKind, an_address, a_number, a_level, Row, required, optional, table}
 use Rattle.settings.specs.Document.{HasKind, Writes, Gives, GivesEach, Refuses, IsFirstFault, HasNoUnknown}
 use Rattle.settings.specs.Text.{setting, IsDocument, IsSettingsOf, IsFaultOf}
 use Rattle.settings.specs.declared.keys.Key.{Key}
@@ -67,7 +67,7 @@ level_once : (l m : LogLevel) → level_name l ≡ level_name m → l ≡ m
 level_once l m e = sym (level_by_its_first l) ∙ ap (λ text. level_by_first (get_or text 0 0)) e ∙ level_by_its_first m
 
 -- a value writes one setting
-writes_once : (kind : Kind) (d : Data) (v w : Setting) → Writes kind d v → Writes kind d w → v ≡ w
+writes_once : (kind : ValueKind) (d : Data) (v w : Setting) → Writes kind d v → Writes kind d w → v ≡ w
 writes_once (an_address lowest) d (address a) (address b) p q = ap address (address_once a b p.1 q.1 (same_Some _ _ (sym p.0 ∙ q.0)))
 writes_once (a_number low high) d (number m) (number n) p q = let same : Some (pos m) ≡ Some (pos n) = sym p.0 ∙ q.0 in cc same
 writes_once a_level d (level l) (level m) p q = ap level (level_once l m (same_Some _ _ (sym p ∙ q)))
@@ -84,7 +84,7 @@ writes_once a_level d (level l) (number n) p q = absurd q
 writes_once a_level d (address a) w p q = absurd p
 writes_once a_level d (number m) w p q = absurd p
 
-gives_once_at : (found : Option Data) (kind : Kind) (default : Option Setting) (v w : Setting) → MatchOption found (default ≡ Some v) (λ d. Writes kind d v) → MatchOption found (default ≡ Some w) (λ d. Writes kind d w) → v ≡ w
+gives_once_at : (found : Option Data) (kind : ValueKind) (default : Option Setting) (v w : Setting) → MatchOption found (default ≡ Some v) (λ d. Writes kind d v) → MatchOption found (default ≡ Some w) (λ d. Writes kind d w) → v ≡ w
 gives_once_at None kind default v w p q = same_Some _ _ (sym p ∙ q)
 gives_once_at (Some d) kind default v w p q = writes_once kind d v w p q
 
@@ -110,7 +110,7 @@ settings_once text s t p q =
     let each : GivesEach table p.0 (setting t) = subst (λ (doc : Members). GivesEach table doc (setting t)) (one_document text q.0 p.0 q.1 p.1) q.3 in
     each_once p.0 (setting s) (setting t) p.3 each
 
-writes_kind : (kind : Kind) (d : Data) (v : Setting) → Writes kind d v → HasKind kind d
+writes_kind : (kind : ValueKind) (d : Data) (v : Setting) → Writes kind d v → HasKind kind d
 writes_kind (an_address lowest) d (address a) p = rw p.0
 writes_kind (an_address lowest) d (number n) p = absurd p
 writes_kind (an_address lowest) d (level l) p = absurd p

@@ -6,26 +6,26 @@ use Rattle.std.specs.declared.cmp.Ordering.TheVariants.{Greater}
 use Rattle.toml.specs.Data.{Data, Members, get_member, as_str, as_integer}
 use Rattle.settings.specs.Names.{key_name, level_name}
 use Rattle.settings.specs.Addresses.{IsAddress, address_text}
-use Rattle.settings.specs.Table.{Setting, address, number, level, Kind, an_address, a_number, a_level, Row}
+use Rattle.settings.specs.Table.{Setting, address, number, level, ValueKind, an_address, a_number, a_level, Row}
 use Rattle.settings.specs.declared.keys.Key.{Key}
 use Rattle.settings.specs.declared.faults.SettingsFault.{SettingsFault}
 use Rattle.settings.specs.declared.faults.SettingsFault.TheVariants.{Missing, WrongKind, OutOfRange, BadAddress}
 
 -- the value is a text, or a whole number, as the kind asks
-abbrev pub HasKind : Kind → Data → Type 0
+abbrev pub HasKind : ValueKind → Data → Type 0
 HasKind (an_address lowest) d = IsSome (as_str d)
 HasKind (a_number low high) d = IsSome (as_integer d)
 HasKind a_level d = IsSome (as_str d)
 
 -- the value writes this setting, which is in the range of the kind
-abbrev pub Writes : Kind → Data → Setting → Type 0
+abbrev pub Writes : ValueKind → Data → Setting → Type 0
 Writes (an_address lowest) d (address a) = (as_str d ≡ Some (address_text a)) × IsAddress a × (lowest ≤ a.1)
 Writes (a_number low high) d (number n) = (as_integer d ≡ Some (pos n)) × (low ≤ n) × (n ≤ high)
 Writes a_level d (level l) = as_str d ≡ Some (level_name l)
 Writes _ _ _ = ⊥
 
 -- the fault of a value that has the kind and writes no setting
-abbrev pub refusal : Kind → Key → SettingsFault
+abbrev pub refusal : ValueKind → Key → SettingsFault
 refusal (an_address lowest) k = BadAddress k
 refusal (a_number low high) k = OutOfRange k
 refusal a_level k = OutOfRange k
@@ -35,7 +35,7 @@ abbrev pub Gives : Row → Members → Setting → Type 0
 Gives row doc v = MatchOption (get_member (key_name row.key) doc) (row.default ≡ Some v) (λ d. Writes row.kind d v)
 
 -- the value is not of the kind, or it is and writes no setting
-abbrev pub Refuses : Kind → Key → Data → SettingsFault → Type 0
+abbrev pub Refuses : ValueKind → Key → Data → SettingsFault → Type 0
 Refuses kind k d fault =
     ((¬ (HasKind kind d)) × (fault ≡ WrongKind k))
     ⊎ (HasKind kind d × ((v : Setting) → ¬ (Writes kind d v)) × (fault ≡ refusal kind k))

@@ -13,21 +13,21 @@ pub data Setting : Type 0 where
   level : LogLevel → Setting
 
 -- what a key takes: an address whose port is at least this, a whole number from the one to the other, or the name of a level
-pub data Kind : Type 0 where
-  an_address : ℕ → Kind
-  a_number : ℕ → ℕ → Kind
-  a_level : Kind
+pub data ValueKind : Type 0 where
+  an_address : ℕ → ValueKind
+  a_number : ℕ → ℕ → ValueKind
+  a_level : ValueKind
 
 -- a line of the table; a key without a default is required
 pub record Row : Type 0 where
   pub key : Key
-  pub kind : Kind
+  pub kind : ValueKind
   pub default : Option Setting
 
-abbrev pub required : Key → Kind → Row
+abbrev pub required : Key → ValueKind → Row
 required k kind = record { key = k; kind = kind; default = None }
 
-abbrev pub optional : Key → Kind → Setting → Row
+abbrev pub optional : Key → ValueKind → Setting → Row
 optional k kind v = record { key = k; kind = kind; default = Some v }
 
 abbrev pub table : List Row

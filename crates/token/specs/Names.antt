@@ -1,5 +1,5 @@
--- The name of an end: which end of which connection, told apart from every earlier connection in the same slot by the
--- slot's generation. Part of the promises.
+-- The name of an end. Part of the promises. It says which end of which connection this is; the slot's generation
+-- distinguishes the connection from every earlier one in the same slot.
 use Rattle.std.specs.Prelude.{ℕ, ◌+◌, ◌*◌, ◌≤◌}
 use Rattle.token.specs.declared.side.Side.{Side}
 use Rattle.token.specs.Sides.{side_number}

@@ -1,5 +1,5 @@
--- What a number stands for that a readiness queue hands back: the listener, the waker, or one end of one connection.
--- Part of the promises.
+-- What the numbers of a readiness queue stand for. Part of the promises. A number names the listener, the waker, or one
+-- end of one connection.
 use Rattle.std.specs.Prelude.{ℕ, ◌+◌, ◌/◌, ◌%◌, ◌==◌, nat_le, ◌&&◌, if◌then◌else◌, ⊤, Option, Some, None}
 use Rattle.token.specs.declared.side.Side.{Side}
 use Rattle.token.specs.declared.side.Side.TheVariants.{Client, Target}

@@ -46,7 +46,7 @@ pub record LineOk (h : Side → List ℕ) (r : Side → Bool) (k : Watcher) (s g
 abbrev pub EndsThere : Watcher → ℕ → ℕ → Connection → Sockets → Type 0
 EndsThere k s g c ends = (side : Side) → end_at k.ends (descriptor c.ends side) ≡ Some (registered s g side (socket_of ends side))
 
-line_ok : (h : Side → List ℕ) (r : Side → Bool) (k : Watcher) (s g : ℕ) (c : Connection) (ends : Sockets) (call : Call) (side : Side) (t : answer.Reply) (replies : Option Endpoint)
+line_ok : (h : Side → List ℕ) (r : Side → Bool) (k : Watcher) (s g : ℕ) (c : Connection) (ends : Sockets) (call : Call) (side : Side) (t : answer.AnswerValue) (replies : Option Endpoint)
     → ((e : Endpoint) → replies ≡ Some e → Answered h r c.pair ends call side t e)
     → Kept (LineOk h r k s g c ends) (option_map (λ (q : Watcher). record { kernel = q; connection = record c { pair = after c.pair call t } })
     (option_map (λ (e : Endpoint). with_answer k s g c side e) replies))

@@ -66,11 +66,11 @@ pub record Caller (st : State) (w s left : ℕ) (k : Actor) (c : Connection) : T
   pub holds : k.doing ≡ Holds s left
   pub lies : connection_at st s ≡ Some c
 
-blames : (laws : CoreLaws) (st : State) (w s left : ℕ) (k : Actor) (kernel : Watcher) (c : Connection) (call : Call) (said : Reply) (t : answer.Reply) → Caller st w s left k c → AnswersNext c.pair call t
+blames : (laws : CoreLaws) (st : State) (w s left : ℕ) (k : Actor) (kernel : Watcher) (c : Connection) (call : Call) (said : Reply) (t : answer.AnswerValue) → Caller st w s left k c → AnswersNext c.pair call t
     → told_of (record { kernel = kernel; connection = c }) call said ≡ Some t → (fault : Fault) → verdict (after c.pair call t) ≡ Failed fault → FailsBy st s c.pair.generation fault (event.Work w (act.Call said))
 blames laws st w s left k kernel c call said t caller answers told fault failed =
     let tells : TellsOf call t fault = (laws.failures c.pair call t fault answers).0 failed in
-    let said_is : said ≡ reply.Failed fault.kind = failed_told (record { kernel = kernel; connection = c }) call said fault.kind (told ∙ ap (λ (u : answer.Reply). Some u) tells.kind) in
+    let said_is : said ≡ reply.Failed fault.kind = failed_told (record { kernel = kernel; connection = c }) call said fault.kind (told ∙ ap (λ (u : answer.AnswerValue). Some u) tells.kind) in
     record {
       worker = w;
       actor = k;

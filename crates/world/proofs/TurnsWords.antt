@@ -34,7 +34,7 @@ use Rattle.world.specs.Places.{Place, Actor, is_held}
 use Rattle.world.specs.States.{State}
 use Rattle.world.specs.Steps.{connection_at, over_kernel, watched_of, may_accept, after_accept, listen, with_note, wakes as wakes_place, with_ticket, posted, post_at, delivered_at, delivered, put_by_poller, batched, opened_place, opened_world, opening_of, token_of, polled, with_worker, with_place, doing, put_by_worker, popped, pop, claim, heard, take, Lodging, lodged_call, call, post, may_release, release, closed_world, close, retire, freed, free, acted, step}
 use Rattle.world.specs.Headline.{one, total, of_slot, tried, worker_tickets, tickets}
-use Rattle.world.specs.Words.{number, word_of, Kind, Post, Claim, Take, Release, Retire, Adopt, after_all, Wake, Quiet, is_wake, wakes, claims, at_slot, is_entry, delivery_steps, steps, WordMoves, WordsMove, WordsMoveInRuns}
+use Rattle.world.specs.Words.{number, word_of, StepKind, Post, Claim, Take, Release, Retire, Adopt, after_all, Wake, Quiet, is_wake, wakes, claims, at_slot, is_entry, delivery_steps, steps, WordMoves, WordsMove, WordsMoveInRuns}
 use Rattle.world.specs.CoreLaws.{CoreLaws}
 use Rattle.world.proofs.TurnsTotals.{total_push, get-set_same, get-set_other}
 use Rattle.world.proofs.TurnsKept.{Kept, kept_some, kept_none, kept_bind, kept_map, kept_when, kept_guard, kept_if, kept_then, kept_map_map, kept_at}
@@ -54,7 +54,7 @@ untouched st next e all none same s p there = record {
   tickets = rw (none s) (let still : tickets next s ≡ tickets st s = same s in omega arith);
 }
 
-moves_at : (st next : State) (e : Event) (s i : ℕ) (p r old : Place) (kinds : List Kind) → (s ≡ i) ⊎ (s ≢ i) → slice_get st.slots s ≡ Some p → next.slots ≡ slice_set st.slots s r → steps st e i ≡ at_slot i s kinds
+moves_at : (st next : State) (e : Event) (s i : ℕ) (p r old : Place) (kinds : List StepKind) → (s ≡ i) ⊎ (s ≢ i) → slice_get st.slots s ≡ Some p → next.slots ≡ slice_set st.slots s r → steps st e i ≡ at_slot i s kinds
     → word_of r ≡ after_all kinds (word_of p) → tickets next s + claims kinds ≡ tickets st s + wakes kinds (word_of p) → (s ≢ i → tickets next i ≡ tickets st i)
     → slice_get st.slots i ≡ Some old → WordMoves st next e i old
 moves_at st next e s i p r old kinds (inl same) there all made word count others here =
@@ -76,11 +76,11 @@ moves_at st next e s i p r old kinds (inr apart) there all made word count other
     }
 
 -- an event that makes steps at one slot
-touched : (st next : State) (e : Event) (s : ℕ) (p r : Place) (kinds : List Kind) → slice_get st.slots s ≡ Some p → next.slots ≡ slice_set st.slots s r → ((i : ℕ) → steps st e i ≡ at_slot i s kinds)
+touched : (st next : State) (e : Event) (s : ℕ) (p r : Place) (kinds : List StepKind) → slice_get st.slots s ≡ Some p → next.slots ≡ slice_set st.slots s r → ((i : ℕ) → steps st e i ≡ at_slot i s kinds)
     → word_of r ≡ after_all kinds (word_of p) → tickets next s + claims kinds ≡ tickets st s + wakes kinds (word_of p) → ((i : ℕ) → s ≢ i → tickets next i ≡ tickets st i) → WordsMove st e next
 touched st next e s p r kinds there all made word count others i old here = moves_at st next e s i p r old kinds (cases_eq s i) there all (made i) word count (others i) here
 
-neither : (b : Bool) (none : List Kind) → none ≡ (if b then none else none)
+neither : (b : Bool) (none : List StepKind) → none ≡ (if b then none else none)
 neither true none = refl
 neither false none = refl
 

@@ -29,7 +29,7 @@ descriptor ends Client = ends.client
 descriptor ends Target = ends.target
 
 -- what the pair is told of a reply that brings no bytes
-abbrev pub plain : Reply → Option answer.Reply
+abbrev pub plain : Reply → Option answer.AnswerValue
 plain (reply.Bytes n) = None
 plain reply.End = Some answer.End
 plain (reply.Wrote n full) = Some (answer.Wrote n)
@@ -40,7 +40,7 @@ plain reply.Interrupted = Some answer.Interrupted
 plain (reply.Failed kind) = Some (answer.Failed kind)
 
 -- what the pair is told of a reply: with the bytes that a read handed over
-abbrev pub told_of : Line → Call → Reply → Option answer.Reply
+abbrev pub told_of : Line → Call → Reply → Option answer.AnswerValue
 told_of l (Read side most) (reply.Bytes n) =
     option_map (λ (bytes : List ℕ). answer.Bytes bytes)
     (option_and_then (λ (r : Registered). bytes_read r.socket most n) (end_at l.kernel.ends (descriptor l.connection.ends side)))
@@ -56,7 +56,7 @@ made l (Shut side) r = shut l.kernel (descriptor l.connection.ends side) r
 -- one call with its reply: the kernel may reply so, and the pair takes it in
 abbrev pub replied : Line → Call → Reply → Option Line
 replied l call r = option_and_then
-    (λ (t : answer.Reply). when (fits l.connection.pair call t)
+    (λ (t : answer.AnswerValue). when (fits l.connection.pair call t)
     (option_map
     (λ (k : Watcher). record { kernel = k; connection = record l.connection { pair = after l.connection.pair call t } })
     (made l call r)))

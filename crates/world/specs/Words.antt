@@ -37,13 +37,13 @@ abbrev pub word_of : Place → Word
 word_of p = record { pending = length p.notes; free = is_free p.holder; held = is_held p.holder }
 
 -- the kinds of step
-pub data Kind : Type 0 where
-  Post : Kind
-  Claim : Kind
-  Take : Kind
-  Release : Kind
-  Retire : Kind
-  Adopt : Kind
+pub data StepKind : Type 0 where
+  Post : StepKind
+  Claim : StepKind
+  Take : StepKind
+  Release : StepKind
+  Retire : StepKind
+  Adopt : StepKind
 
 -- what a step answers
 pub data Answer : Type 0 where
@@ -57,7 +57,7 @@ pub data Answer : Type 0 where
   NotFree : Answer
 
 -- the word after a step
-abbrev pub after : Kind → Word → Word
+abbrev pub after : StepKind → Word → Word
 after Post w = record w { pending = w.pending + 1 }
 after Claim w = record w { held = true }
 after Take w = record w { pending = 0 }
@@ -66,7 +66,7 @@ after Retire w = record w { free = true }
 after Adopt w = record w { free = false }
 
 -- the answer, by the word that the step finds
-abbrev pub answer : Kind → Word → Answer
+abbrev pub answer : StepKind → Word → Answer
 answer Post w = if not (w.held || nat_lt 0 w.pending) then Wake else Quiet
 answer Claim w = if w.held then Busy else Held
 answer Take w = Count w.pending
@@ -75,7 +75,7 @@ answer Retire w = Nothing
 answer Adopt w = if w.free then Adopted else NotFree
 
 -- some steps, one after the other
-abbrev pub after_all : List Kind → Word → Word
+abbrev pub after_all : List StepKind → Word → Word
 after_all [] w = w
 after_all (k ∷ ks) w = after_all ks (after k w)
 
@@ -84,27 +84,27 @@ is_wake Wake = true
 is_wake a = false
 
 -- how many of them answer that a ticket is to be made
-abbrev pub wakes : List Kind → Word → ℕ
+abbrev pub wakes : List StepKind → Word → ℕ
 wakes [] w = 0
 wakes (k ∷ ks) w = one (is_wake (answer k w)) + wakes ks (after k w)
 
-abbrev pub is_claim : Kind → Bool
+abbrev pub is_claim : StepKind → Bool
 is_claim Claim = true
 is_claim k = false
 
 -- how many of them are claims, each of which uses up its ticket
-abbrev pub claims : List Kind → ℕ
+abbrev pub claims : List StepKind → ℕ
 claims [] = 0
 claims (k ∷ ks) = one (is_claim k) + claims ks
 
 -- The steps that an event makes at slot s
 
-abbrev pub at_slot : ℕ → ℕ → List Kind → List Kind
+abbrev pub at_slot : ℕ → ℕ → List StepKind → List StepKind
 at_slot s t steps = if t == s then steps else []
 
 -- a slot is opened: it is adopted, its old notes are thrown away, the note of the opening is posted, and it is
 -- released
-abbrev pub opening_steps : Option ℕ → ℕ → List Kind
+abbrev pub opening_steps : Option ℕ → ℕ → List StepKind
 opening_steps None s = []
 opening_steps (Some t) s = at_slot s t (Adopt ∷ Take ∷ Post ∷ Release ∷ [])
 
@@ -113,13 +113,13 @@ is_entry None g = false
 is_entry (Some h) g = h == g
 
 -- a report of an end is posted where its generation is the table's
-abbrev pub delivery_steps : State → Option Name → ℕ → List Kind
+abbrev pub delivery_steps : State → Option Name → ℕ → List StepKind
 delivery_steps st None s = []
 delivery_steps st (Some name.Listener) s = []
 delivery_steps st (Some name.Waker) s = []
 delivery_steps st (Some (name.End n)) s = if is_entry (slice_get st.table n.slot) n.generation then at_slot s n.slot (Post ∷ []) else []
 
-abbrev pub act_steps : Act → Doing → ℕ → List Kind
+abbrev pub act_steps : Act → Doing → ℕ → List StepKind
 act_steps act.Claim (Tries t) s = at_slot s t.slot (Claim ∷ [])
 act_steps act.Take (Holds t left) s = at_slot s t (Take ∷ [])
 act_steps act.Post (Holds t left) s = at_slot s t (Post ∷ [])
@@ -127,11 +127,11 @@ act_steps act.Release (Holds t left) s = at_slot s t (Release ∷ [])
 act_steps act.Retire (Closed t) s = at_slot s t (Retire ∷ [])
 act_steps a d s = []
 
-abbrev pub worker_steps : Option Actor → Act → ℕ → List Kind
+abbrev pub worker_steps : Option Actor → Act → ℕ → List StepKind
 worker_steps None a s = []
 worker_steps (Some k) a s = act_steps a k.doing s
 
-abbrev pub steps : State → Event → ℕ → List Kind
+abbrev pub steps : State → Event → ℕ → List StepKind
 steps st (event.Poll polling.Open) s = opening_steps (slice_get st.free 0) s
 steps st (event.Poll polling.Deliver) s = delivery_steps st (slice_get st.batch 0) s
 steps st (event.Work w a) s = worker_steps (slice_get st.workers w) a s
