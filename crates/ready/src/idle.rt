@@ -1,6 +1,7 @@
 // Which ends sleep, and how they are woken.
 ghost use Rattle.std.specs.Prelude.{◌≡◌, ◌<◌, ◌≤◌, vec_len};
 
+use crate::ticket::Ticket;
 use crossbeam_utils::sync::Unparker;
 use std::sync::atomic::Ordering::SeqCst;
 use std::sync::atomic::{AtomicBool, AtomicU64};
@@ -37,6 +38,7 @@ impl IdleEnds {
     /// Marks the end as idle.
     pub(crate) fn announce(&self, end: usize) -> Announced
         requires { end < 32 }
+        ensures { result.end ≡ end }
     {
         // Pairs with the load in `wake_one`. A put pushes and then loads; an end sets its bit and then looks. So one
         // of the two sees the other's step. With a look first and the bit after it, a put could come between: it would
@@ -45,26 +47,33 @@ impl IdleEnds {
         Announced { end }
     }
 
-    /// Marks the end as awake, after its last look at the queue or its sleep.
+    /// Marks the end as awake, after its last look at the queue or its sleep, and hands on what the look found.
     ///
-    /// Where the look found something, and another put had spent its wake on this end, the wake is passed on.
-    pub(crate) fn withdraw(&self, announced: Announced, found: bool) {
+    /// Where it found something, and another put had spent its wake on this end, the wake is passed on.
+    pub(crate) fn withdraw(&self, announced: Announced, found: Option<Ticket>) -> Option<Ticket>
+        ensures { result ≡ found }
+    {
         // Pairs with the exchange in `wake_one`: of the two, one alone finds the bit. A load and then a store could
         // let both find it, and nobody would pass that wake on: the other put's ticket would lie until this end is
         // back, while a third end sleeps.
         let Announced { end } = announced;
         let bit = 1u64 << end;
         let was_woken = self.idle.fetch_and(!bit, SeqCst) & bit == 0;
-        if found && was_woken {
+        if found.is_some() && was_woken {
             self.wake_one();
         }
+        found
     }
 
     /// Wakes the idle end of the lowest number, if any is idle.
     pub(crate) fn wake_one(&self) {
         // Pairs with the step in `announce`. An end whose bit comes after this load looks at the queue after it, and so
         // finds what was pushed before.
-        let idle = self.idle.load(SeqCst);
+        self.wake_one_of(self.idle.load(SeqCst));
+    }
+
+    /// Wakes the end of the lowest number that is still idle, of those that were idle when the word was read.
+    pub(crate) fn wake_one_of(&self, idle: u64) {
         for (end, unparker) in self.unparkers.iter().enumerate() {
             let bit = 1u64 << end;
             // The exchange tells whether this thread was the one to clear the bit. Where another was, that end is

@@ -127,24 +127,18 @@ impl ReadyQueue {
         ensures unchanged { IfNone result (self.new ≡ self.old) }
         ensures capacity { self.new.capacity ≡ self.old.capacity }
     {
-        self.comes_back = false;
         for _ in rt.forever() {
             // The mark is read before the queue. The other way round a ticket that was put before the close, and after
             // this end's look, would be left.
             let closed = self.shared.ends.is_closed();
-            let found = self.try_take(rt);
-            if found.is_some() {
-                self.comes_back = true;
-                return found;
+            let mut found = self.try_take(rt);
+            if found.is_none() && !closed {
+                let announced = self.shared.ends.announce(self.number);
+                found = self.look_or_park(rt, &announced);
+                found = self.shared.ends.withdraw(announced, found);
             }
-            if closed {
-                return None;
-            }
-            let announced = self.shared.ends.announce(self.number);
-            let found = self.look_or_park(rt, &announced);
-            self.shared.ends.withdraw(announced, found.is_some());
-            if found.is_some() {
-                self.comes_back = true;
+            self.comes_back = found.is_some();
+            if found.is_some() || closed {
                 return found;
             }
         }
@@ -152,7 +146,7 @@ impl ReadyQueue {
     }
 
     // Looks once more, as an end that has announced that it is idle, and parks where there was nothing.
-    fn look_or_park(&mut self, rt: &impl Wait, _announced: &Announced) -> Option<Ticket>
+    fn look_or_park(&mut self, rt: &impl Wait, announced: &Announced) -> Option<Ticket>
         ensures taken { IfSome result (λ ticket. TookOne self.old.history ticket self.new.history) }
         ensures empty { IfNone result (HeldOnce 0 self.old.history) }
         ensures unchanged { IfNone result (self.new ≡ self.old) }
@@ -160,9 +154,16 @@ impl ReadyQueue {
     {
         let found = self.try_take(rt);
         if found.is_none() {
-            self.parker.park(rt);
+            self.park(rt, announced);
         }
         found
+    }
+
+    // Sleeps until this end is woken. An end that has just taken a ticket may not: it would sleep on it.
+    fn park(&self, rt: &impl Wait, _announced: &Announced)
+        requires { HeldOnce 0 self.now.history }
+    {
+        self.parker.park(rt);
     }
 
     #[cfg(test)]
@@ -175,6 +176,11 @@ impl ReadyQueue {
         ensures { result < 32 }
     {
         self.number
+    }
+
+    #[cfg(test)]
+    pub(crate) fn parker(&self) -> &Parker {
+        &self.parker
     }
 
     /// Lets `take` answer none once the queue is empty, at every end, and wakes all that sleep.

@@ -52,7 +52,7 @@ fn the_first_put_after_a_take_wakes_nobody(rt: HostRuntime) -> Result<(), Fail> 
         let announced = idle.announce(other.number());
         assert_eq!(rt; mine.put(&rt, ticket(1, 1)), Ok(()));
         assert_eq!(rt; idle.count() == 0, wakes, "at step {step}");
-        idle.withdraw(announced, false);
+        idle.withdraw(announced, None);
         if step == 0 {
             assert_eq!(rt; mine.take(&rt), Some(ticket(1, 1)));
         }
@@ -68,35 +68,52 @@ fn a_wake_that_is_not_needed_is_passed_on(rt: HostRuntime) -> Result<(), Fail> {
     };
     let idle = end.idle();
     // Whether another thread wakes end 0, whether end 0 finds a ticket, and how many ends stay idle.
-    for (woken, found, left) in [(true, true, 0), (true, false, 1), (false, true, 1)] {
+    for (woken, found, left) in [
+        (true, Some(ticket(1, 1)), 0),
+        (true, None, 1),
+        (false, Some(ticket(1, 1)), 1),
+    ] {
         let first = idle.announce(0);
         if woken {
             idle.wake_one();
         }
         let second = idle.announce(1);
         idle.withdraw(first, found);
-        assert_eq!(rt; idle.count(), left, "woken {woken}, found {found}");
-        idle.withdraw(second, false);
+        assert_eq!(rt; idle.count(), left, "woken {woken}, found {found:?}");
+        idle.withdraw(second, None);
     }
     Ok(())
 }
 
 #[test]
-fn a_wake_is_for_one_end(rt: HostRuntime) -> Result<(), Fail> {
-    let mut ends = ReadyQueue::new(rt.alloc(), 1, 32)?;
-    let Some(end) = ends.pop() else {
+fn a_wake_is_for_one_end_and_a_close_for_all(rt: HostRuntime) -> Result<(), Fail> {
+    let ends = ReadyQueue::new(rt.alloc(), 1, 32)?;
+    let Some(end) = ends.first() else {
         panic!(rt; "there is no end")
     };
     let idle = end.idle();
     for number in 0..32 {
+        let next = (number + 1) % 32;
         let first = idle.announce(number);
-        let second = idle.announce((number + 1) % 32);
+        let second = idle.announce(next);
+        // The second wake is of a thread that read the word before the first, and finds the end that was woken in it.
+        let seen = 1u64 << number | 1u64 << next;
         for left in [1, 0] {
-            idle.wake_one();
+            idle.wake_one_of(seen);
             assert_eq!(rt; idle.count(), left, "of {number} and the next");
         }
-        idle.withdraw(first, false);
-        idle.withdraw(second, false);
+        idle.withdraw(first, None);
+        idle.withdraw(second, None);
+        // An end that was not woken sleeps here for good.
+        for end in &ends {
+            if end.number() == number || end.number() == next {
+                end.parker().park(&rt);
+            }
+        }
+    }
+    idle.close();
+    for end in &ends {
+        end.parker().park(&rt);
     }
     Ok(())
 }

@@ -80,26 +80,18 @@ fn each_ticket_is_taken_once(rt: HostRuntime) -> Result<(), Fail> {
     ) else {
         panic!(rt; "there are not five ends")
     };
-    let ((), (first, second)) = thread::join(
-        &rt,
-        || {
-            thread::join(
-                &rt,
-                || put_all(&rt, put_zero, 0),
-                || put_all(&rt, put_one, 1),
-            );
-            closing.close();
-        },
-        || {
-            thread::join(
-                &rt,
-                || take_all(&rt, alloc, take_zero),
-                || take_all(&rt, alloc, take_one),
-            )
-        },
-    );
-    let first = first?;
-    let second = second?;
+    let first = thread::spawn(&rt, move || take_all(&rt, alloc, take_zero)).map_err(
+        AllocError::from,
+    )?;
+    let second = thread::spawn(&rt, move || take_all(&rt, alloc, take_one)).map_err(
+        AllocError::from,
+    )?;
+    let putting = thread::spawn(&rt, move || put_all(&rt, put_zero, 0)).map_err(AllocError::from)?;
+    put_all(&rt, put_one, 1);
+    putting.join(&rt);
+    closing.close();
+    let first = first.join(&rt)?;
+    let second = second.join(&rt)?;
     assert_eq!(rt; taken_otherwise(&first, &second), None);
     for slot in 0..2 {
         assert!(rt; rises(&first, slot) && rises(&second, slot));
@@ -127,18 +119,18 @@ fn a_parked_end_is_woken(rt: HostRuntime) -> Result<(), Fail> {
     let (Some(mut putting), Some(mut taking)) = (ends.pop(), ends.pop()) else {
         panic!(rt; "there are not two ends")
     };
-    let (put, taken) = thread::join(
-        &rt,
-        || {
-            wait_for_idle(&rt, &putting);
-            let put = putting.put(&rt, ticket);
-            wait_for_idle(&rt, &putting);
-            putting.close();
-            put
-        },
-        || (taking.take(&rt), taking.take(&rt)),
-    );
-    assert_eq!(rt; put, Ok(()));
-    assert_eq!(rt; taken, (Some(ticket), None));
+    let taking = thread::spawn(&rt, move || (taking.take(&rt), taking.take(&rt))).map_err(
+        AllocError::from,
+    )?;
+    wait_for_idle(&rt, &putting);
+    // An end that looks again and again in place of sleeping is not idle in between.
+    for _ in 0..1000 {
+        assert!(rt; putting.idle().count() == 1);
+        thread::yield_now();
+    }
+    assert_eq!(rt; putting.put(&rt, ticket), Ok(()));
+    wait_for_idle(&rt, &putting);
+    putting.close();
+    assert_eq!(rt; taking.join(&rt), (Some(ticket), None));
     Ok(())
 }
