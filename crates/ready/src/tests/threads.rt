@@ -115,8 +115,9 @@ fn a_parked_end_is_woken(rt: HostRuntime) -> Result<(), Fail> {
         slot: 1,
         generation: 1,
     };
-    let mut ends = ReadyQueue::new(rt.alloc(), 1, 2)?;
-    let (Some(mut putting), Some(mut taking)) = (ends.pop(), ends.pop()) else {
+    // The first is the one of the highest number.
+    let mut ends = ReadyQueue::new(rt.alloc(), 1, 32)?.into_iter();
+    let (Some(mut taking), Some(mut putting)) = (ends.next(), ends.next()) else {
         panic!(rt; "there are not two ends")
     };
     let taking = thread::spawn(&rt, move || (taking.take(&rt), taking.take(&rt))).map_err(
