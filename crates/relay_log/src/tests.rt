@@ -6,6 +6,8 @@ use log::sink::{Lines, Memory};
 use log::{Level, Log, Logged};
 use relay_core::{CallKind, Fault, Kind, Side};
 use std::alloc::{AllocError, Global};
+use std::cell::Cell;
+use std::fmt;
 use std::test::Fail;
 
 /// A write to the target that met a closed reading end.
@@ -210,5 +212,29 @@ fn hands_over_each_message(rt: HostRuntime) -> Result<(), Fail> {
     let wanted = lines_of_all(rt.alloc())?;
     let missing = missing_of(&lines, wanted.as_slice());
     assert!(rt; matches!(missing, Some(0 | 1)), "missing: {missing:?}");
+    Ok(())
+}
+
+/// An address that notes that it is printed.
+#[derive(Drop)]
+struct Noting(Cell<bool>);
+
+impl fmt::Display for Noting {
+    fn fmt<W: fmt::Write>(&self, f: &mut fmt::Formatter<W>) -> fmt::Result {
+        self.0.set(true);
+        f.write_str("192.0.2.7:50000")
+    }
+}
+
+// No text is made at a level that is off.
+#[test]
+fn prints_no_address_at_a_level_that_is_off(rt: HostRuntime) -> Result<(), Fail> {
+    let from = Noting(Cell::new(false));
+    let sink = Memory::new(rt.alloc());
+    let logged = Logged::new(&rt, Level::Info, &sink);
+    log_peer(&logged, rt.alloc(), 3, 1, &from);
+    assert!(rt; !from.0.get());
+    peer_text(rt.alloc(), 3, 1, &from)?;
+    assert!(rt; from.0.get());
     Ok(())
 }
