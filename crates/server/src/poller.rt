@@ -1,9 +1,10 @@
 //! The poller's rounds: tickets are put, reports delivered, and connections accepted and opened.
-ghost use Rattle.std.specs.Prelude.{◌≡◌, ◌+◌, ◌<◌, ◌≤◌, length, IfOk, OnOk, replicate, slice_set, true};
+ghost use Rattle.std.specs.Prelude.{◌≡◌, ◌⊎◌, ℕ, ◌+◌, ◌<◌, ◌≤◌, [], ◌∷◌, ◌++◌, length, drop, IfOk, OnOk, IfSome, replicate, slice_get, slice_set, true, false};
 ghost use Rattle.std.specs.IoError.{error_kind};
 ghost use Rattle.claims.specs.Seats.{HoldsNothing};
 ghost use Rattle.server.specs.Accepts.{accepted_of};
 ghost use Rattle.server.specs.Hands.{ticket_room};
+ghost use Rattle.ready.specs.Steps.{TookOne};
 ghost use Rattle.server.specs.Polls.{flag_after};
 
 use crate::accepting::{Accepted, accepted_of};
@@ -197,12 +198,15 @@ fn accept_all<F: Front, R: Net + Wait + Log>(
     Ok(())
 }
 
-/// Whether a free slot is in hand, or can be taken.
+/// Whether a free slot is in hand, or can be taken. None is taken where one is in hand.
 fn has_slot<R: Wait>(rt: &R, own: &mut Own) -> bool
     requires room { 1 ≤ ticket_room own.old.hand }
     ensures seat { own.new.seat ≡ own.old.seat }
     ensures tickets { own.new.hand.tickets ≡ own.old.hand.tickets }
     ensures capacity { own.new.hand.capacity ≡ own.old.hand.capacity }
+    ensures had { 1 ≤ length own.old.hand.slots → (result ≡ true) × (own.new ≡ own.old) }
+    ensures taken { own.old.hand.slots ≡ [] → result ≡ true → (slot : ℕ) × TookOne own.old.free.history slot own.new.free.history × (own.new.hand.slots ≡ slot ∷ []) }
+    ensures none { result ≡ false → own.new ≡ own.old }
 {
     if own.hand.slots() > 0 {
         return true;
@@ -257,6 +261,7 @@ fn open<F: Front, R: Net + Wait + Log>(
     ensures idle { HoldsNothing own.new.seat }
     ensures sized { length poller.new.table ≡ length poller.old.table }
     ensures room { OnOk result (ticket_room own.old.hand ≤ ticket_room own.new.hand + 1) }
+    ensures slot { OnOk result (IfSome (slice_get own.old.hand.slots 0) (λ slot. (own.new.hand.slots ≡ drop 1 own.old.hand.slots) ⊎ ((poller.new ≡ poller.old) × (own.new.hand.slots ≡ drop 1 own.old.hand.slots ++ slot ∷ [])))) }
 {
     let Some(slot) = own.hand.take_slot() else {
         return Ok(());
@@ -304,6 +309,7 @@ fn place<F: Front, R: Wait + Log>(
     ensures idle { HoldsNothing own.new.seat }
     ensures table { poller.new.table ≡ slice_set poller.old.table token.slot token.generation }
     ensures room { OnOk result (ticket_room own.old.hand ≤ ticket_room own.new.hand + 1) }
+    ensures slots { OnOk result (own.new.hand.slots ≡ own.old.hand.slots) }
 {
     let (slot, generation) = (token.slot(), token.generation());
     poller.table[slot] = generation;

@@ -1,5 +1,5 @@
 //! A server over the system's sockets, from its settings to its end.
-ghost use Rattle.std.specs.Prelude.{◌≡◌, ◌+◌, ◌<◌, ◌≤◌, ◌∷◌, length, replicate, true, IfOk};
+ghost use Rattle.std.specs.Prelude.{◌≡◌, ◌≢◌, ◌+◌, ◌<◌, ◌≤◌, ◌∷◌, length, replicate, true, IfOk, IfErr};
 ghost use Rattle.claims.specs.Seats.{fresh, HoldsNothing};
 ghost use Rattle.ready.specs.Steps.{fresh as unused, opened as filled};
 ghost use Rattle.server.specs.Crews.{AreFresh};
@@ -80,6 +80,7 @@ fn built<R: Wait>(
     ensures ready { IfOk result (λ made. made.1.ready.items ≡ replicate (settings.now.workers + 1) (unused settings.now.slots)) }
     ensures free { IfOk result (λ made. made.1.free.items ≡ filled settings.now.slots ∷ replicate settings.now.workers (unused settings.now.slots)) }
     ensures poller { IfOk result (λ made. made.2 ≡ record { table = replicate settings.now.slots 0; accepting = true; ring = settings.now.ring; stop_after = settings.now.stop_after }) }
+    ensures refused { IfErr result (λ fault. fault ≡ ServerFault.NoMemory) }
 {
     let slots = settings.slots;
     let threads = settings.workers + 1;
@@ -107,7 +108,8 @@ fn opened(
 ) -> Result<(Claims, Vec<ClaimSeat>), ServerFault>
     requires slots { (1 ≤ slots) × (slots ≤ 4096) }
     requires threads { (1 ≤ threads) × (threads ≤ 17) }
-    ensures { IfOk result (λ made. (made.0.words ≡ slots) × (made.1.items ≡ replicate threads (fresh made.0))) }
+    ensures made { IfOk result (λ made. (made.0.words ≡ slots) × (made.1.items ≡ replicate threads (fresh made.0))) }
+    ensures refused { IfErr result (λ fault. fault ≡ ServerFault.NoMemory) }
 {
     match Claims::open(alloc, slots, threads) {
         Ok(made) => Ok(made),
@@ -229,6 +231,7 @@ fn run_alone<F: Front, G: Gate, R: Wait + Log>(
     requires idle { HoldsNothing own.old.seat }
     ensures same { own.new.seat.table ≡ own.old.seat.table }
     ensures idle { HoldsNothing own.new.seat }
+    ensures one_alone { length own.old.hand.tickets ≢ 1 → own.new ≡ own.old }
 {
     if own.hand.tickets() != 1 {
         return Ok(());
