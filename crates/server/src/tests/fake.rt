@@ -26,7 +26,8 @@ pub(crate) struct Script<'a> {
     pub(crate) opens: &'a [Option<Unopened>],
 }
 
-/// A front that plays a script. Its connections are reset at the first read. No call of it takes memory.
+/// A front that plays a script. Its clients come from 192.0.2.7:50000, and its connections are reset at the first read.
+/// No call of it takes memory.
 #[derive(Drop)]
 pub(crate) struct Fake {
     /// The wires that are left for clients and targets.
@@ -147,6 +148,6 @@ impl Front for Fake {
     }
 
     fn peer(_client: &ScriptWire) -> Option<SocketAddr> {
-        None
+        Some(SocketAddr::from(([192, 0, 2, 7], 50_000)))
     }
 }

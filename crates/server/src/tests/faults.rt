@@ -88,11 +88,15 @@ fn a_worker_s_fault_is_told_to_all(rt: HostRuntime) -> Result<(), Fail> {
     let (Some(mut mine), Some(mut other)) = (parts.ready.pop(), parts.ready.pop()) else {
         panic!(rt; "there are not two ends")
     };
-    let note = Note::new();
-    end_all(&rt, &note, &shared, 2, &mut mine, ServerFault::Worn);
+    // Another worker's fault comes later. The first worker's goes before, the third worker's does not.
+    for (later, kept) in [(3, ServerFault::Worn), (1, ServerFault::NoMemory)] {
+        let note = Note::new();
+        end_all(&rt, &note, &shared, 2, &mut mine, ServerFault::Worn);
+        note.write(&rt, later, ServerFault::NoMemory);
+        assert_eq!(rt; note.into_fault(), Some(kept));
+    }
     assert_eq!(rt; other.take(&rt), None);
-    assert_eq!(rt; shared.waker.load(SeqCst), 1);
-    assert_eq!(rt; note.into_fault(), Some(ServerFault::Worn));
+    assert_eq!(rt; shared.waker.load(SeqCst), 2);
     Ok(())
 }
 

@@ -8,7 +8,7 @@ use crate::crew::next_own;
 use crate::{
     MAX_BATCH, OpenGate, Own, Poller, Shared, Unopened, Worked, poller_round, worker_turn,
 };
-use log::sink::Memory;
+use log::sink::{Lines, Memory};
 use log::{Level, Log, Logged};
 use ready::Ticket;
 use std::alloc::{AllocError, Global};
@@ -111,6 +111,17 @@ fn ticket(slot: usize, generation: u64) -> Option<Ticket> {
     Some(Ticket { slot, generation })
 }
 
+/// The lines of a log, of which so many are wanted. Where one is missing, or says that an opening met no memory, a growth
+/// was refused.
+fn lines_of(sink: Memory, wanted: usize) -> Result<Lines, AllocError> {
+    let lines = sink.into_lines();
+    let mut texts = lines.as_slice().iter().map(|line| line.as_str());
+    if lines.len() < wanted || texts.any(|text| text == "[WARN  relayd] drop kind=memory") {
+        return Err(AllocError);
+    }
+    Ok(lines)
+}
+
 #[test]
 fn an_opening_throws_old_notes_away(rt: HostRuntime) -> Result<(), Fail> {
     let alloc = rt.alloc();
@@ -153,6 +164,10 @@ fn a_batch_leaves_notes_at_open_connections_alone(rt: HostRuntime) -> Result<(),
     assert_eq!(rt; (stage.word(0), stage.word(1)), (Some(12), Some(3)));
     assert_eq!(rt; stage.worker.ready.try_take(&rt), ticket(0, 1));
     assert_eq!(rt; stage.own.hand.tickets(), 0);
+    // A wait that a signal ended has no reports, and is no fault.
+    stage.poller.front.failing = Some(ErrorKind::Interrupted);
+    assert!(rt; stage.round(&log, alloc));
+    assert_eq!(rt; (stage.word(0), stage.word(1)), (Some(12), Some(3)));
     Ok(())
 }
 
@@ -160,7 +175,7 @@ fn a_batch_leaves_notes_at_open_connections_alone(rt: HostRuntime) -> Result<(),
 fn a_failed_opening_leaves_its_slot_as_it_was(rt: HostRuntime) -> Result<(), Fail> {
     let alloc = rt.alloc();
     let sink = Memory::new(alloc);
-    let log = Logged::new(&rt, Level::Info, &sink);
+    let log = Logged::new(&rt, Level::Debug, &sink);
     // Accept would block after each connection, and the next batch reports the listener.
     let script = Script {
         batches: &[&[], &[0], &[0]],
@@ -174,19 +189,22 @@ fn a_failed_opening_leaves_its_slot_as_it_was(rt: HostRuntime) -> Result<(), Fai
         opens: &[Some(Unopened::Connect), Some(Unopened::Register), None],
     };
     let mut stage = staged(&rt, alloc, 1, 0, script)?;
-    for (word, tickets) in [(3, 0), (3, 0), (4, 1)] {
+    // The slot's word and the tickets in hand after each round.
+    let mut after = [(None, 0); 3];
+    for seen in after.iter_mut() {
         assert!(rt; stage.round(&log, alloc));
-        assert_eq!(rt; stage.word(0), Some(word));
-        assert_eq!(rt; stage.own.hand.tickets(), tickets);
+        *seen = (stage.word(0), stage.own.hand.tickets());
     }
+    let lines = lines_of(sink, 4)?;
+    assert_eq!(rt; after, [(Some(3), 0), (Some(3), 0), (Some(4), 1)]);
     let asked = stage.poller.front.asked.as_slice();
     let wanted = [65_536, 65_537, 65_536, 65_537, 65_536, 65_537];
     assert_eq!(rt; asked, &wanted[..]);
-    let lines = sink.into_lines();
     let mut lines = lines.as_slice().iter();
     for text in [
         "[WARN  relayd] drop kind=connect",
         "[WARN  relayd] drop kind=register",
+        "[DEBUG relayd] peer s=0 g=1 from=192.0.2.7:50000",
         "[INFO  relayd] open s=0 g=1",
     ] {
         assert_eq!(rt; lines.next().map(|line| line.as_str()), Some(text));
@@ -286,20 +304,22 @@ fn each_answer_of_accept_is_obeyed(rt: HostRuntime) -> Result<(), Fail> {
     let alloc = rt.alloc();
     for (number, row) in ROWS.iter().enumerate() {
         let sink = Memory::new(alloc);
-        let log = Logged::new(&rt, Level::Error, &sink);
+        let log = Logged::new(&rt, Level::Warn, &sink);
         let script = Script {
             batches: &[&[], &[], &[0]],
             accepts: row.accepts,
             opens: &[],
         };
         let mut stage = staged(&rt, alloc, row.slots.clamp(1, 2), 0, script)?;
-        for calls in row.calls {
+        let mut calls = [0; 3];
+        for made in calls.iter_mut() {
             let before = stage.poller.front.accepted;
             assert!(rt; stage.round(&log, alloc));
-            let made = stage.poller.front.accepted.saturating_sub(before);
-            assert_eq!(rt; made, calls, "in row {number}");
+            *made = stage.poller.front.accepted.saturating_sub(before);
         }
-        assert_eq!(rt; sink.into_lines().len(), row.errors, "in row {number}");
+        let lines = lines_of(sink, row.errors)?;
+        assert_eq!(rt; calls, row.calls, "in row {number}");
+        assert_eq!(rt; lines.len(), row.errors, "in row {number}");
     }
     Ok(())
 }

@@ -67,12 +67,21 @@ struct Opened {
     target: SocketWire,
 }
 
-/// Connects to a front, and opens the connection.
-fn connected(rt: &HostRuntime, target: SocketAddr) -> Result<Opened, Fail> {
-    let (mut front, _waker, address) = front(rt, target)?;
+/// A front to which a client has connected, the client, and its wire.
+fn accepted(
+    rt: &HostRuntime,
+    target: SocketAddr,
+) -> Result<(Sockets, Waker, TcpStream, SocketWire), Fail> {
+    let (mut front, waker, address) = front(rt, target)?;
     let peer = TcpStream::connect(rt, address)?;
     reports(rt.alloc(), &mut front, &[0])?;
-    let mut client = front.accept()?;
+    let client = front.accept()?;
+    Ok((front, waker, peer, client))
+}
+
+/// Connects to a front, and opens the connection.
+fn connected(rt: &HostRuntime, target: SocketAddr) -> Result<Opened, Fail> {
+    let (mut front, _waker, peer, mut client) = accepted(rt, target)?;
     let (near, far) = (token(Side::Client)?, token(Side::Target)?);
     let target = front.open(rt, &mut client, near, far)?;
     reports(rt.alloc(), &mut front, &[near.value(), far.value()])?;

@@ -336,7 +336,7 @@ const FAILED: Row = Row {
 };
 
 /// Each with the line that is logged.
-const ROWS: [(Row, Option<&str>); 10] = [
+const ROWS: [(Row, Option<&str>); 11] = [
     (BUSY, None),
     (QUIET, None),
     (
@@ -350,6 +350,13 @@ const ROWS: [(Row, Option<&str>); 10] = [
     (
         Row {
             ticket: (0, 2),
+            ..GONE
+        },
+        None,
+    ),
+    (
+        Row {
+            opened: Some((2, Scene::Silent)),
             ..GONE
         },
         None,

@@ -1,8 +1,9 @@
 use super::*;
 use crate::{ServerFault, Unopened};
-use log::sink::Memory;
+use log::sink::{Lines, Memory};
 use log::{Level, Logged};
 use relay_log::Cause;
+use std::alloc::AllocError;
 use std::io::Write;
 use std::time::{Duration, Instant};
 
@@ -17,7 +18,7 @@ fn listens_once(rt: HostRuntime) -> Result<(), Fail> {
     assert_eq!(rt; fault, Err(ServerFault::Listen));
     let wanted = format!(in rt.alloc(); "[ERROR relayd] listen: {address}: ")?;
     let lines = sink.into_lines();
-    let line = lines.as_slice().first().ok_or("no line")?;
+    let line = lines.as_slice().first().ok_or(AllocError)?;
     assert!(rt; line.as_str().starts_with(wanted.as_str()));
     assert!(rt; address.port() > 0);
     Ok(())
@@ -59,18 +60,38 @@ fn wake<F: Front>(_front: &F, waker: &F::Waker) {
     F::wake(waker);
 }
 
-// A client that is registered already.
+/// Why a client that is registered already cannot be opened to this target, and the line that is logged at level debug.
+fn opened_twice(rt: &HostRuntime, target: SocketAddr) -> Result<(Option<Unopened>, Lines), Fail> {
+    let sink = Memory::new(rt.alloc());
+    let (mut front, _waker, _peer, mut client) = accepted(rt, target)?;
+    let (near, far) = (token(Side::Client)?, token(Side::Target)?);
+    let _first = front.open(rt, &mut client, near, far);
+    let log = Logged::new(rt, Level::Debug, &sink);
+    let why = front.open(&log, &mut client, near, far).err();
+    Ok((why, sink.into_lines()))
+}
+
+// No socket connects to the address of a broadcast.
 #[test]
 fn unopened(rt: HostRuntime) -> Result<(), Fail> {
     let listener = listener(&rt)?;
-    let (mut front, _waker, address) = front(&rt, listener.local_addr()?)?;
-    let _peer = TcpStream::connect(&rt, address)?;
-    reports(rt.alloc(), &mut front, &[0])?;
-    let mut client = front.accept()?;
-    let (near, far) = (token(Side::Client)?, token(Side::Target)?);
-    let _first = front.open(&rt, &mut client, near, far);
-    let second = front.open(&rt, &mut client, near, far);
-    assert_eq!(rt; second.err(), Some(Unopened::Register));
+    for (target, unopened, text) in [
+        (
+            listener.local_addr()?,
+            Unopened::Register,
+            "[DEBUG relayd] register: ",
+        ),
+        (
+            SocketAddr::from(([255, 255, 255, 255], 1)),
+            Unopened::Connect,
+            "[DEBUG relayd] connect: 255.255.255.255:1: ",
+        ),
+    ] {
+        let (why, lines) = opened_twice(&rt, target)?;
+        assert_eq!(rt; why, Some(unopened));
+        let line = lines.as_slice().first().ok_or(AllocError)?;
+        assert!(rt; line.as_str().starts_with(text));
+    }
     Ok(())
 }
 
