@@ -144,8 +144,12 @@ fn a_failed_wait_ends_all_threads(rt: HostRuntime) -> Result<(), Fail> {
     let log = Logged::new(rt, Level::Error, &sink);
     let (shared, parts, poller) = failing(&rt, alloc, ErrorKind::PermissionDenied)?;
     let served = run_threads(&log, alloc, &OpenGate, &shared, parts, poller, 2, true);
-    assert_eq!(rt; served, Err(ServerFault::Poll));
     let bytes = sink.into_inner();
+    // A worker that was not started, and a line that is missing, are refused allocations.
+    if served == Err(ServerFault::Threads) || bytes.is_empty() {
+        return Err(Fail::from(AllocError));
+    }
+    assert_eq!(rt; served, Err(ServerFault::Poll));
     let text = str::from_utf8(bytes.as_slice())?;
     assert!(rt; text.contains("relayd] poll: "));
     Ok(())

@@ -39,6 +39,15 @@ impl Stage {
         poller_round(rt, alloc, &self.shared, &mut self.own, &mut self.poller).is_ok()
     }
 
+    /// A round that opens a connection. If no ticket is in hand afterwards, memory for the connection was refused.
+    fn opens<R: Net + Wait + Log>(&mut self, rt: &R, alloc: Global) -> Result<(), AllocError> {
+        if self.round(rt, alloc) && self.own.hand.tickets() > 0 {
+            Ok(())
+        } else {
+            Err(AllocError)
+        }
+    }
+
     /// A worker's turn for the oldest ticket that the poller has in hand. Nothing where there is none.
     fn work<R: Wait + Log>(&mut self, rt: &R, alloc: Global) -> Option<Worked> {
         let ticket = self.own.hand.take_ticket()?;
@@ -111,8 +120,8 @@ fn ticket(slot: usize, generation: u64) -> Option<Ticket> {
     Some(Ticket { slot, generation })
 }
 
-/// The lines of a log, of which so many are wanted. Where one is missing, or says that an opening met no memory, a growth
-/// was refused.
+/// The lines of a log, at least this many. If one is missing, or says that there was no memory for a connection, an
+/// allocation was refused.
 fn lines_of(sink: Memory, wanted: usize) -> Result<Lines, AllocError> {
     let lines = sink.into_lines();
     let mut texts = lines.as_slice().iter().map(|line| line.as_str());
@@ -134,12 +143,12 @@ fn an_opening_throws_old_notes_away(rt: HostRuntime) -> Result<(), Fail> {
         opens: &[],
     };
     let mut stage = staged(&rt, alloc, 1, 0, script)?;
-    assert!(rt; stage.round(&log, alloc));
+    stage.opens(&log, alloc)?;
     assert_eq!(rt; stage.word(0), Some(4));
     assert_eq!(rt; stage.work(&log, alloc), Some(Worked::Ended));
     assert_eq!(rt; stage.word(0), Some(3));
     assert_eq!(rt; stage.shared.waker.load(SeqCst), 1);
-    assert!(rt; stage.round(&log, alloc));
+    stage.opens(&log, alloc)?;
     assert_eq!(rt; stage.word(0), Some(4));
     assert_eq!(rt; stage.own.hand.take_ticket(), ticket(0, 2));
     assert_eq!(rt; stage.own.hand.tickets(), 0);
@@ -158,7 +167,7 @@ fn a_batch_leaves_notes_at_open_connections_alone(rt: HostRuntime) -> Result<(),
         opens: &[],
     };
     let mut stage = staged(&rt, alloc, 2, 0, script)?;
-    assert!(rt; stage.round(&log, alloc));
+    stage.opens(&log, alloc)?;
     assert_eq!(rt; (stage.word(0), stage.word(1)), (Some(4), Some(3)));
     assert!(rt; stage.round(&log, alloc));
     assert_eq!(rt; (stage.word(0), stage.word(1)), (Some(12), Some(3)));
@@ -213,9 +222,8 @@ fn a_failed_opening_leaves_its_slot_as_it_was(rt: HostRuntime) -> Result<(), Fai
     Ok(())
 }
 
-/// Answers of accept, the calls of accept in each of three rounds, and how many errors are logged, at a server of so
-/// many slots. The third round's
-/// batch reports the listener.
+/// Answers of accept, the calls of accept in each of three rounds, and how many errors are logged, with this many slots.
+/// The third round's batch reports the listener.
 struct Row {
     slots: usize,
     accepts: &'static [Option<ErrorKind>],
@@ -368,7 +376,7 @@ fn a_poller_stops_after_its_last_connection(rt: HostRuntime) -> Result<(), Fail>
         opens: &[],
     };
     let mut stage = staged(&rt, alloc, 2, 1, script)?;
-    assert!(rt; stage.round(&log, alloc));
+    stage.opens(&log, alloc)?;
     assert!(rt; !stage.poller.is_over());
     assert_eq!(rt; stage.work(&log, alloc), Some(Worked::Ended));
     assert!(rt; stage.round(&log, alloc));
