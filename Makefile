@@ -14,7 +14,7 @@ help:
 	@echo 'make build         proves and builds crates/relayd/out/relayd; takes ten to twenty minutes the first time'
 	@echo 'make run           forwards connections as examples/relayd.toml says, or CONFIG=FILE'
 	@echo 'make sim           runs the script on standard input'
-	@echo 'make install       installs the program, its manual pages and the rest under PREFIX=/usr/local, with DESTDIR in front'
+	@echo 'make install       installs what make build has built under PREFIX=/usr/local, with DESTDIR in front'
 	@echo 'make test          the gate: every proof and test from scratch, and the built program'
 	@echo 'make test-program  tests the built program as its users run it'
 	@echo 'make growths       makes each memory allocation of the built tests and program fail in turn'
@@ -56,8 +56,12 @@ bench-turn:
 	@.ci/build bench_turn
 	@crates/bench_turn/out/bench_turn run
 
+# The program where there is none yet, so that root can install what another user has built.
+$(PROGRAM):
+	@.ci/build relayd
+
 # The program, its manual pages, an example of its settings, and a unit file for systemd.
-install: build
+install: $(PROGRAM)
 	install -D -m 755 $(PROGRAM) $(DESTDIR)$(PREFIX)/bin/relayd
 	install -D -m 644 man/relayd.1 $(DESTDIR)$(PREFIX)/share/man/man1/relayd.1
 	install -D -m 644 man/relayd.toml.5 $(DESTDIR)$(PREFIX)/share/man/man5/relayd.toml.5

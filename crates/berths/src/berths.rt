@@ -1,4 +1,4 @@
-// A place for each slot, and what waits there.
+// A place for each slot, and what waits in it.
 ghost use Rattle.std.specs.Prelude.{◌≡◌, ◌<◌, IfOk, IfErr};
 ghost use Rattle.claims.specs.Seats.{Holds};
 
@@ -16,7 +16,7 @@ pub struct Berth<C, T> {
     pub target: T,
 }
 
-/// The place held a berth already. This gives back the one that was to be put there.
+/// The place already held a berth. This gives back the one that was to be put there.
 #[derive(Drop)]
 pub struct Occupied<B>(pub B);
 
@@ -37,9 +37,9 @@ impl<C, T> Model for Berths<C, T> {
 }
 
 impl<C, T> Berths<C, T> {
-    /// An empty place for each of `slots` slots. This takes all the memory that the places ever use.
+    /// An empty place for each of `slots` slots. This allocates all the memory that the places ever use.
     ///
-    /// Fails only where there is no such memory, and then no place is made.
+    /// Fails only if there is not enough memory; then no place is made.
     pub fn new(alloc: Global, slots: usize) -> Result<Berths<C, T>, AllocError>
     where
         C: Drop,
@@ -85,8 +85,7 @@ impl<C, T> Berths<C, T> {
         Ok(())
     }
 
-    /// Takes the berth out of the place of a slot that the caller's seat holds. None is called Gone: the place was
-    /// empty.
+    /// Takes the berth out of the place of a slot that the caller's seat holds. None means Gone: the place was empty.
     pub fn take_out(&self, rt: &impl Wait, seat: &ClaimSeat, slot: usize) -> Option<Berth<C, T>>
         requires inside { slot < self.now }
         requires holder { Holds seat.now slot }

@@ -10,7 +10,7 @@ use std::alloc::{AllocError, Global};
 use std::marker::Model;
 use std::sync::{Arc, Wait};
 
-/// One thread's end of the queue of free slots. Nobody sleeps on it.
+/// One thread's end of the queue of free slots. No thread sleeps on it.
 ///
 /// In a clause it is the queue's capacity and the end's history: what it has put and taken, each with its place among
 /// all that was ever put. Only its own calls change that.
@@ -33,12 +33,12 @@ impl Model for FreeQueue {
 }
 
 impl FreeQueue {
-    /// Makes a queue that holds the slots 0, 1, and so on, in order, and its ends. This takes all the memory that it
-    /// ever uses.
+    /// Makes a queue that holds the slots 0, 1, and so on, in order, and its ends. This allocates all the memory that
+    /// it ever uses.
     ///
-    /// The first end has put the slots, each at the place of its own number.
+    /// The first end has put the slots, each at the place equal to its own number.
     ///
-    /// Fails only where there is no such memory, and then no queue is made.
+    /// Fails only if there is not enough memory; then no queue is made.
     pub fn new(
         rt: &impl Wait,
         alloc: Global,
@@ -51,7 +51,7 @@ impl FreeQueue {
     {
         let (line, mut first) = Line::ruled(alloc, slots)?;
         fill(rt, &line, &mut first, slots);
-        // The further passes come from one that has done nothing.
+        // The further passes are made from one that has done nothing.
         let mut next = another(&line, &mut first);
         let line = Arc::new(alloc, line)?;
         let mut all = Vec::with_capacity(alloc, ends)?;
@@ -80,7 +80,7 @@ impl FreeQueue {
         push(rt, &self.line, &mut self.pass, slot)
     }
 
-    /// Takes the slot at the front. None: the queue was empty at one moment of the call.
+    /// Takes the slot at the front. None: the queue was empty at one moment during the call.
     pub fn try_take(&mut self, rt: &impl Wait) -> Option<usize>
         ensures taken { IfSome result (λ slot. TookOne self.old.history slot self.new.history) }
         ensures empty { IfNone result (HeldOnce 0 self.old.history) }
@@ -91,7 +91,7 @@ impl FreeQueue {
     }
 }
 
-// Puts the slots in order. The pass is alone, so the queue has room for each.
+// Puts the slots in order. No other pass exists yet, so the queue has room for all of them.
 fn fill<R: Wait>(rt: &R, line: &Line<usize>, first: &mut LinePass<usize>, slots: usize)
     requires pass { IsPassOf line.now first.old }
     requires room { ruled_capacity line.now ≡ slots }

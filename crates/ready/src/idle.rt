@@ -9,16 +9,16 @@ use std::sync::atomic::{AtomicBool, AtomicU64};
 /// The ends that are idle, and what wakes each of them.
 #[derive(Drop)]
 pub(crate) struct IdleEnds {
-    // One bit for each end that is about to park or parked, and that nobody has woken yet.
+    // One bit for each end that has parked or is about to, and that nobody has woken yet.
     idle: AtomicU64,
     closed: AtomicBool,
     unparkers: Vec<Unparker>,
     ghost few: { vec_len unparkers ≤ 32 },
 }
 
-/// An end that is announced as idle. It has to look at the queue once more before it parks.
+/// An end that has announced that it is idle. It has to look at the queue once more before it parks.
 ///
-/// It is neither copied nor dropped, so each announcement is withdrawn once.
+/// It can be neither copied nor dropped, so each announcement is withdrawn once.
 pub(crate) struct Announced {
     end: usize,
     ghost few: { end < 32 },
@@ -40,21 +40,21 @@ impl IdleEnds {
         requires { end < 32 }
         ensures { result.end ≡ end }
     {
-        // Pairs with the load in `wake_one`. A put pushes and then loads; an end sets its bit and then looks. So one
-        // of the two sees the other's step. With a look first and the bit after it, a put could come between: it would
-        // find no bit, and the end would park beside its ticket.
+        // Pairs with the load in `wake_one`. A put pushes and then loads; an end sets its bit and then looks. So one of
+        // the two sees the other's step. If an end looked first and set the bit afterwards, a put could come in
+        // between: it would find no bit, and the end would park beside its ticket.
         self.idle.fetch_or(1u64 << end, SeqCst);
         Announced { end }
     }
 
-    /// Marks the end as awake, after its last look at the queue or its sleep, and hands on what the look found.
+    /// Marks the end as awake, after its last look at the queue or its sleep, and gives back what the look found.
     ///
-    /// Where it found something, and another put had spent its wake on this end, the wake is passed on.
+    /// If it found something, and another put had spent its wake on this end, the wake is passed on.
     pub(crate) fn withdraw(&self, announced: Announced, found: Option<Ticket>) -> Option<Ticket>
         ensures { result ≡ found }
     {
-        // Pairs with the exchange in `wake_one`: of the two, one alone finds the bit. A load and then a store could
-        // let both find it, and nobody would pass that wake on: the other put's ticket would lie until this end is
+        // Pairs with the exchange in `wake_one`: only one of the two finds the bit. With a load and then a store, both
+        // could find it, and nobody would pass that wake on: the other put's ticket would wait until this end comes
         // back, while a third end sleeps.
         let Announced { end } = announced;
         let bit = 1u64 << end;
@@ -65,10 +65,10 @@ impl IdleEnds {
         found
     }
 
-    /// Wakes the idle end of the lowest number, if any is idle.
+    /// Wakes the idle end with the lowest number, if any is idle.
     pub(crate) fn wake_one(&self) {
-        // Pairs with the step in `announce`. An end whose bit comes after this load looks at the queue after it, and so
-        // finds what was pushed before.
+        // Pairs with the step in `announce`. An end whose bit is set after this load looks at the queue after it, and
+        // so finds what was pushed before.
         self.wake_one_of(self.idle.load(SeqCst));
     }
 
@@ -76,8 +76,8 @@ impl IdleEnds {
     pub(crate) fn wake_one_of(&self, idle: u64) {
         for (end, unparker) in self.unparkers.iter().enumerate() {
             let bit = 1u64 << end;
-            // The exchange tells whether this thread was the one to clear the bit. Where another was, that end is
-            // woken for another ticket, and the next is tried: two puts that woke one end would leave a ticket.
+            // The exchange says whether it was this thread that cleared the bit. If it was another, that end is woken
+            // for another ticket, and the next end is tried: if two puts woke the same end, one ticket would be left.
             if idle & bit != 0 && self.idle.fetch_and(!bit, SeqCst) & bit != 0 {
                 unparker.unpark();
                 return;
@@ -92,8 +92,8 @@ impl IdleEnds {
 
     /// Sets the mark and wakes every end.
     pub(crate) fn close(&self) {
-        // Pairs with the load in `is_closed`. The mark comes before the tokens: an end that a token wakes finds it. The
-        // other way round an end could spend its token, find no mark and sleep for good.
+        // Pairs with the load in `is_closed`. The mark is set before the tokens: an end that a token wakes finds it.
+        // The other way round, an end could spend its token, find no mark and sleep forever.
         self.closed.store(true, SeqCst);
         for unparker in self.unparkers.iter() {
             unparker.unpark();

@@ -1,4 +1,4 @@
-//! The queues between the threads of a relay: of tickets to the slots that have work, and of free slots.
+//! The queues between the threads of a relay: one of tickets for the slots that have work, and one of free slots.
 //!
 //! Each value of a queue is one thread's end of it. Any end may put and any may take, and no lock is held.
 //!
@@ -10,27 +10,27 @@
 //! 1. Each place below the number of puts was put once. The places that were taken are the first ones, each once.
 //! 2. An item that was taken at a place is the item that was put there.
 //! 3. The queue holds the items of the other places, in order.
-//! 4. The places that one end puts rise, and so do those that it takes.
+//! 4. The places that one end puts are in ascending order, and so are those that it takes.
 //!
-//! So each ticket is taken once or still there, first in first out. Full is answered only if the queue was full at one
-//! moment of the call, and none only if it was empty at one. `specs/Rule.antt` has the rule, and `specs/Steps.antt`
-//! what each call tells the end that made it.
+//! So each ticket has been taken once or is still there, first in, first out. Full is answered only if the queue was
+//! full at one moment during the call, and none only if it was empty at one. `specs/Rule.antt` has the rule, and
+//! `specs/Steps.antt` what each call tells the end that made it.
 //!
 //! That a call returns, and that a sleeping end wakes, is not proved. Tests show it.
 //!
 //! # How an end sleeps, and who wakes it
 //!
-//! A thread with nothing to do parks in [`ReadyQueue::take`]. One word has a bit for each end that is idle. An end
-//! that is about to park sets its bit, looks at the queue once more, and only then parks. A put first pushes its
-//! ticket, and then clears the lowest bit that is set and unparks that end. So one end at most is woken for a ticket,
-//! and no ticket lies while an end sleeps: either the put finds the bit, or the end's second look, which comes after
+//! A thread with nothing to do parks in [`ReadyQueue::take`]. One word has a bit for each end that is idle. An end that
+//! is about to park sets its bit, looks at the queue once more, and only then parks. A put first pushes its ticket, and
+//! then clears the lowest bit that is set and unparks that end. So at most one end is woken for a ticket, and no ticket
+//! is left in the queue while an end sleeps: either the put finds the bit, or the end's second look, which comes after
 //! the bit, finds the ticket.
 //!
 //! A put by an end that will take next wakes nobody. After each [`ReadyQueue::take`] that gave a ticket, the end's
-//! first put stands for its own coming back: it is awake, and takes one ticket when it is done. Its second put, and
-//! each later one, wakes an end. An end that never calls `take` wakes one with each put.
+//! first put counts on the end itself coming back: it is awake, and takes one ticket when it is done. Its second put,
+//! and each later one, wakes an end. An end that never calls `take` wakes one with each put.
 //!
-//! Nobody spins. `src/idle.rt` has the word of the idle ends.
+//! No thread spins. `src/idle.rt` has the word of the idle ends.
 #![tactic(auto)]
 
 mod free;

@@ -21,8 +21,8 @@ struct Shared {
 
 /// One thread's end of a queue of tickets.
 ///
-/// An end that calls [`ReadyQueue::take`] has to call it again after each ticket that it gave, until it answers none:
-/// its next put counts on that.
+/// An end that calls [`ReadyQueue::take`] has to call it again after each ticket that it got, until the answer is none:
+/// its next put relies on that.
 ///
 /// In a clause it is the queue's capacity and the end's history: what it has put and taken, each with its place among
 /// all that was ever put. Only its own calls change that.
@@ -32,7 +32,7 @@ pub struct ReadyQueue {
     number: usize,
     parker: Parker,
     pass: LinePass<Ticket>,
-    // The last `take` gave a ticket, and nothing was put since.
+    // The last `take` gave a ticket, and nothing has been put since.
     comes_back: bool,
     ghost mine: { IsPassOf (arc_value shared).line pass },
     ghost inside: { number < 32 },
@@ -50,9 +50,9 @@ impl Model for ReadyQueue {
 }
 
 impl ReadyQueue {
-    /// Makes a queue for at most `capacity` tickets, and its ends. This takes all the memory that it ever uses.
+    /// Makes a queue for at most `capacity` tickets, and its ends. This allocates all the memory that it ever uses.
     ///
-    /// Fails only where there is no such memory, and then no queue is made.
+    /// Fails only if there is not enough memory; then no queue is made.
     pub fn new(alloc: Global, capacity: usize, ends: usize) -> Result<Vec<ReadyQueue>, AllocError>
         requires capacity { (1 ≤ capacity) × (capacity ≤ 32768) }
         requires ends { (1 ≤ ends) × (ends ≤ 32) }
@@ -82,7 +82,7 @@ impl ReadyQueue {
         Ok(all)
     }
 
-    /// Puts a ticket at the back, and wakes an idle end for it unless this one comes back for it itself.
+    /// Puts a ticket at the back, and wakes an idle end for it unless this end will come back for it itself.
     ///
     /// Full gives the ticket back, and nothing else has changed.
     pub fn put(&mut self, rt: &impl Wait, ticket: Ticket) -> Result<(), Full<Ticket>>
@@ -97,8 +97,8 @@ impl ReadyQueue {
         Ok(())
     }
 
-    // Wakes an idle end for the ticket that this end has just put, unless this one comes back for it itself. An end
-    // woken before the ticket is in could look, find none, and go to sleep beside it.
+    // Wakes an idle end for the ticket that this end has just put, unless this end will come back for it itself. An end
+    // that is woken before the ticket is in the queue could look, find none, and go to sleep beside it.
     fn wake_for(&mut self, _ticket: Ticket)
         requires { PutLast _ticket self.old.history }
         ensures { self.new ≡ self.old }
@@ -110,7 +110,7 @@ impl ReadyQueue {
         }
     }
 
-    /// Takes the ticket at the front. None: the queue was empty at one moment of the call.
+    /// Takes the ticket at the front. None: the queue was empty at one moment during the call.
     pub fn try_take(&mut self, rt: &impl Wait) -> Option<Ticket>
         ensures taken { IfSome result (λ ticket. TookOne self.old.history ticket self.new.history) }
         ensures empty { IfNone result (HeldOnce 0 self.old.history) }
@@ -128,8 +128,8 @@ impl ReadyQueue {
         ensures capacity { self.new.capacity ≡ self.old.capacity }
     {
         for _ in rt.forever() {
-            // The mark is read before the queue. The other way round a ticket that was put before the close, and after
-            // this end's look, would be left.
+            // The mark is read before the queue. The other way round, a ticket that was put before the close and after
+            // this end's look would be left behind.
             let closed = self.shared.ends.is_closed();
             let mut found = self.try_take(rt);
             if found.is_none() && !closed {
@@ -145,7 +145,7 @@ impl ReadyQueue {
         unreachable!()
     }
 
-    // Looks once more, as an end that has announced that it is idle, and parks where there was nothing.
+    // Looks once more, as an end that has announced that it is idle, and parks if there was nothing.
     fn look_or_park(&mut self, rt: &impl Wait, announced: &Announced) -> Option<Ticket>
         ensures taken { IfSome result (λ ticket. TookOne self.old.history ticket self.new.history) }
         ensures empty { IfNone result (HeldOnce 0 self.old.history) }
@@ -183,7 +183,7 @@ impl ReadyQueue {
         &self.parker
     }
 
-    /// Lets `take` answer none once the queue is empty, at every end, and wakes all that sleep.
+    /// Lets `take` answer none at every end once the queue is empty, and wakes all ends that sleep.
     pub fn close(&mut self)
         ensures { self.new ≡ self.old }
     {

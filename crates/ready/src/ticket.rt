@@ -5,10 +5,10 @@
 pub struct Ticket {
     /// The slot to try.
     pub slot: usize,
-    /// The connection that the slot had when the ticket was made.
+    /// The generation of the connection that the slot had when the ticket was made.
     pub generation: u64,
 }
 
-/// The queue was full at one moment of the call. This is what it refused.
+/// The queue was full at one moment during the call. This is the item that it refused.
 #[derive(Clone, Copy, Debug, PartialEq, Eq)]
 pub struct Full<T>(pub T);

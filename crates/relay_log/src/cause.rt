@@ -6,7 +6,7 @@ ghost use Rattle.relay_log.specs.Messages.{cause_name};
 pub enum Cause {
     /// There was no memory for it.
     Memory,
-    /// The connection to the target could not be begun (connect(2)).
+    /// The connection to the target could not be started (connect(2)).
     Connect,
     /// A socket could not be registered for reports (epoll_ctl(2)).
     Register,

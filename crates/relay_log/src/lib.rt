@@ -1,4 +1,4 @@
-//! The log messages of the relay, byte by byte, and the calls that hand them to a log.
+//! The log messages of the relay, byte for byte, and the calls that pass them to a log.
 //!
 //! | message | level | when |
 //! |---|---|---|
@@ -8,7 +8,7 @@
 //! | `fail s=3 g=1 side=target call=write kind=pipe` | warn | a call on one of its sockets failed |
 //! | `drop kind=memory` | warn | an accepted connection was closed at once: memory ran out, or `connect` or `register` failed |
 //!
-//! A message that finds no memory is left out: the log is for people, and the relay goes on.
+//! If there is no memory for a message, it is left out: the log is for people, and the relay carries on.
 #![tactic(auto)]
 
 mod calls;

@@ -6,7 +6,7 @@ use relay_core::Fault;
 use std::alloc::{AllocError, Global};
 use std::fmt::Display;
 
-/// A connection was opened in a slot, which has now been opened so often.
+/// A connection was opened in a slot, which has now been opened `generation` times.
 pub fn open_text(alloc: Global, slot: usize, generation: u64) -> Result<String, AllocError>
     ensures { IfOk result (λ text. string_bytes text ≡ open_message slot generation) }
 {
@@ -25,7 +25,7 @@ pub fn peer_text<D: Display>(
     format!(in alloc; "peer s={slot} g={generation} from={from}")
 }
 
-/// A connection is done: so many bytes were sent up, to the target, and down, to the client.
+/// A connection is done: `up` bytes were sent to the target, and `down` bytes to the client.
 pub fn done_text(
     alloc: Global,
     slot: usize,

@@ -1,10 +1,10 @@
-//! The causes of scripts' faults, for a person.
+//! The causes of faults of scripts, for a person.
 
 use log::{Log, error};
 use script::{Explain, Fault};
 use std::alloc::Global;
 
-/// Logs the cause of each fault, where there is one to tell and memory for it.
+/// Logs the cause of each fault, if one is known and there is memory for it.
 #[derive(Drop)]
 pub struct LoggedCauses<'a, L> {
     /// The memory for the text of a cause.

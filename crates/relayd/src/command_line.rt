@@ -11,18 +11,18 @@ pub enum Command<'a> {
     Simulate,
     /// Read this settings file and print what it sets.
     Check(&'a str),
-    /// Read this settings file and serve by it.
+    /// Read this settings file and serve as it says.
     Run(&'a str),
 }
 
-/// The command that the arguments name, the program's own name first among them. An error is a usage text: help or
-/// the version that was asked for, or why the arguments are refused.
+/// The command that the arguments name; the first argument is the program's own name. An error is a usage text: the
+/// requested help or version, or why the arguments are refused.
 pub fn read_command<'a>(alloc: Global, arguments: &'a [&'a str]) -> Result<Command<'a>, Error> {
     let matches = relayd(alloc)?.try_get_matches_from(arguments)?;
     Ok(chosen(&matches))
 }
 
-/// The command that was chosen; without one, the simulator.
+/// The chosen command; without one, the simulator.
 fn chosen<'a>(matches: &ArgMatches<'a>) -> Command<'a> {
     let run = matches.subcommand_matches("run");
     if let Some(path) = run.and_then(|run| run.get_str("config")) {
@@ -41,7 +41,7 @@ fn relayd<'a>(alloc: Global) -> Result<clap::Command<'a>, AllocError> {
         .version(VERSION)
         .about("A TCP port forwarder on edge-triggered readiness, and its simulator")
         .after_help(
-            "Without a command, relayd does what `relayd sim` does.\n\nExamples:\n  relayd run --config examples/relayd.toml\n  relayd sim < examples/one-direction.flow\n\nrelayd(1) tells more, and relayd.toml(5) describes the settings.",
+            "Without a command, relayd does the same as `relayd sim`.\n\nExamples:\n  relayd run --config examples/relayd.toml\n  relayd sim < examples/one-direction.flow\n\nSee relayd(1) for details and relayd.toml(5) for the settings.",
         )
         .subcommand(run(alloc)?)?
         .subcommand(check(alloc)?)?
@@ -53,7 +53,7 @@ fn simulate<'a>(alloc: Global) -> clap::Command<'a> {
     clap::Command::new(alloc, "sim")
         .about("Runs the script on standard input and prints its report")
         .after_help(
-            "A script is a header and steps, one a line: what comes from the network, and what the\nsockets reply to the relay. The report says where every byte is after the last step. A\nscript with a fault gives one line that tells the fault, and the status 1.\n\nExample:\n  relayd sim < examples/one-direction.flow\n\nrelayd(1) lists the steps, and relayd.toml(5) describes the settings.",
+            "A script is a header and steps, one per line: what comes from the network, and what the\nsockets reply to the relay. The report says where every byte is after the last step. For\na script with a fault, one line that names the fault is printed, and the status is 1.\n\nExample:\n  relayd sim < examples/one-direction.flow\n\nrelayd(1) lists the steps.",
         )
 }
 
@@ -61,9 +61,9 @@ fn simulate<'a>(alloc: Global) -> clap::Command<'a> {
 fn run<'a>(alloc: Global) -> Result<clap::Command<'a>, AllocError> {
     Ok(
         clap::Command::new(alloc, "run")
-            .about("Forwards connections by a settings file")
+            .about("Forwards connections as a settings file says")
             .after_help(
-                "Listens at the file's `listen` address, and forwards each connection to `target`. Prints\n`listening A.B.C.D:PORT` once it listens, and log lines to standard error. It ends after\n`stop_after` connections, if that is set, or at a fault, with the status 1.\n\nExample:\n  relayd run --config examples/relayd.toml\n\nrelayd(1) tells more, and relayd.toml(5) describes the settings.",
+                "Listens on the file's `listen` address and forwards each connection to `target`. Prints\n`listening A.B.C.D:PORT` once clients can connect, and writes log lines to standard error.\nIt ends once `stop_after` connections were opened and are all closed, if that is not 0, or\non a fault, with status 1.\n\nExample:\n  relayd run --config examples/relayd.toml\n\nSee relayd(1) for details and relayd.toml(5) for the settings.",
             )
             .arg(config(alloc))?,
     )
@@ -75,7 +75,7 @@ fn check<'a>(alloc: Global) -> Result<clap::Command<'a>, AllocError> {
         clap::Command::new(alloc, "check")
             .about("Reads a settings file and prints every setting, or what is wrong")
             .after_help(
-                "Prints a line KEY=VALUE for each setting, defaults included. Where the file is not as it\nshould be, the first fault is told, with its key where it has one, and the status is 1.\n\nExample:\n  relayd check --config examples/relayd.toml\n\nrelayd.toml(5) describes the settings.",
+                "Prints a line KEY=VALUE for each setting, defaults included. If the file has a fault, the\nfirst one is written to standard error, with its key if it has one, and the status is 1.\n\nExample:\n  relayd check --config examples/relayd.toml\n\nSee relayd.toml(5) for the settings.",
             )
             .arg(config(alloc))?,
     )

@@ -12,7 +12,7 @@ use std::fs::File;
 use std::io::{self, Read};
 use std::rt::Files;
 
-/// The settings of the file at a path. The cause of a fault is logged: what the system or the parser says of it.
+/// The settings of the file at a path. The cause of a fault is logged: what the system or the parser says about it.
 pub fn load<R: AllocGlobal + Files, L: Log>(
     rt: &R,
     log: &L,
@@ -41,8 +41,8 @@ fn log_unread(log: &impl Log, path: &str, error: io::Error) {
     error!(log; target: "relayd", "config: {path}: {error}");
 }
 
-/// The settings of a file, by all of its bytes, or its fault. A file that is too long has that fault, whatever its text.
-/// Where the text has a fault, its cause is logged.
+/// The settings of a file, from all of its bytes, or its fault. A file that is too long has that fault, whatever its
+/// text. If the text has a fault, its cause is logged.
 pub fn read<F: Read, L: Log>(log: &L, alloc: Global, file: &mut F) -> Result<Settings, ProgramFault>
     ensures settings { IfOk result (λ s. IfSome (F.remaining file.old) (λ bytes. FileSets bytes s)) }
     ensures fault { IfErr result (λ fault. IfSome (F.remaining file.old) (λ bytes. HasFault bytes fault)) }
@@ -64,7 +64,7 @@ fn log_cause(log: &impl Log, alloc: Global, text: &[u8], fault: &SettingsFault) 
     }
 }
 
-/// A reader that keeps the error of its last failed read, since the fault of the file doesn't name it.
+/// A reader that keeps the error of its last failed read, since the file's fault does not include it.
 #[derive(Drop)]
 struct Noting<R> {
     reader: R,
@@ -83,7 +83,7 @@ impl<R: Read> Read for Noting<R> {
     }
 }
 
-/// All bytes of a file. It is read to its end, or to one byte past its greatest length, by which it is too long.
+/// All bytes of a file. It is read to its end, or to one byte past the maximum length, which shows that it is too long.
 fn read_whole<F: Read>(alloc: Global, file: &mut F) -> Result<Vec<u8>, ProgramFault>
     ensures most { IfOk result (λ text. vec_len text ≤ 65536) }
     ensures whole { IfOk result (λ text. IfSome (F.remaining file.old) (λ bytes. text.items ≡ bytes)) }
@@ -96,7 +96,7 @@ fn read_whole<F: Read>(alloc: Global, file: &mut F) -> Result<Vec<u8>, ProgramFa
     }
 }
 
-/// The fault of a settings file that was not read.
+/// The fault of a settings file that could not be read.
 fn not_read(fault: InputFault) -> ProgramFault
     ensures unreadable { fault ≡ InputFault.Unreadable → result ≡ ProgramFault.ConfigRead }
     ensures memory { fault ≡ InputFault.NoMemory → result ≡ ProgramFault.NoMemory }

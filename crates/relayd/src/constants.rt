@@ -3,14 +3,14 @@
 /// The version that `--version` prints.
 pub const VERSION: &str = "0.1.0";
 
-/// The most bytes of a settings file.
+/// The maximum size of a settings file, in bytes.
 pub const MAX_CONFIG_BYTES: usize = 65_536;
 
-/// The status of a program that carried out its command.
+/// The status after a command was carried out.
 pub const DONE: u8 = 0;
 
-/// The status of a program that met a fault.
+/// The status after a fault.
 pub const FAULT: u8 = 1;
 
-/// The status of a program that was called with a usage error.
+/// The status after a usage error.
 pub const USAGE: u8 = 2;

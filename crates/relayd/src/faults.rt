@@ -12,25 +12,25 @@ use std::alloc::AllocError;
 use std::io;
 use thiserror::Error;
 
-/// A fault of the program. Its text is what a person sees behind `relayd: `.
+/// A fault of the program. Its text is what a person sees after `relayd: `.
 #[derive(Debug, Drop, Error)]
 pub enum ProgramFault {
     /// The settings file could not be opened or read.
     #[error("config: cannot be read")]
     ConfigRead,
-    /// The settings file has over 65,536 bytes.
+    /// The settings file has more than 65,536 bytes.
     #[error("config: too long")]
     ConfigLong,
-    /// The settings file sets something wrong.
+    /// The text of the settings file has a fault.
     #[error(transparent)]
     Settings(SettingsFault),
-    /// The script could not be read, or its outcome not written.
+    /// The script could not be read, or its outcome could not be written.
     #[error(transparent)]
     Script(ScriptFault),
-    /// The server could not begin, or ended before its time.
+    /// The server could not start, or failed.
     #[error(transparent)]
     Server(ServerFault),
-    /// What was asked for could not be written.
+    /// The requested output could not be written.
     #[error("output: cannot be written")]
     Write,
     /// Memory ran out.
@@ -38,7 +38,7 @@ pub enum ProgramFault {
     NoMemory,
 }
 
-/// Why the arguments of the command line can't be read.
+/// Why the arguments of the command line cannot be read.
 #[derive(Clone, Copy, Debug)]
 pub enum ArgumentsFault {
     /// Memory ran out.
@@ -55,7 +55,7 @@ impl From<AllocError> for ProgramFault {
     }
 }
 
-// Memory that ran out is one fault, wherever it did.
+// Running out of memory is one fault, wherever it happens.
 impl From<SettingsFault> for ProgramFault {
     ghost from_gives = { λ fault given. given ≡ settings_fault fault };
 
@@ -77,7 +77,7 @@ impl From<AllocError> for ArgumentsFault {
     }
 }
 
-// The system hands out the arguments as bytes.
+// The system provides the arguments as bytes.
 impl From<io::Error> for ArgumentsFault {
     ghost from_gives = { λ error fault. fault ≡ arguments_fault (error_kind error) };
 

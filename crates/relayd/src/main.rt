@@ -1,9 +1,9 @@
 //! The program: it forwards connections by a settings file, checks such a file, and runs the relay's simulator on
 //! standard input and output.
 //!
-//! [`program::act`] does all that the program does: from its arguments, a reader, two writers and a closure that serves
-//! to a status. `main` hands it the process's own, and [`program::report_arguments_fault`] reports arguments that can't be
-//! read.
+//! [`program::act`] does all that the program does: from its arguments, a reader, two writers and a closure that
+//! serves, to a status. `main` passes it the process's own, and [`program::report_arguments_fault`] reports arguments
+//! that cannot be read.
 #![tactic(auto)]
 
 mod causes;
@@ -12,6 +12,7 @@ mod config;
 mod constants;
 mod faults;
 mod program;
+mod streams;
 #[cfg(test)]
 mod tests;
 

@@ -11,6 +11,7 @@ use crate::command_line::{Command, read_command};
 use crate::config;
 use crate::constants::{DONE, FAULT, USAGE};
 use crate::faults::{ArgumentsFault, ProgramFault};
+use crate::streams::Stream;
 use clap::error::ErrorKind;
 use log::sink::Console;
 use log::{LevelFilter, Logged};
@@ -23,14 +24,14 @@ use std::io::{self, Eprint, Read, Write};
 use std::net::Net;
 use std::rt::Files;
 
-/// The arguments of the command line, the program's own name first.
+/// The arguments of the command line; the first is the program's own name.
 pub fn arguments<R: AllocGlobal + Env>(rt: &R) -> Result<Vec<String>, ArgumentsFault> {
     let arguments = env::args(rt)?;
     Ok(arguments.collect(rt.alloc())?)
 }
 
-/// Writes to `errors` why the arguments can't be read, and answers the exit status: 1 where memory ran out, and 2, a
-/// usage error, where one is not UTF-8.
+/// Writes to `errors` why the arguments cannot be read, and returns the exit status: 1 if memory ran out, and 2, a
+/// usage error, if one is not UTF-8.
 pub fn report_arguments_fault<E: Write>(errors: &mut E, fault: ArgumentsFault) -> u8
     ensures memory { fault ≡ ArgumentsFault.NoMemory → result ≡ 1 }
     ensures not_text { fault ≡ ArgumentsFault.NotText → result ≡ 2 }
@@ -39,13 +40,13 @@ pub fn report_arguments_fault<E: Write>(errors: &mut E, fault: ArgumentsFault) -
         ArgumentsFault::NoMemory => report_fault(errors, ProgramFault::NoMemory),
         ArgumentsFault::NotText => {
             // If this can't be written either, only the status is left to report it.
-            let _ = writeln!(errors, "error: a word of the command line is not UTF-8");
+            let _ = writeln!(errors, "error: an argument is not UTF-8");
             USAGE
         }
     }
 }
 
-/// Runs the program. `words` are the arguments of the command line, the program's own name first.
+/// Runs the program. `arguments` are those of the command line; the first is the program's own name.
 ///
 /// | command | what it does |
 /// |---|---|
@@ -53,13 +54,14 @@ pub fn report_arguments_fault<E: Write>(errors: &mut E, fault: ArgumentsFault) -
 /// | `check --config FILE` | reads a settings file and writes each setting to `writer` |
 /// | `run --config FILE` | reads a settings file, listens, writes `listening A.B.C.D:PORT` to `writer`, and serves; log lines go to the process's own standard error |
 ///
-/// Answers the exit status: 0 where the command, help included, was carried out; 1 for a fault, which is written to
-/// `errors` after `relayd: ` unless it is a script's own; 2 for a usage error, which is written to `errors`.
+/// Returns the exit status: 0 if the command was carried out, or help or the version printed; 1 for a fault, which is
+/// written to `errors` after `relayd: ` unless it is a fault of the script itself; 2 for a usage error, which is
+/// written to `errors`. No clause says any of this: tests of the built program show it.
 ///
 /// `serve` is [`server::serve`] with the process's own handle: a thread can only be started with that one.
 pub fn act<R, S, I: Read, O: Write, E: Write>(
     rt: &R,
-    words: &[String],
+    arguments: &[String],
     reader: &mut I,
     writer: &mut O,
     errors: &mut E,
@@ -70,14 +72,28 @@ where
     S: Fn(Settings, Bound) -> Result<(), ServerFault>,
     requires { S.IsAlwaysCallable serve.now }
 {
-    let Ok(arguments) = texts(rt.alloc(), words) else {
+    let Ok(arguments) = texts(rt.alloc(), arguments) else {
         return report_fault(errors, ProgramFault::NoMemory);
     };
+    let log = Logged::new(*rt, LevelFilter::Error, Console(*rt));
+    let log = &log;
+    let (mut reader, mut writer) = (
+        Stream {
+            name: "input",
+            inner: reader,
+            log,
+        },
+        Stream {
+            name: "output",
+            inner: writer,
+            log,
+        },
+    );
     let outcome = match read_command(rt.alloc(), arguments.as_slice()) {
-        Ok(Command::Simulate) => simulate(rt, reader, writer),
-        Ok(Command::Check(path)) => check(rt, path, writer),
-        Ok(Command::Run(path)) => run(rt, path, writer, serve),
-        Err(error) => return answer_usage(&error, writer, errors),
+        Ok(Command::Simulate) => simulate(rt, &mut reader, &mut writer),
+        Ok(Command::Check(path)) => check(rt, path, &mut writer),
+        Ok(Command::Run(path)) => run(rt, path, &mut writer, serve),
+        Err(error) => return answer_usage(&error, &mut writer, errors),
     };
     match outcome {
         Ok(status) => status,
@@ -85,7 +101,7 @@ where
     }
 }
 
-/// The arguments as text slices, which the reader of the command line takes.
+/// The arguments as string slices, which the parser of the command line takes.
 fn texts(alloc: Global, arguments: &[String]) -> Result<Vec<&str>, AllocError> {
     arguments
         .iter()
@@ -93,7 +109,7 @@ fn texts(alloc: Global, arguments: &[String]) -> Result<Vec<&str>, AllocError> {
         .collect(alloc)
 }
 
-/// Runs a script: 0 where its report was written, and 1 where the line of its fault was. The cause of a fault is
+/// Runs a script. Returns 0 if its report was written, and 1 if the line of its fault was. The cause of a fault is
 /// logged.
 fn simulate<R: AllocGlobal + Eprint + Copy + Drop, I: Read, O: Write>(
     rt: &R,
@@ -127,8 +143,8 @@ fn check<R: AllocGlobal + Files + Eprint + Copy + Drop, O: Write>(
     Ok(DONE)
 }
 
-/// The settings of a file. The causes of its faults are logged to the process's own standard error at any level that it
-/// sets: what it says of `log` is not known by then.
+/// The settings of a file. The causes of its faults are logged to the process's own standard error whatever level the
+/// file sets, since what it says about `log` is not yet known.
 fn load<R: AllocGlobal + Files + Eprint + Copy + Drop>(
     rt: &R,
     path: &str,
@@ -137,7 +153,7 @@ fn load<R: AllocGlobal + Files + Eprint + Copy + Drop>(
     config::load(rt, &logged, path)
 }
 
-/// Listens by a settings file, prints the address, and serves.
+/// Listens as a settings file says, prints the address, and serves.
 fn run<R, S, O: Write>(rt: &R, path: &str, writer: &mut O, serve: &S) -> Result<u8, ProgramFault>
 where
     R: AllocGlobal + Files + Eprint + Net + Copy + Drop,
@@ -154,7 +170,7 @@ where
     Ok(DONE)
 }
 
-/// The filter of a level of the settings: the one of the same name.
+/// The filter with the same name as a level of the settings.
 pub fn level_filter(level: LogLevel) -> LevelFilter
     ensures { map to_ascii_lowercase (filter_name result) ≡ level_name level }
 {
@@ -168,7 +184,7 @@ pub fn level_filter(level: LogLevel) -> LevelFilter
     }
 }
 
-/// Writes a text, all of it.
+/// Writes all of a text, and flushes it.
 fn write(writer: &mut impl Write, text: &str) -> Result<(), ProgramFault> {
     if writer.write_all(text.as_bytes()).is_err() || writer.flush().is_err() {
         return Err(ProgramFault::Write);
@@ -176,7 +192,7 @@ fn write(writer: &mut impl Write, text: &str) -> Result<(), ProgramFault> {
     Ok(())
 }
 
-/// Prints a usage text: help and the version to `writer`, a usage error to `errors`. Answers the exit status.
+/// Prints a usage text: help and the version to `writer`, a usage error to `errors`. Returns the exit status.
 fn answer_usage<O: Write, E: Write>(error: &clap::Error, writer: &mut O, errors: &mut E) -> u8
     ensures memory { kind_of error.now ≡ ErrorKind.OutOfMemory → result ≡ 1 }
     ensures help { (kind_of error.now ≡ ErrorKind.DisplayHelp) ⊎ (kind_of error.now ≡ ErrorKind.DisplayVersion) → (result ≡ 0) ⊎ (result ≡ 1) }
@@ -186,7 +202,7 @@ fn answer_usage<O: Write, E: Write>(error: &clap::Error, writer: &mut O, errors:
         return report_fault(errors, ProgramFault::NoMemory);
     }
     if error.use_stderr() {
-        // If this can't be written either, only the status is left to report it.
+        // If this cannot be written either, only the status is left to report it.
         let _ = write!(errors, "{error}");
         return USAGE;
     }
@@ -196,7 +212,7 @@ fn answer_usage<O: Write, E: Write>(error: &clap::Error, writer: &mut O, errors:
     DONE
 }
 
-/// Writes a fault to `errors`, and answers its status.
+/// Writes a fault to `errors`, and returns its status.
 fn report_fault(errors: &mut impl Write, fault: ProgramFault) -> u8
     ensures { result ≡ 1 }
 {

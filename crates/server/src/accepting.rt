@@ -11,12 +11,12 @@ pub(crate) enum Accepted {
     Again,
     /// No connection waits.
     Blocked,
-    /// There are no descriptors or no memory for it. It waits on.
+    /// There are no descriptors or no memory for it. It keeps waiting.
     Starved,
 }
 
-/// The class of an error of accept(2), by its kind. Linux hands on the errors that the new socket has pending, and
-/// they are to be taken as a call to try again.
+/// The class of an error of accept(2), by its kind. Linux passes on errors that are pending on the new socket, and
+/// accept(2) is then to be tried again.
 pub(crate) fn accepted_of(kind: ErrorKind) -> Accepted
     ensures { result ≡ accepted_of kind }
 {

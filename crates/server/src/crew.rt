@@ -1,4 +1,4 @@
-//! The threads of a server: what each has of its own, and the loop of a worker.
+//! The threads of a server: what each thread owns, and the loop of a worker.
 ghost use Rattle.std.specs.Prelude.{◌≡◌, IfOk, IfSome};
 ghost use Rattle.claims.specs.Seats.{fresh, HoldsNothing};
 ghost use Rattle.server.specs.Crews.{AreFresh};
@@ -19,8 +19,8 @@ use std::alloc::{AllocError, Global};
 use std::sync::Wait;
 use std::thread;
 
-/// What the threads of a server are made of: a seat, an end of the queue of tickets and one of the queue of free
-/// slots for each.
+/// What the threads of a server are made from: for each of them a seat, an end of the queue of tickets and an end of
+/// the queue of free slots.
 #[derive(Drop)]
 pub(crate) struct Parts {
     pub(crate) seats: Vec<ClaimSeat>,
@@ -28,7 +28,7 @@ pub(crate) struct Parts {
     pub(crate) free: Vec<FreeQueue>,
 }
 
-/// What the next thread has of its own, with a hand of this capacity. None: the parts are used up.
+/// What the next thread owns, with a hand of this capacity. None if the parts are used up.
 pub(crate) fn next_own<F: Front>(
     alloc: Global,
     shared: &Shared<F>,
@@ -56,7 +56,7 @@ pub(crate) fn next_own<F: Front>(
 }
 
 /// The loop of a worker: it takes tickets and runs their turns until the queue of tickets is closed and empty, or a
-/// fault is noted. Its own fault is noted, and ends all other threads too.
+/// fault is recorded. A fault of its own is recorded, and ends all other threads too.
 pub(crate) fn work<F: Front, G: Gate, R: Wait + Log>(
     rt: &R,
     alloc: Global,
@@ -73,7 +73,7 @@ pub(crate) fn work<F: Front, G: Gate, R: Wait + Log>(
     }
 }
 
-/// Notes a worker's fault, by which all other threads end: workers that sleep are woken, and so is the poller.
+/// Records a worker's fault and ends all other threads: workers that sleep are woken, and so is the poller.
 pub(crate) fn end_all<F: Front, R: Wait>(
     rt: &R,
     note: &Note,

@@ -12,14 +12,14 @@ use claims::{ClaimSeat, Claims, Posted};
 use ready::Ticket;
 use token::{Name, Token, unpack};
 
-/// Posts a note for each report of a batch, and takes a ticket in hand for each post that woke. Answers whether the
-/// listener was reported.
+/// Posts a note for each report of a batch, and takes a ticket in hand for each post that answers Wake. Answers whether
+/// the listener was reported.
 ///
-/// A batch is the numbers of the tokens that were reported, in order (epoll_wait(2)), and the table each slot's
-/// generation. A number that names no end, as the waker's, leaves no note, and neither does an end whose slot the
-/// table lacks or has with another generation: its connection was closed after the report had come.
+/// A batch has the numbers of the tokens that were reported, in order (epoll_wait(2)), and the table has each slot's
+/// generation. A number that names no end, such as the waker's, leaves no note, and neither does an end whose slot the
+/// table lacks or has with another generation: its connection was closed after the report arrived.
 ///
-/// The one refusal is `Worn`: the seat has posted 2^56 times. The reports before that one are delivered then.
+/// The only refusal is `Worn`: the seat has posted 2^56 times. Then the reports before that one are delivered.
 pub fn deliver(
     claims: &Claims,
     seat: &mut ClaimSeat,
@@ -72,7 +72,7 @@ fn report(
     Ok(())
 }
 
-/// The connection that a report is for, if its slot still has it.
+/// The connection that a report is for, if it is still in its slot.
 fn connection(table: &[u64], number: u64) -> Option<Ticket>
     ensures value { result ≡ reported table.now number }
     ensures inside { IfSome result (λ ticket. ticket.slot < length table.now) }
@@ -83,7 +83,7 @@ fn connection(table: &[u64], number: u64) -> Option<Ticket>
     }
 }
 
-/// The connection of an end, if its slot still has it.
+/// The connection of an end, if it is still in its slot.
 fn connection_of(table: &[u64], end: Token) -> Option<Ticket>
     ensures value { result ≡ connection table.now (Some (Name.End end)) }
     ensures inside { IfSome result (λ ticket. ticket.slot < length table.now) }

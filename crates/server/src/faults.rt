@@ -1,7 +1,7 @@
 use std::alloc::{AllocError, AllocFailed};
 use thiserror::Error;
 
-/// Why a server ended before its time.
+/// Why a server failed, or ended early.
 #[derive(Clone, Copy, Debug, PartialEq, Eq, Error)]
 pub enum ServerFault {
     /// The listening socket could not be made (socket(2), bind(2), listen(2)).
@@ -13,10 +13,10 @@ pub enum ServerFault {
     /// A thread could not be started.
     #[error("threads: failed")]
     Threads,
-    /// A thread has posted 2^56 notes, the most that the claim words stand for.
+    /// A thread has posted 2^56 notes, the most that the claim words allow.
     #[error("claims worn")]
     Worn,
-    /// An allocation was refused.
+    /// Memory ran out.
     #[error("out of memory")]
     NoMemory,
 }

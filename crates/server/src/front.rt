@@ -9,10 +9,10 @@ use std::net::{Net, SocketAddr};
 use thiserror::Error;
 use token::Token;
 
-/// A wire of a server. Beside a wire's calls it is told when a turn on its connection has ended quiet.
+/// A wire of a server. In addition to a wire's calls, it is told when a turn on its connection has ended quiet.
 pub trait Line: Wire {
-    /// No call is worth a try on this connection before the next report. What was held back so that more could go
-    /// out with it goes out now. It changes nothing that the wire tells.
+    /// No call is worth trying on this connection before the next report. What was held back so that more could be sent
+    /// with it is sent now. It changes nothing that the wire specifies.
     fn settle(&mut self)
         ensures same { Self.told self.new ≡ Self.told self.old };
 }
@@ -20,7 +20,7 @@ pub trait Line: Wire {
 /// Why an accepted connection could not be opened.
 #[derive(Clone, Copy, Debug, PartialEq, Eq, Error)]
 pub enum Unopened {
-    /// The connection to the target could not be begun (socket(2), connect(2)).
+    /// The connection to the target could not be started (socket(2), connect(2)).
     #[error("connect: failed")]
     Connect,
     /// A socket could not be registered for reports (epoll_ctl(2)).
@@ -42,7 +42,7 @@ impl From<Unopened> for Cause {
     }
 }
 
-/// Where connections and reports come from: the system's sockets, or a fake in memory.
+/// Where connections and reports come from: the system's sockets, or an in-memory fake.
 pub trait Front {
     /// The wire of a client.
     type Client: Line + Drop;
@@ -50,11 +50,11 @@ pub trait Front {
     /// The wire of a target.
     type Target: Line + Drop;
 
-    /// What ends a wait for reports from another thread.
+    /// What another thread uses to end a wait for reports.
     type Waker;
 
-    /// Waits at most 200 milliseconds for reports, and puts the numbers of their tokens into the batch, at most
-    /// [`MAX_BATCH`], in place of what it had (epoll_wait(2)). At an error the batch is empty. It takes no memory.
+    /// Waits at most 200 milliseconds for reports, and replaces the contents of the batch by the numbers of their
+    /// tokens, at most [`MAX_BATCH`] (epoll_wait(2)). After an error the batch is empty. It allocates no memory.
     fn poll(&mut self, batch: &mut Vec<u64>) -> io::Result<()>
         requires room { MAX_BATCH ≤ vec_capacity batch.old }
         ensures most { vec_len batch.new ≤ MAX_BATCH }
@@ -64,9 +64,9 @@ pub trait Front {
     /// The next connection that waits (accept(2)).
     fn accept(&mut self) -> io::Result<Self::Client>;
 
-    /// Begins the connection to the target (connect(2)), and has both sockets reported for reading and writing, each
-    /// under its token. At an error no target is left open, and the client may still be reported until it is closed.
-    /// It changes nothing that the client's wire tells.
+    /// Starts the connection to the target (connect(2)), and has both sockets reported for reading and writing, each
+    /// under its token. After an error no target is left open, and the client may still be reported until it is closed.
+    /// It changes nothing that the client's wire specifies.
     fn open<N: Net + Log>(
         &mut self,
         rt: &N,
@@ -76,9 +76,9 @@ pub trait Front {
     ) -> Result<Self::Target, Unopened>
         ensures same { Self.Client.told client.new ≡ Self.Client.told client.old };
 
-    /// Ends the wait that is under way, or else the next one, which then reports the waker's number, 1.
+    /// Ends the wait in progress, or else the next one, which then reports the waker's number, 1.
     fn wake(waker: &Self::Waker);
 
-    /// Where a client comes from, if that is known: it is for the log alone.
+    /// A client's address, if it is known. It is only for the log.
     fn peer(client: &Self::Client) -> Option<SocketAddr>;
 }

@@ -1,4 +1,4 @@
-/// Passed before and after each turn, so that a test can hold a turn back.
+/// Called before and after each turn, so that a test can hold a turn back.
 pub trait Gate {
     /// A turn at this slot is about to begin.
     fn before_turn(&self, slot: usize);

@@ -6,7 +6,7 @@ use ready::Ticket;
 use std::alloc::{AllocError, Global};
 use std::marker::Model;
 
-/// What a thread has still to put into a queue: tickets and free slots that a queue refused, oldest first.
+/// What a thread still has to put into a queue: tickets and free slots that a queue refused, oldest first.
 #[derive(Drop)]
 pub struct Hand {
     tickets: HeapCircularBuffer<Ticket>,
@@ -25,7 +25,7 @@ impl Model for Hand {
 }
 
 impl Hand {
-    /// An empty hand for at most `capacity` tickets and as many slots. Nothing later takes memory.
+    /// An empty hand for at most `capacity` tickets and as many slots. No later call allocates memory.
     pub fn new(alloc: Global, capacity: usize) -> Result<Hand, AllocError>
         ensures { IfOk result (λ hand. hand ≡ empty_hand capacity) }
     {
@@ -35,14 +35,14 @@ impl Hand {
         })
     }
 
-    /// Whether one ticket more and one slot more fit.
+    /// Whether one more ticket and one more slot fit.
     pub fn has_room(&self) -> bool
         ensures { IsTrue result ↔ HasRoom self.now }
     {
         self.tickets.len() < self.tickets.capacity() && self.slots.len() < self.slots.capacity()
     }
 
-    /// How many tickets more fit.
+    /// How many more tickets fit.
     pub fn room(&self) -> usize
         ensures { result ≡ ticket_room self.now }
     {
@@ -63,7 +63,7 @@ impl Hand {
         self.slots.len()
     }
 
-    /// Adds a ticket behind the others.
+    /// Adds a ticket at the back.
     pub fn keep_ticket(&mut self, ticket: Ticket)
         requires { length self.old.tickets < self.old.capacity }
         ensures { self.new ≡ record self.old { tickets = self.old.tickets ++ ticket ∷ [] } }
@@ -71,7 +71,7 @@ impl Hand {
         let _ = self.tickets.try_push_back(ticket);
     }
 
-    /// Adds a slot behind the others.
+    /// Adds a slot at the back.
     pub fn keep_slot(&mut self, slot: usize)
         requires { length self.old.slots < self.old.capacity }
         ensures { self.new ≡ record self.old { slots = self.old.slots ++ slot ∷ [] } }
@@ -79,7 +79,7 @@ impl Hand {
         let _ = self.slots.try_push_back(slot);
     }
 
-    /// Puts a ticket back in front of the others: it is the oldest again.
+    /// Puts a ticket back at the front: it is the oldest again.
     pub fn return_ticket(&mut self, ticket: Ticket)
         requires { length self.old.tickets < self.old.capacity }
         ensures { self.new ≡ record self.old { tickets = ticket ∷ self.old.tickets } }
@@ -87,7 +87,7 @@ impl Hand {
         let _ = self.tickets.try_push_front(ticket);
     }
 
-    /// Puts a slot back in front of the others: it is the oldest again.
+    /// Puts a slot back at the front: it is the oldest again.
     pub fn return_slot(&mut self, slot: usize)
         requires { length self.old.slots < self.old.capacity }
         ensures { self.new ≡ record self.old { slots = slot ∷ self.old.slots } }

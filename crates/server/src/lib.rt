@@ -1,13 +1,13 @@
 //! The threads of the relay: one that polls, accepts and opens, and workers that run the turns.
 //!
-//! A report of a socket becomes a note at its slot ([`deliver`]). The first note at a slot that nobody holds makes a
-//! ticket, and whoever takes the ticket runs one turn of the connection in that slot ([`worker_turn`]). A slot is
-//! held by one thread at a time, by the rule of the claim words (`claims`), so a connection's two sockets and its
+//! A report about a socket becomes a note at its slot ([`deliver`]). The first note at a slot that nobody holds makes a
+//! ticket, and the thread that takes the ticket runs one turn of the connection in that slot ([`worker_turn`]). A slot
+//! is held by one thread at a time, by the rule of the claim words (`claims`), so a connection's two sockets and its
 //! pair are never touched by two threads, and no note is lost between them.
 //!
-//! - [`Front`] is where connections and reports come from: the system's sockets, or a fake in memory.
-//! - [`Shared`] is what all threads share, and [`Own`] what one thread has of its own: its seat at the claim words,
-//!   its ends of the two queues, and a [`Hand`] for what a queue refused.
+//! - [`Front`] is where connections and reports come from: the system's sockets, or an in-memory fake.
+//! - [`Shared`] is what all threads share, and [`Own`] what one thread owns: its seat at the claim words, its ends of
+//!   the two queues, and a [`Hand`] for what a queue refused.
 //! - [`Gate`] lets a test hold a turn back.
 #![tactic(auto)]
 

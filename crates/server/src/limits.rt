@@ -9,11 +9,12 @@ pub(crate) const LONGEST_WAIT: u64 = 200;
 /// The most tries of accept(2) in one round.
 pub(crate) const MAX_ACCEPTS: usize = 256;
 
-/// How many tickets and how many slots a worker keeps in hand. A queue has room for each ticket and each slot, so
+/// How many tickets and how many slots a worker's hand has room for. A queue has room for each ticket and each slot, so
 /// nothing stays there.
 pub(crate) const WORKER_HAND: usize = 2;
 
-/// This many full offers in a row are bulk, which is sent in larger parts where a socket may wait for more.
+/// After this many full offers in a row, the bytes count as bulk, which is sent in larger parts if the socket may wait
+/// for more.
 pub(crate) const BULK: u8 = 4;
 
 /// The number under which the listening socket is reported.

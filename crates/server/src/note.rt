@@ -1,4 +1,4 @@
-//! The note of a fault, by which one thread lets all others know that the server ends.
+//! The record of a fault, by which one thread tells all others that the server ends.
 
 use crate::faults::ServerFault;
 use std::sync::atomic::AtomicBool;
@@ -20,7 +20,7 @@ impl Note {
         }
     }
 
-    /// Notes the fault of the thread of this number. Of several the one of the lowest number is kept.
+    /// Records the fault of the thread with this number. Of several faults, the one with the lowest number is kept.
     pub(crate) fn write(&self, rt: &impl Wait, number: usize, fault: ServerFault) {
         let mut first = self.first.lock(rt);
         let earlier = matches!(*first, Some((other, _)) if other <= number);
@@ -30,12 +30,12 @@ impl Note {
         self.written.store(true, SeqCst);
     }
 
-    /// Whether a fault is noted.
+    /// Whether a fault is recorded.
     pub(crate) fn is_written(&self) -> bool {
         self.written.load(SeqCst)
     }
 
-    /// The fault that is noted.
+    /// The recorded fault, if any.
     pub(crate) fn into_fault(self) -> Option<ServerFault> {
         self.first.into_inner().map(|(_, fault)| fault)
     }

@@ -1,4 +1,4 @@
-//! An accepted connection is made ready, and placed in a free slot with the one note that starts it.
+//! Prepares an accepted connection, and places it in a free slot with the one note that starts it.
 ghost use Rattle.std.specs.Prelude.{◌≡◌, ◌+◌, ◌<◌, ◌≤◌, length, IfOk, OnOk, IfErr, IfSome, OnSome, IsNone, slice_index};
 ghost use Rattle.claims.specs.Seats.{HoldsNothing, OnlyAt};
 ghost use Rattle.relay_core.specs.Pairs.{fresh};
@@ -20,8 +20,8 @@ use std::net::Net;
 use std::sync::Wait;
 use token::{Side, Token, next_gen};
 
-/// The names of the ends of a slot's next connection: the client's token and the target's. None where the table lacks
-/// the slot, or where the slot has had its last generation.
+/// The names of the ends of a slot's next connection: the client's token and the target's. None if the table lacks the
+/// slot, or if the slot has had its last generation.
 pub(crate) fn next_names(table: &[u64], slot: usize) -> Option<(Token, Token)>
     requires { AreGenerations table.now }
     ensures client { IfSome result (λ names. names.0 ≡ record { slot = slot; side = Side.Client; generation = slice_index table.now slot + 1 }) }
@@ -35,8 +35,8 @@ pub(crate) fn next_names(table: &[u64], slot: usize) -> Option<(Token, Token)>
     Some((client, target))
 }
 
-/// Begins the connection to the target, and makes the pair. A refusal closes the client's connection, and the
-/// target's where it had begun.
+/// Starts the connection to the target, and makes the pair. A refusal closes the client's connection, and the target's
+/// if it had been started.
 pub(crate) fn connected<F: Front, N: Net + Log>(
     rt: &N,
     alloc: Global,
@@ -61,10 +61,10 @@ pub(crate) fn connected<F: Front, N: Net + Log>(
     }
 }
 
-/// Places a connection in a free slot. Answers whether it was free. Where it was not, which no run meets, the
+/// Places a connection in a free slot. Answers whether the slot was free. If it was not, which happens in no run, the
 /// connection is closed, and nothing has changed.
 ///
-/// The one refusal is `Worn`: the seat has posted 2^56 times.
+/// The only refusal is `Worn`: the seat has posted 2^56 times.
 pub(crate) fn placed<F: Front, R: Wait>(
     rt: &R,
     shared: &Shared<F>,
@@ -89,7 +89,7 @@ pub(crate) fn placed<F: Front, R: Wait>(
     }
 }
 
-/// The rest of a placing, once the slot is held. The notes of the connection before are thrown away.
+/// The rest of a placing, once the slot is held. The notes of the previous connection are discarded.
 fn started<F: Front, R: Wait>(
     rt: &R,
     shared: &Shared<F>,
@@ -108,7 +108,7 @@ fn started<F: Front, R: Wait>(
     ensures exchanges { OnOk result (own.new.seat.steps ≡ own.old.seat.steps + 3) }
 {
     shared.claims.take(&mut own.seat, ticket.slot);
-    // A place that is not empty, which no run meets, keeps what it has, and the connection is closed.
+    // A place that is not empty, which happens in no run, keeps what it has, and the connection is closed.
     let _ = shared.berths.put_in(rt, &own.seat, ticket.slot, berth);
     // A holder's own post never answers Wake: the release does.
     let posted = shared.claims.post(&mut own.seat, ticket.slot);

@@ -1,4 +1,4 @@
-//! The poller's rounds: tickets are put, reports delivered, and connections accepted and opened.
+//! The poller's rounds: it puts tickets, delivers reports, and accepts and opens connections.
 ghost use Rattle.std.specs.Prelude.{◌≡◌, ◌⊎◌, ℕ, ◌+◌, ◌<◌, ◌≤◌, [], ◌∷◌, ◌++◌, length, drop, IfOk, OnOk, IfSome, replicate, slice_get, slice_set, true, false};
 ghost use Rattle.std.specs.IoError.{error_kind};
 ghost use Rattle.claims.specs.Seats.{HoldsNothing};
@@ -28,8 +28,8 @@ use token::Token;
 
 /// What the poller keeps between its rounds.
 ///
-/// In a clause it is its table, which has each slot's generation, its accept flag, and what it was made with: the bytes
-/// of a ring, and after how many connections it stops.
+/// In a clause it is its table, which has each slot's generation, its accept flag, and what it was made with: the size
+/// of a ring in bytes, and the number of connections after which it stops.
 #[derive(Drop)]
 pub struct Poller<F: Front> {
     /// Where connections and reports come from.
@@ -37,13 +37,13 @@ pub struct Poller<F: Front> {
     table: Vec<u64>,
     batch: Vec<u64>,
     accepting: bool,
-    // Whether accept(2) was starved at its last answer, which is logged once while it lasts.
+    // Whether accept(2) was starved at its last answer, which is logged once for as long as it lasts.
     starved: bool,
     ring: usize,
-    // How many connections are opened in all, 0 for no end.
+    // How many connections are opened in all; 0 for no limit.
     stop_after: u32,
     opened: u64,
-    // How many slots are used no more.
+    // How many slots are no longer used.
     lost: usize,
     over: bool,
 }
@@ -60,11 +60,11 @@ impl<F: Front> Model for Poller<F> {
 }
 
 impl<F: Front> Poller<F> {
-    /// The poller of a server that has opened no connection yet. A ring is `ring` bytes, and after `stop_after`
-    /// connections none is accepted any more, unless that is 0.
+    /// The poller of a server that has opened no connection yet. A ring has `ring` bytes, and no connection is accepted
+    /// after `stop_after` were opened, unless that is 0.
     ///
-    /// Fails only where there is no memory for the table and the batch. No round takes memory but for connections
-    /// and log lines.
+    /// Fails only if there is no memory for the table and the batch. A round allocates memory only for connections and
+    /// log lines.
     pub fn new(
         alloc: Global,
         front: F,
@@ -92,13 +92,13 @@ impl<F: Front> Poller<F> {
         })
     }
 
-    /// Whether as many connections as there are to be were opened, and all of them are closed. A round finds that
+    /// Whether as many connections as there are to be have been opened, and all of them are closed. A round finds that
     /// out by the slots that were given back.
     pub fn is_over(&self) -> bool {
         self.over
     }
 
-    /// Whether as many connections as there are to be were opened.
+    /// Whether as many connections as there are to be have been opened.
     fn has_opened_all(&self) -> bool {
         self.stop_after > 0 && self.opened >= u64::from(self.stop_after)
     }
@@ -106,15 +106,15 @@ impl<F: Front> Poller<F> {
 
 /// One round of the poller.
 ///
-/// The tickets in hand are put, until one is refused; where the hand has no room for a ticket of each slot and 512
-/// more, the round ends there. Then it waits once for reports and delivers them ([`deliver`]). While connections may
-/// wait and a slot is free, it accepts and opens them, with at most 256 calls of accept(2).
+/// The tickets in hand are put, until one is refused; if the hand has no room for a ticket of each slot and 512 more,
+/// the round ends there. Then it waits once for reports and delivers them ([`deliver`]). While connections may be
+/// waiting and a slot is free, it accepts and opens them, with at most 256 calls of accept(2).
 ///
-/// An opened connection has the slot's next generation, one note and one ticket, and is logged. One whose opening
-/// fails is closed and logged, and its slot is as it was.
+/// An opened connection has the slot's next generation, one note and one ticket, and is logged. A connection whose
+/// opening fails is closed and logged, and its slot is as it was.
 ///
-/// Refusals: `Poll` where waiting for reports failed, and `Worn` where the seat has posted 2^56 times. The seat holds
-/// nothing then, either.
+/// Refusals: `Poll` if waiting for reports failed, and `Worn` if the seat has posted 2^56 times. Then, too, the seat
+/// holds nothing.
 pub fn poller_round<F: Front, R: Net + Wait + Log>(
     rt: &R,
     alloc: Global,
@@ -149,7 +149,7 @@ pub fn poller_round<F: Front, R: Net + Wait + Log>(
     Ok(())
 }
 
-/// Waits for reports. A signal gives an empty batch.
+/// Waits for reports. After a signal the batch is empty.
 fn poll<F: Front, R: Log>(rt: &R, poller: &mut Poller<F>) -> Result<(), ServerFault>
     ensures { poller.new ≡ poller.old }
 {
@@ -163,7 +163,7 @@ fn poll<F: Front, R: Log>(rt: &R, poller: &mut Poller<F>) -> Result<(), ServerFa
     }
 }
 
-/// Accepts and opens connections while one may wait and a slot is free.
+/// Accepts and opens connections while one may be waiting and a slot is free.
 fn accept_all<F: Front, R: Net + Wait + Log>(
     rt: &R,
     alloc: Global,
@@ -220,8 +220,8 @@ fn has_slot<R: Wait>(rt: &R, own: &mut Own) -> bool
     }
 }
 
-/// What an answer without a connection does to the accept flag. That accept(2) is starved is logged once while it
-/// lasts.
+/// What an answer without a connection does to the accept flag. That accept(2) is starved is logged once for as long as
+/// it lasts.
 fn not_accepted<F: Front, R: Log>(rt: &R, poller: &mut Poller<F>, error: &io::Error) -> Accepted
     ensures class { result ≡ accepted_of (error_kind error.now) }
     ensures flag { poller.new ≡ record poller.old { accepting = flag_after result poller.old.accepting } }
@@ -244,7 +244,7 @@ fn not_accepted<F: Front, R: Log>(rt: &R, poller: &mut Poller<F>, error: &io::Er
 }
 
 /// Opens an accepted connection in the free slot in hand. A slot outside the table or at its last generation, neither
-/// of which a run meets, is used no more, and the connection is closed.
+/// of which happens in any run, is no longer used, and the connection is closed.
 fn open<F: Front, R: Net + Wait + Log>(
     rt: &R,
     alloc: Global,
@@ -289,8 +289,8 @@ fn open<F: Front, R: Net + Wait + Log>(
     }
 }
 
-/// Places a connection that is ready in its slot, under the generation of its token. A slot that was not free, which
-/// no run meets, is used no more.
+/// Places a prepared connection in its slot, under the generation of its token. A slot that was not free, which happens
+/// in no run, is no longer used.
 fn place<F: Front, R: Wait + Log>(
     rt: &R,
     alloc: Global,
@@ -325,8 +325,8 @@ fn place<F: Front, R: Wait + Log>(
     Ok(())
 }
 
-/// Once as many connections were opened as there are to be, takes the free slots in hand and sees whether they are
-/// all. A slot that is used no more counts as free.
+/// Once as many connections as there are to be were opened, takes the free slots in hand and checks whether they are
+/// all there. A slot that is no longer used counts as free.
 fn take_back<F: Front, R: Wait>(rt: &R, shared: &Shared<F>, own: &mut Own, poller: &mut Poller<F>)
     ensures seat { own.new.seat ≡ own.old.seat }
     ensures kept { poller.new ≡ poller.old }

@@ -8,7 +8,7 @@ use crate::shared::Own;
 use ready::{FreeQueue, Full, ReadyQueue, Ticket};
 use std::sync::Wait;
 
-/// Puts the tickets in hand, oldest first, until one is refused, which stays the oldest.
+/// Puts the tickets in hand, oldest first, until one is refused. That one remains the oldest.
 pub(crate) fn put_tickets<R: Wait>(rt: &R, ready: &mut ReadyQueue, hand: &mut Hand)
     ensures { Shrank hand.old hand.new }
 {
@@ -23,7 +23,7 @@ pub(crate) fn put_tickets<R: Wait>(rt: &R, ready: &mut ReadyQueue, hand: &mut Ha
     }
 }
 
-/// Gives the slots in hand back, oldest first, until one is refused, which stays the oldest.
+/// Gives back the slots in hand, oldest first, until one is refused. That one remains the oldest.
 pub(crate) fn give_slots<R: Wait>(rt: &R, free: &mut FreeQueue, hand: &mut Hand)
     ensures { Shrank hand.old hand.new }
 {
@@ -38,8 +38,8 @@ pub(crate) fn give_slots<R: Wait>(rt: &R, free: &mut FreeQueue, hand: &mut Hand)
     }
 }
 
-/// Puts the ticket of a slot that was released, which stays in hand if the queue is full. A ticket put
-/// before the release could be taken at once, find its slot held, and be lost.
+/// Puts the ticket of a slot that was released. If the queue is full, it stays in hand. A ticket that is put before the
+/// release could be taken at once, find its slot held, and be lost.
 pub(crate) fn put_ticket<R: Wait>(rt: &R, own: &mut Own, ticket: Ticket)
     requires released { HoldsNot own.old.seat ticket.slot }
     requires room { length own.old.hand.tickets < own.old.hand.capacity }
@@ -51,8 +51,8 @@ pub(crate) fn put_ticket<R: Wait>(rt: &R, own: &mut Own, ticket: Ticket)
     }
 }
 
-/// Gives a slot back that was retired, which stays in hand if the queue is full. One that were given back before it
-/// is free could be found not free by the poller, and be used no more.
+/// Gives back a slot that was retired. If the queue is full, it stays in hand. If a slot were given back before it is
+/// free, the poller could find it not free, and it would no longer be used.
 pub(crate) fn give_slot<R: Wait>(rt: &R, own: &mut Own, slot: usize)
     requires retired { HoldsNot own.old.seat slot }
     requires room { length own.old.hand.slots < own.old.hand.capacity }

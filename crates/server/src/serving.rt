@@ -16,7 +16,7 @@ use crate::sockets::{Bound, Sockets};
 use crate::worker::worker_turn;
 use berths::Berths;
 use claims::{ClaimSeat, Claims};
-use log::Log;
+use log::{Log, error};
 use mio::Waker;
 use ready::{FreeQueue, ReadyQueue};
 use settings::Settings;
@@ -26,13 +26,13 @@ use std::sync::Wait;
 use std::thread;
 use std::thread::Threads;
 
-/// Serves what was bound: accepts connections and forwards each to the settings' target, with the settings' number of
-/// workers beside the calling thread, which polls. It returns once `stop_after` connections were opened and all of
-/// them are closed, or at a fault; every thread has ended then, and every socket is closed.
+/// Serves on the bound socket: accepts connections and forwards each one to the settings' target, with the settings'
+/// number of workers in addition to the calling thread, which polls. It returns once `stop_after` connections were
+/// opened and all of them are closed, or on a fault; by then every thread has ended, and every socket is closed.
 ///
-/// Refuses with `NoMemory` where there is none to begin with, `Poll` where the system's reports fail, `Threads` where
-/// a worker can't be started, and `Worn` where a thread has posted 2^56 notes. Of several faults it answers its own or
-/// the poller's, else that of the first worker.
+/// Refuses with `NoMemory` if there is not enough to begin with, `Poll` if the system cannot report on sockets,
+/// `Threads` if a worker cannot be started, and `Worn` if a thread has posted 2^56 notes. Of several faults it answers
+/// its own or the poller's, or else that of the first worker.
 pub fn serve<G: Gate + Sync, R: Net + Wait + Threads + Log + Sync>(
     rt: &R,
     alloc: Global,
@@ -43,7 +43,7 @@ pub fn serve<G: Gate + Sync, R: Net + Wait + Threads + Log + Sync>(
     serve_as(rt, alloc, settings, gate, bound, true)
 }
 
-/// [`serve`], where the poller's thread may run turns as well, or leaves them all to the workers.
+/// Like [`serve`], but the poller's thread may run turns as well, or leave them all to the workers.
 pub(crate) fn serve_as<G: Gate + Sync, R: Net + Wait + Threads + Log + Sync>(
     rt: &R,
     alloc: Global,
@@ -66,7 +66,7 @@ pub(crate) fn serve_as<G: Gate + Sync, R: Net + Wait + Threads + Log + Sync>(
     )
 }
 
-/// What all threads share, what they are made of, and the poller, as the settings say.
+/// What all threads share, what they are made from, and the poller, as the settings say.
 fn built<R: Wait>(
     rt: &R,
     alloc: Global,
@@ -137,7 +137,7 @@ where
     requires seats { AreFresh shared.now.claims parts.seats.items }
     requires sized { length poller.table ≡ shared.now.claims.words }
 {
-    // The poller's hand holds all that two rounds may put there.
+    // The poller's hand has room for all that two rounds may put there.
     let capacity = 2 * shared.claims.slots() + 2 * MAX_BATCH;
     let Some(own) = next_own(alloc, shared, &mut parts, capacity)? else {
         return Err(ServerFault::NoMemory);
@@ -156,7 +156,8 @@ where
                         let worker = move || -> ()
                             requires { next.seat ≡ fresh shared.now.claims }
                         { work(rt, alloc, gate, noted, shared, number, next) };
-                        if scope.spawn(worker).is_err() {
+                        if let Err(error) = scope.spawn(worker) {
+                            error!(rt; target: "relayd", "threads: {error}");
                             noted.write(rt, 0, ServerFault::Threads);
                         }
                     }
@@ -172,7 +173,7 @@ where
     }
 }
 
-/// The loop of the poller's thread, whose fault is noted like a worker's. At its end the queue of tickets is closed,
+/// The loop of the poller's thread, whose fault is recorded like a worker's. At its end the queue of tickets is closed,
 /// which ends the workers.
 fn lead<F: Front + Drop, G: Gate, R: Net + Wait + Log>(
     rt: &R,
@@ -219,7 +220,7 @@ pub(crate) fn run_rounds<F: Front, G: Gate, R: Net + Wait + Log>(
     Ok(())
 }
 
-/// Runs a turn in the poller's thread where its round left exactly one ticket: a worker need not be woken for it.
+/// Runs a turn in the poller's thread if its round left exactly one ticket, so that no worker has to be woken for it.
 fn run_alone<F: Front, G: Gate, R: Wait + Log>(
     rt: &R,
     alloc: Global,

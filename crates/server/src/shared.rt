@@ -22,7 +22,7 @@ pub struct Shared<F: Front> {
     pub ghost most_budget: { budget ≤ 1024 },
 }
 
-/// What one thread has of its own.
+/// What one thread owns.
 #[derive(Drop)]
 pub struct Own {
     /// Its seat at the claim words.

@@ -1,5 +1,5 @@
-//! The front over the system's sockets: a listener, a connection to the target for each client, and epoll(7), all
-//! edge-triggered and none of them waiting but for [`Front::poll`](crate::Front::poll).
+//! The front over the system's sockets: a listener, a connection to the target for each client, and epoll(7). All
+//! sockets are edge-triggered, and nothing waits except [`Front::poll`](crate::Front::poll).
 mod bound;
 mod delay;
 mod poll;

@@ -1,4 +1,5 @@
-//! One turn of a worker: a ticket's slot is claimed, its connection taken out, told of its notes, run and put back.
+//! One turn of a worker: it claims a ticket's slot, takes its connection out, gives it the notes, runs it, and puts it
+//! back.
 ghost use Rattle.std.specs.Prelude.{◌≡◌, ◌+◌, ◌<◌, ◌≤◌, length, Ok, IfOk};
 ghost use Rattle.claims.specs.Seats.{account_at, HoldsNothing, OnlyAt};
 ghost use Rattle.server.specs.Hands.{HasRoom, KeepsSlot, KeepsTicket};
@@ -20,7 +21,7 @@ use std::alloc::Global;
 use std::sync::Wait;
 use token::MAX_GENERATION;
 
-/// What a worker's turn came to.
+/// The outcome of a worker's turn.
 #[derive(Clone, Copy, Debug, PartialEq, Eq)]
 pub enum Worked {
     /// The slot was held or free. The ticket is dropped, and nothing else has changed.
@@ -31,19 +32,19 @@ pub enum Worked {
     Ended,
     /// The budget is spent, and the connection is due again.
     Again,
-    /// No call is worth a try before the next report.
+    /// No call is worth trying before the next report.
     Quiet,
 }
 
 /// Runs one turn of the connection that a ticket names.
 ///
-/// What is in hand is put first, until one is refused. Then the slot is claimed, the connection taken out of its
-/// place, its pair told if notes wait, and run on its two wires, between the gate's two calls. A connection that is
-/// done or has failed is logged, closed, and its slot given back, unless its generation is the last one; and the
-/// poller is woken. Any other is put back before the slot is released. Where the release finds notes, a ticket is
-/// put for them. What a queue refuses stays in hand.
+/// Whatever is in hand is put first, until an item is refused. Then the slot is claimed, the connection is taken out of
+/// its place, its pair is given a report if notes wait, and it is run on its two wires, between the gate's two calls. A
+/// connection that is done or failed is logged and closed, its slot is given back unless its generation is the last
+/// one, and the poller is woken. Any other connection is put back before the slot is released. If the release finds
+/// notes, a ticket is put for them. What a queue refuses stays in hand.
 ///
-/// The one refusal is `Worn`: the seat has posted 2^56 times. The slot is released then, too.
+/// The only refusal is `Worn`: the seat has posted 2^56 times. The slot is released then, too.
 pub fn worker_turn<F: Front, G: Gate, R: Wait + Log>(
     rt: &R,
     alloc: Global,
@@ -110,7 +111,7 @@ fn claimed<F: Front, G: Gate, R: Wait + Log>(
     }
 }
 
-/// Takes the notes off a slot without its connection, and releases it.
+/// Takes the notes of a slot whose connection is missing, and releases the slot.
 fn give_up<F: Front, R: Wait>(rt: &R, shared: &Shared<F>, own: &mut Own, ticket: Ticket)
     requires same { own.old.seat.table ≡ shared.now.claims }
     requires inside { ticket.slot < shared.now.claims.words }
@@ -126,7 +127,7 @@ fn give_up<F: Front, R: Wait>(rt: &R, shared: &Shared<F>, own: &mut Own, ticket:
     leave(rt, shared, own, ticket);
 }
 
-/// Runs the connection of a slot that is held, and ends it or puts it back.
+/// Runs the connection of a slot that is held, and then ends it or puts it back.
 fn run<F: Front, G: Gate, R: Wait + Log>(
     rt: &R,
     alloc: Global,
@@ -166,8 +167,8 @@ fn run<F: Front, G: Gate, R: Wait + Log>(
     }
 }
 
-/// Tells a connection whose slot is held of the notes that wait there, and runs it on its two wires. It is handed
-/// neither an allocator nor what may wait, so it makes nothing new in memory and waits for no lock.
+/// Gives a connection whose slot is held a report if notes wait there, and runs it on its two wires. It is passed
+/// neither an allocator nor anything that may wait, so it allocates nothing and waits for no lock.
 fn play<F: Front, G: Gate>(
     shared: &Shared<F>,
     seat: &mut ClaimSeat,
@@ -197,8 +198,8 @@ fn play<F: Front, G: Gate>(
     ending
 }
 
-/// Puts a connection back into its place. A place that is not empty, which no run meets, keeps what it has, and the
-/// connection is closed.
+/// Puts a connection back into its place. A place that is not empty, which happens in no run, keeps what it has, and
+/// the connection is closed.
 fn put_in<F: Front, R: Wait>(
     rt: &R,
     shared: &Shared<F>,
@@ -240,7 +241,7 @@ fn again<F: Front, R: Wait>(
     }
 }
 
-/// Releases a slot, and puts a ticket where notes wait.
+/// Releases a slot, and puts a ticket if notes wait.
 fn leave<F: Front, R: Wait>(rt: &R, shared: &Shared<F>, own: &mut Own, ticket: Ticket)
     requires same { own.old.seat.table ≡ shared.now.claims }
     requires inside { ticket.slot < shared.now.claims.words }
@@ -257,7 +258,7 @@ fn leave<F: Front, R: Wait>(rt: &R, shared: &Shared<F>, own: &mut Own, ticket: T
     }
 }
 
-/// Logs and closes a connection that is done or has failed, gives its slot back, and wakes the poller.
+/// Logs and closes a connection that is done or failed, gives its slot back, and wakes the poller.
 fn end<F: Front, R: Wait + Log>(
     rt: &R,
     alloc: Global,
@@ -286,7 +287,8 @@ fn end<F: Front, R: Wait + Log>(
     wake_poller(shared, own, ticket);
 }
 
-/// Wakes the poller, which may wait for the slot. Woken before the slot is given back, it could look and wait on.
+/// Wakes the poller, which may be waiting for the slot. If it were woken before the slot is given back, it could look
+/// and keep waiting.
 fn wake_poller<F: Front>(shared: &Shared<F>, _own: &Own, _ended: Ticket)
     requires given { _ended.generation < MAX_GENERATION → KeepsSlot _ended.slot _own.now.free.history _own.now.hand }
 {

@@ -8,7 +8,7 @@ use std::io;
 use std::marker::Model;
 use std::net::{Net, SocketAddr};
 
-/// A listening socket (listen(2)), and the address that it has.
+/// A listening socket (listen(2)), and its address.
 #[derive(Drop)]
 pub struct Bound {
     pub(crate) listener: TcpListener,
@@ -24,7 +24,7 @@ impl Model for Bound {
 }
 
 impl Bound {
-    /// The address, which prints as `A.B.C.D:PORT`. Where the settings ask for port 0, it has the port that the system
+    /// The address, which prints as `A.B.C.D:PORT`. If the settings ask for port 0, it has the port that the system
     /// chose.
     pub fn text(&self) -> SocketAddr
         ensures { result ≡ self.now }
@@ -33,10 +33,10 @@ impl Bound {
     }
 }
 
-/// Listens at the settings' address, with the longest backlog that the system allows. The address of a server that
-/// ended a moment ago is taken again at once (SO_REUSEADDR of socket(7)).
+/// Listens on the settings' address, with the longest backlog that the system allows. The address of a server that
+/// ended a moment ago can be reused at once (SO_REUSEADDR of socket(7)).
 ///
-/// Refuses with `Listen` where the system refuses. Its cause was logged then, at level error.
+/// Refuses with `Listen` if the system refuses. The cause was then logged, at level error.
 pub fn bind<R: Net + Log>(rt: &R, settings: &Settings) -> Result<Bound, ServerFault>
     ensures refused { IfErr result (λ fault. fault ≡ ServerFault.Listen) }
 {

@@ -30,7 +30,7 @@ impl Model for Delay {
 }
 
 impl Delay {
-    /// A socket as the system makes it, which may wait.
+    /// A socket as the system creates it, which may wait.
     pub(crate) fn new() -> Delay
         ensures { result ≡ waiting }
     {
@@ -40,7 +40,7 @@ impl Delay {
         }
     }
 
-    /// So many bytes were offered to the socket. Whether it is to wait from now on, where it did not.
+    /// This many bytes were offered to the socket. Answers whether it is to start waiting now.
     pub(crate) fn offer(&mut self, bytes: usize) -> bool
         ensures offered { IsOffered bytes self.old self.new }
         ensures switched { IsTrue result ↔ ((self.old.at_once ≡ true) × (self.new.at_once ≡ false)) }
@@ -57,7 +57,7 @@ impl Delay {
         wait
     }
 
-    /// The connection is quiet. Whether the socket is to send at once from now on, where it did not.
+    /// The connection is quiet. Answers whether the socket is to start sending at once now.
     pub(crate) fn settle(&mut self) -> bool
         ensures settled { self.new ≡ prompt }
         ensures switched { IsTrue result ↔ (self.old.at_once ≡ false) }

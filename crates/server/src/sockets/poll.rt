@@ -18,7 +18,7 @@ use std::net::{Net, SocketAddr};
 use std::time::Duration;
 use token::Token;
 
-/// The front over the system's sockets: one listening socket, one target, and one epoll(7) for all.
+/// The front over the system's sockets: one listening socket, one target, and one epoll(7) instance for all of them.
 #[derive(Drop)]
 pub struct Sockets {
     listener: TcpListener,
@@ -41,11 +41,11 @@ impl Model for Sockets {
 }
 
 impl Sockets {
-    /// A front over what was bound, which connects each client to this target, and the waker for other threads.
+    /// A front on a bound socket, which connects each client to this target, and the waker for other threads.
     ///
-    /// Refuses with `NoMemory` where there is none for the list of reports, and with `Poll` where the system refuses to
-    /// report (epoll_create1(2), eventfd(2), epoll_ctl(2)). Its cause was logged then, at level error. The listening
-    /// socket is closed in both cases.
+    /// Refuses with `NoMemory` if there is none for the list of reports, and with `Poll` if the system cannot report on
+    /// sockets (epoll_create1(2), eventfd(2), epoll_ctl(2)). The cause was then logged, at level error. In both cases
+    /// the listening socket is closed.
     pub fn new<R: Net + Log>(
         rt: &R,
         alloc: Global,
@@ -76,7 +76,7 @@ impl Sockets {
 }
 
 impl Sockets {
-    /// Begins the connection to the target.
+    /// Starts the connection to the target.
     fn begin<N: Net + Log>(&self, rt: &N) -> Result<SocketWire, Unopened>
         ensures begun { IfOk result (λ target. target ≡ fresh false None) }
         ensures refused { IfErr result (λ why. why ≡ Unopened.Connect) }
@@ -114,7 +114,7 @@ fn reports_on<R: Net>(rt: &R, listener: &mut TcpListener) -> io::Result<(Poll, W
     Ok((poll, waker))
 }
 
-/// Puts the numbers of the events' tokens behind the batch.
+/// Appends the numbers of the events' tokens to the batch.
 fn put_numbers(batch: &mut Vec<u64>, events: &Events)
     requires { vec_len batch.old + length (items events.now) ≤ vec_capacity batch.old }
     ensures numbers { batch.new.items ≡ batch.old.items ++ numbers (items events.now) }
@@ -154,7 +154,7 @@ impl Front for Sockets {
         Ok(SocketWire::accepted(stream, peer))
     }
 
-    /// Where it fails, its cause is logged at level debug.
+    /// If it fails, the cause is logged at level debug.
     fn open<N: Net + Log>(
         &mut self,
         rt: &N,

@@ -17,9 +17,10 @@ use std::marker::Model;
 use std::net::{Shutdown, SocketAddr};
 use token::Token;
 
-/// The wire over one socket of the system. A read or a write is one system call, which never waits.
+/// The wire over one system socket. A read or a write is one system call, which never waits.
 ///
-/// It counts its answers by [`class_of`](engine::class_of). It tells no bytes, since only the system knows what comes.
+/// It counts its answers by [`class_of`](engine::class_of). It does not specify its bytes, since only the system knows
+/// which bytes come.
 #[derive(Drop)]
 pub struct SocketWire {
     pub(crate) stream: TcpStream,
@@ -37,7 +38,7 @@ impl Model for SocketWire {
 }
 
 impl SocketWire {
-    /// A client's socket, which is connected, and the address that it comes from.
+    /// A client's socket, which is connected, and the client's address.
     pub(crate) fn accepted(stream: TcpStream, peer: SocketAddr) -> SocketWire
         ensures { result ≡ fresh true (Some peer) }
     {
@@ -61,7 +62,7 @@ impl SocketWire {
         }
     }
 
-    /// The address of the client, where the wire is a client's.
+    /// The address of the client, if the wire is a client's.
     pub fn peer(&self) -> Option<SocketAddr>
         ensures { result ≡ self.now.peer }
     {
@@ -76,7 +77,7 @@ impl SocketWire {
         registry.register(&mut self.stream, mio::Token(token.value() as usize), both)
     }
 
-    /// An error of a call, which is counted by its class.
+    /// Counts an error of a call by its class, and gives it.
     fn refuse(&mut self, call: Call, error: io::Error) -> io::Error
         requires { side_of call ≡ Side.Target }
         ensures same { result ≡ error }
@@ -86,7 +87,7 @@ impl SocketWire {
         error
     }
 
-    /// A write took so many bytes of so many that were offered.
+    /// A write took `count` of the bytes that were offered.
     fn took(&mut self, count: usize, offered: usize)
         ensures { self.new ≡ record self.old { tally = took count offered self.old.tally } }
     {
@@ -97,8 +98,8 @@ impl SocketWire {
         }
     }
 
-    /// Where the connection stands: the error that waits at the socket (SO_ERROR of socket(7)), or that it has no peer
-    /// yet (getpeername(2)).
+    /// The state of the connection: the error that is pending on the socket (SO_ERROR of socket(7)), or that it has no
+    /// peer yet (getpeername(2)).
     fn stand(&self) -> io::Result<()> {
         if let Some(error) = self.stream.take_error()? {
             return Err(failure(error));
@@ -108,7 +109,7 @@ impl SocketWire {
     }
 }
 
-/// The error that waited at a socket, as a call's answer. It is always a failure of the connection.
+/// An error that was pending on a socket, as the answer of a call. It is always a failure of the connection.
 fn failure(pending: io::Error) -> io::Error
     ensures { error_kind result ≡ pending_kind (error_kind pending) }
 {
