@@ -39,15 +39,6 @@ impl Stage {
         poller_round(rt, alloc, &self.shared, &mut self.own, &mut self.poller).is_ok()
     }
 
-    /// A round that opens a connection. If no ticket is in hand afterwards, memory for the connection was refused.
-    fn opens<R: Net + Wait + Log>(&mut self, rt: &R, alloc: Global) -> Result<(), AllocError> {
-        if self.round(rt, alloc) && self.own.hand.tickets() > 0 {
-            Ok(())
-        } else {
-            Err(AllocError)
-        }
-    }
-
     /// A worker's turn for the oldest ticket that the poller has in hand. Nothing where there is none.
     fn work<R: Wait + Log>(&mut self, rt: &R, alloc: Global) -> Option<Worked> {
         let ticket = self.own.hand.take_ticket()?;
@@ -143,12 +134,12 @@ fn an_opening_throws_old_notes_away(rt: HostRuntime) -> Result<(), Fail> {
         opens: &[],
     };
     let mut stage = staged(&rt, alloc, 1, 0, script)?;
-    stage.opens(&log, alloc)?;
+    assert!(rt; stage.round(&log, alloc));
     assert_eq!(rt; stage.word(0), Some(4));
     assert_eq!(rt; stage.work(&log, alloc), Some(Worked::Ended));
     assert_eq!(rt; stage.word(0), Some(3));
     assert_eq!(rt; stage.shared.waker.load(SeqCst), 1);
-    stage.opens(&log, alloc)?;
+    assert!(rt; stage.round(&log, alloc));
     assert_eq!(rt; stage.word(0), Some(4));
     assert_eq!(rt; stage.own.hand.take_ticket(), ticket(0, 2));
     assert_eq!(rt; stage.own.hand.tickets(), 0);
@@ -167,7 +158,7 @@ fn a_batch_leaves_notes_at_open_connections_alone(rt: HostRuntime) -> Result<(),
         opens: &[],
     };
     let mut stage = staged(&rt, alloc, 2, 0, script)?;
-    stage.opens(&log, alloc)?;
+    assert!(rt; stage.round(&log, alloc));
     assert_eq!(rt; (stage.word(0), stage.word(1)), (Some(4), Some(3)));
     assert!(rt; stage.round(&log, alloc));
     assert_eq!(rt; (stage.word(0), stage.word(1)), (Some(12), Some(3)));
@@ -376,7 +367,7 @@ fn a_poller_stops_after_its_last_connection(rt: HostRuntime) -> Result<(), Fail>
         opens: &[],
     };
     let mut stage = staged(&rt, alloc, 2, 1, script)?;
-    stage.opens(&log, alloc)?;
+    assert!(rt; stage.round(&log, alloc));
     assert!(rt; !stage.poller.is_over());
     assert_eq!(rt; stage.work(&log, alloc), Some(Worked::Ended));
     assert!(rt; stage.round(&log, alloc));
