@@ -5,7 +5,7 @@ use Rattle.std.specs.Io.KnownBytes.{Consumes, IsAtEnd}
 use Rattle.std.proofs.KnownBytes.{Consumes-trans}
 use Rattle.std.proofs.lemmas.List.{take_all}
 use Rattle.std.proofs.Math.Seq.{take-append_seam}
-use Rattle.input.specs.Fronts.{TakesAtMost, ReadsOn, Stops}
+use Rattle.input.specs.Reads.{TakesAtMost, ReadsOn, Stops}
 
 pub record Reads (most : ℕ) (first now : Option (List ℕ)) (text : List ℕ) (reads : ℕ) : Type 0 where
   pub consumed : Consumes first now text

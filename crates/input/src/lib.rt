@@ -5,4 +5,4 @@ mod reading;
 #[cfg(test)]
 mod tests;
 
-pub use reading::{InputFault, read_front};
+pub use reading::{InputFault, read_at_most};

@@ -1,5 +1,5 @@
 ghost use Rattle.std.specs.Prelude.{◌≡◌, ◌≤◌, IfOk, IfErr, IfSome, take, vec_len};
-ghost use Rattle.input.specs.Fronts.{TakesAtMost, ReadsOn, Stops};
+ghost use Rattle.input.specs.Reads.{TakesAtMost, ReadsOn, Stops};
 
 use std::alloc::Global;
 use std::io::Read;
@@ -21,7 +21,7 @@ pub enum InputFault {
 ///
 /// It makes at most `most` reads. The first error of the reader, even an interruption by a signal, ends it with
 /// [`InputFault::Unreadable`]. After a fault, the bytes that were read are lost.
-pub fn read_front<R: Read>(
+pub fn read_at_most<R: Read>(
     alloc: Global,
     reader: &mut R,
     most: usize,

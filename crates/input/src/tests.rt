@@ -55,7 +55,7 @@ fn reads_to_the_end_or_the_limit(rt: HostRuntime) -> Result<(), Fail> {
         (9000, 10_000, 9000, 9000, 0, 4),
     ] {
         let mut reader = reader_of(there, most);
-        let text = read_front(rt.alloc(), &mut reader, wanted)?;
+        let text = read_at_most(rt.alloc(), &mut reader, wanted)?;
         assert_eq!(rt; text.len(), came, "{there} of {wanted}");
         assert!(rt; text.as_slice().iter().all(|byte| *byte == b'a'));
         assert_eq!(rt;
@@ -78,7 +78,7 @@ fn reports_an_error_at_once(rt: HostRuntime) -> Result<(), Fail> {
         for at in 0..5 {
             let mut reader = reader_of(4, 1);
             reader.fault = Some((at, kind));
-            let answer = read_front(rt.alloc(), &mut reader, 9);
+            let answer = read_at_most(rt.alloc(), &mut reader, 9);
             if matches!(answer, Err(InputFault::NoMemory)) {
                 return Err(Fail::from(InputFault::NoMemory));
             }

@@ -4,12 +4,14 @@ ghost use Rattle.relayd.specs.Files.{FileSets, HasFault};
 
 use crate::constants::MAX_CONFIG_BYTES;
 use crate::faults::ProgramFault;
-use input::{InputFault, read_front};
+use crate::streams::{Stream, log_error};
+use input::{InputFault, read_at_most};
 use log::{Log, error};
 use settings::{OneLine, Settings, SettingsFault};
 use std::alloc::Global;
+use std::fmt;
 use std::fs::File;
-use std::io::{self, Read};
+use std::io::Read;
 use std::rt::Files;
 
 /// The settings of the file at a path. The cause of a fault is logged: what the system or the parser says about it.
@@ -18,27 +20,32 @@ pub fn load<R: AllocGlobal + Files, L: Log>(
     log: &L,
     path: &str,
 ) -> Result<Settings, ProgramFault> {
-    let mut file = match File::open(rt, path) {
-        Ok(file) => Noting {
-            reader: file,
-            error: None,
-        },
-        Err(error) => {
-            log_unread(log, path, error);
-            return Err(ProgramFault::ConfigRead);
+    let name = ConfigName(path);
+    match File::open(rt, path) {
+        Ok(file) => {
+            let mut file = Stream {
+                name,
+                inner: file,
+                log,
+            };
+            read(log, rt.alloc(), &mut file)
         }
-    };
-    let settings = read(log, rt.alloc(), &mut file);
-    if let Some(error) = file.error {
-        log_unread(log, path, error);
+        Err(error) => {
+            log_error(log, &name, &error);
+            Err(ProgramFault::ConfigRead)
+        }
     }
-    settings
 }
 
-/// Logs why a file could not be opened or read.
-fn log_unread(log: &impl Log, path: &str, error: io::Error) {
-    let path = OneLine(path);
-    error!(log; target: "relayd", "config: {path}: {error}");
+/// What the log calls a settings file.
+#[derive(Clone, Copy)]
+struct ConfigName<'a>(&'a str);
+
+impl fmt::Display for ConfigName<'_> {
+    fn fmt<W: fmt::Write>(&self, f: &mut fmt::Formatter<W>) -> fmt::Result {
+        let path = OneLine(self.0);
+        write!(f, "config: {path}")
+    }
 }
 
 /// The settings of a file, from all of its bytes, or its fault. A file that is too long has that fault, whatever its
@@ -64,32 +71,13 @@ fn log_cause(log: &impl Log, alloc: Global, text: &[u8], fault: &SettingsFault) 
     }
 }
 
-/// A reader that keeps the error of its last failed read, since the file's fault does not include it.
-#[derive(Drop)]
-struct Noting<R> {
-    reader: R,
-    error: Option<io::Error>,
-}
-
-impl<R: Read> Read for Noting<R> {
-    ghost remaining = { λ noting. R.remaining noting.reader };
-
-    fn read(&mut self, buffer: &mut [u8]) -> io::Result<usize> {
-        let answer = self.reader.read(buffer);
-        if let Err(error) = answer {
-            self.error = Some(error);
-        }
-        answer
-    }
-}
-
 /// All bytes of a file. It is read to its end, or to one byte past the maximum length, which shows that it is too long.
 fn read_whole<F: Read>(alloc: Global, file: &mut F) -> Result<Vec<u8>, ProgramFault>
     ensures most { IfOk result (λ text. vec_len text ≤ 65536) }
     ensures whole { IfOk result (λ text. IfSome (F.remaining file.old) (λ bytes. text.items ≡ bytes)) }
     ensures fault { IfErr result (λ fault. IfSome (F.remaining file.old) (λ bytes. HasFault bytes fault)) }
 {
-    match read_front(alloc, file, MAX_CONFIG_BYTES + 1) {
+    match read_at_most(alloc, file, MAX_CONFIG_BYTES + 1) {
         Ok(text) if text.len() > MAX_CONFIG_BYTES => Err(ProgramFault::ConfigLong),
         Ok(text) => Ok(text),
         Err(fault) => Err(not_read(fault)),

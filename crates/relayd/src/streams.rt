@@ -1,39 +1,40 @@
-//! The program's own streams.
+//! Streams whose errors are logged.
 
 use log::{Log, error};
+use std::fmt;
 use std::io::{self, Read, Write};
 
-/// Standard input or output. An error of the system is logged when it comes, since the fault that follows does not
-/// include it.
+/// A stream, such as standard input or a file. An error of the system is logged when it comes, since the fault that
+/// follows does not include it.
 #[derive(Drop)]
-pub struct Stream<'a, S, L> {
-    /// What a person calls the stream.
-    pub name: &'a str,
+pub struct Stream<'a, S, N, L> {
+    /// What the log calls the stream.
+    pub name: N,
     /// Where bytes come from, or go to.
     pub inner: S,
     /// Where errors are logged.
     pub log: &'a L,
 }
 
-impl<R: Read, L: Log> Read for Stream<'_, R, L> {
+impl<R: Read, N: fmt::Display, L: Log> Read for Stream<'_, R, N, L> {
     ghost remaining = { λ stream. R.remaining stream.inner };
 
     fn read(&mut self, buffer: &mut [u8]) -> io::Result<usize> {
         let answer = self.inner.read(buffer);
         if let Err(error) = &answer {
-            log_error(self.log, self.name, error);
+            log_error(self.log, &self.name, error);
         }
         answer
     }
 }
 
-impl<W: Write, L: Log> Write for Stream<'_, W, L> {
+impl<W: Write, N: fmt::Display, L: Log> Write for Stream<'_, W, N, L> {
     ghost contents = { λ stream. W.contents stream.inner };
 
     fn write(&mut self, bytes: &[u8]) -> io::Result<usize> {
         let answer = self.inner.write(bytes);
         if let Err(error) = &answer {
-            log_error(self.log, self.name, error);
+            log_error(self.log, &self.name, error);
         }
         answer
     }
@@ -41,13 +42,13 @@ impl<W: Write, L: Log> Write for Stream<'_, W, L> {
     fn flush(&mut self) -> io::Result<()> {
         let answer = self.inner.flush();
         if let Err(error) = &answer {
-            log_error(self.log, self.name, error);
+            log_error(self.log, &self.name, error);
         }
         answer
     }
 }
 
-/// Logs why a stream could not be read or written.
-fn log_error(log: &impl Log, name: &str, error: &io::Error) {
+/// Logs why a stream could not be opened, read or written.
+pub fn log_error<N: fmt::Display>(log: &impl Log, name: &N, error: &io::Error) {
     error!(log; target: "relayd", "{name}: {error}");
 }

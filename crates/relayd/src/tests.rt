@@ -1,9 +1,9 @@
 //! What only a reader or a writer in memory can show: small pieces, failures, and memory that runs out. What the
 //! program prints for which input stands in the repository's `tests/program`, where the built program is run.
 
+mod claim_words;
 mod ends;
 mod growths;
-mod words;
 
 use crate::faults::ArgumentsFault;
 use crate::program::{act, report_arguments_fault};

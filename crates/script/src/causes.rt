@@ -15,7 +15,7 @@ use std::fmt;
 /// it.
 pub fn cause(alloc: Global, text: &[u8], fault: Fault) -> Option<String> {
     match fault {
-        Fault::TooLong => String::from_str(alloc, "a script has at most 1048576 bytes").ok(),
+        Fault::TooLong => format!(in alloc; "a script has at most {MAX_BYTES} bytes").ok(),
         Fault::NoWorld => String::from_str(alloc, "no line begins with flow or world").ok(),
         Fault::Malformed(number) => malformed(alloc, text, number),
         Fault::NotAllowed(number, word) => not_allowed(alloc, text, number, word),

@@ -2,10 +2,13 @@
 
 use crate::event_parts::{accepting, kind, lone_who, name, side, slot, worker};
 use crate::header::{generation, ring, size};
-use crate::limits::{MAX_BUDGET, MAX_SLOTS, MAX_WORKERS};
+use crate::limits::{MAX_BUDGET, MAX_DIGITS, MAX_SLOTS, MAX_WORKERS};
 use crate::lines::Pieces;
 use crate::values::{is_hex_text, number};
+use flow::Flow;
 use kernel_model::MAX_POLLED;
+use std::fmt;
+use token::MAX_GENERATION;
 
 /// What a word may be, at its position.
 #[derive(Clone, Copy)]
@@ -84,7 +87,7 @@ pub(crate) const STEPS: Forms = Forms {
         ("wrote", &[Part::Count, Part::Full]),
         ("shut", &[]),
     ],
-    wanted: "no step of a flow begins so; one of arrive, end, fin, read, room, shut and wrote is wanted",
+    wanted: "not a step of a flow; one of arrive, end, fin, read, room, shut and wrote is wanted",
 };
 
 /// The steps of a world.
@@ -113,7 +116,7 @@ pub(crate) const EVENTS: Forms = Forms {
         ("retire", &[Part::Worker]),
         ("free", &[Part::Worker]),
     ],
-    wanted: "no step of a world begins so; one of accept, arrive, call, claim, close, connect, deliver, drop, fin, free, open, poll, pop, post, put, release, reset, retire, room, spurious, take and vanish is wanted",
+    wanted: "not a step of a world; one of accept, arrive, call, claim, close, connect, deliver, drop, fin, free, open, poll, pop, post, put, release, reset, retire, room, spurious, take and vanish is wanted",
 };
 
 /// The answers to a call.
@@ -148,7 +151,18 @@ pub(crate) struct Wrong<'a> {
     /// The malformed word, or none where one is missing.
     pub(crate) word: Option<&'a [u8]>,
     /// What is expected in its place.
-    pub(crate) wanted: &'static str,
+    pub(crate) wanted: Wanted,
+}
+
+/// What is expected in place of a word. It prints as a person is told it.
+#[derive(Clone, Copy)]
+pub(crate) enum Wanted {
+    /// A word of this kind.
+    Word(Part),
+    /// The end of the line.
+    End,
+    /// The end of a poll, which has as many names as one can have.
+    EndOfPoll,
 }
 
 /// The first word that does not match the parts which have to follow the line's first word.
@@ -157,18 +171,18 @@ pub(crate) fn first_wrong<'a>(parts: &'static [Part], mut words: Pieces<'a>) -> 
     for _place in 0..MAX_POLLED {
         let word = words.next();
         let Some((part, rest)) = left.split_first() else {
-            return malformed(word?, "the line should end before this word");
+            return malformed(word?, Wanted::End);
         };
         match word {
             Some(word) if part.takes(word) => left = part.rest(word, rest),
-            Some(word) => return malformed(word, part.wanted()),
+            Some(word) => return malformed(word, Wanted::Word(*part)),
             None => return part.missing(),
         }
     }
-    malformed(words.next()?, "a poll has at most 256 names")
+    malformed(words.next()?, Wanted::EndOfPoll)
 }
 
-fn malformed<'a>(word: &'a [u8], wanted: &'static str) -> Option<Wrong<'a>> {
+fn malformed<'a>(word: &'a [u8], wanted: Wanted) -> Option<Wrong<'a>> {
     Some(Wrong {
         word: Some(word),
         wanted,
@@ -218,35 +232,81 @@ impl Part {
             Part::Generation | Part::Name | Part::Full => None,
             _ => Some(Wrong {
                 word: None,
-                wanted: self.wanted(),
+                wanted: Wanted::Word(self),
             }),
         }
     }
 
-    /// What is expected in place of a word that is not of this kind.
-    fn wanted(self) -> &'static str {
+    /// Writes what is expected in place of a word that is not of this kind.
+    fn write_wanted<W: fmt::Write>(self, f: &mut fmt::Formatter<W>) -> fmt::Result {
         match self {
-            Part::Slots => "slots=1 to slots=64 is wanted",
-            Part::Workers => "workers=1 to workers=16 is wanted",
-            Part::Ring => "ring=1 to ring=65536 is wanted",
-            Part::Budget => "budget=1 to budget=1024 is wanted",
-            Part::Generation => "gen=0 to gen=140737488355326, or the end of the line, is wanted",
-            Part::Slot => "the number of a slot, 0 to 63, is wanted",
-            Part::Side => "client or target is wanted",
-            Part::Hex => "1 to 1024 bytes as pairs of lower-case hexadecimal digits are wanted",
-            Part::Worker => "the number of a worker, 0 to 15, is wanted",
-            Part::Actor => "poller or the number of a worker, 0 to 15, is wanted",
-            Part::Accepting => "one of again, blocked, ok and starved is wanted",
-            Part::Reported => "listener, waker or the number of a slot, 0 to 63, is wanted",
-            Part::Name => { "listener, waker or SLOT.GENERATION.SIDE, as in 0.1.client, is wanted" }
-            Part::Reply => REPLIES.wanted,
+            Part::Slots => write!(f, "slots=1 to slots={MAX_SLOTS} is wanted"),
+            Part::Workers => write!(f, "workers=1 to workers={MAX_WORKERS} is wanted"),
+            Part::Ring => {
+                let most = Flow::MAX;
+                write!(f, "ring=1 to ring={most} is wanted")
+            }
+            Part::Budget => write!(f, "budget=1 to budget={MAX_BUDGET} is wanted"),
+            Part::Generation => {
+                let most = MAX_GENERATION - 1;
+                write!(f, "gen=0 to gen={most}, or the end of the line, is wanted")
+            }
+            Part::Slot => {
+                let last = MAX_SLOTS - 1;
+                write!(f, "the number of a slot, 0 to {last}, is wanted")
+            }
+            Part::Side => f.write_str("client or target is wanted"),
+            Part::Hex => {
+                let most = MAX_DIGITS / 2;
+                write!(
+                    f,
+                    "1 to {most} bytes as pairs of lower-case hexadecimal digits are wanted"
+                )
+            }
+            Part::Worker => {
+                let last = MAX_WORKERS - 1;
+                write!(f, "the number of a worker, 0 to {last}, is wanted")
+            }
+            Part::Actor => {
+                let last = MAX_WORKERS - 1;
+                write!(
+                    f,
+                    "poller or the number of a worker, 0 to {last}, is wanted"
+                )
+            }
+            Part::Accepting => f.write_str("one of again, blocked, ok and starved is wanted"),
+            Part::Reported => {
+                let last = MAX_SLOTS - 1;
+                write!(
+                    f,
+                    "listener, waker or the number of a slot, 0 to {last}, is wanted"
+                )
+            }
+            Part::Name => f.write_str(
+                "listener, waker or SLOT.GEN.SIDE, as in 0.1.client, is wanted",
+            ),
+            Part::Reply => f.write_str(REPLIES.wanted),
             Part::Count => {
-                "a number from 0 to 18446744073709551615 without leading zeros is wanted"
+                let most = u64::MAX;
+                write!(
+                    f,
+                    "a number from 0 to {most} without leading zeros is wanted"
+                )
             }
-            Part::Full => "full, or the end of the line, is wanted",
-            Part::Kind => {
-                "one of aborted, notconnected, other, pipe, refused, reset, timedout and zero is wanted"
-            }
+            Part::Full => f.write_str("full, or the end of the line, is wanted"),
+            Part::Kind => f.write_str(
+                "one of aborted, notconnected, other, pipe, refused, reset, timedout and zero is wanted",
+            ),
+        }
+    }
+}
+
+impl fmt::Display for Wanted {
+    fn fmt<W: fmt::Write>(&self, f: &mut fmt::Formatter<W>) -> fmt::Result {
+        match *self {
+            Wanted::Word(part) => part.write_wanted(f),
+            Wanted::End => f.write_str("the line should end before this word"),
+            Wanted::EndOfPoll => write!(f, "a poll has at most {MAX_POLLED} names"),
         }
     }
 }

@@ -1,7 +1,7 @@
 ghost use Rattle.std.specs.Prelude.{◌≡◌, ◌+◌, IfOk, IfErr, IfSome, Ok, Err};
 ghost use Rattle.std.specs.Io.KnownBytes.{Appends};
 ghost use Rattle.script.specs.Scripts.{most_bytes};
-ghost use Rattle.input.specs.Fronts.{TakesAtMost};
+ghost use Rattle.input.specs.Reads.{TakesAtMost};
 ghost use Rattle.script.specs.Runs.{LeadsTo, Tells, WritesReport, WritesFault, EveryByte, EveryEnd, EveryRun};
 
 use crate::limits::MAX_BYTES;
@@ -84,7 +84,7 @@ fn play<R: Read, X: Explain>(
     ensures taken { TakesAtMost (most_bytes + 1) (R.remaining reader.old) (R.remaining reader.new) }
     ensures err { IfErr result (λ fault. fault ≡ ScriptFault.Read) }
 {
-    match input::read_front(alloc, reader, most) {
+    match input::read_at_most(alloc, reader, most) {
         Ok(text) => Ok(explained(alloc, text.as_slice(), explain)),
         Err(InputFault::NoMemory) => Ok(Err(Fault::NoMemory)),
         Err(InputFault::Unreadable) => Err(ScriptFault::Read),

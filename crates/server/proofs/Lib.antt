@@ -1,1 +1,2 @@
+pub mod Outgoing
 pub mod Reports

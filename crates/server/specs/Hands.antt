@@ -1,5 +1,5 @@
 -- What a thread has in hand: the tickets and the free slots that a queue refused, oldest first. Part of the promises.
-use Rattle.std.specs.Prelude.{◌≡◌, ◌⊎◌, ℕ, ◌-◌, ◌<◌, ◌≤◌, List, [], ◌∷◌, ◌++◌, length}
+use Rattle.std.specs.Prelude.{◌≡◌, ◌⊎◌, ℕ, ◌-◌, ◌<◌, ◌≤◌, List, [], ◌∷◌, ◌++◌, length, map}
 use Rattle.ready.specs.declared.history.History.{History}
 use Rattle.ready.specs.declared.ticket.Ticket.{Ticket}
 use Rattle.ready.specs.Steps.{PutLast}
@@ -29,6 +29,11 @@ KeepsTicket ticket history hand = PutLast ticket history ⊎ ((before : List Tic
 -- the same of a free slot
 abbrev pub KeepsSlot : ℕ → History ℕ → HandState → Type 0
 KeepsSlot slot history hand = PutLast slot history ⊎ ((before : List ℕ) × (hand.slots ≡ before ++ slot ∷ []))
+
+-- what an end of a queue has put, and behind it what is in hand for that queue: all that was to be put so far, in order
+module _ {T : Type 0} where
+  abbrev pub outgoing : History T → List T → List T
+  outgoing history hand = map (λ (put : ℕ × T). put.1) history.put ++ hand
 
 -- nothing came in, and as much fits as before or more
 pub record Shrank (old new : HandState) : Type 0 where

@@ -1,7 +1,7 @@
 //! Putting tickets and free slots into the queues, and keeping in hand what a queue refuses.
-ghost use Rattle.std.specs.Prelude.{◌≡◌, ◌<◌, ◌≤◌, length};
+ghost use Rattle.std.specs.Prelude.{◌≡◌, ◌<◌, ◌≤◌, ◌⊎◌, [], ◌∷◌, ◌++◌, length};
 ghost use Rattle.claims.specs.Seats.{HoldsNot};
-ghost use Rattle.server.specs.Hands.{HasRoom, KeepsSlot, KeepsTicket, Shrank};
+ghost use Rattle.server.specs.Hands.{HasRoom, KeepsSlot, KeepsTicket, Shrank, outgoing};
 
 use crate::hand::Hand;
 use crate::shared::Own;
@@ -10,7 +10,8 @@ use std::sync::Wait;
 
 /// Puts the tickets in hand, oldest first, until one is refused. That one remains the oldest.
 pub(crate) fn put_tickets<R: Wait>(rt: &R, ready: &mut ReadyQueue, hand: &mut Hand)
-    ensures { Shrank hand.old hand.new }
+    ensures tickets { outgoing ready.new.history hand.new.tickets ≡ outgoing ready.old.history hand.old.tickets }
+    ensures shrank { Shrank hand.old hand.new }
 {
     for _ticket in 0..hand.tickets() {
         let Some(ticket) = hand.take_ticket() else {
@@ -25,7 +26,8 @@ pub(crate) fn put_tickets<R: Wait>(rt: &R, ready: &mut ReadyQueue, hand: &mut Ha
 
 /// Gives back the slots in hand, oldest first, until one is refused. That one remains the oldest.
 pub(crate) fn give_slots<R: Wait>(rt: &R, free: &mut FreeQueue, hand: &mut Hand)
-    ensures { Shrank hand.old hand.new }
+    ensures slots { outgoing free.new.history hand.new.slots ≡ outgoing free.old.history hand.old.slots }
+    ensures shrank { Shrank hand.old hand.new }
 {
     for _slot in 0..hand.slots() {
         let Some(slot) = hand.take_slot() else {
@@ -45,6 +47,7 @@ pub(crate) fn put_ticket<R: Wait>(rt: &R, own: &mut Own, ticket: Ticket)
     requires room { length own.old.hand.tickets < own.old.hand.capacity }
     ensures seat { own.new.seat ≡ own.old.seat }
     ensures kept { KeepsTicket ticket own.new.ready.history own.new.hand }
+    ensures hand { (own.new.hand ≡ own.old.hand) ⊎ (own.new.hand ≡ record own.old.hand { tickets = own.old.hand.tickets ++ ticket ∷ [] }) }
 {
     if let Err(Full(ticket)) = own.ready.put(rt, ticket) {
         own.hand.keep_ticket(ticket);
@@ -58,6 +61,7 @@ pub(crate) fn give_slot<R: Wait>(rt: &R, own: &mut Own, slot: usize)
     requires room { length own.old.hand.slots < own.old.hand.capacity }
     ensures seat { own.new.seat ≡ own.old.seat }
     ensures kept { KeepsSlot slot own.new.free.history own.new.hand }
+    ensures hand { (own.new.hand ≡ own.old.hand) ⊎ (own.new.hand ≡ record own.old.hand { slots = own.old.hand.slots ++ slot ∷ [] }) }
 {
     if let Err(Full(slot)) = own.free.give(rt, slot) {
         own.hand.keep_slot(slot);

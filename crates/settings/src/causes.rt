@@ -1,9 +1,13 @@
 //! The causes of faults, for a person: the line, what it says, and what is expected there.
 
-use crate::limits::MAX_LOOKS;
+use crate::addresses::address_of;
+use crate::limits::{
+    MAX_BUDGET, MAX_LOOKS, MAX_RING, MAX_SLOTS, MAX_STOP_AFTER, MAX_WORKERS, MIN_TARGET_PORT,
+};
 use crate::{Key, OneLine, SettingsFault};
 use std::alloc::{AllocError, Global};
-use toml::Table;
+use std::fmt;
+use toml::{Table, Value};
 
 /// The cause of a fault, for a person: the line, what it says, and what is expected there. `bytes` is the text with the
 /// fault. `None` if there is no memory for the cause.
@@ -59,7 +63,7 @@ fn unknown(alloc: Global, text: &str, name: &str) -> Option<String> {
 
 /// A required key, and what it takes.
 fn missing(alloc: Global, key: Key) -> Result<String, AllocError> {
-    let wanted = wanted(key);
+    let wanted = Wanted::Value(key);
     format!(in alloc; "{key}: {wanted}")
 }
 
@@ -68,24 +72,53 @@ fn refused(alloc: Global, text: &str, key: Key) -> Option<String> {
     let place = place_of(alloc, text, key.name()).ok()?;
     let document = toml::table_from_str(alloc, text).ok()?;
     let value = document.get(key.name())?;
+    let wanted = in_place_of(value, key);
     let value = format!(in alloc; "{value}").ok()?;
     let value = OneLine(value.as_str());
-    let wanted = wanted(key);
     format!(in alloc; "{place}{key} = {value}: {wanted}").ok()
 }
 
-/// What a key takes.
-fn wanted(key: Key) -> &'static str {
-    match key {
-        Key::Listen => "four numbers and a port, as \"127.0.0.1:7000\", are wanted",
-        Key::Target => "four numbers and a port from 1 up, as \"127.0.0.1:7001\", are wanted",
-        Key::Ring => "a whole number from 1 to 65536 is wanted",
-        Key::Budget => "a whole number from 1 to 1024 is wanted",
-        Key::Workers => "a whole number from 1 to 16 is wanted",
-        Key::Slots => "a whole number from 1 to 4096 is wanted",
-        Key::StopAfter => "a whole number from 0 to 4294967295 is wanted",
-        Key::Log => "\"off\", \"error\", \"warn\", \"info\", \"debug\" or \"trace\" is wanted",
+/// What is wanted in place of a value. An address that is refused has a port to which no connection can be made.
+fn in_place_of(value: &Value, key: Key) -> Wanted {
+    match value.as_str() {
+        Some(text) if address_of(text).is_some() => Wanted::Port,
+        _ => Wanted::Value(key),
     }
+}
+
+/// What is wanted in a settings file.
+#[derive(Clone, Copy)]
+enum Wanted {
+    /// What a key takes.
+    Value(Key),
+    /// A port to which a connection can be made.
+    Port,
+}
+
+impl fmt::Display for Wanted {
+    fn fmt<W: fmt::Write>(&self, f: &mut fmt::Formatter<W>) -> fmt::Result {
+        match *self {
+            Wanted::Value(Key::Listen) => {
+                f.write_str("four numbers and a port, as 127.0.0.1:7000, are wanted")
+            }
+            Wanted::Value(Key::Target) => {
+                f.write_str("four numbers and a port, as 127.0.0.1:7001, are wanted")
+            }
+            Wanted::Value(Key::Ring) => write_range(f, 1, MAX_RING),
+            Wanted::Value(Key::Budget) => write_range(f, 1, MAX_BUDGET),
+            Wanted::Value(Key::Workers) => write_range(f, 1, MAX_WORKERS),
+            Wanted::Value(Key::Slots) => write_range(f, 1, MAX_SLOTS),
+            Wanted::Value(Key::StopAfter) => write_range(f, 0, MAX_STOP_AFTER),
+            Wanted::Value(Key::Log) => f.write_str(
+                "\"off\", \"error\", \"warn\", \"info\", \"debug\" or \"trace\" is wanted",
+            ),
+            Wanted::Port => write!(f, "a port from {MIN_TARGET_PORT} up is wanted"),
+        }
+    }
+}
+
+fn write_range<W: fmt::Write>(f: &mut fmt::Formatter<W>, low: u32, high: u32) -> fmt::Result {
+    write!(f, "a whole number from {low} to {high} is wanted")
 }
 
 /// The words `line N: ` for the line that sets a key, or nothing if it is not found.

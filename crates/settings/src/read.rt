@@ -14,6 +14,9 @@ use crate::faults::{KeyText, SettingsFault};
 use crate::fields::Settings;
 use crate::keys::Key;
 use crate::levels::LogLevel;
+use crate::limits::{
+    MAX_BUDGET, MAX_RING, MAX_SLOTS, MAX_STOP_AFTER, MAX_WORKERS, MIN_TARGET_PORT,
+};
 use std::alloc::Global;
 use toml::{Table, Value};
 
@@ -72,12 +75,12 @@ fn settings_of(document: &Table) -> Result<Settings, SettingsFault>
 {
     Ok(Settings {
         listen: address_at(document, Key::Listen, 0)?,
-        target: address_at(document, Key::Target, 1)?,
-        ring: number_at(document, Key::Ring, 1, 65_536, 16_384)? as usize,
-        budget: number_at(document, Key::Budget, 1, 1_024, 64)?,
-        workers: number_at(document, Key::Workers, 1, 16, 4)? as usize,
-        slots: number_at(document, Key::Slots, 1, 4_096, 1_024)? as usize,
-        stop_after: number_at(document, Key::StopAfter, 0, 4_294_967_295, 0)?,
+        target: address_at(document, Key::Target, MIN_TARGET_PORT)?,
+        ring: number_at(document, Key::Ring, 1, MAX_RING, 16_384)? as usize,
+        budget: number_at(document, Key::Budget, 1, MAX_BUDGET, 64)?,
+        workers: number_at(document, Key::Workers, 1, MAX_WORKERS, 4)? as usize,
+        slots: number_at(document, Key::Slots, 1, MAX_SLOTS, 1_024)? as usize,
+        stop_after: number_at(document, Key::StopAfter, 0, MAX_STOP_AFTER, 0)?,
         log: level_at(document, Key::Log, LogLevel::Info)?,
     })
 }

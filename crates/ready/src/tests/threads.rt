@@ -120,6 +120,9 @@ fn a_parked_end_is_woken(rt: HostRuntime) -> Result<(), Fail> {
     let (Some(mut taking), Some(mut putting)) = (ends.next(), ends.next()) else {
         panic!(rt; "there are not two ends")
     };
+    // An end that has put a ticket and taken it back sleeps and is woken like any other.
+    assert_eq!(rt; taking.put(&rt, ticket), Ok(()));
+    assert_eq!(rt; taking.take(&rt), Some(ticket));
     let taking = thread::spawn(&rt, move || (taking.take(&rt), taking.take(&rt))).map_err(
         AllocError::from,
     )?;

@@ -68,7 +68,7 @@ const CAUSES: &[(&[u8], &[u8], &str)] = &[
     (
         FLOW,
         b"arive 61",
-        "line 2: \"arive\": no step of a flow begins so; one of arrive, end, fin, read, room, shut and wrote is wanted",
+        "line 2: \"arive\": not a step of a flow; one of arrive, end, fin, read, room, shut and wrote is wanted",
     ),
     (
         FLOW,
@@ -93,7 +93,7 @@ const CAUSES: &[(&[u8], &[u8], &str)] = &[
     (
         WORLD,
         b"arive",
-        "line 2: \"arive\": no step of a world begins so; one of accept, arrive, call, claim, close, connect, deliver, drop, fin, free, open, poll, pop, post, put, release, reset, retire, room, spurious, take and vanish is wanted",
+        "line 2: \"arive\": not a step of a world; one of accept, arrive, call, claim, close, connect, deliver, drop, fin, free, open, poll, pop, post, put, release, reset, retire, room, spurious, take and vanish is wanted",
     ),
     (
         WORLD,
@@ -123,7 +123,7 @@ const CAUSES: &[(&[u8], &[u8], &str)] = &[
     (
         WORLD,
         b"poll waker 0.0.client",
-        "line 2: poll: \"0.0.client\": listener, waker or SLOT.GENERATION.SIDE, as in 0.1.client, is wanted",
+        "line 2: poll: \"0.0.client\": listener, waker or SLOT.GEN.SIDE, as in 0.1.client, is wanted",
     ),
     (
         WORLD,
