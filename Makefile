@@ -56,7 +56,7 @@ bench-turn:
 	@.ci/build bench_turn
 	@crates/bench_turn/out/bench_turn run
 
-# The program where there is none yet, so that root can install what another user has built.
+# Builds the program if there is none yet, so that root can install what another user has built.
 $(PROGRAM):
 	@.ci/build relayd
 

@@ -12,7 +12,7 @@ use Rattle.claims.specs.declared.view.View.{View}
 use Rattle.claims.specs.Views.{blank, posted_of, taken_of, minted_of, redeemed_of, holding_of, holds_of, adopts_of, retires_of, spare_of, unused_view, account_in, column}
 use Rattle.claims.specs.Rule.{Knows, SlotRule, ClaimRule}
 use Rattle.claims.specs.Steps.{first_view, one_spare_less, newcomer}
-use Rattle.claims.specs.Seats.{TableId, SeatState, view_of, fresh, SeatOk}
+use Rattle.claims.specs.Seats.{TableId, SeatState, view_of, fresh_seat, SeatOk}
 use Rattle.claims.specs.Opening.{OpensLawful}
 use Rattle.claims.proofs.Totals.{each_at, sum_by-put}
 
@@ -148,10 +148,10 @@ words_are_3 slots seats words rule =
     ∙ sym (get_or-replicate slots slot 3 0 inside)))
 
 -- the rule holds of words that are all 3 and of unused seats, and of no other words
-pub opens_lawful : (slots seats : ℕ) (table : TableId) (all : List SeatState) → table.words ≡ slots → all ≡ replicate seats (fresh table) → seats ≤ 32 → OpensLawful slots all
+pub opens_lawful : (slots seats : ℕ) (table : TableId) (all : List SeatState) → table.words ≡ slots → all ≡ replicate seats (fresh_seat table) → seats ≤ 32 → OpensLawful slots all
 opens_lawful slots seats table all sized is few words =
     let views : map view_of all ≡ replicate seats (unused_view slots 0) =
-    ap (λ (l : List SeatState). map view_of l) is ∙ map-replicate view_of seats (fresh table) ∙ ap (λ (n : ℕ). replicate seats (unused_view n 0)) sized in (
+    ap (λ (l : List SeatState). map view_of l) is ∙ map-replicate view_of seats (fresh_seat table) ∙ ap (λ (n : ℕ). replicate seats (unused_view n 0)) sized in (
       (λ rule. words_are_3 slots seats words (subst (λ (vs : List View). ClaimRule slots words vs) views rule)),
       (λ all_3. subst (λ (vs : List View). ClaimRule slots words vs) (sym views) (subst (λ (ws : List ℕ). ClaimRule slots ws (replicate seats (unused_view slots 0))) (sym all_3) (unused_rule slots 0 seats (omega arith)))),
     )
@@ -162,9 +162,9 @@ spare_used slots seats made v w split was =
     let less : seats - made - 1 ≡ seats - (made + 1) = omega arith in
     split ∙ ap one_spare_less was ∙ ap (λ (n : ℕ). unused_view slots n) less
 
-pub one_seat_more : (table next : TableId) (made : ℕ) (all all' : List SeatState) (s : SeatState) → 1 ≤ made → all ≡ replicate (made - 1) (fresh table) → s ≡ fresh next → next ≡ table
-    → all' ≡ all ++ s ∷ [] → all' ≡ replicate (made + 1 - 1) (fresh table)
+pub one_seat_more : (table next : TableId) (made : ℕ) (all all' : List SeatState) (s : SeatState) → 1 ≤ made → all ≡ replicate (made - 1) (fresh_seat table) → s ≡ fresh_seat next → next ≡ table
+    → all' ≡ all ++ s ∷ [] → all' ≡ replicate (made + 1 - 1) (fresh_seat table)
 one_seat_more table next made all all' s some_made was new same pushed =
     let count : made - 1 + 1 ≡ made + 1 - 1 = omega arith in
-    pushed ∙ ap (λ (l : List SeatState). l ++ s ∷ []) was ∙ ap (λ (x : SeatState). replicate (made - 1) (fresh table) ++ x ∷ []) (new ∙ ap fresh same)
-    ∙ replicate_more (made - 1) (fresh table) ∙ ap (λ (n : ℕ). replicate n (fresh table)) count
+    pushed ∙ ap (λ (l : List SeatState). l ++ s ∷ []) was ∙ ap (λ (x : SeatState). replicate (made - 1) (fresh_seat table) ++ x ∷ []) (new ∙ ap fresh_seat same)
+    ∙ replicate_more (made - 1) (fresh_seat table) ∙ ap (λ (n : ℕ). replicate n (fresh_seat table)) count

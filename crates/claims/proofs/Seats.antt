@@ -15,7 +15,7 @@ use Rattle.claims.specs.declared.answers.Released.TheVariants.{Wake as ReleaseWa
 use Rattle.claims.specs.declared.answers.Adopted.{Adopted as AdoptAnswer}
 use Rattle.claims.specs.declared.answers.Adopted.TheVariants.{Adopted, NotFree}
 use Rattle.claims.specs.Views.{blank}
-use Rattle.claims.specs.Seats.{TableId, SeatState, account_at, HoldsNot, HoldsNothing, OnlyAt, one_step_later, Changed, fresh}
+use Rattle.claims.specs.Seats.{TableId, SeatState, account_at, HoldsNot, HoldsNothing, OnlyAt, one_step_later, Changed, fresh_seat}
 use Rattle.claims.specs.Calls.{PostChange, ClaimChange, ReleaseChange, AdoptChange}
 
 blank_at : (n slot : ℕ) → get_or (replicate n blank) slot blank ≡ blank
@@ -24,14 +24,14 @@ blank_at (suc n) zero = refl
 blank_at (suc n) (suc slot) = blank_at n slot
 
 -- a seat that has done nothing
-pub fresh_holds_nothing : (table : TableId) (s : SeatState) → s ≡ fresh table → HoldsNothing s
+pub fresh_holds_nothing : (table : TableId) (s : SeatState) → s ≡ fresh_seat table → HoldsNothing s
 fresh_holds_nothing table s is =
     subst HoldsNothing (sym is) (record { nowhere = λ slot. ap (λ (a : Account). a.holds) (blank_at table.words slot) })
 
 -- all seats of an `open`
-pub fresh_seats_hold_nothing : (count : ℕ) (table : TableId) (seats : List SeatState) → seats ≡ replicate count (fresh table) → All HoldsNothing seats
+pub fresh_seats_hold_nothing : (count : ℕ) (table : TableId) (seats : List SeatState) → seats ≡ replicate count (fresh_seat table) → All HoldsNothing seats
 fresh_seats_hold_nothing count table seats is =
-    subst (λ (l : List SeatState). All HoldsNothing l) (sym is) (All-replicate HoldsNothing count (fresh table) (fresh_holds_nothing table (fresh table) refl))
+    subst (λ (l : List SeatState). All HoldsNothing l) (sym is) (All-replicate HoldsNothing count (fresh_seat table) (fresh_holds_nothing table (fresh_seat table) refl))
 
 module _ {slot : ℕ} where
   pub only_at_none : {old new : SeatState} → new ≡ old → OnlyAt slot old new

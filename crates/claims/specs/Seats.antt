@@ -33,8 +33,8 @@ abbrev pub HoldsNot : SeatState → ℕ → Type 0
 HoldsNot s slot = (account_at s slot).holds ≡ false
 
 -- a seat of these claim words that has done nothing yet
-abbrev pub fresh : TableId → SeatState
-fresh table = record { table = table; accounts = replicate table.words blank; steps = 0 }
+abbrev pub fresh_seat : TableId → SeatState
+fresh_seat table = record { table = table; accounts = replicate table.words blank; steps = 0 }
 
 -- the seat holds no slot
 pub record HoldsNothing (s : SeatState) : Type 0 where

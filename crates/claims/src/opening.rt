@@ -2,7 +2,7 @@
 ghost use Rattle.std.specs.Prelude.{◌≡◌, ◌+◌, ◌<◌, ◌≤◌, ◌↔◌, IfOk, OnOk, IsErrOf, false, replicate};
 ghost use Rattle.claims.specs.Views.{unused_view};
 ghost use Rattle.claims.specs.Steps.{first_view};
-ghost use Rattle.claims.specs.Seats.{fresh};
+ghost use Rattle.claims.specs.Seats.{fresh_seat};
 ghost use Rattle.claims.specs.Opening.{IsWithin, IsOutside, OpensLawful};
 
 use crate::calls::{Claims, Words};
@@ -18,10 +18,10 @@ use thiserror::Error;
 #[derive(Debug, Drop, Error)]
 pub enum OpenFault {
     /// The number of slots is 0 or over 32,768. It is checked first.
-    #[error("the number of slots is not from 1 to 32768")]
+    #[error("the number of slots is out of range")]
     SlotRange,
     /// The number of seats is 0 or over 32.
-    #[error("the number of seats is not from 1 to 32")]
+    #[error("the number of seats is out of range")]
     SeatRange,
     /// Memory ran out for the words or for the seats.
     #[error("out of memory")]
@@ -42,7 +42,7 @@ impl Claims {
         ensures slot_range { IsErrOf result OpenFault.SlotRange ↔ IsOutside 1 32768 slots }
         ensures seat_range { IsErrOf result OpenFault.SeatRange ↔ (IsWithin 1 32768 slots × IsOutside 1 32 seats) }
         ensures in_range { OnOk result (IsWithin 1 32768 slots × IsWithin 1 32 seats) }
-        ensures opened { IfOk result (λ made. (made.0.words ≡ slots) × (made.1.items ≡ replicate seats (fresh made.0))) }
+        ensures opened { IfOk result (λ made. (made.0.words ≡ slots) × (made.1.items ≡ replicate seats (fresh_seat made.0))) }
         ensures lawful { IfOk result (λ made. OpensLawful slots made.1.items) }
     {
         if slots < 1 || MAX_SLOTS < slots {
@@ -66,7 +66,7 @@ fn words_and_seats(
 ) -> Result<(Claims, Vec<ClaimSeat>), AllocError>
     requires slots { IsWithin 1 32768 slots }
     requires seats { IsWithin 1 32 seats }
-    ensures { IfOk result (λ made. (made.0.words ≡ slots) × (made.1.items ≡ replicate seats (fresh made.0))) }
+    ensures { IfOk result (λ made. (made.0.words ≡ slots) × (made.1.items ≡ replicate seats (fresh_seat made.0))) }
 {
     let (table, first) = words_and_first_seat(alloc, slots, seats)?;
     let all = all_seats(alloc, &table, first, slots, seats)?;
@@ -99,7 +99,7 @@ fn all_seats(
     requires slots { IsWithin 1 32768 slots × (table.now.shared.table_id.words ≡ slots) × (table.now.shared.key.0 ≡ slots) }
     requires seats { IsWithin 1 32 seats }
     requires first { (first.table_id ≡ table.now.shared.table_id) × (first.me.0 ≡ first_view slots seats) }
-    ensures { IfOk result (λ all. all.items ≡ replicate seats (fresh table.now.shared.table_id)) }
+    ensures { IfOk result (λ all. all.items ≡ replicate seats (fresh_seat table.now.shared.table_id)) }
 {
     let mut all = Vec::with_capacity(alloc, seats)?;
     for _made in 1..seats {
@@ -113,7 +113,7 @@ fn all_seats(
 fn seat_of(alloc: Global, seat: Seat<(), View>, slots: usize) -> Result<ClaimSeat, AllocError>
     requires words { seat.table_id.words ≡ slots }
     requires unused { seat.me.0 ≡ unused_view slots 0 }
-    ensures { IfOk result (λ s. s ≡ fresh seat.table_id) }
+    ensures { IfOk result (λ s. s ≡ fresh_seat seat.table_id) }
 {
     let held = vec![in alloc; false; slots]?;
     Ok(ClaimSeat {

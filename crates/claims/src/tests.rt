@@ -208,11 +208,11 @@ fn faults_have_texts(rt: HostRuntime) -> Result<(), Fail> {
     for (fault, text) in [
         (
             OpenFault::SlotRange,
-            "the number of slots is not from 1 to 32768",
+            "the number of slots is out of range",
         ),
         (
             OpenFault::SeatRange,
-            "the number of seats is not from 1 to 32",
+            "the number of seats is out of range",
         ),
         (OpenFault::NoMemory, "out of memory"),
     ] {

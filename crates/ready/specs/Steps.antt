@@ -30,8 +30,8 @@ module _ {T : Type 0} where
   abbrev pub after_take : History T → ℕ → T → History T
   after_take h place item = record h { taken = h.taken ++ (place, item) ∷ [] }
 
-  abbrev pub fresh : ℕ → EndState T
-  fresh capacity = record { capacity = capacity; history = blank }
+  abbrev pub unused : ℕ → EndState T
+  unused capacity = record { capacity = capacity; history = blank }
 
   -- the queue held these items at a moment at which the end had this history
   pub record Saw (history : History T) (items : List T) : Type 0 where

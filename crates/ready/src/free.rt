@@ -2,7 +2,7 @@
 ghost use Rattle.std.specs.Prelude.{◌≡◌, ◌∷◌, ◌-◌, ◌<◌, ◌≤◌, IfOk, OnOk, IfErr, OnErr, IfSome, IfNone, replicate};
 ghost use Rattle.std.specs.Arc.{arc_value};
 ghost use Rattle.crossbeam_queue.specs.Passes.{view, IsPassOf, IsSamePass, ruled_capacity};
-ghost use Rattle.ready.specs.Steps.{fresh, opener, opened, in_order, HeldOnce, PutOne, TookOne};
+ghost use Rattle.ready.specs.Steps.{unused, opener, opened, in_order, HeldOnce, PutOne, TookOne};
 
 use crate::rule::{Line, LinePass, another, pop, push};
 use crate::ticket::Full;
@@ -47,7 +47,7 @@ impl FreeQueue {
     ) -> Result<Vec<FreeQueue>, AllocError>
         requires slots { (1 ≤ slots) × (slots ≤ 32768) }
         requires ends { (1 ≤ ends) × (ends ≤ 32) }
-        ensures { IfOk result (λ all. all.items ≡ opened slots ∷ replicate (ends - 1) (fresh slots)) }
+        ensures { IfOk result (λ all. all.items ≡ opened slots ∷ replicate (ends - 1) (unused slots)) }
     {
         let (line, mut first) = Line::ruled(alloc, slots)?;
         fill(rt, &line, &mut first, slots);

@@ -2,7 +2,7 @@
 ghost use Rattle.std.specs.Prelude.{◌≡◌, ◌<◌, ◌≤◌, IfOk, OnOk, IfErr, OnErr, IfSome, IfNone, replicate, vec_len};
 ghost use Rattle.std.specs.Arc.{arc_value};
 ghost use Rattle.crossbeam_queue.specs.Passes.{view, IsPassOf, ruled_capacity};
-ghost use Rattle.ready.specs.Steps.{fresh, blank, HeldOnce, PutLast, PutOne, TookOne};
+ghost use Rattle.ready.specs.Steps.{unused, blank, HeldOnce, PutLast, PutOne, TookOne};
 
 use crate::idle::{Announced, IdleEnds};
 use crate::rule::{Line, LinePass, another, pop, push};
@@ -56,7 +56,7 @@ impl ReadyQueue {
     pub fn new(alloc: Global, capacity: usize, ends: usize) -> Result<Vec<ReadyQueue>, AllocError>
         requires capacity { (1 ≤ capacity) × (capacity ≤ 32768) }
         requires ends { (1 ≤ ends) × (ends ≤ 32) }
-        ensures { IfOk result (λ all. all.items ≡ replicate ends (fresh capacity)) }
+        ensures { IfOk result (λ all. all.items ≡ replicate ends (unused capacity)) }
     {
         let (mut parkers, unparkers) = signals(alloc, ends)?;
         let (line, mut first) = Line::ruled(alloc, capacity)?;

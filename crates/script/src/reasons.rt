@@ -153,7 +153,7 @@ fn listen_reason(world: &World, listening: Listening) -> &'static str {
     match listening {
         Listening::Connect => first_of(&[(
             MAX_BACKLOG <= backlog,
-            "4096 connections wait at the listener",
+            "no more connections can wait at the listener",
         )]),
         Listening::Accept(reply) => first_of(&[
             (!world.accept_flag(), "the accept flag is down"),

@@ -16,8 +16,8 @@ pub record Socket : Type 0 where
   pub peer : Option SocketAddr
 
 -- a new one, which is known to be connected or not
-abbrev pub fresh : Bool → Option SocketAddr → Socket
-fresh joined peer = record { tally = tally joined 0 0; sending = waiting; peer = peer }
+abbrev pub fresh_wire : Bool → Option SocketAddr → Socket
+fresh_wire joined peer = record { tally = tally joined 0 0; sending = waiting; peer = peer }
 
 -- one that sends at once
 abbrev pub promptly : Socket → Socket

@@ -1,6 +1,6 @@
 //! The threads of a server: what each thread owns, and the loop of a worker.
 ghost use Rattle.std.specs.Prelude.{◌≡◌, IfOk, IfSome};
-ghost use Rattle.claims.specs.Seats.{fresh, HoldsNothing};
+ghost use Rattle.claims.specs.Seats.{fresh_seat, HoldsNothing};
 ghost use Rattle.server.specs.Crews.{AreFresh};
 ghost use Rattle.server.specs.Hands.{empty_hand};
 
@@ -37,7 +37,7 @@ pub(crate) fn next_own<F: Front>(
 ) -> Result<Option<Own>, AllocError>
     requires { AreFresh shared.now.claims parts.old.seats.items }
     ensures left { AreFresh shared.now.claims parts.new.seats.items }
-    ensures next { IfOk result (λ next. IfSome next (λ own. own.seat ≡ fresh shared.now.claims)) }
+    ensures next { IfOk result (λ next. IfSome next (λ own. own.seat ≡ fresh_seat shared.now.claims)) }
     ensures hand { IfOk result (λ next. IfSome next (λ own. own.hand ≡ empty_hand capacity)) }
 {
     let hand = Hand::new(alloc, capacity)?;
@@ -66,7 +66,7 @@ pub(crate) fn work<F: Front, G: Gate, R: Wait + Log>(
     number: usize,
     mut own: Own,
 )
-    requires { own.seat ≡ fresh shared.now.claims }
+    requires { own.seat ≡ fresh_seat shared.now.claims }
 {
     if let Err(fault) = run_turns(rt, alloc, gate, note, shared, &mut own) {
         end_all(rt, note, shared, number, &mut own.ready, fault);

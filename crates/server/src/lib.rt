@@ -28,6 +28,7 @@ mod shared;
 mod sockets;
 #[cfg(test)]
 mod tests;
+mod visit;
 mod worker;
 
 pub use delivering::deliver;

@@ -4,7 +4,7 @@
 pub const MAX_BATCH: usize = 256;
 
 /// The longest wait for reports, in milliseconds.
-pub(crate) const LONGEST_WAIT: u64 = 200;
+pub(crate) const MAX_WAIT_MILLIS: u64 = 200;
 
 /// The most tries of accept(2) in one round.
 pub(crate) const MAX_ACCEPTS: usize = 256;

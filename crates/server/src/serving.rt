@@ -1,7 +1,7 @@
 //! A server over the system's sockets, from its settings to its end.
 ghost use Rattle.std.specs.Prelude.{◌≡◌, ◌≢◌, ◌+◌, ◌<◌, ◌≤◌, ◌∷◌, length, replicate, true, IfOk, IfErr};
-ghost use Rattle.claims.specs.Seats.{fresh, HoldsNothing};
-ghost use Rattle.ready.specs.Steps.{fresh as unused, opened as filled};
+ghost use Rattle.claims.specs.Seats.{fresh_seat, HoldsNothing};
+ghost use Rattle.ready.specs.Steps.{unused, opened as filled};
 ghost use Rattle.server.specs.Crews.{AreFresh};
 
 use crate::crew::{Parts, next_own, work};
@@ -76,7 +76,7 @@ fn built<R: Wait>(
 ) -> Result<(Shared<Sockets>, Parts, Poller<Sockets>), ServerFault>
     ensures slots { IfOk result (λ made. made.0.claims.words ≡ settings.now.slots) }
     ensures budget { IfOk result (λ made. made.0.budget ≡ settings.now.budget) }
-    ensures seats { IfOk result (λ made. made.1.seats.items ≡ replicate (settings.now.workers + 1) (fresh made.0.claims)) }
+    ensures seats { IfOk result (λ made. made.1.seats.items ≡ replicate (settings.now.workers + 1) (fresh_seat made.0.claims)) }
     ensures ready { IfOk result (λ made. made.1.ready.items ≡ replicate (settings.now.workers + 1) (unused settings.now.slots)) }
     ensures free { IfOk result (λ made. made.1.free.items ≡ filled settings.now.slots ∷ replicate settings.now.workers (unused settings.now.slots)) }
     ensures poller { IfOk result (λ made. made.2 ≡ record { table = replicate settings.now.slots 0; accepting = true; ring = settings.now.ring; stop_after = settings.now.stop_after }) }
@@ -108,7 +108,7 @@ fn opened(
 ) -> Result<(Claims, Vec<ClaimSeat>), ServerFault>
     requires slots { (1 ≤ slots) × (slots ≤ 4096) }
     requires threads { (1 ≤ threads) × (threads ≤ 17) }
-    ensures made { IfOk result (λ made. (made.0.words ≡ slots) × (made.1.items ≡ replicate threads (fresh made.0))) }
+    ensures made { IfOk result (λ made. (made.0.words ≡ slots) × (made.1.items ≡ replicate threads (fresh_seat made.0))) }
     ensures refused { IfErr result (λ fault. fault ≡ ServerFault.NoMemory) }
 {
     match Claims::open(alloc, slots, threads) {
@@ -148,13 +148,13 @@ where
         thread::scope_env(),
         rt,
         move |scope| -> ()
-            requires { (workers ≤ 16) × AreFresh shared.now.claims parts.seats.items × (own.seat ≡ fresh shared.now.claims) × (length poller.table ≡ shared.now.claims.words) }
+            requires { (workers ≤ 16) × AreFresh shared.now.claims parts.seats.items × (own.seat ≡ fresh_seat shared.now.claims) × (length poller.table ≡ shared.now.claims.words) }
         {
             for number in 1..workers + 1 {
                 match next_own(alloc, shared, &mut parts, WORKER_HAND) {
                     Ok(Some(next)) => {
                         let worker = move || -> ()
-                            requires { next.seat ≡ fresh shared.now.claims }
+                            requires { next.seat ≡ fresh_seat shared.now.claims }
                         { work(rt, alloc, gate, noted, shared, number, next) };
                         if let Err(error) = scope.spawn(worker) {
                             error!(rt; target: "relayd", "threads: {error}");
@@ -185,7 +185,7 @@ fn lead<F: Front + Drop, G: Gate, R: Net + Wait + Log>(
     mut poller: Poller<F>,
     works: bool,
 )
-    requires unused { own.seat ≡ fresh shared.now.claims }
+    requires unused { own.seat ≡ fresh_seat shared.now.claims }
     requires sized { length poller.table ≡ shared.now.claims.words }
 {
     if let Err(fault) = run_rounds(rt, alloc, gate, note, shared, &mut own, &mut poller, works) {

@@ -1,6 +1,6 @@
 //! One turn of a worker: it claims a ticket's slot, takes its connection out, gives it the notes, runs it, and puts it
 //! back.
-ghost use Rattle.std.specs.Prelude.{◌≡◌, ◌+◌, ◌<◌, ◌≤◌, length, Ok, IfOk};
+ghost use Rattle.std.specs.Prelude.{◌≡◌, ◌+◌, ◌<◌, ◌≤◌, length, Ok, IfOk, false};
 ghost use Rattle.claims.specs.Seats.{account_at, HoldsNothing, OnlyAt};
 ghost use Rattle.server.specs.Hands.{HasRoom, KeepsSlot, KeepsTicket};
 ghost use Rattle.server.specs.Turns.{TurnChange, Rose, exchanges, HoldsOnly, Released as ReleasedHere};
@@ -10,6 +10,7 @@ use crate::front::{Front, Line};
 use crate::gate::Gate;
 use crate::putting::{give_slot, give_slots, put_ticket, put_tickets};
 use crate::shared::{Own, Shared};
+use crate::visit::{Visit, put_in, take_out};
 use berths::Berth;
 use claims::{ClaimSeat, Claimed, Posted, Released};
 use engine::{Turn, turn};
@@ -95,27 +96,35 @@ fn claimed<F: Front, G: Gate, R: Wait + Log>(
     ensures ticket { (account_at own.new.seat ticket.slot).minted ≡ (account_at own.old.seat ticket.slot).minted + 1 → KeepsTicket ticket own.new.ready.history own.new.hand }
     ensures slot { result ≡ Ok Worked.Ended → ticket.generation < MAX_GENERATION → KeepsSlot ticket.slot own.new.free.history own.new.hand }
 {
-    match shared.berths.take_out(rt, &own.seat, ticket.slot) {
+    let (berth, mut visit) = take_out(rt, shared, own, ticket.slot);
+    match berth {
         Some(berth) if berth.pair.generation() == ticket.generation => {
-            run(rt, alloc, shared, own, gate, ticket, berth)
+            run(rt, alloc, shared, own, gate, ticket, berth, visit)
         }
         Some(other) => {
-            put_in(rt, shared, own, ticket.slot, other);
-            give_up(rt, shared, own, ticket);
+            put_in(rt, shared, own, ticket.slot, other, &mut visit);
+            give_up(rt, shared, own, ticket, &visit);
             Ok(Worked::Gone)
         }
         None => {
-            give_up(rt, shared, own, ticket);
+            give_up(rt, shared, own, ticket, &visit);
             Ok(Worked::Gone)
         }
     }
 }
 
 /// Takes the notes of a slot whose connection is missing, and releases the slot.
-fn give_up<F: Front, R: Wait>(rt: &R, shared: &Shared<F>, own: &mut Own, ticket: Ticket)
+fn give_up<F: Front, R: Wait>(
+    rt: &R,
+    shared: &Shared<F>,
+    own: &mut Own,
+    ticket: Ticket,
+    visit: &Visit,
+)
     requires same { own.old.seat.table ≡ shared.now.claims }
     requires inside { ticket.slot < shared.now.claims.words }
     requires holder { HoldsOnly ticket.slot own.old.seat }
+    requires back { visit.now ≡ false }
     requires room { HasRoom own.old.hand }
     ensures idle { HoldsNothing own.new.seat }
     ensures only { OnlyAt ticket.slot own.old.seat own.new.seat }
@@ -124,7 +133,7 @@ fn give_up<F: Front, R: Wait>(rt: &R, shared: &Shared<F>, own: &mut Own, ticket:
     ensures ticket { (account_at own.new.seat ticket.slot).minted ≡ (account_at own.old.seat ticket.slot).minted + 1 → KeepsTicket ticket own.new.ready.history own.new.hand }
 {
     shared.claims.take(&mut own.seat, ticket.slot);
-    leave(rt, shared, own, ticket);
+    leave(rt, shared, own, ticket, visit);
 }
 
 /// Runs the connection of a slot that is held, and then ends it or puts it back.
@@ -136,6 +145,7 @@ fn run<F: Front, G: Gate, R: Wait + Log>(
     gate: &G,
     ticket: Ticket,
     mut berth: Berth<F::Client, F::Target>,
+    mut visit: Visit,
 ) -> Result<Worked, ServerFault>
     requires same { own.old.seat.table ≡ shared.now.claims }
     requires inside { ticket.slot < shared.now.claims.words }
@@ -154,14 +164,14 @@ fn run<F: Front, G: Gate, R: Wait + Log>(
             Ok(Worked::Ended)
         }
         Turn::Again => {
-            put_in(rt, shared, own, ticket.slot, berth);
-            again(rt, shared, own, ticket)
+            put_in(rt, shared, own, ticket.slot, berth, &mut visit);
+            again(rt, shared, own, ticket, &visit)
         }
         Turn::Quiet => {
             berth.client.settle();
             berth.target.settle();
-            put_in(rt, shared, own, ticket.slot, berth);
-            leave(rt, shared, own, ticket);
+            put_in(rt, shared, own, ticket.slot, berth, &mut visit);
+            leave(rt, shared, own, ticket, &visit);
             Ok(Worked::Quiet)
         }
     }
@@ -198,31 +208,18 @@ fn play<F: Front, G: Gate>(
     ending
 }
 
-/// Puts a connection back into its place. A place that is not empty, which happens in no run, keeps what it has, and
-/// the connection is closed.
-fn put_in<F: Front, R: Wait>(
-    rt: &R,
-    shared: &Shared<F>,
-    own: &Own,
-    slot: usize,
-    berth: Berth<F::Client, F::Target>,
-)
-    requires inside { slot < shared.now.claims.words }
-    requires holder { HoldsOnly slot own.now.seat }
-{
-    let _ = shared.berths.put_in(rt, &own.seat, slot, berth);
-}
-
 /// Posts the note that keeps a connection due, and releases its slot.
 fn again<F: Front, R: Wait>(
     rt: &R,
     shared: &Shared<F>,
     own: &mut Own,
     ticket: Ticket,
+    visit: &Visit,
 ) -> Result<Worked, ServerFault>
     requires same { own.old.seat.table ≡ shared.now.claims }
     requires inside { ticket.slot < shared.now.claims.words }
     requires holder { HoldsOnly ticket.slot own.old.seat }
+    requires back { visit.now ≡ false }
     requires room { HasRoom own.old.hand }
     ensures idle { HoldsNothing own.new.seat }
     ensures only { OnlyAt ticket.slot own.old.seat own.new.seat }
@@ -233,7 +230,7 @@ fn again<F: Front, R: Wait>(
 {
     // A holder's own post never answers Wake: the release does.
     let posted = shared.claims.post(&mut own.seat, ticket.slot);
-    leave(rt, shared, own, ticket);
+    leave(rt, shared, own, ticket, visit);
     if posted == Posted::Worn {
         Err(ServerFault::Worn)
     } else {
@@ -241,11 +238,19 @@ fn again<F: Front, R: Wait>(
     }
 }
 
-/// Releases a slot, and puts a ticket if notes wait.
-fn leave<F: Front, R: Wait>(rt: &R, shared: &Shared<F>, own: &mut Own, ticket: Ticket)
+/// Releases a slot whose connection is back in its place, and puts a ticket if notes wait. If it were put back after
+/// the release, the next holder could find the place empty, and the connection would never be run again.
+fn leave<F: Front, R: Wait>(
+    rt: &R,
+    shared: &Shared<F>,
+    own: &mut Own,
+    ticket: Ticket,
+    _visit: &Visit,
+)
     requires same { own.old.seat.table ≡ shared.now.claims }
     requires inside { ticket.slot < shared.now.claims.words }
     requires holder { HoldsOnly ticket.slot own.old.seat }
+    requires back { _visit.now ≡ false }
     requires room { HasRoom own.old.hand }
     ensures idle { HoldsNothing own.new.seat }
     ensures only { OnlyAt ticket.slot own.old.seat own.new.seat }

@@ -2,7 +2,8 @@
 
 use crate::addresses::address_of;
 use crate::limits::{
-    MAX_BUDGET, MAX_LOOKS, MAX_RING, MAX_SLOTS, MAX_STOP_AFTER, MAX_WORKERS, MIN_TARGET_PORT,
+    MAX_BUDGET, MAX_LOOKS, MAX_RING, MAX_SLOTS, MAX_STOP_AFTER, MAX_WORKERS, MIN_NUMBER,
+    MIN_STOP_AFTER, MIN_TARGET_PORT,
 };
 use crate::{Key, OneLine, SettingsFault};
 use std::alloc::{AllocError, Global};
@@ -104,11 +105,11 @@ impl fmt::Display for Wanted {
             Wanted::Value(Key::Target) => {
                 f.write_str("four numbers and a port, as 127.0.0.1:7001, are wanted")
             }
-            Wanted::Value(Key::Ring) => write_range(f, 1, MAX_RING),
-            Wanted::Value(Key::Budget) => write_range(f, 1, MAX_BUDGET),
-            Wanted::Value(Key::Workers) => write_range(f, 1, MAX_WORKERS),
-            Wanted::Value(Key::Slots) => write_range(f, 1, MAX_SLOTS),
-            Wanted::Value(Key::StopAfter) => write_range(f, 0, MAX_STOP_AFTER),
+            Wanted::Value(Key::Ring) => write_range(f, MIN_NUMBER, MAX_RING),
+            Wanted::Value(Key::Budget) => write_range(f, MIN_NUMBER, MAX_BUDGET),
+            Wanted::Value(Key::Workers) => write_range(f, MIN_NUMBER, MAX_WORKERS),
+            Wanted::Value(Key::Slots) => write_range(f, MIN_NUMBER, MAX_SLOTS),
+            Wanted::Value(Key::StopAfter) => write_range(f, MIN_STOP_AFTER, MAX_STOP_AFTER),
             Wanted::Value(Key::Log) => f.write_str(
                 "\"off\", \"error\", \"warn\", \"info\", \"debug\" or \"trace\" is wanted",
             ),
@@ -129,24 +130,29 @@ fn place_of(alloc: Global, text: &str, name: &str) -> Result<String, AllocError>
     }
 }
 
-/// The first line, from 1, at whose end the text so far sets a key. Only lines that contain the name as it is are
-/// tried, and at most [`MAX_LOOKS`] of them.
+/// The first line, from 1, that begins what sets a key: the text up to its end, or up to the end of a value that spans
+/// lines, is TOML that has the key. Only lines that contain the name as it is are tried, and the text is parsed at most
+/// [`MAX_LOOKS`] times.
 fn line_of(alloc: Global, text: &str, name: &str) -> Result<Option<usize>, AllocError> {
     let mut looks = 0usize;
     let mut start = 0usize;
     let mut number = 0usize;
+    // The line that may begin what sets the key.
+    let mut begun = None;
     for (index, byte) in text.as_bytes().iter().enumerate() {
         if *byte == b'\n' || index == text.len() - 1 {
             number = number.saturating_add(1);
-            let has_name = text
-                .get(start..index + 1)
-                .is_some_and(|line| line.contains(name));
+            let line = text.get(start..index + 1).unwrap_or("");
             start = index + 1;
-            if has_name && looks < MAX_LOOKS {
+            if begun.is_none() && line.contains(name) {
+                begun = Some(number);
+            }
+            if begun.is_some() && looks < MAX_LOOKS {
                 looks = looks.saturating_add(1);
-                let front = text.get(..start).unwrap_or("");
-                if sets(alloc, front, name)? {
-                    return Ok(Some(number));
+                match sets(alloc, text.get(..start).unwrap_or(""), name)? {
+                    Some(true) => return Ok(begun),
+                    Some(false) => begun = None,
+                    None => {}
                 }
             }
         }
@@ -154,12 +160,12 @@ fn line_of(alloc: Global, text: &str, name: &str) -> Result<Option<usize>, Alloc
     Ok(None)
 }
 
-/// Whether a text is TOML that has this name at its top level.
-fn sets(alloc: Global, text: &str, name: &str) -> Result<bool, AllocError> {
+/// Whether a text has this name at its top level. None if it is not TOML, as where a value has not ended.
+fn sets(alloc: Global, text: &str, name: &str) -> Result<Option<bool>, AllocError> {
     match toml::table_from_str(alloc, text) {
-        Ok(document) => Ok(is_in(&document, name)),
+        Ok(document) => Ok(Some(is_in(&document, name))),
         Err(error) if error.is_memory() => Err(AllocError),
-        Err(_) => Ok(false),
+        Err(_) => Ok(None),
     }
 }
 

@@ -15,7 +15,8 @@ use crate::fields::Settings;
 use crate::keys::Key;
 use crate::levels::LogLevel;
 use crate::limits::{
-    MAX_BUDGET, MAX_RING, MAX_SLOTS, MAX_STOP_AFTER, MAX_WORKERS, MIN_TARGET_PORT,
+    DEFAULT_BUDGET, DEFAULT_RING, DEFAULT_SLOTS, DEFAULT_WORKERS, MAX_BUDGET, MAX_RING, MAX_SLOTS,
+    MAX_STOP_AFTER, MAX_WORKERS, MIN_NUMBER, MIN_STOP_AFTER, MIN_TARGET_PORT,
 };
 use std::alloc::Global;
 use toml::{Table, Value};
@@ -76,11 +77,29 @@ fn settings_of(document: &Table) -> Result<Settings, SettingsFault>
     Ok(Settings {
         listen: address_at(document, Key::Listen, 0)?,
         target: address_at(document, Key::Target, MIN_TARGET_PORT)?,
-        ring: number_at(document, Key::Ring, 1, MAX_RING, 16_384)? as usize,
-        budget: number_at(document, Key::Budget, 1, MAX_BUDGET, 64)?,
-        workers: number_at(document, Key::Workers, 1, MAX_WORKERS, 4)? as usize,
-        slots: number_at(document, Key::Slots, 1, MAX_SLOTS, 1_024)? as usize,
-        stop_after: number_at(document, Key::StopAfter, 0, MAX_STOP_AFTER, 0)?,
+        ring: number_at(document, Key::Ring, MIN_NUMBER, MAX_RING, DEFAULT_RING)? as usize,
+        budget: number_at(
+            document,
+            Key::Budget,
+            MIN_NUMBER,
+            MAX_BUDGET,
+            DEFAULT_BUDGET,
+        )?,
+        workers: number_at(
+            document,
+            Key::Workers,
+            MIN_NUMBER,
+            MAX_WORKERS,
+            DEFAULT_WORKERS,
+        )? as usize,
+        slots: number_at(document, Key::Slots, MIN_NUMBER, MAX_SLOTS, DEFAULT_SLOTS)? as usize,
+        stop_after: number_at(
+            document,
+            Key::StopAfter,
+            MIN_STOP_AFTER,
+            MAX_STOP_AFTER,
+            MIN_STOP_AFTER,
+        )?,
         log: level_at(document, Key::Log, LogLevel::Info)?,
     })
 }

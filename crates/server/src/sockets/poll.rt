@@ -1,11 +1,11 @@
 ghost use Rattle.std.specs.Prelude.{◌≡◌, ◌⊎◌, ◌+◌, ◌≤◌, ◌++◌, [], length, true, false, Some, None, IfOk, OnOk, IfErr, OnErr, vec_len, vec_capacity};
 ghost use Rattle.mio.specs.Events.{items};
 ghost use Rattle.server.specs.SocketsFronts.{numbers};
-ghost use Rattle.server.specs.SocketsWires.{fresh, promptly};
+ghost use Rattle.server.specs.SocketsWires.{fresh_wire, promptly};
 
 use crate::faults::ServerFault;
 use crate::front::{Front, Line, Unopened};
-use crate::limits::{LISTENER, LONGEST_WAIT, MAX_BATCH, WAKER};
+use crate::limits::{LISTENER, MAX_BATCH, MAX_WAIT_MILLIS, WAKER};
 use crate::sockets::bound::Bound;
 use crate::sockets::wire::SocketWire;
 use log::{Log, debug, error};
@@ -78,7 +78,7 @@ impl Sockets {
 impl Sockets {
     /// Starts the connection to the target.
     fn begin<N: Net + Log>(&self, rt: &N) -> Result<SocketWire, Unopened>
-        ensures begun { IfOk result (λ target. target ≡ fresh false None) }
+        ensures begun { IfOk result (λ target. target ≡ fresh_wire false None) }
         ensures refused { IfErr result (λ why. why ≡ Unopened.Connect) }
     {
         match TcpStream::connect(rt, self.target) {
@@ -141,13 +141,16 @@ impl Front for Sockets {
         ensures same { self.new.target ≡ self.old.target }
     {
         batch.clear();
-        self.poll.poll(&mut self.events, Some(Duration::from_millis(LONGEST_WAIT)))?;
+        self.poll.poll(
+            &mut self.events,
+            Some(Duration::from_millis(MAX_WAIT_MILLIS)),
+        )?;
         put_numbers(batch, &self.events);
         Ok(())
     }
 
     fn accept(&mut self) -> io::Result<SocketWire>
-        ensures accepted { IfOk result (λ client. (peer : SocketAddr) × (client ≡ fresh true (Some peer))) }
+        ensures accepted { IfOk result (λ client. (peer : SocketAddr) × (client ≡ fresh_wire true (Some peer))) }
         ensures same { self.new ≡ self.old }
     {
         let (stream, peer) = self.listener.accept()?;
@@ -162,7 +165,7 @@ impl Front for Sockets {
         client_token: Token,
         target_token: Token,
     ) -> Result<SocketWire, Unopened>
-        ensures opened { IfOk result (λ target. target ≡ promptly (fresh false None)) }
+        ensures opened { IfOk result (λ target. target ≡ promptly (fresh_wire false None)) }
         ensures client { OnOk result (client.new ≡ promptly client.old) }
         ensures unopened { OnErr result (client.new ≡ client.old) }
         ensures same { client.new.tally ≡ client.old.tally }

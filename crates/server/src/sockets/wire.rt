@@ -3,7 +3,7 @@ ghost use Rattle.std.specs.IoError.{error_kind};
 ghost use Rattle.relay_core.specs.Calls.{side_of};
 ghost use Rattle.engine.specs.Classes.{class_of, pending_kind};
 ghost use Rattle.engine.specs.Tallies.{counted};
-ghost use Rattle.server.specs.SocketsWires.{fresh, promptly, took};
+ghost use Rattle.server.specs.SocketsWires.{fresh_wire, promptly, took};
 
 use crate::front::Line;
 use crate::sockets::delay::Delay;
@@ -40,7 +40,7 @@ impl Model for SocketWire {
 impl SocketWire {
     /// A client's socket, which is connected, and the client's address.
     pub(crate) fn accepted(stream: TcpStream, peer: SocketAddr) -> SocketWire
-        ensures { result ≡ fresh true (Some peer) }
+        ensures { result ≡ fresh_wire true (Some peer) }
     {
         SocketWire {
             stream,
@@ -52,7 +52,7 @@ impl SocketWire {
 
     /// A target's socket, which is connecting.
     pub(crate) fn connecting(stream: TcpStream) -> SocketWire
-        ensures { result ≡ fresh false None }
+        ensures { result ≡ fresh_wire false None }
     {
         SocketWire {
             stream,

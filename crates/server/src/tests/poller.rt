@@ -1,6 +1,6 @@
 // The poller's rounds over a fake front: what no clause says of words, tickets, calls of accept and log lines.
 ghost use Rattle.std.specs.Prelude.{◌≡◌, ◌≤◌, length, IfOk};
-ghost use Rattle.claims.specs.Seats.{fresh, HoldsNothing};
+ghost use Rattle.claims.specs.Seats.{fresh_seat, HoldsNothing};
 
 use super::fake::{Fake, Script};
 use super::parts::parts_of;
@@ -96,8 +96,8 @@ pub(crate) fn poller_of(
 
 fn stage_of(shared: Shared<Fake>, poller: Poller<Fake>, own: Own, worker: Own) -> Stage
     requires sized { length poller.table ≡ shared.claims.words }
-    requires poller_seat { own.seat ≡ fresh shared.claims }
-    requires worker_seat { worker.seat ≡ fresh shared.claims }
+    requires poller_seat { own.seat ≡ fresh_seat shared.claims }
+    requires worker_seat { worker.seat ≡ fresh_seat shared.claims }
 {
     Stage {
         shared,

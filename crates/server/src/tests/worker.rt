@@ -1,7 +1,7 @@
 // A worker's turn over wires in memory: what no clause says of words, tickets, free slots, wakes and log lines. The
 // helpers promise nothing that a turn does not need, so that what a test says is told by its run alone.
 ghost use Rattle.std.specs.Prelude.{◌≡◌, ◌≤◌};
-ghost use Rattle.claims.specs.Seats.{fresh, HoldsNothing};
+ghost use Rattle.claims.specs.Seats.{fresh_seat, HoldsNothing};
 
 use super::holding::Holding;
 use super::parts::parts_of;
@@ -560,18 +560,18 @@ fn run_two<R: Wait + Threads + Log + Sync>(
     first: Own,
     second: Own,
 ) -> bool
-    requires first { first.seat ≡ fresh shared.now.claims }
-    requires second { second.seat ≡ fresh shared.now.claims }
+    requires first { first.seat ≡ fresh_seat shared.now.claims }
+    requires second { second.seat ≡ fresh_seat shared.now.claims }
 {
     let (gate, note) = (Holding::new(), Note::new());
     let (gate, note) = (&gate, &note);
     thread::join(
         rt,
         move || -> ()
-            requires { first.seat ≡ fresh shared.now.claims }
+            requires { first.seat ≡ fresh_seat shared.now.claims }
         { work(rt, alloc, gate, note, shared, 1, first) },
         move || -> ()
-            requires { second.seat ≡ fresh shared.now.claims }
+            requires { second.seat ≡ fresh_seat shared.now.claims }
         { work(rt, alloc, gate, note, shared, 2, second) },
     );
     gate.was_in_vain()

@@ -1,6 +1,6 @@
 use Rattle.std.proofs.Common.{◌≡◌, ◌-◌, replicate}
 use Rattle.claims.specs.Views.{unused_view}
-use Rattle.claims.specs.Seats.{fresh}
+use Rattle.claims.specs.Seats.{fresh_seat}
 use Rattle.claims.proofs.opening.all_seats.Given as goal
 
 -- the first seat may still make the seats that are left, and those that it made have done nothing
@@ -8,4 +8,4 @@ abbrev pub invariant-loop-made : goal.invariant-loop-made
 invariant-loop-made l =
     (l.first.table_id ≡ l.table.shared.table_id)
     × (l.first.me.0 ≡ unused_view l.slots (l.seats - l._made))
-    × (l.all.items ≡ replicate (l._made - 1) (fresh l.table.shared.table_id))
+    × (l.all.items ≡ replicate (l._made - 1) (fresh_seat l.table.shared.table_id))

@@ -1,7 +1,7 @@
 use Rattle.std.proofs.Common.{◌≡◌, ◌∷◌, ◌-◌, replicate}
 use Rattle.std.specs.Arc.{arc_value}
 use Rattle.crossbeam_queue.specs.Passes.{IsPassOf, ruled_capacity}
-use Rattle.ready.specs.Steps.{fresh, opened}
+use Rattle.ready.specs.Steps.{unused, opened}
 use Rattle.ready.proofs.free.FreeQueue.new.Given as goal
 
 -- each end behind the first has done nothing
@@ -9,4 +9,4 @@ abbrev pub invariant-loop-end : goal.invariant-loop-end
 invariant-loop-end g l =
     IsPassOf (arc_value l.line) l.next
     × (ruled_capacity (arc_value l.line) ≡ l.slots)
-    × (l.all.items ≡ opened l.slots ∷ replicate (l._end - 1) (fresh l.slots))
+    × (l.all.items ≡ opened l.slots ∷ replicate (l._end - 1) (unused l.slots))
