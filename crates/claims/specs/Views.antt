@@ -38,7 +38,7 @@ retires_of a = a.retires
 abbrev pub spare_of : View → ℕ
 spare_of v = v.spare
 
--- a seat that has done nothing at so many slots, and may make so many seats
+-- a seat that has done nothing at this many slots, and may make this many seats
 abbrev pub unused_view : ℕ → ℕ → View
 unused_view slots spare = record { accounts = replicate slots blank; spare = spare; steps = 0 }
 

@@ -1,6 +1,6 @@
 //! The limits of the claim words, and what the bits of a word are worth.
 
-/// The most slots.
+/// The maximum number of slots.
 pub(crate) const MAX_SLOTS: usize = 32_768;
 
 /// The most seats, which are the threads that may share the words.

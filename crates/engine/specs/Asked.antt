@@ -2,7 +2,7 @@
 use Rattle.std.specs.Prelude.{ℕ, List}
 use Rattle.std.specs.declared.io.ErrorKind.{ErrorKind}
 
--- one call: a read of at most so many bytes, a write that offers these, the question whether connect(2)
+-- one call: a read of at most this many bytes, a write that offers these, the question whether connect(2)
 -- has ended, or a shutdown
 pub data Asked : Type 0 where
   Read : ℕ → Asked

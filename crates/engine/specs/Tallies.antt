@@ -15,7 +15,7 @@ tally joined faults blocks = record { joined = joined; faults = faults; blocks =
 abbrev pub connected : Tallied → Tallied
 connected t = record t { joined = true }
 
--- both counts go round at 2^64
+-- both counts wrap around at 2^64
 abbrev pub fault_more : Tallied → Tallied
 fault_more t = record t { faults = (t.faults + 1) % 2 ^ 64 }
 

@@ -113,7 +113,7 @@ IsToldBy given Blocked = (error : ErrorKind) × (given ≡ Refused error)
 IsToldBy given Interrupted = (error : ErrorKind) × (given ≡ Refused error)
 IsToldBy given (Failed kind) = IsFailure given kind
 
--- one call was made on a wire, by what the wire tells of its calls
+-- one call was made on a wire, by what the wire says of its calls
 pub record IsCalled {S : Type 0} (does : Asked → Given → S → S → Type 0) (call : Made) (old new : S) : Type 0 where
   pub given : Given
   pub told : IsToldBy given call.reply

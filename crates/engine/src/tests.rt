@@ -10,7 +10,7 @@ use std::test::Fail;
 
 mod disturbed;
 
-// The helpers below promise nothing, so that what a test says is told by its run alone.
+// The helpers below promise nothing, so that only its run shows what a test asserts.
 
 /// A play as a test writes it down.
 #[derive(Clone, Copy)]
@@ -137,7 +137,7 @@ fn play(
     play_in(rt, alloc, 4, budget, client_part, target_part, waiting)
 }
 
-/// The same with rings of so many bytes. A turn that is through makes no call when it is taken up again.
+/// The same with rings of this many bytes. A turn that is through makes no call when it is taken up again.
 fn play_in(
     rt: &impl Abort,
     alloc: Global,

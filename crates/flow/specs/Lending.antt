@@ -5,7 +5,7 @@ use Rattle.std.specs.Borrow.{MutBor, Fml, Lends, Array, u8}
 use Rattle.flow.specs.Stream.{Stream}
 use Rattle.flow.specs.contracts.flow.Flow.{the_row}
 
--- the ring holds what now stands in the place of its bytes
+-- the ring holds whatever is now in place of its bytes
 abbrev pub with_ring : Stream → List ℕ → Stream
 with_ring s bytes = record s { ring = refill (length s.ring) s.ring bytes }
 

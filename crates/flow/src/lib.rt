@@ -5,7 +5,7 @@
 //! be passed on to the destination ([`Flow::mark_shut`], shutdown(2)).
 //!
 //! Contracts see a [`Flow`] as the record `Stream` of `specs/Stream.antt`: a list of bytes, its capacity, and the two
-//! marks. How the bytes lie in memory is not visible; [`Flow::front`] takes `&mut` since they may have to be made
+//! marks. How the bytes are laid out in memory is hidden; [`Flow::front`] takes `&mut` since they may have to be made
 //! contiguous, and `specs/Lending.antt` says what it lends.
 #![tactic(auto)]
 

@@ -207,7 +207,7 @@ impl Kernel {
 
     /// The listener replies to accept(2) in this way.
     ///
-    /// Refuses with `NotAllowed`, and changes nothing, `Accepted` if nobody waits, and `Blocked` if somebody does.
+    /// Refuses `Accepted` if nobody waits, and `Blocked` if somebody does, with `NotAllowed`, and then changes nothing.
     /// Never answers `NoMemory`.
     pub fn accept(&mut self, reply: Accepting) -> Result<(), Refusal>
         ensures { MeetsAlways (accept self.old reply) self.old self.new result }

@@ -1,5 +1,5 @@
--- The header: the first line of a script that is not skipped. It says what the script covers, and its sizes. Part of
--- the promises.
+-- The header of a script, which says what the script covers, and its sizes. Part of the promises. It is the first line
+-- that is not skipped.
 use Rattle.std.specs.Prelude.{ℕ, ◌≤◌, nat_lt, nat_le, ◌&&◌, if◌then◌else◌, List, [], ◌∷◌, codes, Option, Some, None, option_map, option_and_then}
 use Rattle.std.specs.Str.{bytes_eq}
 use Rattle.world.specs.declared.limits.Limits.{Limits}

@@ -1,3 +1,4 @@
+-- The crate's definitions. The first line of each file says whether the promises need it.
 pub mod Texts
 pub mod Faults
 pub mod Steps

@@ -5,8 +5,8 @@ use Rattle.std.specs.Str.{bytes_eq}
 use Rattle.std.specs.Result.{result_ok}
 use Rattle.hex.specs.Hex.{decode_of}
 
--- Lines end at LF, and the last may lack it. Words stand between single spaces. No other byte parts
--- them.
+-- Lines end at LF, and the last may lack it. Words are separated by single spaces, and by no other
+-- byte.
 abbrev pub pieces_of : ℕ → List ℕ → List (List ℕ)
 pieces_of separator text = slice_split (λ byte. byte == separator) text
 
@@ -65,7 +65,7 @@ number_of text =
 abbrev pub number_below : ℕ → List ℕ → Option ℕ
 number_below bound text = option_and_then (λ n. if nat_lt n bound then Some n else None) (number_of text)
 
--- the number that stands behind a key, which ends with its =
+-- the number after a key, which ends with its =
 abbrev pub value_after : List ℕ → List ℕ → Option ℕ
 value_after key word = if bytes_eq (take (length key) word) key then number_of (drop (length key) word) else None
 

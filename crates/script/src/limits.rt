@@ -1,7 +1,7 @@
 //! The limits of a script. A ring's is [`Flow::MAX`](flow::Flow::MAX), a generation's `token::MAX_GENERATION`, and a
 //! poll's `kernel_model::MAX_POLLED`.
 
-/// The most bytes of a script.
+/// The maximum number of bytes in a script.
 pub(crate) const MAX_BYTES: usize = 1_048_576;
 
 /// The most bytes of a word that are shown to a person.

@@ -154,7 +154,7 @@ pub(crate) struct Wrong<'a> {
     pub(crate) wanted: Wanted,
 }
 
-/// What is expected in place of a word. It prints as a person is told it.
+/// What is expected in place of a word. It prints as the text that a person sees.
 #[derive(Clone, Copy)]
 pub(crate) enum Wanted {
     /// A word of this kind.

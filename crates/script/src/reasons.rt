@@ -112,7 +112,7 @@ fn vacant_reason(world: &World, slot: usize) -> &'static str {
     ])
 }
 
-/// One end of the connection that lies in a slot.
+/// One end of the connection in a slot.
 fn end_at(world: &World, slot: usize, side: Side) -> Option<&Open> {
     let connection = world.connection(slot)?;
     world.kernel().end(connection.descriptor(side))

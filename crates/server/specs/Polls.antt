@@ -4,7 +4,7 @@ use Rattle.server.specs.declared.accepting.Accepted.{Accepted}
 use Rattle.server.specs.declared.accepting.Accepted.TheVariants.{Again, Blocked, Starved}
 
 -- each slot's generation, the accept flag (whether a connection may wait to be accepted), the bytes of a ring, and after how many
--- connections none is accepted any more, 0 for no end
+-- connections it stops accepting, 0 for never
 pub record PollerState : Type 0 where
   pub table : List ℕ
   pub accepting : Bool

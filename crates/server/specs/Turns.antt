@@ -6,7 +6,7 @@ use Rattle.server.specs.declared.faults.ServerFault.{ServerFault}
 use Rattle.server.specs.declared.worker.Worked.{Worked}
 use Rattle.server.specs.declared.worker.Worked.TheVariants as worked
 
--- the seat posted so many notes more, and so many more of its exchanges obliged it to put a ticket
+-- the seat posted this many more notes, and this many more of its exchanges obliged it to put a ticket
 pub record Rose (posts mints : ℕ) (old new : Account) : Type 0 where
   pub posted : new.posted ≡ old.posted + posts
   pub minted : new.minted ≡ old.minted + mints

@@ -12,8 +12,8 @@ use claims::{ClaimSeat, Claims, Posted};
 use ready::Ticket;
 use token::{Name, Token, unpack};
 
-/// Posts a note for each report of a batch, and takes a ticket in hand for each post that answers Wake. Answers whether
-/// the listener was reported.
+/// Posts a note for each report of a batch, and adds a ticket to the hand for each post that answers Wake. Returns
+/// whether the listener was reported.
 ///
 /// A batch has the numbers of the tokens that were reported, in order (epoll_wait(2)), and the table has each slot's
 /// generation. A number that names no end, such as the waker's, leaves no note, and neither does an end whose slot the

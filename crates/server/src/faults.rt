@@ -7,7 +7,7 @@ pub enum ServerFault {
     /// The listening socket could not be made (socket(2), bind(2), listen(2)).
     #[error("listen: failed")]
     Listen,
-    /// Reports could not be waited for (epoll_create1(2), epoll_ctl(2), epoll_wait(2)).
+    /// The system could not report on sockets (epoll_create1(2), eventfd(2), epoll_ctl(2), epoll_wait(2)).
     #[error("poll: failed")]
     Poll,
     /// A thread could not be started.

@@ -20,7 +20,7 @@ impl Note {
         }
     }
 
-    /// Records the fault of the thread with this number. Of several faults, the one with the lowest number is kept.
+    /// Records the fault of the thread with this number. Of several faults, the lowest-numbered thread's is kept.
     pub(crate) fn write(&self, rt: &impl Wait, number: usize, fault: ServerFault) {
         let mut first = self.first.lock(rt);
         let earlier = matches!(*first, Some((other, _)) if other <= number);

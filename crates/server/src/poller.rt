@@ -92,13 +92,13 @@ impl<F: Front> Poller<F> {
         })
     }
 
-    /// Whether as many connections as there are to be have been opened, and all of them are closed. A round finds that
-    /// out by the slots that were given back.
+    /// Whether `stop_after` connections have been opened, and all of them are closed. A round finds that out by the
+    /// slots that were given back.
     pub fn is_over(&self) -> bool {
         self.over
     }
 
-    /// Whether as many connections as there are to be have been opened.
+    /// Whether `stop_after` connections have been opened.
     fn has_opened_all(&self) -> bool {
         self.stop_after > 0 && self.opened >= u64::from(self.stop_after)
     }
@@ -198,7 +198,7 @@ fn accept_all<F: Front, R: Net + Wait + Log>(
     Ok(())
 }
 
-/// Whether a free slot is in hand, or can be taken. None is taken where one is in hand.
+/// Whether a free slot is in hand, or can be taken. None is taken if one is in hand.
 fn has_slot<R: Wait>(rt: &R, own: &mut Own) -> bool
     requires room { 1 ≤ ticket_room own.old.hand }
     ensures seat { own.new.seat ≡ own.old.seat }
@@ -325,7 +325,7 @@ fn place<F: Front, R: Wait + Log>(
     Ok(())
 }
 
-/// Once as many connections as there are to be were opened, takes the free slots in hand and checks whether they are
+/// Once `stop_after` connections have been opened, takes the free slots in hand and checks whether they are
 /// all there. A slot that is no longer used counts as free.
 fn take_back<F: Front, R: Wait>(rt: &R, shared: &Shared<F>, own: &mut Own, poller: &mut Poller<F>)
     ensures seat { own.new.seat ≡ own.old.seat }

@@ -198,14 +198,14 @@ fn play<F: Front, G: Gate>(
         berth.pair.note();
     }
     gate.before_turn(slot);
-    let ending = turn(
+    let outcome = turn(
         &mut berth.pair,
         &mut berth.client,
         &mut berth.target,
         shared.budget,
     );
     gate.after_turn(slot);
-    ending
+    outcome
 }
 
 /// Posts the note that keeps a connection due, and releases its slot.

@@ -5,7 +5,7 @@ use Rattle.token.specs.declared.side.Side.TheVariants.{Client, Target}
 use Rattle.token.specs.declared.direction.Direction.{Direction}
 use Rattle.token.specs.declared.direction.Direction.TheVariants.{Up, Down}
 
--- the side across
+-- the other side
 abbrev pub other_side : Side → Side
 other_side Client = Target
 other_side Target = Client

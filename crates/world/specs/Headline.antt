@@ -184,7 +184,7 @@ TableHolds st = (s : ℕ) (p : Place) → slice_get st.slots s ≡ Some p → sl
 abbrev pub is_covered : Bool → Bool → Bool → Bool → Bool
 is_covered flag armed ready reported = flag || ((armed && not ready) || (ready && reported))
 
--- a report of this very end is queued or in the batch, or a note lies in its slot
+-- a report of this very end is queued or in the batch, or a note is in its slot
 abbrev pub has_report : State → EndName → List ℕ → Bool
 has_report st token notes = (has (name.End token) st.kernel.queue || has (name.End token) st.batch) || is_nonempty notes
 

@@ -40,7 +40,7 @@ abbrev pub numbers_below : ℕ → List ℕ
 numbers_below zero = []
 numbers_below (suc n) = numbers_below n ++ n ∷ []
 
--- a slot in which no connection lies
+-- a slot without a connection
 abbrev pub unused : ℕ → Place
 unused generation = record { generation = generation; connection = None; holder = Free; notes = [] }
 

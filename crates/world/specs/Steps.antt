@@ -1,5 +1,5 @@
--- What one event does to the machine. Part of the promises. Each choice stands in the event, so a step has one result
--- or, where the event is not allowed, none.
+-- What one event does to the machine. Part of the promises. Each choice is part of the event, so a step has one result
+-- or, if the event is not allowed, none.
 use Rattle.std.specs.Prelude.{ℕ, ◌+◌, ◌-◌, ◌==◌, Bool, true, false, not, ◌&&◌, ◌||◌, nat_lt, nat_le, if◌then◌else◌, List, [], ◌∷◌, ◌++◌, length, slice_get, slice_set, drop, Option, Some, None, option_map, option_and_then}
 use Rattle.std.specs.Option.{is_none}
 use Rattle.token.specs.declared.side.Side.{Side}

@@ -21,7 +21,7 @@ pub enum Doing {
     Idle,
     /// It has taken this ticket from the ready queue.
     Tries(Ticket),
-    /// It holds a slot, with so many calls left in its turn.
+    /// It holds a slot, with this many calls left in its turn.
     Holds(usize, usize),
     /// It closed the connection of a slot, which it still holds.
     Closed(usize),

@@ -58,7 +58,7 @@ impl Model for ScriptWire {
 impl ScriptWire {
     /// A wire with these answers, on a socket that is or is not known to be connected. This allocates the memory for
     /// the bytes of every Take, and no later call allocates any. Fails with [`AllocError`] if there is not enough
-    /// memory, also if the number of bytes is too large for any memory; then the plays are dropped.
+    /// memory, even if the number of bytes is too large for any memory; then the plays are dropped.
     pub fn new(
         alloc: Global,
         joined: bool,

@@ -68,7 +68,7 @@ impl Read for Source<'_> {
     }
 }
 
-/// A writer into memory that fails after so many bytes, or at its flush. It has the memory for them from the start.
+/// A writer into memory that fails after this many bytes, or at its flush. It has the memory for them from the start.
 #[derive(Drop)]
 pub(super) struct Sink {
     taken: Vec<u8>,
@@ -77,7 +77,7 @@ pub(super) struct Sink {
 }
 
 impl Sink {
-    /// Takes so many bytes, and then fails.
+    /// Takes this many bytes, and then fails.
     pub(super) fn failing_after(alloc: Global, length: usize) -> Result<Sink, AllocError> {
         Ok(Sink {
             taken: Vec::with_capacity(alloc, length)?,
@@ -86,7 +86,7 @@ impl Sink {
         })
     }
 
-    /// Takes so many bytes, and fails when they are to be handed on.
+    /// Takes this many bytes, and fails when they are to be flushed.
     pub(super) fn failing_at_its_flush(alloc: Global, length: usize) -> Result<Sink, AllocError> {
         Ok(Sink {
             taken: Vec::with_capacity(alloc, length)?,

@@ -1,5 +1,5 @@
-// A front in memory, for the tests of rounds and turns. It promises nothing beyond the trait, so that what a test says
-// is told by its run alone.
+// A front in memory, for the tests of rounds and turns. It promises nothing beyond the trait, so that only its run
+// shows what a test asserts.
 ghost use Rattle.std.specs.Prelude.{◌≡◌, ◌≤◌, vec_len, vec_capacity};
 
 use crate::front::{Front, Line, Unopened};

@@ -11,7 +11,7 @@ use std::net::{SocketAddr, TcpListener, TcpStream};
 use std::test::Fail;
 use token::{Side, Token};
 
-// The helpers below promise nothing, so that what a test says is told by its run alone.
+// The helpers below promise nothing, so that only its run shows what a test asserts.
 
 /// Settings of a relay on loopback at this port, where 0 has the system pick one.
 fn settings(port: u16) -> Settings {

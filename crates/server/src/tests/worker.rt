@@ -1,5 +1,5 @@
 // A worker's turn over wires in memory: what no clause says of words, tickets, free slots, wakes and log lines. The
-// helpers promise nothing that a turn does not need, so that what a test says is told by its run alone.
+// helpers promise nothing that a turn does not need, so that only its run shows what a test asserts.
 ghost use Rattle.std.specs.Prelude.{◌≡◌, ◌≤◌};
 ghost use Rattle.claims.specs.Seats.{fresh_seat, HoldsNothing};
 
@@ -268,7 +268,7 @@ fn ticket(slot: usize, generation: u64) -> Ticket {
     Ticket { slot, generation }
 }
 
-/// One turn at a server of one slot whose only connection was just opened. What is wanted of it stands behind its
+/// One turn at a server of one slot whose only connection was just opened. What is wanted of it is in the row with its
 /// answer: the slot's word, the tickets in the queue, the slots that were given back, the turns of the engine that began
 /// and ended, the wakes, and how often each wire of the connection was settled.
 #[derive(Clone, Copy, Debug, PartialEq, Eq)]
