@@ -18,10 +18,10 @@ use thiserror::Error;
 #[derive(Debug, Drop, Error)]
 pub enum OpenFault {
     /// The number of slots is 0 or over 32,768. It is checked first.
-    #[error("the number of slots is out of range")]
+    #[error("the number of slots is not from 1 to {max}", max = MAX_SLOTS)]
     SlotRange,
     /// The number of seats is 0 or over 32.
-    #[error("the number of seats is out of range")]
+    #[error("the number of seats is not from 1 to {max}", max = MAX_SEATS)]
     SeatRange,
     /// Memory ran out for the words or for the seats.
     #[error("out of memory")]

@@ -206,8 +206,14 @@ fn open_finds_memory_again(rt: HostRuntime) {
 #[test]
 fn faults_have_texts(rt: HostRuntime) -> Result<(), Fail> {
     for (fault, text) in [
-        (OpenFault::SlotRange, "the number of slots is out of range"),
-        (OpenFault::SeatRange, "the number of seats is out of range"),
+        (
+            OpenFault::SlotRange,
+            "the number of slots is not from 1 to 32768",
+        ),
+        (
+            OpenFault::SeatRange,
+            "the number of seats is not from 1 to 32",
+        ),
         (OpenFault::NoMemory, "out of memory"),
     ] {
         assert_eq!(rt; format!(in rt.alloc(); "{fault}")?.as_str(), text);

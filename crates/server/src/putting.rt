@@ -1,7 +1,7 @@
 //! Putting tickets and free slots into the queues, and keeping in hand what a queue refuses.
-ghost use Rattle.std.specs.Prelude.{◌≡◌, ◌<◌, ◌≤◌, ◌⊎◌, [], ◌∷◌, ◌++◌, length};
+ghost use Rattle.std.specs.Prelude.{◌≡◌, ◌<◌, ◌⊎◌, [], ◌∷◌, ◌++◌, length};
 ghost use Rattle.claims.specs.Seats.{HoldsNot};
-ghost use Rattle.server.specs.Hands.{HasRoom, KeepsSlot, KeepsTicket, Shrank, outgoing};
+ghost use Rattle.server.specs.Hands.{KeepsSlot, KeepsTicket, Shrank, outgoing};
 
 use crate::hand::Hand;
 use crate::shared::Own;

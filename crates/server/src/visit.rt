@@ -8,7 +8,7 @@ use berths::Berth;
 use std::marker::Model;
 use std::sync::Wait;
 
-/// A thread's visit to the place of a slot that it holds. A slot is released only after a visit that leaves no
+/// A thread's visit to the place of a slot that it holds. A turn releases its slot only after a visit that leaves no
 /// connection out of its place.
 ///
 /// In a clause it is whether the connection is out.

@@ -79,10 +79,11 @@ fn refused(alloc: Global, text: &str, key: Key) -> Option<String> {
     format!(in alloc; "{place}{key} = {value}: {wanted}").ok()
 }
 
-/// What is wanted in place of a value. An address that is refused has a port to which no connection can be made.
+/// What is wanted in place of a value. A target that is an address, and is refused, has a port to which no connection
+/// can be made.
 fn in_place_of(value: &Value, key: Key) -> Wanted {
-    match value.as_str() {
-        Some(text) if address_of(text).is_some() => Wanted::Port,
+    match (key, value.as_str()) {
+        (Key::Target, Some(text)) if address_of(text).is_some() => Wanted::Port,
         _ => Wanted::Value(key),
     }
 }

@@ -268,9 +268,9 @@ fn ticket(slot: usize, generation: u64) -> Ticket {
     Ticket { slot, generation }
 }
 
-/// One turn at a server of one slot whose only connection was just opened. What is wanted of it is in the row with its
-/// answer: the slot's word, the tickets in the queue, the slots that were given back, the turns of the engine that began
-/// and ended, the wakes, and how often each wire of the connection was settled.
+/// One turn at a server of one slot whose only connection was just opened. From `worked` on, the fields say what is
+/// wanted of it: its answer, the slot's word, the tickets in the queue, the slots that were given back, the turns of the
+/// engine that began and ended, the wakes, and how often each wire of the connection was settled.
 #[derive(Clone, Copy, Debug, PartialEq, Eq)]
 struct Row {
     opened: Option<(u64, Scene)>,
