@@ -4,7 +4,7 @@ use std::test::Fail;
 use token::{Name, Side, Token, TokenFault};
 
 /// What is made on a kernel with one connection, whose ends have the descriptors 0 and 1.
-#[derive(Clone, Copy, Debug)]
+#[derive(Clone, Copy)]
 enum Play {
     Arrive(usize),
     Fin(usize),
@@ -75,78 +75,102 @@ fn close(kernel: &mut Kernel, at: usize) -> Result<(), Refusal> {
     Ok(())
 }
 
-// Of each row: what is made, of which only the last may be refused; whether that is; and how many names are
-// queued then.
+/// What is made, the index of the play that is refused, which is the last one, and how many names are queued then.
+type Row = (&'static [Play], Option<usize>, usize);
+
+const BLOCK: Play = Play::Read(CLIENT, Reply::Blocked);
+
+const END: Watched = Watched::End(CLIENT);
+
+static ROWS: [Row; 14] = [
+    (&[Play::Arrive(CLIENT)], None, 0),
+    (
+        &[BLOCK, Play::Arrive(CLIENT), Play::Arrive(CLIENT)],
+        None,
+        1,
+    ),
+    (&[BLOCK, Play::Fin(CLIENT), Play::Vanish(END)], Some(2), 1),
+    (&[BLOCK, Play::Reset(CLIENT), Play::Poll(END)], None, 0),
+    (
+        &[
+            Play::Join(TARGET, Reply::Blocked),
+            Play::Room(TARGET),
+            Play::Write(TARGET, Reply::Wrote(1, true)),
+        ],
+        None,
+        1,
+    ),
+    (&[BLOCK, Play::Arrive(CLIENT), Play::Close(CLIENT)], None, 0),
+    (&[Play::Close(CLIENT), Play::Arrive(CLIENT)], Some(1), 0),
+    (&[Play::Shut(TARGET, Reply::Blocked)], Some(0), 0),
+    (
+        &[Play::Spurious(Watched::Waker), Play::Vanish(Watched::Waker)],
+        None,
+        0,
+    ),
+    (&[Play::Poll(Watched::Listener)], Some(0), 0),
+    (&[Play::Accept(Accepting::Blocked), Play::Connect], None, 1),
+    (
+        &[Play::Connect, Play::Accept(Accepting::Blocked)],
+        Some(1),
+        0,
+    ),
+    (
+        &[
+            Play::Connect,
+            Play::Accept(Accepting::Starved),
+            Play::Accept(Accepting::Accepted),
+        ],
+        None,
+        0,
+    ),
+    (&[Play::Accept(Accepting::Accepted)], Some(0), 0),
+];
+
+/// The index of the first play that is refused. Fails if memory ran out.
+fn first_refused(kernel: &mut Kernel, plays: &[Play]) -> Result<Option<usize>, Refusal> {
+    for (index, play) in plays.iter().enumerate() {
+        match make(kernel, *play) {
+            Ok(()) => {}
+            Err(Refusal::NotAllowed) => return Ok(Some(index)),
+            Err(Refusal::NoMemory) => return Err(Refusal::NoMemory),
+        }
+    }
+    Ok(None)
+}
+
+/// The same on a fresh kernel, and how many names are queued then.
+fn played(alloc: Global, plays: &[Play]) -> Result<(Option<usize>, usize), Refusal> {
+    let mut kernel = opened(alloc)?;
+    let refused = first_refused(&mut kernel, plays)?;
+    Ok((refused, kernel.queue().len()))
+}
+
 #[test]
 fn reports_come_as_they_are_armed(rt: HostRuntime) -> Result<(), Fail> {
-    let block = Play::Read(CLIENT, Reply::Blocked);
-    let end = Watched::End(CLIENT);
-    let rows: [(&[Play], bool, usize); 14] = [
-        (&[Play::Arrive(CLIENT)], true, 0),
-        (
-            &[block, Play::Arrive(CLIENT), Play::Arrive(CLIENT)],
-            true,
-            1,
-        ),
-        (&[block, Play::Fin(CLIENT), Play::Vanish(end)], false, 1),
-        (&[block, Play::Reset(CLIENT), Play::Poll(end)], true, 0),
-        (
-            &[
-                Play::Join(TARGET, Reply::Blocked),
-                Play::Room(TARGET),
-                Play::Write(TARGET, Reply::Wrote(1, true)),
-            ],
-            true,
-            1,
-        ),
-        (&[block, Play::Arrive(CLIENT), Play::Close(CLIENT)], true, 0),
-        (&[Play::Close(CLIENT), Play::Arrive(CLIENT)], false, 0),
-        (&[Play::Shut(TARGET, Reply::Blocked)], false, 0),
-        (
-            &[Play::Spurious(Watched::Waker), Play::Vanish(Watched::Waker)],
-            true,
-            0,
-        ),
-        (&[Play::Poll(Watched::Listener)], false, 0),
-        (&[Play::Accept(Accepting::Blocked), Play::Connect], true, 1),
-        (&[Play::Connect, Play::Accept(Accepting::Blocked)], false, 0),
-        (
-            &[
-                Play::Connect,
-                Play::Accept(Accepting::Starved),
-                Play::Accept(Accepting::Accepted),
-            ],
-            true,
-            0,
-        ),
-        (&[Play::Accept(Accepting::Accepted)], false, 0),
-    ];
-    for (plays, is_allowed, queued) in rows {
-        let mut kernel = opened(rt.alloc())?;
-        let mut outcome = Ok(());
-        for play in plays {
-            outcome?;
-            outcome = make(&mut kernel, *play);
-        }
-        if is_allowed {
-            outcome?;
-        } else {
-            assert_eq!(rt; outcome, Err(Refusal::NotAllowed), "{plays:?}");
-        }
-        assert_eq!(rt; kernel.queue().len(), queued, "{plays:?}");
+    for (index, (plays, refused, queued)) in ROWS.iter().enumerate() {
+        let seen = played(rt.alloc(), plays)?;
+        assert_eq!(rt; seen, (*refused, *queued), "row {index}");
     }
     Ok(())
+}
+
+/// The descriptor of a new end.
+fn open_client(kernel: &mut Kernel, generation: u64) -> Result<usize, Refusal> {
+    kernel.open_end(token(generation, Side::Client)?)
+}
+
+/// The descriptors of two new ends, once the client's was closed.
+fn reopened(kernel: &mut Kernel) -> Result<[usize; 2], Refusal> {
+    close(kernel, CLIENT)?;
+    let first = open_client(kernel, 2)?;
+    Ok([first, open_client(kernel, 3)?])
 }
 
 #[test]
 fn descriptors_are_used_again(rt: HostRuntime) -> Result<(), Fail> {
     let mut kernel = opened(rt.alloc())?;
-    close(&mut kernel, CLIENT)?;
-    let again = kernel.open_end(token(2, Side::Client)?)?;
-    assert_eq!(rt; again, CLIENT);
-    let next = kernel.open_end(token(3, Side::Client)?)?;
-    assert_eq!(rt; next, 2);
-    assert_eq!(rt; kernel.backlog(), 0);
-    assert!(rt; !kernel.is_armed());
+    assert_eq!(rt; reopened(&mut kernel)?, [CLIENT, 2]);
+    assert_eq!(rt; (kernel.backlog(), kernel.is_armed()), (0, false));
     Ok(())
 }
