@@ -2,6 +2,7 @@
 use super::*;
 
 enum Step {
+    Opens,
     Comes(Change),
     Read(usize, Reply),
     Write(&'static [u8], Reply),
@@ -45,7 +46,8 @@ const CLIENT: Shown = Shown {
 /// A step, and what an end shows after it.
 type Row = (Step, Shown);
 
-static BYTES_IN_THE_ORDER_OF_ARRIVAL: [Row; 4] = [
+const BYTES_IN_THE_ORDER_OF_ARRIVAL: &[Row] = &[
+    (Step::Opens, CLIENT),
     (
         Step::Comes(Change::Bytes(b"ab")),
         Shown {
@@ -89,7 +91,8 @@ static BYTES_IN_THE_ORDER_OF_ARRIVAL: [Row; 4] = [
     ),
 ];
 
-static THE_FIRST_BYTES_OF_EACH_OFFER: [Row; 7] = [
+const THE_FIRST_BYTES_OF_EACH_OFFER: &[Row] = &[
+    (Step::Opens, TARGET),
     (
         Step::Comes(Change::Room),
         Shown {
@@ -148,7 +151,8 @@ static THE_FIRST_BYTES_OF_EACH_OFFER: [Row; 7] = [
     ),
 ];
 
-static AN_END_AND_A_FAILURE_FOR_GOOD: [Row; 4] = [
+const AN_END_AND_A_FAILURE_FOR_GOOD: &[Row] = &[
+    (Step::Opens, TARGET),
     (
         Step::Comes(Change::Fin),
         Shown {
@@ -185,8 +189,30 @@ static AN_END_AND_A_FAILURE_FOR_GOOD: [Row; 4] = [
     ),
 ];
 
+/// What a session shows, whose end it is, and its steps.
+type Session = (&'static str, Side, &'static [Row]);
+
+static SESSIONS: [Session; 3] = [
+    (
+        "bytes in the order of arrival",
+        Side::Client,
+        BYTES_IN_THE_ORDER_OF_ARRIVAL,
+    ),
+    (
+        "the first bytes of each offer",
+        Side::Target,
+        THE_FIRST_BYTES_OF_EACH_OFFER,
+    ),
+    (
+        "an end and a failure for good",
+        Side::Target,
+        AN_END_AND_A_FAILURE_FOR_GOOD,
+    ),
+];
+
 fn take_step(end: &mut End, step: &Step) -> Result<(), Refusal> {
     match step {
+        Step::Opens => Ok(()),
         Step::Comes(change) => match bring(end, *change) {
             Ok(_) => Ok(()),
             Err(refusal) => Err(refusal),
@@ -230,29 +256,10 @@ fn first_wrong(alloc: Global, side: Side, rows: &[Row]) -> Result<Option<usize>,
 }
 
 #[test]
-fn starts_fresh(rt: HostRuntime) {
-    assert!(rt; shows(&End::new(rt.alloc(), Side::Client), &CLIENT));
-    assert!(rt; shows(&End::new(rt.alloc(), Side::Target), &TARGET));
-}
-
-#[test]
-fn hands_over_bytes_in_the_order_of_arrival(rt: HostRuntime) -> Result<(), Fail> {
-    let wrong = first_wrong(rt.alloc(), Side::Client, &BYTES_IN_THE_ORDER_OF_ARRIVAL)?;
-    assert_eq!(rt; wrong, None);
-    Ok(())
-}
-
-#[test]
-fn takes_the_first_bytes_of_each_offer(rt: HostRuntime) -> Result<(), Fail> {
-    let wrong = first_wrong(rt.alloc(), Side::Target, &THE_FIRST_BYTES_OF_EACH_OFFER)?;
-    assert_eq!(rt; wrong, None);
-    Ok(())
-}
-
-#[test]
-fn ends_and_fails_for_good(rt: HostRuntime) -> Result<(), Fail> {
-    let wrong = first_wrong(rt.alloc(), Side::Target, &AN_END_AND_A_FAILURE_FOR_GOOD)?;
-    assert_eq!(rt; wrong, None);
+fn shows_each_session(rt: HostRuntime) -> Result<(), Fail> {
+    for (name, side, rows) in &SESSIONS {
+        assert_eq!(rt; first_wrong(rt.alloc(), *side, rows)?, None, "{name}");
+    }
     Ok(())
 }
 
