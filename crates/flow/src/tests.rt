@@ -148,6 +148,7 @@ fn copies(alloc: Global, flow: &Flow, bytes: &[u8]) -> Result<bool, AllocError> 
 fn copies_what_waits(rt: HostRuntime) -> Result<(), Fail> {
     let mut flow = Flow::new(rt.alloc(), 4)?;
     assert!(rt; take_in(&mut flow, b"abc") && drop_front(&mut flow, 1));
+    flow.mark_end();
     assert!(rt; copies(rt.alloc(), &flow, b"bc")?);
     Ok(())
 }
