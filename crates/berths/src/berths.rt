@@ -1,5 +1,5 @@
 // A place for each slot, and what waits in it.
-ghost use Rattle.std.specs.Prelude.{◌≡◌, ◌<◌, IfOk, IfErr};
+ghost use Rattle.std.specs.Prelude.{◌≡◌, ◌<◌, IfOk, OnOk, IfErr, OnErr, IsSome, IsNone, Some};
 ghost use Rattle.claims.specs.Seats.{Holds};
 
 use claims::ClaimSeat;
@@ -78,11 +78,7 @@ impl<C, T> Berths<C, T> {
         ensures given_back { IfErr result (λ given. given.0 ≡ berth) }
     {
         let mut place = self.place(rt, seat, slot);
-        if place.is_some() {
-            return Err(Occupied(berth));
-        }
-        *place = Some(berth);
-        Ok(())
+        fill(&mut place, berth)
     }
 
     /// Takes the berth out of the place of a slot that the caller's seat holds. None means Gone: the place was empty.
@@ -105,4 +101,21 @@ impl<C, T> Berths<C, T> {
     {
         self.places[slot].lock(rt)
     }
+}
+
+// Puts a berth into a place, unless one is there.
+fn fill<C: Drop, T: Drop>(
+    place: &mut Option<Berth<C, T>>,
+    berth: Berth<C, T>,
+) -> Result<(), Occupied<Berth<C, T>>>
+    ensures put { OnOk result (IsNone place.old × (place.new ≡ Some berth)) }
+    ensures given_back { IfErr result (λ given. given.0 ≡ berth) }
+    ensures unchanged { OnErr result (place.new ≡ place.old) }
+    ensures occupied { OnErr result (IsSome place.old) }
+{
+    if place.is_some() {
+        return Err(Occupied(berth));
+    }
+    *place = Some(berth);
+    Ok(())
 }
