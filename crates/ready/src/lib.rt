@@ -30,14 +30,19 @@
 //! first put counts on the end itself coming back: it is awake, and takes one ticket when it is done. Its second put,
 //! and each later one, wakes an end. An end that never calls `take` wakes one with each put.
 //!
-//! No thread spins. `src/idle.rt` has the word of the idle ends.
+//! No thread spins. The order of these steps is kept by values: each step gives one that the next step asks for, and
+//! nothing else makes it. `src/flags.rt` has the atomic steps, with the step that each pairs with, `src/sleeper.rt` how
+//! an end goes to sleep, and `src/idle.rt` how it is woken.
 #![tactic(auto)]
 
+mod end;
+mod flags;
 mod free;
 mod history;
 mod idle;
 mod queue;
 mod rule;
+mod sleeper;
 #[cfg(test)]
 mod tests;
 mod ticket;

@@ -1,11 +1,20 @@
 // What single calls answer. The threads are in `tests/threads.rt`.
 use super::*;
+use crate::sleeper::Awake;
+use std::process::Abort;
 use std::test::Fail;
 
 mod threads;
 
 fn ticket(slot: usize, generation: u64) -> Ticket {
     Ticket { slot, generation }
+}
+
+/// Announces that an end is idle, and passes over its looks.
+fn announce(rt: &impl Abort, end: &ReadyQueue) -> Awake {
+    let seen = end.idle().mark();
+    assert!(rt; !seen.is_closed());
+    end.idle().announce_unlooked(end.sleeper(), seen)
 }
 
 #[test]
@@ -49,7 +58,7 @@ fn the_first_put_after_a_take_wakes_nobody(rt: HostRuntime) -> Result<(), Fail> 
     let idle = other.idle();
     // Never took; its first put after a take; its second one.
     for (step, wakes) in [(0, true), (1, false), (2, true)] {
-        let announced = idle.announce(other.number());
+        let announced = announce(&rt, &other);
         assert_eq!(rt; mine.put(&rt, ticket(1, 1)), Ok(()));
         assert_eq!(rt; idle.count() == 0, wakes, "at step {step}");
         idle.withdraw(announced, None);
@@ -63,21 +72,21 @@ fn the_first_put_after_a_take_wakes_nobody(rt: HostRuntime) -> Result<(), Fail> 
 #[test]
 fn a_wake_that_is_not_needed_is_passed_on(rt: HostRuntime) -> Result<(), Fail> {
     let mut ends = ReadyQueue::new(rt.alloc(), 1, 2)?;
-    let Some(end) = ends.pop() else {
-        panic!(rt; "there is no end")
+    let (Some(zero), Some(one)) = (ends.pop(), ends.pop()) else {
+        panic!(rt; "there are not two ends")
     };
-    let idle = end.idle();
+    let idle = zero.idle();
     // Whether another thread wakes end 0, whether end 0 finds a ticket, and how many ends stay idle.
     for (woken, found, left) in [
         (true, Some(ticket(1, 1)), 0),
         (true, None, 1),
         (false, Some(ticket(1, 1)), 1),
     ] {
-        let first = idle.announce(0);
+        let first = announce(&rt, &zero);
         if woken {
             idle.wake_one();
         }
-        let second = idle.announce(1);
+        let second = announce(&rt, &one);
         idle.withdraw(first, found);
         assert_eq!(rt; idle.count(), left, "woken {woken}, found {found:?}");
         idle.withdraw(second, None);
@@ -88,32 +97,31 @@ fn a_wake_that_is_not_needed_is_passed_on(rt: HostRuntime) -> Result<(), Fail> {
 #[test]
 fn a_wake_is_for_one_end_and_a_close_for_all(rt: HostRuntime) -> Result<(), Fail> {
     let ends = ReadyQueue::new(rt.alloc(), 1, 32)?;
-    let Some(end) = ends.first() else {
+    let Some(last) = ends.last() else {
         panic!(rt; "there is no end")
     };
-    let idle = end.idle();
-    for number in 0..32 {
-        let next = (number + 1) % 32;
-        let first = idle.announce(number);
-        let second = idle.announce(next);
-        // The second wake is of a thread that read the word before the first, and finds the end that was woken in it.
-        let seen = 1u64 << number | 1u64 << next;
+    let idle = last.idle();
+    let mut next = last;
+    for end in &ends {
+        let (number, other) = (end.sleeper().number(), next.sleeper().number());
+        let first = announce(&rt, end);
+        let second = announce(&rt, next);
+        // The second wake is of a thread that read the bits before the first, and finds the end that was woken in them.
+        let seen = 1u64 << number | 1u64 << other;
         for left in [1, 0] {
             idle.wake_one_of(seen);
-            assert_eq!(rt; idle.count(), left, "of {number} and the next");
+            assert_eq!(rt; idle.count(), left, "of {number} and {other}");
         }
         idle.withdraw(first, None);
         idle.withdraw(second, None);
         // An end that was not woken sleeps here for good.
-        for end in &ends {
-            if end.number() == number || end.number() == next {
-                end.parker().park(&rt);
-            }
-        }
+        end.sleeper().parker().park(&rt);
+        next.sleeper().parker().park(&rt);
+        next = end;
     }
     idle.close();
     for end in &ends {
-        end.parker().park(&rt);
+        end.sleeper().parker().park(&rt);
     }
     Ok(())
 }

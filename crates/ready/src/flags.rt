@@ -1,0 +1,109 @@
+// The words that the ends of a queue of tickets share, and all the atomic steps on them. Each step is sequentially
+// consistent, as are those of the queue: all threads see them in one order. A comment at each step names the step that
+// it pairs with.
+ghost use Rattle.std.specs.Prelude.{◌≡◌, ◌≢◌, ◌<◌, true};
+
+use std::sync::atomic::Ordering::SeqCst;
+use std::sync::atomic::{AtomicBool, AtomicU64};
+
+/// One bit for each end that has parked or is about to, and that nobody has woken yet.
+#[derive(Drop)]
+pub(crate) struct IdleBits(AtomicU64);
+
+/// An end that has announced that it is idle. It has to look at the queue before it parks.
+///
+/// Only [`IdleBits::announce`] makes one. It can be neither copied nor dropped, so each announcement is withdrawn once.
+pub(crate) struct Announced {
+    end: usize,
+    ghost few: { end < 32 },
+}
+
+impl IdleBits {
+    pub(crate) fn new() -> IdleBits {
+        IdleBits(AtomicU64::new(0))
+    }
+
+    /// Sets the bit of an end that found the queue open before it looked.
+    pub(crate) fn announce(&self, end: usize, seen: MarkSeen) -> Announced
+        requires few { end < 32 }
+        requires open { seen.closed ≢ true }
+        ensures { result.end ≡ end }
+    {
+        // Pairs with `read`. A put pushes and then reads the bits; an end sets its bit and then looks. So one of the two
+        // sees the other's step. If an end looked first and set the bit afterwards, a put could come in between: it
+        // would find no bit, and the end would park beside its ticket.
+        self.0.fetch_or(1u64 << end, SeqCst);
+        Announced { end }
+    }
+
+    /// Clears the bit of an end that has announced itself. Whether another thread had cleared it before.
+    pub(crate) fn withdraw(&self, announced: Announced) -> bool {
+        // Pairs with `wake`: only one of the two finds the bit. With a load and then a store, both could find it, and
+        // nobody would pass that wake on: the other put's ticket would wait until this end comes back, while a third
+        // end sleeps.
+        let Announced { end } = announced;
+        let bit = 1u64 << end;
+        self.0.fetch_and(!bit, SeqCst) & bit == 0
+    }
+
+    /// Clears the bit of an end that is to be woken. Whether it was this call that cleared it.
+    pub(crate) fn wake(&self, end: usize) -> bool
+        requires { end < 32 }
+    {
+        // Pairs with itself in other threads, and with `withdraw`. If two puts woke the same end, one ticket would be
+        // left.
+        let bit = 1u64 << end;
+        self.0.fetch_and(!bit, SeqCst) & bit != 0
+    }
+
+    /// The bits.
+    pub(crate) fn read(&self) -> u64 {
+        // Pairs with `announce`. An end whose bit is set after this load looks at the queue after it, and so finds what
+        // was pushed before.
+        self.0.load(SeqCst)
+    }
+}
+
+/// The mark of a closed queue. It is never taken back.
+#[derive(Drop)]
+pub(crate) struct ClosedMark(AtomicBool);
+
+/// What a step on the mark saw or made of it. Only such a step makes one, and it cannot be copied: who asks for one asks
+/// for a step of its own.
+#[derive(Drop)]
+pub(crate) struct MarkSeen {
+    closed: bool,
+}
+
+impl ClosedMark {
+    pub(crate) fn new() -> ClosedMark {
+        ClosedMark(AtomicBool::new(false))
+    }
+
+    /// Reads the mark.
+    pub(crate) fn read(&self) -> MarkSeen {
+        // Pairs with `set`. The mark is read before the queue. The other way round, a ticket that was put before the
+        // close and after an end's look would be left behind.
+        let closed = self.0.load(SeqCst);
+        MarkSeen { closed }
+    }
+
+    /// Sets the mark.
+    pub(crate) fn set(&self) -> MarkSeen
+        ensures { result.closed ≡ true }
+    {
+        // Pairs with `read`. The mark is set before the ends are woken: an end that a wake reaches finds it. The other
+        // way round, an end could spend its wake, find no mark and sleep forever.
+        self.0.store(true, SeqCst);
+        MarkSeen { closed: true }
+    }
+}
+
+impl MarkSeen {
+    /// Whether the queue was closed.
+    pub(crate) fn is_closed(&self) -> bool
+        ensures { result ≡ self.now.closed }
+    {
+        self.closed
+    }
+}
