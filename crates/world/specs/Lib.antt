@@ -3,6 +3,7 @@ pub mod Places
 pub mod States
 pub mod Calls
 pub mod Steps
+pub mod Memory
 pub mod Runs
 pub mod Due
 pub mod Given

@@ -17,9 +17,10 @@ pub struct Connection {
 
 #[tactic(auto, using(std::proofs::lemmas::Option::gets, std::proofs::lemmas::Grind::common_steps))]
 impl Connection {
-    ghost use Rattle.std.specs.Prelude.{◌≡◌, if◌then◌else◌};
+    ghost use Rattle.std.specs.Prelude.{◌≡◌, if◌then◌else◌, IsErrOf, IsTrue};
     ghost use Rattle.relay_core.specs.Pairs.{noted};
-    ghost use Rattle.kernel_model.specs.Outcome.{Meets};
+    ghost use Rattle.kernel_model.specs.Outcome.{Meets, MeetsAlways};
+    ghost use Rattle.kernel_model.specs.Replies.{needs_memory};
     ghost use Rattle.relay_core.specs.Answers.{reply_of};
     ghost use Rattle.world.specs.Calls.{descriptor, Line, made, replied, called};
     ghost use Rattle.world.specs.Steps.{may_release};
@@ -58,7 +59,8 @@ impl Connection {
     /// there is no memory for the bytes that a write takes. A refusal changes nothing.
     #[tactic(auto, unfolding(crate::specs::Calls::called))]
     pub fn call(&mut self, kernel: &mut Kernel, reply: Reply) -> Result<(), Refusal>
-        ensures { Meets (called (record { kernel = kernel.old; connection = self.old }) reply) (record { kernel = kernel.old; connection = self.old }) (record { kernel = kernel.new; connection = self.new }) result }
+        ensures outcome { Meets (called (record { kernel = kernel.old; connection = self.old }) reply) (record { kernel = kernel.old; connection = self.old }) (record { kernel = kernel.new; connection = self.new }) result }
+        ensures memory { IsErrOf result Refusal.NoMemory → IsTrue (needs_memory reply) }
     {
         match self.pair.next() {
             None => Err(Refusal::NotAllowed),
@@ -80,7 +82,7 @@ impl Connection {
         count: usize,
     ) -> Result<(), Refusal>
         requires { next_call self.old.pair ≡ Some (Call.Read side most) }
-        ensures { Meets (replied (record { kernel = kernel.old; connection = self.old }) (Call.Read side most) (Reply.Bytes count)) (record { kernel = kernel.old; connection = self.old }) (record { kernel = kernel.new; connection = self.new }) result }
+        ensures { MeetsAlways (replied (record { kernel = kernel.old; connection = self.old }) (Call.Read side most) (Reply.Bytes count)) (record { kernel = kernel.old; connection = self.old }) (record { kernel = kernel.new; connection = self.new }) result }
     {
         let call = Call::Read(side, most);
         let descriptor = self.descriptor(side);
@@ -101,7 +103,8 @@ impl Connection {
     fn make(&mut self, kernel: &mut Kernel, call: Call, reply: Reply) -> Result<(), Refusal>
         requires next { next_call self.old.pair ≡ Some call }
         requires no_bytes { told_of (record { kernel = kernel.old; connection = self.old }) call reply ≡ plain reply }
-        ensures { Meets (replied (record { kernel = kernel.old; connection = self.old }) call reply) (record { kernel = kernel.old; connection = self.old }) (record { kernel = kernel.new; connection = self.new }) result }
+        ensures outcome { Meets (replied (record { kernel = kernel.old; connection = self.old }) call reply) (record { kernel = kernel.old; connection = self.old }) (record { kernel = kernel.new; connection = self.new }) result }
+        ensures memory { IsErrOf result Refusal.NoMemory → IsTrue (needs_memory reply) }
     {
         let Some(answer) = plain(reply) else {
             return Err(Refusal::NotAllowed);
@@ -117,6 +120,7 @@ impl Connection {
     /// The kernel's part of a call.
     fn ask(&mut self, kernel: &mut Kernel, call: Call, reply: Reply) -> Result<(), Refusal>
         ensures kernel { Meets (made (record { kernel = kernel.old; connection = self.old }) call reply) kernel.old kernel.new result }
+        ensures memory { IsErrOf result Refusal.NoMemory → IsTrue (needs_memory reply) }
         ensures pair { self.new ≡ self.old }
     {
         match call {

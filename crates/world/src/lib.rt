@@ -3,7 +3,8 @@
 //!
 //! A [`World`] starts from its [`Limits`], and changes by one [`Event`] at a time. Every choice is part of the event:
 //! what the network brings, which names a poll gives, what a call is answered. So [`World::step`] has one outcome, or
-//! refuses the event and changes nothing. [`replay`] makes a list of events happen, starting with the opening world.
+//! refuses the event and changes nothing. [`World::play`] makes a list of events happen, and [`replay`] does so starting
+//! with the opening world.
 //!
 //! An accepted connection is opened in a free slot, for a new generation of that slot. A report about one of its ends
 //! becomes a note in the slot, if it has the slot's generation; the first note at a slot that nobody holds makes a
@@ -18,10 +19,11 @@
 //! notes.
 //!
 //! The definitions are in `specs/`: slots and workers in `Places.antt`, the whole state in `States.antt`, a
-//! connection's calls in `Calls.antt`, one event in `Steps.antt`, lists of events in `Runs.antt`, what could move and
-//! what is due in `Due.antt`, the bytes that arrived in `Given.antt`, what holds after every list of events in
-//! `Headline.antt`, and the claim words in `Words.antt`. The lemmas are in `proofs/`: `Turns*.antt` about who has a
-//! slot, its notes and its tickets, and `Ends*.antt` about the bytes, the ends and the flags.
+//! connection's calls in `Calls.antt`, one event in `Steps.antt`, for which events memory may run out in `Memory.antt`,
+//! lists of events in `Runs.antt`, what could move and what is due in `Due.antt`, the bytes that arrived in
+//! `Given.antt`, what holds after every list of events in `Headline.antt`, and the claim words in `Words.antt`. The
+//! lemmas are in `proofs/`: `Turns*.antt` about who has a slot, its notes and its tickets, and `Ends*.antt` about the
+//! bytes, the ends and the flags.
 #![tactic(auto)]
 
 mod actors;

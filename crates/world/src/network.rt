@@ -11,9 +11,10 @@ use token::Side;
 
 #[tactic(auto, using(std::proofs::lemmas::Option::gets, std::proofs::lemmas::Grind::common_steps))]
 impl World {
-    ghost use Rattle.std.specs.Prelude.{◌≡◌};
+    ghost use Rattle.std.specs.Prelude.{◌≡◌, IsErrOf, IsTrue};
     ghost use Rattle.std.specs.Option.{option_copied};
-    ghost use Rattle.kernel_model.specs.Outcome.{Meets};
+    ghost use Rattle.kernel_model.specs.Outcome.{Meets, MeetsAlways};
+    ghost use Rattle.world.specs.Memory.{listening_allocates};
     ghost use Rattle.world.specs.Steps.{connection_at, network, watched_of, spurious, vanish, may_accept, listen};
 
     /// The connection in a slot.
@@ -55,7 +56,7 @@ impl World {
 
     /// A queued report is withdrawn.
     pub(crate) fn vanish(&mut self, who: Reported) -> Result<(), Refusal>
-        ensures { Meets (vanish self.old who) self.old self.new result }
+        ensures { MeetsAlways (vanish self.old who) self.old self.new result }
     {
         match self.watched(who) {
             Some(watched) => self.kernel.vanish(watched),
@@ -65,7 +66,8 @@ impl World {
 
     /// Something happens at the listener.
     pub(crate) fn listen(&mut self, event: Listening) -> Result<(), Refusal>
-        ensures { Meets (listen self.old event) self.old self.new result }
+        ensures event { Meets (listen self.old event) self.old self.new result }
+        ensures memory { IsErrOf result Refusal.NoMemory → IsTrue (listening_allocates event) }
     {
         match event {
             Listening::Connect => self.kernel.connect_in(),
@@ -81,7 +83,7 @@ impl World {
     }
 
     fn accept(&mut self, reply: Accepting) -> Result<(), Refusal>
-        ensures { Meets (listen self.old (Listening.Accept reply)) self.old self.new result }
+        ensures { MeetsAlways (listen self.old (Listening.Accept reply)) self.old self.new result }
     {
         if !self.may_accept() {
             return Err(Refusal::NotAllowed);

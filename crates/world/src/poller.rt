@@ -13,14 +13,16 @@ use token::{MAX_GENERATION, Name, Side, Token};
 
 #[tactic(auto, using(std::proofs::lemmas::Option::gets, std::proofs::lemmas::Grind::common_steps))]
 impl World {
-    ghost use Rattle.std.specs.Prelude.{◌≡◌, ◌<◌, true, length, slice_get, Some};
+    ghost use Rattle.std.specs.Prelude.{◌≡◌, ◌<◌, true, length, slice_get, Some, IsErrOf, IsTrue};
     ghost use Rattle.kernel_model.specs.Outcome.{Meets};
     ghost use Rattle.kernel_model.specs.Kernel.{open_both};
+    ghost use Rattle.world.specs.Memory.{becomes_note, is_entry, polling_allocates};
     ghost use Rattle.world.specs.Steps.{opened_world, delivered, delivered_at, deliver, batched, put_by_poller, post_at, polled};
 
     /// The poller does something.
     pub(crate) fn poll(&mut self, event: &Polling) -> Result<(), Refusal>
-        ensures { Meets (polled self.old event.now) self.old self.new result }
+        ensures event { Meets (polled self.old event.now) self.old self.new result }
+        ensures memory { IsErrOf result Refusal.NoMemory → IsTrue (polling_allocates self.old event.now) }
     {
         match event {
             Polling::Open => self.open(),
@@ -111,7 +113,8 @@ impl World {
 
     /// It delivers the first name of its batch.
     fn deliver(&mut self) -> Result<(), Refusal>
-        ensures { Meets (deliver self.old) self.old self.new result }
+        ensures event { Meets (deliver self.old) self.old self.new result }
+        ensures memory { IsErrOf result Refusal.NoMemory → IsTrue (becomes_note self.old (slice_get self.old.batch 0)) }
     {
         let Some(name) = self.batch.first() else {
             return Err(Refusal::NotAllowed);
@@ -124,7 +127,8 @@ impl World {
 
     /// It delivers this name.
     fn deliver_name(&mut self, name: Name) -> Result<(), Refusal>
-        ensures { Meets (delivered self.old name) self.old self.new result }
+        ensures event { Meets (delivered self.old name) self.old self.new result }
+        ensures memory { IsErrOf result Refusal.NoMemory → IsTrue (becomes_note self.old (Some name)) }
     {
         match name {
             Name::Listener => {
@@ -138,7 +142,8 @@ impl World {
 
     /// It posts to the slot of a token, unless the token's generation differs from the table's.
     fn deliver_end(&mut self, token: Token) -> Result<(), Refusal>
-        ensures { Meets (delivered_at self.old token (slice_get self.old.table token.slot)) self.old self.new result }
+        ensures event { Meets (delivered_at self.old token (slice_get self.old.table token.slot)) self.old self.new result }
+        ensures memory { IsErrOf result Refusal.NoMemory → IsTrue (is_entry token.generation (slice_get self.old.table token.slot)) }
     {
         match self.table_entry(token.slot()) {
             Some(generation) if generation == token.generation() => {

@@ -15,7 +15,7 @@ use std::alloc::{AllocError, Global};
 ///
 /// If not all of them can happen, the answer is the index of the first that fails, and why: `NotAllowed` if the events
 /// before it can happen and it cannot happen after them; `NoMemory` if it can happen too, but a list could not grow for
-/// it or, at index 0, for the world itself.
+/// it. Where there is no memory for the world itself, the answer is `NoMemory` at index 0.
 ///
 /// About the world after every list of events:
 ///
@@ -31,7 +31,7 @@ use std::alloc::{AllocError, Global};
 /// (`tickets`); a connection that nobody holds and that has no notes has no call to make (`rest`); the poller's table
 /// has each slot's generation (`table`); and if a pair's flag says that a call is not worth trying, its end is armed
 /// for it and not ready, or it is ready and a report of it is queued, in the batch or noted (`edges`).
-#[tactic(auto, using(crate::proofs::Runs::run_more, std::proofs::lemmas::Option::gets, std::proofs::lemmas::Grind::common_steps))]
+#[tactic(auto, using(std::proofs::lemmas::Grind::common_steps))]
 pub fn replay(alloc: Global, limits: Limits, events: &[Event]) -> Result<World, (usize, Refusal)>
     requires { IsWithinLimits limits }
     ensures world { IfOk result (λ world. run (opening limits) events.now ≡ Some world) }
@@ -52,10 +52,6 @@ pub fn replay(alloc: Global, limits: Limits, events: &[Event]) -> Result<World, 
         Ok(world) => world,
         Err(AllocError) => return Err((0, Refusal::NoMemory)),
     };
-    for (index, event) in events.iter().enumerate() {
-        if let Err(refusal) = world.step(event) {
-            return Err((index, refusal));
-        }
-    }
+    world.play(events)?;
     Ok(world)
 }

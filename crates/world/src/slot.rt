@@ -24,10 +24,11 @@ impl Model for Slot {
 
 #[tactic(auto, using(std::proofs::lemmas::Option::gets, std::proofs::lemmas::Grind::common_steps))]
 impl Slot {
-    ghost use Rattle.std.specs.Prelude.{◌≡◌, OnOk, OnErr};
+    ghost use Rattle.std.specs.Prelude.{◌≡◌, OnOk, OnErr, IsErrOf, IsTrue};
     ghost use Rattle.std.specs.Option.{option_copied};
     ghost use Rattle.kernel_model.specs.Ends.{is_nonempty};
     ghost use Rattle.kernel_model.specs.Outcome.{Meets, MeetsAlways};
+    ghost use Rattle.kernel_model.specs.Replies.{needs_memory};
     ghost use Rattle.world.specs.Places.{is_held};
     ghost use Rattle.world.specs.States.{unused};
     ghost use Rattle.world.specs.Steps.{with_note, noted_place, Lodging, lodged_call};
@@ -118,7 +119,8 @@ impl Slot {
     /// Also refuses with `NotAllowed`, and changes nothing, if there is no connection.
     #[tactic(auto, unfolding(crate::specs::Steps::lodged_call))]
     pub fn call(&mut self, kernel: &mut Kernel, reply: Reply) -> Result<(), Refusal>
-        ensures { Meets (lodged_call (record { kernel = kernel.old; place = self.old }) reply) (record { kernel = kernel.old; place = self.old }) (record { kernel = kernel.new; place = self.new }) result }
+        ensures outcome { Meets (lodged_call (record { kernel = kernel.old; place = self.old }) reply) (record { kernel = kernel.old; place = self.old }) (record { kernel = kernel.new; place = self.new }) result }
+        ensures memory { IsErrOf result Refusal.NoMemory → IsTrue (needs_memory reply) }
     {
         match &mut self.connection {
             Some(connection) => connection.call(kernel, reply),

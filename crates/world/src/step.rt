@@ -6,27 +6,49 @@ use kernel_model::Refusal;
 
 impl World {
     ghost use Rattle.kernel_model.specs.Outcome.{Meets};
-    ghost use Rattle.std.specs.Prelude.{IfOk};
+    ghost use Rattle.std.specs.Prelude.{◌≡◌, Some, IfOk, IfErr, OnOk, IsErrOf, IsTrue};
+    ghost use Rattle.world.specs.Memory.{may_allocate};
+    ghost use Rattle.world.specs.Runs.{run, FailsAt};
     ghost use Rattle.world.specs.Steps.{step};
     ghost use Rattle.world.specs.Words.{WordsMoveInRuns};
 
     /// One event happens.
     ///
-    /// Refuses with `NotAllowed` if it cannot happen now, and with `NoMemory` if a list cannot grow. A refusal changes
-    /// nothing.
+    /// Refuses with `NotAllowed` if it cannot happen now, and with `NoMemory` if it can, but a list cannot grow for it. A
+    /// refusal changes nothing. An event for which no list grows is never refused with `NoMemory` (`memory`).
     ///
     /// In a world that a run reaches, the event changes the claim word of its slot by the steps of the event's kinds in
     /// order, and no other slot's, and a ticket is made exactly when a step says so (`words`).
     pub fn step(&mut self, event: &Event) -> Result<(), Refusal>
         ensures event { Meets (step self.old event.now) self.old self.new result }
+        ensures memory { IsErrOf result Refusal.NoMemory → IsTrue (may_allocate self.old event.now) }
         ensures words { IfOk result (λ _. WordsMoveInRuns self.old event.now self.new) }
     {
         rests_on_core();
         self.happen(event)
     }
 
+    /// These events happen, one after the other.
+    ///
+    /// If not all of them can happen, the answer is the index of the first that fails, and why: `NotAllowed` if it cannot
+    /// happen after those before it; `NoMemory` if it can, but a list could not grow for it. The world is then the one
+    /// after the events before it.
+    #[tactic(auto, using(crate::proofs::Runs::run_more, std::proofs::lemmas::Option::gets, std::proofs::lemmas::Grind::common_steps))]
+    pub fn play(&mut self, events: &[Event]) -> Result<(), (usize, Refusal)>
+        ensures world { OnOk result (run self.old events.now ≡ Some self.new) }
+        ensures fails { IfErr result (λ e. FailsAt self.old self.new events.now e.0 e.1) }
+    {
+        for (index, event) in events.iter().enumerate() {
+            if let Err(refusal) = self.step(event) {
+                return Err((index, refusal));
+            }
+        }
+        Ok(())
+    }
+
     fn happen(&mut self, event: &Event) -> Result<(), Refusal>
-        ensures { Meets (step self.old event.now) self.old self.new result }
+        ensures event { Meets (step self.old event.now) self.old self.new result }
+        ensures memory { IsErrOf result Refusal.NoMemory → IsTrue (may_allocate self.old event.now) }
     {
         match event {
             Event::Network(slot, side, change) => self.network(*slot, *side, change),

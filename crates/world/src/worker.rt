@@ -1,42 +1,51 @@
 // A worker.
 use crate::actors::{Doing, Ticket};
-use std::alloc::{AllocError, Global};
 use std::marker::Model;
 
-/// A worker: what it is doing, and the tickets that it still has to put.
+/// A worker: what it is doing, and the ticket that it still has to put, if any.
+///
+/// It takes a ticket from the queue with an empty hand, so it has none in hand while it does something. That leaves a
+/// place for the ticket that it may take when it releases a slot, which therefore takes no memory.
 #[derive(Drop)]
 pub struct Worker {
-    pub(crate) doing: Doing,
-    pub(crate) hand: Vec<Ticket>,
+    doing: Doing,
+    hand: Option<Ticket>,
 }
 
 impl Model for Worker {
+    ghost use Rattle.std.specs.Prelude.{◌≡◌, ◌⊎◌, None};
+    ghost use Rattle.std.specs.Option.{option_to_list};
+    ghost use Rattle.world.specs.declared.actors.Doing.TheVariants.{Idle};
     ghost use Rattle.world.specs.Places.{Actor};
 
     ghost Value = { Actor };
 
-    ghost view = { λ w. record { doing = w.doing; hand = w.hand.items } };
+    ghost view = { λ w. record { doing = w.doing; hand = option_to_list w.hand } };
+
+    ghost invariant = { λ w. (w.doing ≡ Idle) ⊎ (w.hand ≡ None) };
 }
 
 #[tactic(auto, using(std::proofs::lemmas::Option::gets, std::proofs::lemmas::Grind::common_steps))]
 impl Worker {
-    ghost use Rattle.std.specs.Prelude.{◌≡◌, OnOk, OnErr};
+    ghost use Rattle.std.specs.Prelude.{◌≡◌, ◌==◌, ◌⊎◌, [], length};
+    ghost use Rattle.std.specs.Option.{option_to_list};
     ghost use Rattle.world.specs.States.{resting};
     ghost use Rattle.world.specs.Steps.{with_ticket};
 
     /// A worker with nothing to do.
-    pub fn new(alloc: Global) -> Worker
+    pub fn new() -> Worker
         ensures { result ≡ resting }
     {
         Worker {
             doing: Doing::Idle,
-            hand: Vec::new(alloc),
+            hand: None,
         }
     }
 
     /// What it is doing.
     pub fn doing(&self) -> Doing
-        ensures { result ≡ self.now.doing }
+        ensures doing { result ≡ self.now.doing }
+        ensures hand { (result ≡ Doing.Idle) ⊎ (self.now.hand ≡ []) }
     {
         self.doing
     }
@@ -48,16 +57,36 @@ impl Worker {
         self.hand.as_slice()
     }
 
-    /// It is idle again. If there are notes in the slot that it held, it takes a ticket for it in hand. An error
-    /// changes nothing.
-    pub fn release(&mut self, noted: bool, slot: usize, generation: u64) -> Result<(), AllocError>
-        ensures released { OnOk result (self.new ≡ record { doing = Doing.Idle; hand = with_ticket noted slot generation self.old.hand }) }
-        ensures kept { OnErr result (self.new ≡ self.old) }
+    /// The ticket that it has to put.
+    pub(crate) fn ticket(&self) -> Option<Ticket>
+        ensures { self.now.hand ≡ option_to_list result }
+    {
+        self.hand
+    }
+
+    /// It has put its ticket.
+    pub(crate) fn put(&mut self)
+        ensures { self.new ≡ record self.old { hand = [] } }
+    {
+        self.hand = None;
+    }
+
+    /// It does something else.
+    pub(crate) fn turn_to(&mut self, doing: Doing)
+        requires { (doing ≡ Doing.Idle) ⊎ (self.old.hand ≡ []) }
+        ensures { self.new ≡ record self.old { doing = doing } }
+    {
+        self.doing = doing;
+    }
+
+    /// It is idle again. If there are notes in the slot that it held, it takes a ticket for it in hand.
+    pub(crate) fn release(&mut self, noted: bool, slot: usize, generation: u64)
+        requires { self.old.hand ≡ [] }
+        ensures { self.new ≡ record { doing = Doing.Idle; hand = with_ticket noted slot generation self.old.hand } }
     {
         if noted {
-            self.hand.push(Ticket { slot, generation })?;
+            self.hand = Some(Ticket { slot, generation });
         }
         self.doing = Doing::Idle;
-        Ok(())
     }
 }

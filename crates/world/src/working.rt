@@ -22,14 +22,17 @@ pub fn is_live(verdict: Verdict) -> bool
 
 #[tactic(auto, using(std::proofs::lemmas::Option::gets, std::proofs::lemmas::Grind::common_steps))]
 impl World {
-    ghost use Rattle.std.specs.Prelude.{◌≡◌, ◌<◌, length};
-    ghost use Rattle.kernel_model.specs.Outcome.{Meets};
+    ghost use Rattle.std.specs.Prelude.{◌≡◌, ◌<◌, [], length, slice_get, IfSome, IsErrOf, IsTrue};
+    ghost use Rattle.kernel_model.specs.Outcome.{Meets, MeetsAlways};
+    ghost use Rattle.kernel_model.specs.Replies.{needs_memory};
+    ghost use Rattle.world.specs.Memory.{act_allocates};
     ghost use Rattle.world.specs.Places.{Actor};
     ghost use Rattle.world.specs.Steps.{of_worker, claim, take, call, post, release, close, retire, free, pop, worked};
 
     /// A worker does something.
     pub(crate) fn work(&mut self, worker: usize, act: Act) -> Result<(), Refusal>
-        ensures { Meets (worked self.old worker act) self.old self.new result }
+        ensures event { Meets (worked self.old worker act) self.old self.new result }
+        ensures memory { IsErrOf result Refusal.NoMemory → IsTrue (act_allocates act) }
     {
         if worker >= self.workers.len() {
             return Err(Refusal::NotAllowed);
@@ -54,11 +57,11 @@ impl World {
         requires { worker < length self.old.workers }
         ensures { Meets (worked self.old worker Act.Put) self.old self.new result }
     {
-        if self.workers[worker].hand.is_empty() {
+        let Some(ticket) = self.workers[worker].ticket() else {
             return Err(Refusal::NotAllowed);
-        }
+        };
         self.ready.reserve(1)?;
-        let ticket = self.workers[worker].hand.remove(0);
+        self.workers[worker].put();
         self.ready.push(ticket).unwrap();
         Ok(())
     }
@@ -66,36 +69,37 @@ impl World {
     /// With nothing to put, it takes the first ticket from the ready queue.
     fn pop(&mut self, worker: usize) -> Result<(), Refusal>
         requires { worker < length self.old.workers }
-        ensures { Meets (of_worker self.old worker (λ (k : Actor). pop self.old worker k Doing.Idle)) self.old self.new result }
+        ensures { MeetsAlways (of_worker self.old worker (λ (k : Actor). pop self.old worker k Doing.Idle)) self.old self.new result }
     {
-        if !self.workers[worker].hand.is_empty() || self.ready.is_empty() {
+        if !self.workers[worker].hand().is_empty() || self.ready.is_empty() {
             return Err(Refusal::NotAllowed);
         }
         let ticket = self.ready.remove(0);
-        self.workers[worker].doing = Doing::Tries(ticket);
+        self.workers[worker].turn_to(Doing::Tries(ticket));
         Ok(())
     }
 
     /// It takes hold of its ticket's slot, or drops the ticket if the slot is held.
     fn claim(&mut self, worker: usize, ticket: Ticket) -> Result<(), Refusal>
-        requires { worker < length self.old.workers }
-        ensures { Meets (of_worker self.old worker (λ (k : Actor). claim self.old worker k (Doing.Tries ticket))) self.old self.new result }
+        requires inside { worker < length self.old.workers }
+        requires hand { IfSome (slice_get self.old.workers worker) (λ (k : Actor). k.hand ≡ []) }
+        ensures { MeetsAlways (of_worker self.old worker (λ (k : Actor). claim self.old worker k (Doing.Tries ticket))) self.old self.new result }
     {
         if ticket.slot >= self.slots.len() {
             return Err(Refusal::NotAllowed);
         }
         if self.slots[ticket.slot].is_held() {
-            self.workers[worker].doing = Doing::Idle;
+            self.workers[worker].turn_to(Doing::Idle);
         } else {
             self.slots[ticket.slot].holder = Holder::By(worker);
-            self.workers[worker].doing = Doing::Holds(ticket.slot, self.limits.budget);
+            self.workers[worker].turn_to(Doing::Holds(ticket.slot, self.limits.budget));
         }
         Ok(())
     }
 
     /// It takes the notes of its slot.
     fn take(&mut self, slot: usize, left: usize) -> Result<(), Refusal>
-        ensures { Meets (take self.old (Doing.Holds slot left)) self.old self.new result }
+        ensures { MeetsAlways (take self.old (Doing.Holds slot left)) self.old self.new result }
     {
         if slot >= self.slots.len() {
             return Err(Refusal::NotAllowed);
@@ -106,15 +110,17 @@ impl World {
 
     /// It makes the connection's next call, and gets this reply.
     fn call(&mut self, worker: usize, slot: usize, left: usize, reply: Reply) -> Result<(), Refusal>
-        requires { worker < length self.old.workers }
-        ensures { Meets (of_worker self.old worker (λ (k : Actor). call self.old worker k (Doing.Holds slot left) reply)) self.old self.new result }
+        requires inside { worker < length self.old.workers }
+        requires hand { IfSome (slice_get self.old.workers worker) (λ (k : Actor). k.hand ≡ []) }
+        ensures event { Meets (of_worker self.old worker (λ (k : Actor). call self.old worker k (Doing.Holds slot left) reply)) self.old self.new result }
+        ensures memory { IsErrOf result Refusal.NoMemory → IsTrue (needs_memory reply) }
     {
         if left == 0 || slot >= self.slots.len() {
             return Err(Refusal::NotAllowed);
         }
         match self.slots[slot].call(&mut self.kernel, reply) {
             Ok(()) => {
-                self.workers[worker].doing = Doing::Holds(slot, left - 1);
+                self.workers[worker].turn_to(Doing::Holds(slot, left - 1));
                 Ok(())
             }
             Err(Refusal::NotAllowed) => Err(Refusal::NotAllowed),
@@ -141,8 +147,9 @@ impl World {
 
     /// It releases its slot, and takes in hand the ticket that the notes create.
     fn release(&mut self, worker: usize, slot: usize, left: usize) -> Result<(), Refusal>
-        requires { worker < length self.old.workers }
-        ensures { Meets (of_worker self.old worker (λ (k : Actor). release self.old worker k (Doing.Holds slot left))) self.old self.new result }
+        requires inside { worker < length self.old.workers }
+        requires hand { IfSome (slice_get self.old.workers worker) (λ (k : Actor). k.hand ≡ []) }
+        ensures { MeetsAlways (of_worker self.old worker (λ (k : Actor). release self.old worker k (Doing.Holds slot left))) self.old self.new result }
     {
         let Some(connection) = self.connection(slot) else {
             return Err(Refusal::NotAllowed);
@@ -152,19 +159,15 @@ impl World {
             return Err(Refusal::NotAllowed);
         }
         let generation = self.slots[slot].generation();
-        if self.workers[worker]
-            .release(noted, slot, generation)
-            .is_err()
-        {
-            return Err(Refusal::NoMemory);
-        }
+        self.workers[worker].release(noted, slot, generation);
         self.slots[slot].holder = Holder::Nobody;
         Ok(())
     }
 
     /// It closes the connection of its slot, which is done or failed.
     fn close(&mut self, worker: usize, slot: usize, left: usize) -> Result<(), Refusal>
-        requires { worker < length self.old.workers }
+        requires inside { worker < length self.old.workers }
+        requires hand { IfSome (slice_get self.old.workers worker) (λ (k : Actor). k.hand ≡ []) }
         ensures { Meets (of_worker self.old worker (λ (k : Actor). close self.old worker k (Doing.Holds slot left))) self.old self.new result }
     {
         let Some(connection) = self.connection(slot) else {
@@ -186,26 +189,28 @@ impl World {
         };
         self.past.push(past).unwrap();
         self.slots[slot].connection = None;
-        self.workers[worker].doing = Doing::Closed(slot);
+        self.workers[worker].turn_to(Doing::Closed(slot));
         Ok(())
     }
 
     /// It retires its slot, which is free from then on.
     fn retire(&mut self, worker: usize, slot: usize) -> Result<(), Refusal>
-        requires { worker < length self.old.workers }
-        ensures { Meets (of_worker self.old worker (λ (k : Actor). retire self.old worker k (Doing.Closed slot))) self.old self.new result }
+        requires inside { worker < length self.old.workers }
+        requires hand { IfSome (slice_get self.old.workers worker) (λ (k : Actor). k.hand ≡ []) }
+        ensures { MeetsAlways (of_worker self.old worker (λ (k : Actor). retire self.old worker k (Doing.Closed slot))) self.old self.new result }
     {
         if slot >= self.slots.len() {
             return Err(Refusal::NotAllowed);
         }
         self.slots[slot].holder = Holder::Free;
-        self.workers[worker].doing = Doing::Retired(slot);
+        self.workers[worker].turn_to(Doing::Retired(slot));
         Ok(())
     }
 
     /// It puts the slot that it retired into the free queue, unless the slot's last generation was used.
     fn free(&mut self, worker: usize, slot: usize) -> Result<(), Refusal>
-        requires { worker < length self.old.workers }
+        requires inside { worker < length self.old.workers }
+        requires hand { IfSome (slice_get self.old.workers worker) (λ (k : Actor). k.hand ≡ []) }
         ensures { Meets (of_worker self.old worker (λ (k : Actor). free self.old worker k (Doing.Retired slot))) self.old self.new result }
     {
         if slot >= self.slots.len() {
@@ -215,7 +220,7 @@ impl World {
             self.free.reserve(1)?;
             self.free.push(slot).unwrap();
         }
-        self.workers[worker].doing = Doing::Idle;
+        self.workers[worker].turn_to(Doing::Idle);
         Ok(())
     }
 }

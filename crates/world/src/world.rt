@@ -108,7 +108,7 @@ fn resting_workers(alloc: Global, count: usize) -> Result<Vec<Worker>, AllocErro
 {
     let mut workers = Vec::with_capacity(alloc, count)?;
     for _worker in 0..count {
-        workers.push(Worker::new(alloc))?;
+        workers.push(Worker::new())?;
     }
     Ok(workers)
 }

@@ -14,8 +14,8 @@ returns c =
     let laws : CoreLaws = c.rests_on_core.ensures in
     let l = c.args.limits in
     let events = c.args.events.now in
-    let all : run (opening l) events ≡ Some c.loop-index.world = grind (arith, common_steps) in
-    let holds : HeadlineHolds l events c.loop-index.world = headline laws l events _ all in
+    let all : run (opening l) events ≡ Some c.play.new.self = grind (arith, common_steps) in
+    let holds : HeadlineHolds l events c.play.new.self = headline laws l events _ all in
     record {
       world = all;
       bytes = holds.bytes;
