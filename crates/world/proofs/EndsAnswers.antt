@@ -27,7 +27,8 @@ use Rattle.relay_core.specs.Order.{is_waiting, is_drained, is_open, read_most, c
 use Rattle.relay_core.specs.Replies.{after}
 use Rattle.relay_core.specs.Replies as answer
 use Rattle.world.specs.Calls.{plain}
-use Rattle.world.specs.Headline.{EndCovered, socket_of}
+use Rattle.world.specs.Headline.{socket_of}
+use Rattle.world.specs.Support.{EndCovered}
 use Rattle.world.proofs.TurnsKept.{Kept}
 use Rattle.world.proofs.EndsHeld.{DirectionOk, PairOk}
 use Rattle.world.proofs.EndsCovered.{cover_flag, cover_armed}

@@ -3,7 +3,7 @@ use Rattle.std.proofs.Common.{◌≡◌, ◌+◌, Bool, true, false, not, ◌||�
 use Rattle.std.specs.Cmp.{first_so, second_so}
 use Rattle.kernel_model.specs.Outcome.{Told, guard}
 use Rattle.kernel_model.specs.Ends.{Endpoint, is_nonempty, is_readable, is_writable, arrival, finish, failure, new_room}
-use Rattle.world.specs.Headline.{is_covered}
+use Rattle.world.specs.Support.{is_covered}
 use Rattle.world.proofs.EndsCovered.{cover_more, cover_report}
 use Rattle.world.proofs.EndsNames.{or_left, or_right}
 use Rattle.world.proofs.EndsPairs.{IsChange}

@@ -1,5 +1,5 @@
 -- A call that fails, and that a pair fails by nothing else.
-use Rattle.std.proofs.Common.{◌≡◌, ℕ, inr, List, Option, Some, None, refl, ap, ◌∙◌, subst, option_map}
+use Rattle.std.proofs.Common.{◌≡◌, ℕ, inr, List, Option, Some, None, refl, sym, ap, ◌∙◌, subst, option_map}
 use Rattle.std.specs.Prelude.{slice_get, nat_lt}
 use Rattle.token.specs.declared.kind.Kind.{Kind}
 use Rattle.kernel_model.specs.declared.reply.Reply.{Reply}
@@ -25,7 +25,7 @@ use Rattle.world.specs.States.{State}
 use Rattle.world.specs.Calls.{Line, plain, told_of, made, replied, called}
 use Rattle.world.specs.Steps
 use Rattle.world.specs.Steps.{connection_at, Lodging, lodged_call, with_place, doing}
-use Rattle.world.specs.Headline.{FailsBy}
+use Rattle.world.specs.Headline.{fault_of, failure, failure_by}
 use Rattle.world.specs.CoreLaws.{CoreLaws}
 use Rattle.world.proofs.TurnsKept.{Kept, kept_bind, kept_map, kept_when, kept_then}
 use Rattle.world.proofs.EndsShapes.{Continues, Stays, Shape, Changed}
@@ -67,25 +67,12 @@ pub record Caller (st : State) (w s left : ℕ) (k : Actor) (c : Connection) : T
   pub lies : connection_at st s ≡ Some c
 
 blames : (laws : CoreLaws) (st : State) (w s left : ℕ) (k : Actor) (kernel : Watcher) (c : Connection) (call : Call) (said : Reply) (t : answer.AnswerValue) → Caller st w s left k c → AnswersNext c.pair call t
-    → told_of (record { kernel = kernel; connection = c }) call said ≡ Some t → (fault : Fault) → verdict (after c.pair call t) ≡ Failed fault → FailsBy st s c.pair.generation fault (event.Work w (act.Call said))
+    → told_of (record { kernel = kernel; connection = c }) call said ≡ Some t → (fault : Fault) → verdict (after c.pair call t) ≡ Failed fault → failure_by st (event.Work w (act.Call said)) ≡ Some (failure s c.pair.generation fault)
 blames laws st w s left k kernel c call said t caller answers told fault failed =
     let tells : TellsOf call t fault = (laws.failures c.pair call t fault answers).0 failed in
     let said_is : said ≡ reply.Failed fault.kind = failed_told (record { kernel = kernel; connection = c }) call said fault.kind (told ∙ ap (λ (u : answer.AnswerValue). Some u) tells.kind) in
-    record {
-      worker = w;
-      actor = k;
-      left = left;
-      connection = c;
-      call = call;
-      event = ap (λ (u : Reply). event.Work w (act.Call u)) said_is;
-      there = caller.there;
-      holds = caller.holds;
-      lies = caller.lies;
-      generation = refl;
-      next = answers.next;
-      side = tells.side;
-      kind = tells.call;
-    }
+    let fault_is : fault_of fault.kind call ≡ fault = rw (sym tells.side, sym tells.call) refl in
+    rw (said_is, caller.there, caller.holds, caller.lies, answers.next) (ap (λ (f : Fault). Some (failure s c.pair.generation f)) fault_is)
 
 replied_continues : (laws : CoreLaws) (st : State) (w s left : ℕ) (k : Actor) (kernel : Watcher) (c : Connection) (call : Call) (said : Reply) → Caller st w s left k c → next_call c.pair ≡ Some call
     → Kept (λ (line : Line). Continues st (event.Work w (act.Call said)) s c line.connection) (replied (record { kernel = kernel; connection = c }) call said)

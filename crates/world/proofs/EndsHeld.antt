@@ -16,7 +16,8 @@ use Rattle.relay_core.specs.Laws.{IsClosedLast}
 use Rattle.world.specs.declared.connection.Connection.{Connection}
 use Rattle.world.specs.Places.{Place}
 use Rattle.world.specs.States.{State}
-use Rattle.world.specs.Headline.{KeepsBytes, socket_of, end_of, EndCovered}
+use Rattle.world.specs.Headline.{KeepsBytes, socket_of, end_of}
+use Rattle.world.specs.Support.{EndCovered}
 
 -- the bytes that came so far, by slot, generation and side
 abbrev pub History : Type 0

@@ -11,7 +11,8 @@ use Rattle.kernel_model.specs.Outcome.{Told}
 use Rattle.kernel_model.specs.Ends.{Endpoint}
 use Rattle.relay_core.specs.declared.flags.Flags.{Flags}
 use Rattle.relay_core.specs.Pairs.{Relay}
-use Rattle.world.specs.Headline.{EndCovered, socket_of}
+use Rattle.world.specs.Headline.{socket_of}
+use Rattle.world.specs.Support.{EndCovered}
 use Rattle.world.proofs.EndsHeld.{DirectionOk, PairOk}
 use Rattle.world.proofs.EndsCovered.{end_more}
 use Rattle.world.proofs.EndsNames.{or_then}

@@ -29,14 +29,14 @@ use Rattle.world.specs.States.{State}
 use Rattle.world.specs.Steps
 use Rattle.world.specs.Steps.{over_kernel, connection_at, watched_of, change_at, may_accept, after_accept, token_of, opened_world, with_note, posted, post_at, delivered_at, delivered, put_by_poller, put_by_worker, popped, heard, noted_place, with_place, Lodging, lodged_call, may_release, closed_world, doing, step}
 use Rattle.world.specs.Given.{brought}
-use Rattle.world.specs.Headline.{FailsBy}
+use Rattle.world.specs.Headline.{failure, failure_by}
 use Rattle.world.proofs.TurnsKept.{Kept, kept_bind, kept_map, kept_guard, kept_when, kept_then, kept_map_map}
 use Rattle.world.proofs.EndsPlaces.{behind, kept_map_if}
 
 -- a connection that was there before, and fails by this event if it did not fail already
 pub record Continues (st : State) (e : Event) (s : ℕ) (old new : Connection) : Type 0 where
   pub generation : new.pair.generation ≡ old.pair.generation
-  pub fails : (fault : Fault) → verdict new.pair ≡ Failed fault → (verdict old.pair ≡ Failed fault) ⊎ FailsBy st s old.pair.generation fault e
+  pub fails : (fault : Fault) → verdict new.pair ≡ Failed fault → (verdict old.pair ≡ Failed fault) ⊎ (failure_by st e ≡ Some (failure s old.pair.generation fault))
 
 -- a slot keeps its connection, or has none afterwards
 pub record Stays (st : State) (e : Event) (s : ℕ) (old new : Place) : Type 0 where

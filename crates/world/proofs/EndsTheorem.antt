@@ -12,7 +12,8 @@ use Rattle.world.specs.declared.limits.Limits.{Limits}
 use Rattle.world.specs.States.{State, opening}
 use Rattle.world.specs.Runs.{run}
 use Rattle.world.specs.Given.{given}
-use Rattle.world.specs.Headline.{socket_of, end_of, DirectionHolds, ConnectionHolds, BytesAndEndsHold, EdgesHold}
+use Rattle.world.specs.Headline.{socket_of, end_of, DirectionHolds, ConnectionHolds, BytesAndEndsHold}
+use Rattle.world.specs.Support.{EdgesHold}
 use Rattle.world.proofs.EndsHeld.{registered, DirectionOk, ConnectionOk, AllOk}
 use Rattle.world.proofs.EndsNetwork.{Lies, lies}
 use Rattle.world.proofs.EndsSteps.{no_history, run_keeps, opening_ok}

@@ -27,7 +27,8 @@ use Rattle.world.specs.declared.actors.Doing.TheVariants.{Idle, Tries, Holds, Cl
 use Rattle.world.specs.Places.{Place, is_by_worker}
 use Rattle.world.specs.States.{State}
 use Rattle.world.specs.Due.{gives, takes, has_place, flows, moves, is_report, is_ticket, tries, has_ticket, is_reported, is_ticketed, moves_if_any, movable_at, movable, due_place, due_at, due}
-use Rattle.world.specs.Headline.{one, total, tickets, is_covered, has_report, end_of, EndCovered, EdgesHold}
+use Rattle.world.specs.Headline.{end_of}
+use Rattle.world.specs.Support.{one, total, tickets, is_covered, has_report, EndCovered, EdgesHold}
 use Rattle.world.specs.CoreLaws.{CoreLaws}
 use Rattle.world.proofs.TurnsFacts.{facts, SlotOk, ConnectionOk, Turns, names, tried_right, worker_right, right_tickets, is_shaped, standing}
 use Rattle.world.proofs.TurnsPoller.{sure}

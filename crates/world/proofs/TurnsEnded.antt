@@ -16,7 +16,7 @@ use Rattle.world.specs.declared.actors.Doing.TheVariants.{Idle, Tries, Holds, Cl
 use Rattle.world.specs.Places.{Place, Actor}
 use Rattle.world.specs.States.{State}
 use Rattle.world.specs.Steps.{with_note, with_ticket, with_worker, with_place, doing, post, may_release, release, closed_world, close, retire, is_worn, freed, free}
-use Rattle.world.specs.Headline.{one, total, of_slot, tried}
+use Rattle.world.specs.Support.{one, total, of_slot, tried}
 use Rattle.world.specs.CoreLaws.{CoreLaws}
 use Rattle.world.proofs.TurnsTotals.{total_push}
 use Rattle.world.proofs.TurnsKept.{Kept, kept_none, kept_bind, kept_map, kept_when, kept_guard}

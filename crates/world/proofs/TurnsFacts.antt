@@ -17,7 +17,7 @@ use Rattle.world.specs.States.{State}
 use Rattle.world.specs.Steps.{doing}
 use Rattle.world.specs.Due.{is_ticket}
 pub use Rattle.world.specs.Words.{is_free}
-use Rattle.world.specs.Headline.{one, total, of_slot, tried, worker_tickets, tickets}
+use Rattle.world.specs.Support.{one, total, of_slot, tried, worker_tickets, tickets}
 use Rattle.world.proofs.TurnsTotals.{total-set, get-set_same, get-set_other}
 
 -- the numbers of slot s, one actor or ticket or free slot at a time

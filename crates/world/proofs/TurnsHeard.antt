@@ -40,7 +40,8 @@ use Rattle.world.specs.States.{State, opening}
 use Rattle.world.specs.Calls.{Line, descriptor, told_of, made, called}
 use Rattle.world.specs.Steps.{connection_at, over_kernel, change_at, network, watched_of, spurious, vanish, may_accept, after_accept, listen, post_at, delivered_at, delivered, put_by_poller, batched, opened_world, opening_of, token_of, polled, put_by_worker, popped, pop, claim, noted_place, with_place, take, Lodging, lodged_call, doing, call, with_note, post, may_release, release, closed_world, close, retire, free, acted, step}
 use Rattle.world.specs.Runs.{run}
-use Rattle.world.specs.Headline.{is_covered, ListenerHolds}
+use Rattle.world.specs.Headline.{ListenerHolds}
+use Rattle.world.specs.Support.{is_covered}
 use Rattle.world.proofs.TurnsKept.{Kept, kept_some, kept_none, kept_bind, kept_map, kept_when, kept_guard, kept_if, kept_then, kept_next, kept_at, kept_bind_map, either_of}
 use Rattle.world.proofs.TurnsListener.{hears_with, hears_it, hears_without_end, hears_without_waker, hears_taken, Listens, more_reported, not_ready, or_rest, HearsOn, hears_self, goes_on, change_hears, made_hears, both_hear, hears}
 

@@ -12,7 +12,7 @@ use Rattle.world.specs.declared.actors.Doing.TheVariants.{Idle, Tries, Holds, Cl
 use Rattle.world.specs.Places.{Place, Actor, is_held, is_by_worker}
 use Rattle.world.specs.States.{State}
 use Rattle.world.specs.Steps.{with_place, doing, heard, take, Lodging, lodged_call, call, free}
-use Rattle.world.specs.Headline.{one, total}
+use Rattle.world.specs.Support.{one, total}
 use Rattle.world.specs.CoreLaws.{CoreLaws}
 use Rattle.world.proofs.TurnsTotals.{total_at}
 use Rattle.world.proofs.TurnsKept.{Kept, kept_none, kept_bind, kept_map, kept_when, kept_map_map, kept_at}

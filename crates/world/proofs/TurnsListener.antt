@@ -19,7 +19,7 @@ use Rattle.world.specs.declared.event.Change.TheVariants.{Arrive, Fin, Reset, Ro
 use Rattle.world.specs.States.{State}
 use Rattle.world.specs.Calls.{Line, descriptor, made}
 use Rattle.world.specs.Steps.{change_at}
-use Rattle.world.specs.Headline.{is_covered}
+use Rattle.world.specs.Support.{is_covered}
 use Rattle.world.proofs.TurnsKept.{Kept, kept_bind, kept_map, kept_when, kept_then, kept_next}
 
 -- the listener's name in a list of names

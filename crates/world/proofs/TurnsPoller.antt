@@ -27,7 +27,7 @@ use Rattle.kernel_model.specs.declared.accepting.Accepting.TheVariants.{Accepted
 use Rattle.world.specs.Places.{Place, Actor, is_held, is_by_worker}
 use Rattle.world.specs.States.{State}
 use Rattle.world.specs.Steps.{connection_at, over_kernel, network, watched_of, spurious, vanish, may_accept, after_accept, listen, with_note, wakes, with_ticket, posted, post_at, delivered_at, delivered, deliver, put_by_poller, batched, opened_place, opened_world, opening_of, token_of, polled}
-use Rattle.world.specs.Headline.{one, total, of_slot, tried, worker_tickets, tickets}
+use Rattle.world.specs.Support.{one, total, of_slot, tried, worker_tickets, tickets}
 use Rattle.world.proofs.TurnsTotals.{total_push, total_moved, total_le, get-set_same, get-set_other}
 use Rattle.world.proofs.TurnsKept.{Kept, kept_some, kept_none, kept_bind, kept_map, kept_when, kept_guard, kept_if, kept_then}
 use Rattle.world.proofs.TurnsFacts.{Facts, facts, SlotOk, ConnectionOk, Turns, keep_slots, keep_others, names, worker_right, worker_holds, worker_closes, worker_retires, is_number, right_tickets, is_free, are_own, one_same, one_other, names_of_slot, names_other, names_own, tried_right, tried_less}

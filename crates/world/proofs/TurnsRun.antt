@@ -13,7 +13,8 @@ use Rattle.world.specs.Places.{Place, Actor}
 use Rattle.world.specs.States.{State, opening, unused, resting, numbers_below}
 use Rattle.world.specs.Steps.{connection_at, claimed, claim, worked, step}
 use Rattle.world.specs.Runs.{run}
-use Rattle.world.specs.Headline.{one, total, of_slot, tried, worker_tickets, tickets, TicketsHold, RestHolds, TableHolds, Throughout, TakesOwnNotes, ClaimsByOwnTicket, TriedOnOwn}
+use Rattle.world.specs.Headline.{Throughout, TakesOwnNotes, ClaimsByOwnTicket, TriedOnOwn}
+use Rattle.world.specs.Support.{one, total, of_slot, tried, worker_tickets, tickets, TicketsHold, RestHolds, TableHolds}
 use Rattle.world.specs.CoreLaws.{CoreLaws}
 use Rattle.world.proofs.TurnsTotals.{total_push, total_none, total_le, total_le_at, get-replicate, get_beside}
 use Rattle.world.proofs.TurnsKept.{Kept, kept_some, kept_next, kept_at}

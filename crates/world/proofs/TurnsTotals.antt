@@ -1,6 +1,6 @@
 -- Totals over a list, and a list with one element replaced.
 use Rattle.std.proofs.Common.{◌≡◌, ◌≢◌, ℕ, zero, suc, ◌+◌, ◌≤◌, List, [], ◌∷◌, ◌++◌, replicate, slice_get, slice_set, Some, refl, ap, arith}
-use Rattle.world.specs.Headline.{total}
+use Rattle.world.specs.Support.{total}
 
 -- one element more at the end
 pub total_push : {X : Type 0} (f : X → ℕ) (xs : List X) (x : X) → total f (xs ++ x ∷ []) ≡ total f xs + f x

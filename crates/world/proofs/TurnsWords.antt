@@ -33,7 +33,7 @@ use Rattle.world.specs.declared.event.Act.TheVariants as act
 use Rattle.world.specs.Places.{Place, Actor, is_held}
 use Rattle.world.specs.States.{State}
 use Rattle.world.specs.Steps.{connection_at, over_kernel, watched_of, may_accept, after_accept, listen, with_note, wakes as wakes_place, with_ticket, posted, post_at, delivered_at, delivered, put_by_poller, batched, opened_place, opened_world, opening_of, token_of, polled, with_worker, with_place, doing, put_by_worker, popped, pop, claim, heard, take, Lodging, lodged_call, call, post, may_release, release, closed_world, close, retire, freed, free, acted, step}
-use Rattle.world.specs.Headline.{one, total, of_slot, tried, worker_tickets, tickets}
+use Rattle.world.specs.Support.{one, total, of_slot, tried, worker_tickets, tickets}
 use Rattle.world.specs.Words.{number, word_of, StepKind, Post, Claim, Take, Release, Retire, Adopt, after_all, Wake, Quiet, is_wake, wakes, claims, at_slot, is_entry, delivery_steps, steps, WordMoves, WordsMove, WordsMoveInRuns}
 use Rattle.world.specs.CoreLaws.{CoreLaws}
 use Rattle.world.proofs.TurnsTotals.{total_push, get-set_same, get-set_other}

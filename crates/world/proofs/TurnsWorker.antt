@@ -9,7 +9,7 @@ use Rattle.world.specs.declared.actors.Doing.TheVariants.{Idle, Tries, Holds, Cl
 use Rattle.world.specs.Places.{Place, Actor, is_held}
 use Rattle.world.specs.States.{State}
 use Rattle.world.specs.Steps.{with_worker, with_place, doing, put_by_worker, popped, pop, claim}
-use Rattle.world.specs.Headline.{one, total, of_slot, tried, worker_tickets, tickets}
+use Rattle.world.specs.Support.{one, total, of_slot, tried, worker_tickets, tickets}
 use Rattle.world.proofs.TurnsTotals.{total_moved, total_at}
 use Rattle.world.proofs.TurnsKept.{Kept, kept_some, kept_none, kept_map, kept_when}
 use Rattle.world.proofs.TurnsFacts.{Facts, facts, SlotOk, Turns, keep_slots, keep_others, names, worker_holds, worker_closes, worker_retires, is_number, right_tickets, one_same, one_other, Replaced, replaced, Turned, turned, turned_elsewhere}

@@ -1,29 +1,26 @@
--- What holds after every run of events, clause by clause. Part of the promises. No definition here depends on how the
--- relay achieves it.
-use Rattle.std.specs.Prelude.{◌≡◌, ℕ, ◌+◌, ◌==◌, Bool, true, false, not, ◌&&◌, ◌||◌, ◌⊎◌, List, [], ◌∷◌, ◌++◌, Option, Some, None, IsSome, slice_get}
+-- The headline: what holds after every run of events, clause by clause. Part of the promises. No definition here depends
+-- on how the relay achieves it; what the clause about due connections depends on is in `Support`.
+use Rattle.std.specs.Prelude.{◌≡◌, ℕ, ◌==◌, true, false, ◌||◌, ◌⊎◌, List, [], ◌∷◌, ◌++◌, Option, Some, None, IsSome, slice_get, option_map, option_and_then}
 use Rattle.std.specs.List.{list_all}
+use Rattle.token.specs.declared.kind.Kind.{Kind}
 use Rattle.token.specs.declared.side.Side.{Side}
 use Rattle.token.specs.declared.side.Side.TheVariants.{Client, Target}
 use Rattle.token.specs.declared.direction.Direction.{Direction}
 use Rattle.token.specs.declared.name.Name.TheVariants as name
-use Rattle.token.specs.Names.{EndName}
 use Rattle.token.specs.Sides.{source, destination}
 use Rattle.flow.specs.Stream.{Stream}
 use Rattle.kernel_model.specs.declared.both.Sockets.{Sockets}
 use Rattle.kernel_model.specs.declared.reply.Reply.TheVariants as reply
-use Rattle.kernel_model.specs.Ends.{Endpoint, is_nonempty, is_readable, is_writable}
+use Rattle.kernel_model.specs.Ends.{Endpoint}
 use Rattle.kernel_model.specs.Kernel.{Registered, end_at}
 use Rattle.kernel_model.specs.Names.{has}
 use Rattle.relay_core.specs.declared.call.Call.{Call}
-use Rattle.relay_core.specs.declared.flags.Flags.{Flags}
 use Rattle.relay_core.specs.declared.verdict.Fault.{Fault}
 use Rattle.relay_core.specs.declared.verdict.Verdict.TheVariants.{Done, Failed}
 use Rattle.relay_core.specs.Calls.{side_of, kind_of}
-use Rattle.relay_core.specs.Pairs.{stream_of, flags_of, verdict}
+use Rattle.relay_core.specs.Pairs.{stream_of, verdict}
 use Rattle.relay_core.specs.Order.{next_call}
 use Rattle.world.specs.declared.connection.Connection.{Connection}
-use Rattle.world.specs.declared.actors.Ticket.{Ticket}
-use Rattle.world.specs.declared.actors.Holder.TheVariants.{Nobody}
 use Rattle.world.specs.declared.actors.Doing.{Doing}
 use Rattle.world.specs.declared.actors.Doing.TheVariants.{Tries, Holds}
 use Rattle.world.specs.declared.event.Event.{Event}
@@ -31,7 +28,7 @@ use Rattle.world.specs.declared.event.Event.TheVariants as event
 use Rattle.world.specs.declared.event.Act.TheVariants as act
 use Rattle.world.specs.declared.limits.Limits.{Limits}
 use Rattle.world.specs.declared.past.Past.{Past}
-use Rattle.world.specs.Places.{Place, Actor, is_held}
+use Rattle.world.specs.Places.{Place, Actor}
 use Rattle.world.specs.States.{State, opening}
 use Rattle.world.specs.Calls.{descriptor}
 use Rattle.world.specs.Steps.{step, connection_at}
@@ -106,31 +103,48 @@ TriedOnOwn st (event.Work w act.Take) = (k : Actor) → slice_get st.workers w �
 TriedOnOwn st (event.Work w act.Claim) = (k : Actor) → slice_get st.workers w ≡ Some k → ClaimsByOwnTicket st k.doing
 TriedOnOwn st e = Unit {0}
 
--- by this event a worker's call fails, which the fault tells: the next call of the connection in a slot
-pub record FailsBy (st : State) (s g : ℕ) (fault : Fault) (e : Event) : Type 0 where
-  pub worker : ℕ
-  pub actor : Actor
-  pub left : ℕ
-  pub connection : Connection
-  pub call : Call
-  pub event : e ≡ event.Work worker (act.Call (reply.Failed fault.kind))
-  pub there : slice_get st.workers worker ≡ Some actor
-  pub holds : actor.doing ≡ Holds s left
-  pub lies : connection_at st s ≡ Some connection
-  pub generation : connection.pair.generation ≡ g
-  pub next : next_call connection.pair ≡ Some call
-  pub side : fault.side ≡ side_of call
-  pub kind : fault.call ≡ kind_of call
+-- Failures
 
--- somewhere among the events
-abbrev pub FailedBy : State → List Event → ℕ → ℕ → Fault → Type 0
-FailedBy st [] s g fault = ⊥
-FailedBy st (e ∷ es) s g fault = FailsBy st s g fault e ⊎ ((q : State) × (step st e ≡ Some q) × FailedBy q es s g fault)
+-- the slot that a worker holds, if it holds one
+abbrev pub slot_held : Doing → Option ℕ
+slot_held (Holds s left) = Some s
+slot_held d = None
+
+abbrev pub held_by : State → ℕ → Option ℕ
+held_by st w = option_and_then (λ (k : Actor). slot_held k.doing) (slice_get st.workers w)
+
+-- the fault that tells of this call, and that it failed with this kind
+abbrev pub fault_of : Kind → Call → Fault
+fault_of kind call = record { side = side_of call; call = kind_of call; kind = kind }
+
+-- a fault, and the slot and generation of the connection that has it
+pub record Failure : Type 0 where
+  pub slot : ℕ
+  pub generation : ℕ
+  pub fault : Fault
+
+abbrev pub failure : ℕ → ℕ → Fault → Failure
+failure s g fault = record { slot = s; generation = g; fault = fault }
+
+-- the next call of the connection in slot s fails with this kind
+abbrev pub next_fails : Kind → ℕ → Connection → Option Failure
+next_fails kind s c = option_map (λ (call : Call). failure s c.pair.generation (fault_of kind call)) (next_call c.pair)
+
+-- the failure that an event brings: a worker's call fails, in the slot that it holds
+abbrev pub failure_by : State → Event → Option Failure
+failure_by st (event.Work w (act.Call (reply.Failed kind))) =
+    option_and_then (λ (s : ℕ). option_and_then (λ (c : Connection). next_fails kind s c) (connection_at st s)) (held_by st w)
+failure_by st e = None
+
+-- one of the events brings this failure
+abbrev pub FailedBy : State → List Event → Failure → Type 0
+FailedBy st [] f = ⊥
+FailedBy st (e ∷ es) f = (failure_by st e ≡ Some f) ⊎ ((q : State) × (step st e ≡ Some q) × FailedBy q es f)
 
 -- a connection failed only after a failed call: live ones, and closed ones
 pub record FailuresHold (first st : State) (events : List Event) : Type 0 where
-  pub lying : (s : ℕ) (c : Connection) (fault : Fault) → connection_at st s ≡ Some c → verdict c.pair ≡ Failed fault → FailedBy first events s c.pair.generation fault
-  pub closed : (i : ℕ) (p : Past) (fault : Fault) → slice_get st.past i ≡ Some p → p.verdict ≡ Failed fault → FailedBy first events p.slot p.generation fault
+  pub lying : (s : ℕ) (c : Connection) (fault : Fault) → connection_at st s ≡ Some c → verdict c.pair ≡ Failed fault → FailedBy first events (failure s c.pair.generation fault)
+  pub closed : (i : ℕ) (p : Past) (fault : Fault) → slice_get st.past i ≡ Some p → p.verdict ≡ Failed fault → FailedBy first events (failure p.slot p.generation fault)
 
 -- No lost edge
 
@@ -141,63 +155,6 @@ DueHolds st = (s : ℕ) → movable st s ≡ true → due st s ≡ true
 -- the listener: with the flag down nobody waits, or its name is queued or in the batch
 abbrev pub ListenerHolds : State → Type 0
 ListenerHolds st = st.flag ≡ false → (st.kernel.backlog == 0) || (has name.Listener st.kernel.queue || has name.Listener st.batch) ≡ true
-
-abbrev pub one : Bool → ℕ
-one true = 1
-one false = 0
-
--- f of each, summed
-abbrev pub total : {X : Type 0} → (X → ℕ) → List X → ℕ
-total f [] = 0
-total f (x ∷ xs) = f x + total f xs
-
-abbrev pub of_slot : ℕ → Ticket → ℕ
-of_slot s t = one (t.slot == s)
-
-abbrev pub tried : ℕ → Doing → ℕ
-tried s (Tries t) = of_slot s t
-tried s d = 0
-
--- the tickets of a slot that a worker has
-abbrev pub worker_tickets : ℕ → Actor → ℕ
-worker_tickets s k = tried s k.doing + total (of_slot s) k.hand
-
--- the tickets of a slot in the ready queue, with the poller and with the workers
-abbrev pub tickets : State → ℕ → ℕ
-tickets st s = total (of_slot s) st.ready + (total (of_slot s) st.hand + total (worker_tickets s) st.workers)
-
--- a slot with notes that is neither held nor free has one ticket, and every other none
-abbrev pub TicketsHold : State → Type 0
-TicketsHold st = (s : ℕ) (p : Place) → slice_get st.slots s ≡ Some p → tickets st s ≡ one (not (is_held p.holder) && is_nonempty p.notes)
-
--- a live connection that nobody holds and that has no notes has no call to make
-abbrev pub RestHolds : State → Type 0
-RestHolds st = (s : ℕ) (p : Place) (c : Connection) → slice_get st.slots s ≡ Some p → p.connection ≡ Some c
-    → p.holder ≡ Nobody → p.notes ≡ [] → next_call c.pair ≡ None
-
--- the poller's table tells each slot's generation
-abbrev pub TableHolds : State → Type 0
-TableHolds st = (s : ℕ) (p : Place) → slice_get st.slots s ≡ Some p → slice_get st.table s ≡ Some p.generation
-
--- A flag that is down is covered: the end is armed for the kind and not ready for it, or ready for it and
--- reported
-abbrev pub is_covered : Bool → Bool → Bool → Bool → Bool
-is_covered flag armed ready reported = flag || ((armed && not ready) || (ready && reported))
-
--- a report of this very end is queued or in the batch, or a note is in its slot
-abbrev pub has_report : State → EndName → List ℕ → Bool
-has_report st token notes = (has (name.End token) st.kernel.queue || has (name.End token) st.batch) || is_nonempty notes
-
--- both flags of one end
-pub record EndCovered (flags : Flags) (x : Endpoint) (reported : Bool) : Type 0 where
-  pub read : is_covered flags.read x.read_armed (is_readable x) reported ≡ true
-  pub write : is_covered flags.write x.write_armed (is_writable x) reported ≡ true
-
--- no flag of a connection's ends is down without cover
-abbrev pub EdgesHold : State → Type 0
-EdgesHold st = (s : ℕ) (p : Place) (c : Connection) (side : Side) (x : Registered)
-    → slice_get st.slots s ≡ Some p → p.connection ≡ Some c → end_of st c side ≡ Some x
-    → EndCovered (flags_of c.pair side) x.socket (has_report st (record { slot = s; side = side; generation = c.pair.generation }) p.notes)
 
 -- The headline: what holds of a list of events from the opening world on, and of the state after it
 

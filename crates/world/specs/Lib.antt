@@ -8,5 +8,6 @@ pub mod Runs
 pub mod Due
 pub mod Given
 pub mod Headline
+pub mod Support
 pub mod Words
 pub mod CoreLaws

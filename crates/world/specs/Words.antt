@@ -16,7 +16,7 @@ use Rattle.world.specs.declared.limits.Limits.{Limits}
 use Rattle.world.specs.Places.{Place, Actor, is_held}
 use Rattle.world.specs.States.{State, opening}
 use Rattle.world.specs.Runs.{run}
-use Rattle.world.specs.Headline.{one, tickets}
+use Rattle.world.specs.Support.{one, tickets}
 
 -- how many notes wait, whether the slot is free, and whether it is held: a free slot counts as held
 pub record Word : Type 0 where

@@ -2,7 +2,8 @@
 ghost use Rattle.std.specs.Prelude.{◌≡◌, IfOk, IfErr, Some};
 ghost use Rattle.world.specs.States.{IsWithinLimits, opening};
 ghost use Rattle.world.specs.Runs.{run, Fails};
-ghost use Rattle.world.specs.Headline.{BytesAndEndsHold, ClosedHold, DueHolds, EdgesHold, FailuresHold, ListenerHolds, RestHolds, TableHolds, Throughout, TicketsHold, TriedOnOwn};
+ghost use Rattle.world.specs.Headline.{BytesAndEndsHold, ClosedHold, DueHolds, FailuresHold, ListenerHolds, Throughout, TriedOnOwn};
+ghost use Rattle.world.specs.Support.{EdgesHold, RestHolds, TableHolds, TicketsHold};
 
 use crate::event::Event;
 use crate::laws::rests_on_core;
