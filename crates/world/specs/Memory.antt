@@ -1,5 +1,5 @@
--- The events for which memory may run out: those that make a list longer. Part of the promises. Any other event happens
--- if it is allowed.
+-- The events for which memory may run out: those that may make a list longer. Part of the promises. Any other event
+-- happens if it is allowed.
 use Rattle.std.specs.Prelude.{ℕ, ◌==◌, Bool, true, false, Option, Some, None, slice_get}
 use Rattle.token.specs.declared.name.Name.{Name}
 use Rattle.token.specs.declared.name.Name.TheVariants as name
@@ -14,6 +14,7 @@ use Rattle.world.specs.declared.event.Act.{Act}
 use Rattle.world.specs.declared.event.Act.TheVariants as act
 use Rattle.world.specs.States.{State}
 
+-- the table has this generation
 abbrev pub is_entry : ℕ → Option ℕ → Bool
 is_entry g (Some entry) = entry == g
 is_entry g None = false
@@ -44,7 +45,8 @@ act_allocates act.Close = true
 act_allocates act.Free = true
 act_allocates a = false
 
--- and bytes arrive, or a report is queued
+-- the network brings bytes, or a change of which a report may be queued; a report is queued without cause; or one of
+-- those above
 abbrev pub may_allocate : State → Event → Bool
 may_allocate st (event.Network s side change) = true
 may_allocate st (event.Spurious who) = true

@@ -3,8 +3,8 @@
 //!
 //! A [`World`] starts from its [`Limits`], and changes by one [`Event`] at a time. Every choice is part of the event:
 //! what the network brings, which names a poll gives, what a call is answered. So [`World::step`] has one outcome, or
-//! refuses the event and changes nothing. [`World::play`] makes a list of events happen, and [`replay`] does so starting
-//! with the opening world.
+//! refuses the event and changes nothing. [`World::play`] makes a list of events happen, and [`replay`] does so from
+//! the opening world on.
 //!
 //! An accepted connection is opened in a free slot, for a new generation of that slot. A report about one of its ends
 //! becomes a note in the slot, if it has the slot's generation; the first note at a slot that nobody holds makes a
