@@ -1,10 +1,8 @@
 //! The causes of faults, for a person: the line, what it says, and what is expected there.
 
 use crate::addresses::address_of;
-use crate::limits::{
-    MAX_BUDGET, MAX_LOOKS, MAX_RING, MAX_SLOTS, MAX_STOP_AFTER, MAX_WORKERS, MIN_NUMBER,
-    MIN_STOP_AFTER, MIN_TARGET_PORT,
-};
+use crate::limits::MAX_LOOKS;
+use crate::table::{BUDGET, LISTEN, RING, SLOTS, STOP_AFTER, TARGET, WORKERS};
 use crate::{Key, OneLine, SettingsFault};
 use std::alloc::{AllocError, Global};
 use std::fmt;
@@ -64,7 +62,7 @@ fn unknown(alloc: Global, text: &str, name: &str) -> Option<String> {
 
 /// A required key, and what it takes.
 fn missing(alloc: Global, key: Key) -> Result<String, AllocError> {
-    let wanted = Wanted::Value(key);
+    let wanted = Wanted::by(key);
     format!(in alloc; "{key}: {wanted}")
 }
 
@@ -83,44 +81,55 @@ fn refused(alloc: Global, text: &str, key: Key) -> Option<String> {
 /// can be made.
 fn in_place_of(value: &Value, key: Key) -> Wanted {
     match (key, value.as_str()) {
-        (Key::Target, Some(text)) if address_of(text).is_some() => Wanted::Port,
-        _ => Wanted::Value(key),
+        (Key::Target, Some(text)) if address_of(text).is_some() => Wanted::Port(TARGET.lowest_port),
+        _ => Wanted::by(key),
     }
 }
 
 /// What is wanted in a settings file.
 #[derive(Clone, Copy)]
 enum Wanted {
+    /// An address, as this one.
+    Address(&'static str),
+    /// A port from this one up.
+    Port(u16),
+    /// A whole number from the first to the second.
+    Number(u32, u32),
+    /// The name of a level.
+    Level,
+}
+
+impl Wanted {
     /// What a key takes.
-    Value(Key),
-    /// A port to which a connection can be made.
-    Port,
+    fn by(key: Key) -> Wanted {
+        match key {
+            Key::Listen => Wanted::Address(LISTEN.example),
+            Key::Target => Wanted::Address(TARGET.example),
+            Key::Ring => Wanted::Number(RING.low, RING.high),
+            Key::Budget => Wanted::Number(BUDGET.low, BUDGET.high),
+            Key::Workers => Wanted::Number(WORKERS.low, WORKERS.high),
+            Key::Slots => Wanted::Number(SLOTS.low, SLOTS.high),
+            Key::StopAfter => Wanted::Number(STOP_AFTER.low, STOP_AFTER.high),
+            Key::Log => Wanted::Level,
+        }
+    }
 }
 
 impl fmt::Display for Wanted {
     fn fmt<W: fmt::Write>(&self, f: &mut fmt::Formatter<W>) -> fmt::Result {
         match *self {
-            Wanted::Value(Key::Listen) => {
-                f.write_str("four numbers and a port, as 127.0.0.1:7000, are wanted")
+            Wanted::Address(example) => {
+                write!(f, "four numbers and a port, as {example}, are wanted")
             }
-            Wanted::Value(Key::Target) => {
-                f.write_str("four numbers and a port, as 127.0.0.1:7001, are wanted")
+            Wanted::Port(lowest) => write!(f, "a port from {lowest} up is wanted"),
+            Wanted::Number(low, high) => {
+                write!(f, "a whole number from {low} to {high} is wanted")
             }
-            Wanted::Value(Key::Ring) => write_range(f, MIN_NUMBER, MAX_RING),
-            Wanted::Value(Key::Budget) => write_range(f, MIN_NUMBER, MAX_BUDGET),
-            Wanted::Value(Key::Workers) => write_range(f, MIN_NUMBER, MAX_WORKERS),
-            Wanted::Value(Key::Slots) => write_range(f, MIN_NUMBER, MAX_SLOTS),
-            Wanted::Value(Key::StopAfter) => write_range(f, MIN_STOP_AFTER, MAX_STOP_AFTER),
-            Wanted::Value(Key::Log) => f.write_str(
+            Wanted::Level => f.write_str(
                 "\"off\", \"error\", \"warn\", \"info\", \"debug\" or \"trace\" is wanted",
             ),
-            Wanted::Port => write!(f, "a port from {MIN_TARGET_PORT} up is wanted"),
         }
     }
-}
-
-fn write_range<W: fmt::Write>(f: &mut fmt::Formatter<W>, low: u32, high: u32) -> fmt::Result {
-    write!(f, "a whole number from {low} to {high} is wanted")
 }
 
 /// The words `line N: ` for the line that sets a key, or nothing if it is not found.

@@ -1,8 +1,8 @@
 //! The settings of a relay: what a TOML text sets, or the first thing that is wrong in it.
 //!
 //! `parse` reads a text. `Settings` has one field for each key and prints as `KEY=VALUE` lines, and `SettingsFault`
-//! prints as the line that a person sees. The table of the keys, with kinds, ranges and defaults, is in
-//! `specs/Table.antt`. `cause` gives the details of a fault that help a person to find it.
+//! prints as the line that a person sees. The table of the keys, with kinds, ranges and defaults, is in `src/table.rt`,
+//! and for the promises in `specs/Table.antt`. `cause` gives the details of a fault that help a person to find it.
 #![tactic(auto)]
 
 mod addresses;
@@ -14,6 +14,7 @@ mod levels;
 mod limits;
 mod one_line;
 mod read;
+mod table;
 #[cfg(test)]
 mod tests;
 

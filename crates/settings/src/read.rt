@@ -14,9 +14,8 @@ use crate::faults::{KeyText, SettingsFault};
 use crate::fields::Settings;
 use crate::keys::Key;
 use crate::levels::LogLevel;
-use crate::limits::{
-    DEFAULT_BUDGET, DEFAULT_RING, DEFAULT_SLOTS, DEFAULT_WORKERS, MAX_BUDGET, MAX_RING, MAX_SLOTS,
-    MAX_STOP_AFTER, MAX_WORKERS, MIN_NUMBER, MIN_STOP_AFTER, MIN_TARGET_PORT,
+use crate::table::{
+    AddressRow, BUDGET, LISTEN, LOG, LevelRow, NumberRow, RING, SLOTS, STOP_AFTER, TARGET, WORKERS,
 };
 use std::alloc::Global;
 use toml::{Table, Value};
@@ -75,74 +74,50 @@ fn settings_of(document: &Table) -> Result<Settings, SettingsFault>
     ensures fault { IfErr result (IsFirstFault table (table_view document.now)) }
 {
     Ok(Settings {
-        listen: address_at(document, Key::Listen, 0)?,
-        target: address_at(document, Key::Target, MIN_TARGET_PORT)?,
-        ring: number_at(document, Key::Ring, MIN_NUMBER, MAX_RING, DEFAULT_RING)? as usize,
-        budget: number_at(
-            document,
-            Key::Budget,
-            MIN_NUMBER,
-            MAX_BUDGET,
-            DEFAULT_BUDGET,
-        )?,
-        workers: number_at(
-            document,
-            Key::Workers,
-            MIN_NUMBER,
-            MAX_WORKERS,
-            DEFAULT_WORKERS,
-        )? as usize,
-        slots: number_at(document, Key::Slots, MIN_NUMBER, MAX_SLOTS, DEFAULT_SLOTS)? as usize,
-        stop_after: number_at(
-            document,
-            Key::StopAfter,
-            MIN_STOP_AFTER,
-            MAX_STOP_AFTER,
-            MIN_STOP_AFTER,
-        )?,
-        log: level_at(document, Key::Log, LogLevel::Info)?,
+        listen: address_at(document, LISTEN)?,
+        target: address_at(document, TARGET)?,
+        ring: number_at(document, RING)? as usize,
+        budget: number_at(document, BUDGET)?,
+        workers: number_at(document, WORKERS)? as usize,
+        slots: number_at(document, SLOTS)? as usize,
+        stop_after: number_at(document, STOP_AFTER)?,
+        log: level_at(document, LOG)?,
     })
 }
 
-/// The address of a required key, whose port is at least `lowest_port`.
-fn address_at(document: &Table, key: Key, lowest_port: u16) -> Result<Address, SettingsFault>
-    ensures gives { IfOk result (λ a. Gives (required key (an_address lowest_port)) (table_view document.now) (address a)) }
-    ensures range { IfOk result (λ a. lowest_port ≤ a.1) }
-    ensures fault { IfErr result (Faults (required key (an_address lowest_port)) (table_view document.now)) }
+/// The address of a row's key.
+fn address_at(document: &Table, row: AddressRow) -> Result<Address, SettingsFault>
+    ensures gives { IfOk result (λ a. Gives (required row.key (an_address row.lowest_port)) (table_view document.now) (address a)) }
+    ensures range { IfOk result (λ a. row.lowest_port ≤ a.1) }
+    ensures fault { IfErr result (Faults (required row.key (an_address row.lowest_port)) (table_view document.now)) }
 {
-    match value_at(document, key) {
-        Some(value) => as_address(value, key, lowest_port),
-        None => Err(SettingsFault::Missing(key)),
+    match value_at(document, row.key) {
+        Some(value) => as_address(value, row.key, row.lowest_port),
+        None => Err(SettingsFault::Missing(row.key)),
     }
 }
 
-/// The whole number of a key, from `low` to `high`.
-fn number_at(
-    document: &Table,
-    key: Key,
-    low: u32,
-    high: u32,
-    default: u32,
-) -> Result<u32, SettingsFault>
-    requires { (low ≤ default) × (default ≤ high) }
-    ensures gives { IfOk result (λ n. Gives (optional key (a_number low high) (number default)) (table_view document.now) (number n)) }
-    ensures range { IfOk result (λ n. (low ≤ n) × (n ≤ high)) }
-    ensures fault { IfErr result (Faults (optional key (a_number low high) (number default)) (table_view document.now)) }
+/// The whole number of a row's key.
+fn number_at(document: &Table, row: NumberRow) -> Result<u32, SettingsFault>
+    requires { (row.low ≤ row.default) × (row.default ≤ row.high) }
+    ensures gives { IfOk result (λ n. Gives (optional row.key (a_number row.low row.high) (number row.default)) (table_view document.now) (number n)) }
+    ensures range { IfOk result (λ n. (row.low ≤ n) × (n ≤ row.high)) }
+    ensures fault { IfErr result (Faults (optional row.key (a_number row.low row.high) (number row.default)) (table_view document.now)) }
 {
-    match value_at(document, key) {
-        Some(value) => as_number(value, key, low, high),
-        None => Ok(default),
+    match value_at(document, row.key) {
+        Some(value) => as_number(value, row.key, row.low, row.high),
+        None => Ok(row.default),
     }
 }
 
-/// The level that a key names.
-fn level_at(document: &Table, key: Key, default: LogLevel) -> Result<LogLevel, SettingsFault>
-    ensures gives { IfOk result (λ l. Gives (optional key a_level (level default)) (table_view document.now) (level l)) }
-    ensures fault { IfErr result (Faults (optional key a_level (level default)) (table_view document.now)) }
+/// The level of a row's key.
+fn level_at(document: &Table, row: LevelRow) -> Result<LogLevel, SettingsFault>
+    ensures gives { IfOk result (λ l. Gives (optional row.key a_level (level row.default)) (table_view document.now) (level l)) }
+    ensures fault { IfErr result (Faults (optional row.key a_level (level row.default)) (table_view document.now)) }
 {
-    match value_at(document, key) {
-        Some(value) => as_level(value, key),
-        None => Ok(default),
+    match value_at(document, row.key) {
+        Some(value) => as_level(value, row.key),
+        None => Ok(row.default),
     }
 }
 
