@@ -37,48 +37,60 @@ fn chosen<'a>(matches: &ArgMatches<'a>) -> Command<'a> {
 
 /// The program's command line.
 fn relayd<'a>(alloc: Global) -> Result<clap::Command<'a>, AllocError> {
-    clap::Command::new(alloc, "relayd")
+    let mut command = clap::Command::new(alloc, "relayd")
         .version(VERSION)
         .about("A TCP port forwarder on edge-triggered readiness, and its simulator")
         .after_help(
             "Without a command, relayd does the same as `relayd sim`.\n\nExamples:\n  relayd run --config examples/relayd.toml\n  relayd sim < examples/one-direction.flow\n\nSee relayd(1) for details and relayd.toml(5) for the settings.",
-        )
-        .subcommand(run(alloc)?)?
-        .subcommand(check(alloc)?)?
-        .subcommand(simulate(alloc))
+        );
+    for row in COMMANDS {
+        command = command.subcommand(subcommand(alloc, row)?)?;
+    }
+    Ok(command)
 }
 
-/// `relayd sim`.
-fn simulate<'a>(alloc: Global) -> clap::Command<'a> {
-    clap::Command::new(alloc, "sim")
-        .about("Runs the script on standard input and prints its report")
-        .after_help(
-            "A script is a header and steps, one per line: what comes from the network, and what the\nsockets reply to the relay. The report says where every byte is after the last step. For\na script with a fault, one line that names the fault is printed, and the status is 1.\n\nExample:\n  relayd sim < examples/one-direction.flow\n\nrelayd(1) lists the steps.",
-        )
+/// A command of the program, as its help describes it.
+#[derive(Clone, Copy)]
+struct CommandRow {
+    name: &'static str,
+    about: &'static str,
+    details: &'static str,
+    /// Whether it takes the settings file as an argument.
+    takes_file: bool,
 }
 
-/// `relayd run --config FILE`.
-fn run<'a>(alloc: Global) -> Result<clap::Command<'a>, AllocError> {
-    Ok(
-        clap::Command::new(alloc, "run")
-            .about("Forwards connections as a settings file says")
-            .after_help(
-                "Listens on the file's `listen` address and forwards each connection to `target`. Prints\n`listening A.B.C.D:PORT` once clients can connect, and writes log lines to standard error.\nIt ends once `stop_after` connections were opened and are all closed, if that is not 0, or\non a fault, with status 1.\n\nExample:\n  relayd run --config examples/relayd.toml\n\nSee relayd(1) for details and relayd.toml(5) for the settings.",
-            )
-            .arg(config(alloc))?,
-    )
-}
+/// The commands, in the order of the help.
+const COMMANDS: [CommandRow; 3] = [
+    CommandRow {
+        name: "run",
+        about: "Forwards connections as a settings file says",
+        details: "Listens on the file's `listen` address and forwards each connection to `target`. Prints\n`listening A.B.C.D:PORT` once clients can connect, and writes log lines to standard error.\nIt ends once `stop_after` connections were opened and are all closed, if that is not 0, or\non a fault, with status 1.\n\nExample:\n  relayd run --config examples/relayd.toml\n\nSee relayd(1) for details and relayd.toml(5) for the settings.",
+        takes_file: true,
+    },
+    CommandRow {
+        name: "check",
+        about: "Reads a settings file and prints every setting, or what is wrong",
+        details: "Prints a line KEY=VALUE for each setting, defaults included. If the file has a fault, the\nfirst one is written to standard error, with its key if it has one, and the status is 1.\n\nExample:\n  relayd check --config examples/relayd.toml\n\nSee relayd.toml(5) for the settings.",
+        takes_file: true,
+    },
+    CommandRow {
+        name: "sim",
+        about: "Runs the script on standard input and prints its report",
+        details: "A script is a header and steps, one per line: what comes from the network, and what the\nsockets reply to the relay. The report says where every byte is after the last step. For\na script with a fault, one line that names the fault is printed, and the status is 1.\n\nExample:\n  relayd sim < examples/one-direction.flow\n\nrelayd(1) lists the steps.",
+        takes_file: false,
+    },
+];
 
-/// `relayd check --config FILE`.
-fn check<'a>(alloc: Global) -> Result<clap::Command<'a>, AllocError> {
-    Ok(
-        clap::Command::new(alloc, "check")
-            .about("Reads a settings file and prints every setting, or what is wrong")
-            .after_help(
-                "Prints a line KEY=VALUE for each setting, defaults included. If the file has a fault, the\nfirst one is written to standard error, with its key if it has one, and the status is 1.\n\nExample:\n  relayd check --config examples/relayd.toml\n\nSee relayd.toml(5) for the settings.",
-            )
-            .arg(config(alloc))?,
-    )
+/// A row's command.
+fn subcommand<'a>(alloc: Global, row: CommandRow) -> Result<clap::Command<'a>, AllocError> {
+    let command = clap::Command::new(alloc, row.name)
+        .about(row.about)
+        .after_help(row.details);
+    if row.takes_file {
+        command.arg(config(alloc))
+    } else {
+        Ok(command)
+    }
 }
 
 /// The argument that names the settings file.

@@ -6,7 +6,7 @@ use crate::constants::MAX_CONFIG_BYTES;
 use crate::faults::ProgramFault;
 use crate::streams::{Stream, log_error};
 use input::{InputFault, read_at_most};
-use log::{Log, error};
+use log::Log;
 use settings::{OneLine, Settings, SettingsFault};
 use std::alloc::Global;
 use std::fmt;
@@ -67,7 +67,7 @@ pub fn read<F: Read, L: Log>(log: &L, alloc: Global, file: &mut F) -> Result<Set
 /// Logs the line of a settings fault, and what it should say.
 fn log_cause(log: &impl Log, alloc: Global, text: &[u8], fault: &SettingsFault) {
     if let Some(cause) = settings::cause(alloc, text, fault) {
-        error!(log; target: "relayd", "settings: {cause}");
+        log_error(log, &"settings", &cause);
     }
 }
 

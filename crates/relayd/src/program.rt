@@ -14,7 +14,7 @@ use crate::faults::{ArgumentsFault, ProgramFault};
 use crate::streams::Stream;
 use clap::error::ErrorKind;
 use log::sink::Console;
-use log::{LevelFilter, Logged};
+use log::{LevelFilter, Log, Logged};
 use script::Outcome;
 use server::{Bound, ServerFault};
 use settings::{LogLevel, Settings};
@@ -76,23 +76,13 @@ where
         return report_fault(errors, ProgramFault::NoMemory);
     };
     let log = Logged::new(*rt, LevelFilter::Error, Console(*rt));
-    let log = &log;
-    let (mut reader, mut writer) = (
-        Stream {
-            name: "input",
-            inner: reader,
-            log,
-        },
-        Stream {
-            name: "output",
-            inner: writer,
-            log,
-        },
-    );
+    let mut writer = Stream {
+        name: "output",
+        inner: writer,
+        log: &log,
+    };
     let outcome = match read_command(rt.alloc(), arguments.as_slice()) {
-        Ok(Command::Simulate) => simulate(rt, &mut reader, &mut writer),
-        Ok(Command::Check(path)) => check(rt, path, &mut writer),
-        Ok(Command::Run(path)) => run(rt, path, &mut writer, serve),
+        Ok(command) => carry_out(rt, &log, command, reader, &mut writer, serve),
         Err(error) => return answer_usage(&error, &mut writer, errors),
     };
     match outcome {
@@ -109,65 +99,98 @@ fn texts(alloc: Global, arguments: &[String]) -> Result<Vec<&str>, AllocError> {
         .collect(alloc)
 }
 
+/// Carries out a command. The causes of faults go to `log`, whatever level a settings file sets, since what it says
+/// about `log` is not yet known where it has a fault.
+fn carry_out<R, S, L: Log, I: Read, O: Write>(
+    rt: &R,
+    log: &L,
+    command: Command<'_>,
+    reader: &mut I,
+    writer: &mut O,
+    serve: &S,
+) -> Result<u8, ProgramFault>
+where
+    R: AllocGlobal + Files + Eprint + Net + Copy + Drop,
+    S: Fn(Settings, Bound) -> Result<(), ServerFault>,
+    requires { S.IsAlwaysCallable serve.now }
+{
+    match command {
+        Command::Simulate => {
+            let name = "input";
+            let mut reader = Stream {
+                name,
+                inner: reader,
+                log,
+            };
+            simulate(rt.alloc(), log, &mut reader, writer)
+        }
+        Command::Check(path) => {
+            let settings = config::load(rt, log, path)?;
+            print(rt.alloc(), &settings, writer)
+        }
+        Command::Run(path) => {
+            let settings = config::load(rt, log, path)?;
+            run(rt, settings, writer, serve)
+        }
+    }
+}
+
 /// Runs a script. Returns 0 if its report was written, and 1 if the line of its fault was. The cause of a fault is
 /// logged.
-fn simulate<R: AllocGlobal + Eprint + Copy + Drop, I: Read, O: Write>(
-    rt: &R,
+fn simulate<L: Log, I: Read, O: Write>(
+    alloc: Global,
+    log: &L,
     reader: &mut I,
     writer: &mut O,
 ) -> Result<u8, ProgramFault>
     ensures report { result ≡ Ok 0 → IfSome (I.remaining reader.old) (λ text. WritesReport text (O.contents writer.old) (O.contents writer.new)) }
     ensures refused { result ≡ Ok 1 → IfSome (I.remaining reader.old) (λ text. WritesFault text (O.contents writer.old) (O.contents writer.new)) }
 {
-    let logged = Logged::new(*rt, LevelFilter::Error, Console(*rt));
-    let causes = LoggedCauses {
-        alloc: rt.alloc(),
-        log: &logged,
-    };
-    match script::run(rt.alloc(), reader, writer, &causes) {
+    match script::run(alloc, reader, writer, &LoggedCauses { alloc, log }) {
         Ok(Outcome::Report) => Ok(DONE),
         Ok(Outcome::Refused) => Ok(FAULT),
         Err(fault) => Err(ProgramFault::Script(fault)),
     }
 }
 
-/// Prints each setting of a settings file.
-fn check<R: AllocGlobal + Files + Eprint + Copy + Drop, O: Write>(
-    rt: &R,
-    path: &str,
-    writer: &mut O,
-) -> Result<u8, ProgramFault> {
-    let settings = load(rt, path)?;
-    let text = format!(in rt.alloc(); "{settings}")?;
+/// Prints each setting.
+fn print(alloc: Global, settings: &Settings, writer: &mut impl Write) -> Result<u8, ProgramFault> {
+    let text = format!(in alloc; "{settings}")?;
     write(writer, text.as_str())?;
     Ok(DONE)
 }
 
-/// The settings of a file. The causes of its faults are logged to the process's own standard error whatever level the
-/// file sets, since what it says about `log` is not yet known.
-fn load<R: AllocGlobal + Files + Eprint + Copy + Drop>(
+/// Listens as the settings say, prints the address, and serves.
+fn run<R, S, O: Write>(
     rt: &R,
-    path: &str,
-) -> Result<Settings, ProgramFault> {
-    let logged = Logged::new(*rt, LevelFilter::Error, Console(*rt));
-    config::load(rt, &logged, path)
-}
-
-/// Listens as a settings file says, prints the address, and serves.
-fn run<R, S, O: Write>(rt: &R, path: &str, writer: &mut O, serve: &S) -> Result<u8, ProgramFault>
+    settings: Settings,
+    writer: &mut O,
+    serve: &S,
+) -> Result<u8, ProgramFault>
 where
-    R: AllocGlobal + Files + Eprint + Net + Copy + Drop,
+    R: AllocGlobal + Eprint + Net + Copy + Drop,
     S: Fn(Settings, Bound) -> Result<(), ServerFault>,
     requires { S.IsAlwaysCallable serve.now }
 {
-    let settings = load(rt, path)?;
+    let bound = bind(rt, &settings)?;
+    announce(rt.alloc(), &bound, writer)?;
+    match serve(settings, bound) {
+        Ok(()) => Ok(DONE),
+        Err(fault) => Err(ProgramFault::Server(fault)),
+    }
+}
+
+/// Listens where the settings say.
+fn bind<R: Eprint + Net + Copy + Drop>(rt: &R, settings: &Settings) -> Result<Bound, ProgramFault> {
     let logged = Logged::new(*rt, level_filter(settings.log), Console(*rt));
-    let bound = server::bind(&logged, &settings).map_err(ProgramFault::Server)?;
+    server::bind(&logged, settings).map_err(ProgramFault::Server)
+}
+
+/// Prints the address that clients can connect to.
+fn announce(alloc: Global, bound: &Bound, writer: &mut impl Write) -> Result<(), ProgramFault> {
     let address = bound.text();
-    let line = format!(in rt.alloc(); "listening {address}\n")?;
-    write(writer, line.as_str())?;
-    serve(settings, bound).map_err(ProgramFault::Server)?;
-    Ok(DONE)
+    let line = format!(in alloc; "listening {address}\n")?;
+    write(writer, line.as_str())
 }
 
 /// The filter with the same name as a level of the settings.

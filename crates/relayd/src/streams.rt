@@ -48,7 +48,7 @@ impl<W: Write, N: fmt::Display, L: Log> Write for Stream<'_, W, N, L> {
     }
 }
 
-/// Logs why a stream could not be opened, read or written.
-pub fn log_error<N: fmt::Display>(log: &impl Log, name: &N, error: &io::Error) {
+/// Logs what is wrong with a stream, or with what was read from it.
+pub fn log_error<N: fmt::Display, E: fmt::Display>(log: &impl Log, name: &N, error: &E) {
     error!(log; target: "relayd", "{name}: {error}");
 }
