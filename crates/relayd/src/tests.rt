@@ -9,7 +9,7 @@ use crate::faults::ArgumentsFault;
 use crate::program::{act, report_arguments_fault};
 use ends::{Sink, Source};
 use std::alloc::{AllocError, Global};
-use std::io::ErrorKind;
+use std::io::{self, ErrorKind};
 use std::test::Fail;
 use std::{env, fs, process};
 
@@ -34,6 +34,18 @@ struct Run {
 }
 
 impl Run {
+    /// Whether it ended well, and wrote this.
+    fn is_whole(&self, output: &[u8]) -> bool {
+        self.status == 0 && self.errors.is_empty() && self.output.as_slice() == output
+    }
+
+    /// Whether a fault is reported, by this line on standard error, and this was written before.
+    fn is_fault(&self, errors: &[u8], output: Option<&[u8]>) -> bool {
+        self.status == 1
+            && self.errors.as_slice() == errors
+            && Some(self.output.as_slice()) == output
+    }
+
     /// Whether memory ran out, however much the writer took of the line that says so.
     fn is_out_of_memory(&self) -> bool {
         let output = self.output.as_slice();
@@ -43,20 +55,17 @@ impl Run {
 
     /// Whether the failure of the writer is reported, and the output is this.
     fn is_unwritten(&self, output: Option<&[u8]>) -> bool {
-        self.status == 1
-            && self.errors.as_slice() == b"relayd: output: cannot be written\n".as_slice()
-            && Some(self.output.as_slice()) == output
+        self.is_fault(b"relayd: output: cannot be written\n", output)
     }
 }
 
-/// Runs the program on a reader and a writer. Where memory runs out, the test fails by that, and not by a text that it
-/// doesn't expect.
-fn play(
+/// Runs the program on a reader and a writer.
+fn ran(
     rt: &HostRuntime,
     arguments: &[String],
     source: &mut Source<'_>,
     mut sink: Sink,
-) -> Result<Run, Fail> {
+) -> Result<Run, AllocError> {
     let mut errors = Vec::with_capacity(rt.alloc(), ROOM)?;
     let status = act(
         rt,
@@ -66,11 +75,22 @@ fn play(
         &mut errors,
         &|_settings, _bound| Ok(()),
     );
-    let run = Run {
+    Ok(Run {
         status,
         output: sink.into_taken(),
         errors,
-    };
+    })
+}
+
+/// Runs the program on a reader and a writer. Where memory runs out, the test fails by that, and not by a text that it
+/// doesn't expect.
+fn play(
+    rt: &HostRuntime,
+    arguments: &[String],
+    source: &mut Source<'_>,
+    sink: Sink,
+) -> Result<Run, Fail> {
+    let run = ran(rt, arguments, source, sink)?;
     if run.is_out_of_memory() {
         Err(Fail::from(AllocError))
     } else {
@@ -87,11 +107,21 @@ fn arguments(alloc: Global, line: &str) -> Result<Vec<String>, AllocError> {
     Ok(arguments)
 }
 
-/// The arguments of a check of this file.
-fn check_arguments(alloc: Global, path: &str) -> Result<Vec<String>, AllocError> {
-    let mut arguments = arguments(alloc, "relayd check --config")?;
-    arguments.push(String::from_str(alloc, path)?)?;
+/// Writes a settings file with the two settings that are needed: the arguments of its check.
+fn write_needed(rt: &HostRuntime, name: &str) -> Result<Vec<String>, Fail> {
+    let path = path(rt, name)?;
+    fs::write(rt, path.as_str(), NEEDED)?;
+    let mut arguments = arguments(rt.alloc(), "relayd check --config")?;
+    arguments.push(path)?;
     Ok(arguments)
+}
+
+/// Removes the settings file that is checked with these arguments.
+fn remove_needed(rt: &HostRuntime, arguments: &[String]) -> io::Result<()> {
+    match arguments.last() {
+        Some(path) => fs::remove_file(rt, path.as_str()),
+        None => Ok(()),
+    }
 }
 
 /// The name of a settings file of a test.
@@ -109,33 +139,31 @@ fn reads_in_small_pieces(rt: HostRuntime) -> Result<(), Fail> {
     let mut source = Source::in_pieces(SCRIPT, 1);
     let sink = Sink::failing_after(rt.alloc(), ROOM)?;
     let run = play(&rt, &[], &mut source, sink)?;
-    assert_eq!(rt; run.status, 0);
-    assert_eq!(rt; run.output.as_slice(), REPORT);
+    assert!(rt; run.is_whole(REPORT));
     assert_eq!(rt; source.reads(), SCRIPT.len() + 1);
     Ok(())
+}
+
+/// A read that fails after so many bytes is reported at once: a byte a read, and none after the one that failed.
+fn reports_a_failed_read(rt: &HostRuntime, length: usize, kind: ErrorKind) -> Result<(), Fail> {
+    let mut source = Source::failing_once(SCRIPT, length, kind);
+    let sink = Sink::failing_after(rt.alloc(), ROOM)?;
+    let run = play(rt, &[], &mut source, sink)?;
+    let is_reported = run.is_fault(b"relayd: input: cannot be read\n", Some(b"".as_slice()));
+    if is_reported && source.reads() == length.saturating_add(1) {
+        Ok(())
+    } else {
+        Err(Fail::from("a read that fails is not reported at once"))
+    }
 }
 
 // Any error is reported at once, also a signal's, and one that leaves the rest to be read.
 #[test]
 fn a_reader_that_fails(rt: HostRuntime) -> Result<(), Fail> {
-    for kind in [
-        ErrorKind::Interrupted,
-        ErrorKind::OutOfMemory,
-        ErrorKind::Other,
-    ] {
-        for length in 0..SCRIPT.len() + 1 {
-            let mut source = Source::failing_once(SCRIPT, length, kind);
-            let sink = Sink::failing_after(rt.alloc(), ROOM)?;
-            let run = play(&rt, &[], &mut source, sink)?;
-            assert_eq!(rt; run.status, 1, "{kind:?} after {length} bytes");
-            assert!(rt; run.output.is_empty(), "{kind:?} after {length} bytes");
-            assert_eq!(rt;
-                run.errors.as_slice(),
-                b"relayd: input: cannot be read\n".as_slice()
-            );
-            // A byte a read, and none after the one that failed.
-            assert_eq!(rt; source.reads(), length + 1, "{kind:?}");
-        }
+    for length in 0..SCRIPT.len() + 1 {
+        reports_a_failed_read(&rt, length, ErrorKind::Interrupted)?;
+        reports_a_failed_read(&rt, length, ErrorKind::OutOfMemory)?;
+        reports_a_failed_read(&rt, length, ErrorKind::Other)?;
     }
     Ok(())
 }
@@ -179,11 +207,9 @@ fn a_writer_that_fails_in_help(rt: HostRuntime) -> Result<(), Fail> {
 
 #[test]
 fn a_writer_that_fails_in_check(rt: HostRuntime) -> Result<(), Fail> {
-    let path = path(&rt, "writer")?;
-    let arguments = check_arguments(rt.alloc(), path.as_str())?;
-    fs::write(&rt, path.as_str(), NEEDED)?;
+    let arguments = write_needed(&rt, "writer")?;
     let reported = reports_a_failed_writer(&rt, arguments.as_slice(), b"");
-    let removed = fs::remove_file(&rt, path.as_str());
+    let removed = remove_needed(&rt, arguments.as_slice());
     reported?;
     removed?;
     Ok(())
