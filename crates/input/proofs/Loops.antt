@@ -5,7 +5,7 @@ use Rattle.std.specs.Io.KnownBytes.{Consumes, IsAtEnd}
 use Rattle.std.proofs.KnownBytes.{Consumes-trans}
 use Rattle.std.proofs.lemmas.List.{take_all}
 use Rattle.std.proofs.Math.Seq.{take-append_seam}
-use Rattle.input.specs.Reads.{TakesAtMost, ReadsOn, Stops}
+use Rattle.input.specs.Reads.{TakesAtMost, TakesSome, ReadsOn, Stops}
 
 pub record Reads (most : ℕ) (first now : Option (List ℕ)) (text : List ℕ) (reads : ℕ) : Type 0 where
   pub consumed : Consumes first now text
@@ -47,3 +47,8 @@ pub taken_last : (most : ℕ) (a b c : Option (List ℕ)) (text : List ℕ) (rea
 taken_last most a b c text reads r stop =
     let few : length (text ++ stop.bytes) ≤ most = omega (arith, stop.few, length-append text stop.bytes) in
     (text ++ stop.bytes, (Consumes-trans a b c text stop.bytes r.consumed stop.consumed, few))
+
+-- the last read took some
+pub taken_some : (most : ℕ) (a b c : Option (List ℕ)) (text : List ℕ) (reads : ℕ) → Reads most a b text reads → TakesSome b c → TakesSome a c
+taken_some most a b c text reads r (bytes, (consumed, some)) =
+    (text ++ bytes, (Consumes-trans a b c text bytes r.consumed consumed, omega (arith, some, length-append text bytes)))

@@ -1,11 +1,15 @@
--- What reads take from a reader whose bytes are known. `TakesAtMost` is part of the promises, the rest is for proofs
--- alone.
+-- What reads take from a reader whose bytes are known. `TakesAtMost` and `TakesSome` are part of the promises, the
+-- rest is for proofs alone.
 use Rattle.std.specs.Prelude.{◌≡◌, ℕ, ◌+◌, ◌<◌, ◌≤◌, List, ◌++◌, length, Option}
 use Rattle.std.specs.Io.KnownBytes.{Consumes, IsAtEnd}
 
 -- at most this many bytes
 abbrev pub TakesAtMost : ℕ → Option (List ℕ) → Option (List ℕ) → Type 0
 TakesAtMost most old new = (bytes : List ℕ) × (Consumes old new bytes × (length bytes ≤ most))
+
+-- a byte at least
+abbrev pub TakesSome : Option (List ℕ) → Option (List ℕ) → Type 0
+TakesSome old new = (bytes : List ℕ) × (Consumes old new bytes × (0 < length bytes))
 
 -- one read put n bytes behind a text, and none only at the end or where the text was full
 pub record ReadsOn (most : ℕ) (before after : Option (List ℕ)) (old new : List ℕ) (n : ℕ) : Type 0 where

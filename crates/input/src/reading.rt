@@ -1,5 +1,5 @@
 ghost use Rattle.std.specs.Prelude.{◌≡◌, ◌≤◌, IfOk, IfErr, IfSome, take, vec_len};
-ghost use Rattle.input.specs.Reads.{TakesAtMost, ReadsOn, Stops};
+ghost use Rattle.input.specs.Reads.{TakesAtMost, TakesSome, ReadsOn, Stops};
 
 use std::alloc::Global;
 use std::io::Read;
@@ -20,7 +20,8 @@ pub enum InputFault {
 /// asks for n + 1, and if it gets n + 1 knows that the input is too long.
 ///
 /// It makes at most `most` reads. The first error of the reader, even an interruption by a signal, ends it with
-/// [`InputFault::Unreadable`]. After a fault, the bytes that were read are lost.
+/// [`InputFault::Unreadable`]. Memory runs out only for bytes that the reader gave. After a fault, the bytes that were
+/// read are lost.
 pub fn read_at_most<R: Read>(
     alloc: Global,
     reader: &mut R,
@@ -29,6 +30,7 @@ pub fn read_at_most<R: Read>(
     ensures text { IfOk result (λ text. IfSome (R.remaining reader.old) (λ input. text.items ≡ take most input)) }
     ensures length { IfOk result (λ text. vec_len text ≤ most) }
     ensures taken { TakesAtMost most (R.remaining reader.old) (R.remaining reader.new) }
+    ensures memory { IfErr result (λ fault. fault ≡ InputFault.NoMemory → TakesSome (R.remaining reader.old) (R.remaining reader.new)) }
 {
     let mut text = Vec::new(alloc);
     // Each read but the last gives at least a byte, so this many reads are enough.
@@ -36,7 +38,10 @@ pub fn read_at_most<R: Read>(
         if text.len() == most {
             return Ok(text);
         }
-        let count = read_on(reader, &mut text, most)?;
+        let count = match read_on(reader, &mut text, most) {
+            Ok(count) => count,
+            Err(fault) => return Err(fault),
+        };
         if count == 0 {
             return Ok(text);
         }
@@ -49,11 +54,13 @@ fn read_on<R: Read>(reader: &mut R, text: &mut Vec<u8>, most: usize) -> Result<u
     requires { vec_len text.old ≤ most }
     ensures reads { IfOk result (λ count. ReadsOn most (R.remaining reader.old) (R.remaining reader.new) text.old.items text.new.items count) }
     ensures stops { IfErr result (λ fault. Stops most (R.remaining reader.old) (R.remaining reader.new) text.old.items) }
+    ensures memory { IfErr result (λ fault. fault ≡ InputFault.NoMemory → TakesSome (R.remaining reader.old) (R.remaining reader.new)) }
     ensures most { vec_len text.new ≤ most }
 {
     let mut buffer = [0u8; 4096];
     let room = buffer.len().min(most - text.len());
     match reader.read(&mut buffer[..room]) {
+        Ok(0) => Ok(0),
         Ok(count) => match text.extend_from_slice(&buffer[..count]) {
             Ok(()) => Ok(count),
             Err(_) => Err(InputFault::NoMemory),

@@ -1,39 +1,57 @@
 -- From what was computed of the text that was read, and what was written of it, to the whole input.
-use Rattle.std.proofs.Common.{◌≡◌, ◌⊎◌, ℕ, ◌+◌, ◌<◌, ◌≤◌, List, length, take, Option, Some, None, Result, Ok, Err, inl, inr, refl, ap, ◌∙◌, subst, arith}
-use Rattle.std.specs.Prelude.{IfSome, IfOk}
+use Rattle.std.proofs.Common.{◌≡◌, ◌⊎◌, ℕ, ◌+◌, ◌<◌, ◌≤◌, List, [], ◌∷◌, length, take, Option, Some, None, Result, Ok, Err, inl, inr, refl, sym, ◌∙◌, subst, arith}
+use Rattle.std.specs.Prelude.{IfSome, IfOk, IsSome}
 use Rattle.std.proofs.lemmas.Result.{IfOk-at_ok}
 use Rattle.std.proofs.lemmas.List.{take_all, length-take-le}
-use Rattle.std.proofs.lemmas.Bool.{cases_lt, lt-ltb}
+use Rattle.std.proofs.lemmas.Bool.{cases_lt, lt-ltb, le-ltb}
 use Rattle.std.specs.Io.KnownBytes.{Appends}
 use Rattle.script.specs.declared.fault.Fault.{Fault}
 use Rattle.script.specs.declared.fault.Fault.TheVariants.{TooLong, NoWorld, Malformed, NotAllowed, NoMemory}
 use Rattle.script.specs.declared.running.Outcome.{Outcome}
-use Rattle.script.specs.declared.running.Outcome.TheVariants.{Refused}
+use Rattle.script.specs.declared.running.Outcome.TheVariants.{Report, Refused}
 use Rattle.script.specs.declared.running.ScriptFault.{ScriptFault}
 use Rattle.script.specs.declared.script.Script.{Script}
 use Rattle.script.specs.declared.script.Reached.{Reached}
+use Rattle.script.specs.declared.header.Header.{Header}
 use Rattle.script.specs.Faults.{Gives, GivesBy, and_then}
-use Rattle.script.specs.Scripts.{Plan, most_bytes, parsed, said_by}
+use Rattle.script.specs.Texts.{NumberedLine, lines_of, telling_lines}
+use Rattle.script.specs.Headers.{header_of, first_header}
+use Rattle.script.specs.Scripts.{Plan, MayBeScript, most_bytes, or_malformed, headed, plan_of, parsed, said_by}
 use Rattle.script.specs.Plays.{reached_by}
 use Rattle.script.specs.Reports.{fault_line}
-use Rattle.script.specs.Runs.{LeadsTo, Tells, WritesFault, EveryByte, EveryEnd}
+use Rattle.script.specs.Runs.{LeadsTo, Tells, WritesReport, WritesFault, RanOut, EveryByte, EveryEnd}
 use Rattle.script.proofs.Keeping.{keeps_bytes, keeps_end}
 
--- a fault of what was computed first is one of the whole
-pub gives_on : {X Y : Type 0} (f : X → Result Y Fault) (d : Result X Fault) (fault : Fault) → Gives d (Err fault) → Gives (and_then f d) (Err fault)
-gives_on f d TooLong is = ap (and_then f) is
-gives_on f d NoWorld is = ap (and_then f) is
-gives_on f d (Malformed line) is = ap (and_then f) is
-gives_on f d (NotAllowed line word) is = ap (and_then f) is
-gives_on f d NoMemory is = tt
+-- a text that is a script is as long as one may be, and has a good header
+at_header : (n : ℕ) (ls : List NumberedLine) (p : Plan) (o : Option Header) → and_then (λ h. headed h ls) (or_malformed n o) ≡ Ok p → IsSome o
+at_header n ls p None is = absurd (cc)
+at_header n ls p (Some h) is = refl
+
+has_header : (ls : List NumberedLine) (p : Plan) → plan_of ls ≡ Ok p → IsSome (first_header ls)
+has_header [] p is = absurd (cc)
+has_header (l ∷ ls) p is = at_header l.number ls p (header_of l.text) is
+
+long_is_none : (text : List ℕ) (p : Plan) → most_bytes < length text → parsed text ≡ Ok p → ⊥
+long_is_none text p long is =
+    let clash : Err TooLong ≡ Ok p = rw (lt-ltb most_bytes (length text) long) at is in
+    absurd (cc)
+
+script_may : (text : List ℕ) (p : Plan) → parsed text ≡ Ok p → MayBeScript text
+script_may text p is = by_length (cases_lt most_bytes (length text))
+  where
+    by_length : (most_bytes < length text) ⊎ (length text ≤ most_bytes) → MayBeScript text
+    by_length (inl long) = absurd (long_is_none text p long is)
+    by_length (inr short) =
+        let planned : plan_of (telling_lines 1 (lines_of text)) ≡ Ok p = rw (le-ltb most_bytes (length text) short) at is in
+        (short, has_header (telling_lines 1 (lines_of text)) p planned)
 
 -- a text that is no script
-pub no_script : (text : List ℕ) (fault : Fault) → GivesBy said_by (parsed text) (Err fault) → LeadsTo text (Err fault)
-no_script text TooLong is = inl is
-no_script text NoWorld is = inl is
-no_script text (Malformed line) is = inl is
-no_script text (NotAllowed line word) is = inl is
-no_script text NoMemory is = tt
+pub no_script : (text : List ℕ) (fault : Fault) → GivesBy said_by (parsed text) (Err fault) → (fault ≡ NoMemory → MayBeScript text) → LeadsTo text (Err fault)
+no_script text TooLong is may = inl is
+no_script text NoWorld is may = inl is
+no_script text (Malformed line) is may = inl is
+no_script text (NotAllowed line word) is may = inl is
+no_script text NoMemory is may = may refl
 
 -- a text that is a script, and what that leads to
 pub by_script : (text : List ℕ) (script : Script) (r : Result Reached Fault) → parsed text ≡ Ok (said_by script) → Gives (reached_by script) r → LeadsTo text r
@@ -42,56 +60,81 @@ by_script text script (Err TooLong) is to = inr (script, (is, to))
 by_script text script (Err NoWorld) is to = inr (script, (is, to))
 by_script text script (Err (Malformed line)) is to = inr (script, (is, to))
 by_script text script (Err (NotAllowed line word)) is to = inr (script, (is, to))
-by_script text script (Err NoMemory) is to = tt
+by_script text script (Err NoMemory) is to = script_may text (said_by script) is
 
--- a front that is one byte longer than a script may be is the script that the whole input is
-short_parsed : (input : List ℕ) → length input ≤ most_bytes → parsed (take (most_bytes + 1) input) ≡ parsed input
-short_parsed input short = ap parsed (take_all (most_bytes + 1) input (omega (arith, short)))
-
+-- a front that is one byte longer than a script may be is as long as the input, or too long as the input is
 long_parsed : (input : List ℕ) → most_bytes < length input → parsed (take (most_bytes + 1) input) ≡ parsed input
 long_parsed input long =
     let longer : most_bytes < length (take (most_bytes + 1) input) = omega (arith, length-take-le (most_bytes + 1) input (omega (arith, long))) in
     rw (lt-ltb most_bytes (length (take (most_bytes + 1) input)) longer, lt-ltb most_bytes (length input) long) refl
 
-same_parsed : (input : List ℕ) → parsed (take (most_bytes + 1) input) ≡ parsed input
-same_parsed input = by_length (cases_lt most_bytes (length input))
-  where
-    by_length : (most_bytes < length input) ⊎ (length input ≤ most_bytes) → parsed (take (most_bytes + 1) input) ≡ parsed input
-    by_length (inl long) = long_parsed input long
-    by_length (inr short) = short_parsed input short
+long_may : (input : List ℕ) → most_bytes < length input → MayBeScript (take (most_bytes + 1) input) → ⊥
+long_may input long may = omega (arith, may.0, length-take-le (most_bytes + 1) input (omega (arith, long)))
 
 -- texts that are one script lead to the same
-leads_too : (text input : List ℕ) (r : Result Reached Fault) → parsed text ≡ parsed input → LeadsTo text r → LeadsTo input r
-leads_too text input r same to = subst (λ (p : Result Plan Fault). By p r) same to
+leads_too : (text input : List ℕ) (r : Result Reached Fault) → parsed text ≡ parsed input → (MayBeScript text → MayBeScript input) → LeadsTo text r → LeadsTo input r
+leads_too text input (Ok reached) same may (script, (is, to)) = (script, (sym same ∙ is, to))
+leads_too text input (Err NoMemory) same may to = may to
+leads_too text input (Err TooLong) same may (inl is) = inl (sym same ∙ is)
+leads_too text input (Err TooLong) same may (inr (script, (is, to))) = inr (script, (sym same ∙ is, to))
+leads_too text input (Err NoWorld) same may (inl is) = inl (sym same ∙ is)
+leads_too text input (Err NoWorld) same may (inr (script, (is, to))) = inr (script, (sym same ∙ is, to))
+leads_too text input (Err (Malformed line)) same may (inl is) = inl (sym same ∙ is)
+leads_too text input (Err (Malformed line)) same may (inr (script, (is, to))) = inr (script, (sym same ∙ is, to))
+leads_too text input (Err (NotAllowed line word)) same may (inl is) = inl (sym same ∙ is)
+leads_too text input (Err (NotAllowed line word)) same may (inr (script, (is, to))) = inr (script, (sym same ∙ is, to))
+
+-- what was computed of the front holds of the whole input
+of_front : (input : List ℕ) (r : Result Reached Fault) → LeadsTo (take (most_bytes + 1) input) r → LeadsTo input r
+of_front input r to = by_length (cases_lt most_bytes (length input))
   where
-    By : Result Plan Fault → Result Reached Fault → Type 0
-    By p (Ok reached) = (script : Script) × ((p ≡ Ok (said_by script)) × (reached_by script ≡ Ok reached))
-    By p (Err NoMemory) = Unit {0}
-    By p (Err fault) = (p ≡ Err fault) ⊎ ((script : Script) × ((p ≡ Ok (said_by script)) × (reached_by script ≡ Err fault)))
+    by_length : (most_bytes < length input) ⊎ (length input ≤ most_bytes) → LeadsTo input r
+    by_length (inl long) =
+        leads_too (take (most_bytes + 1) input) input r (long_parsed input long) (λ may. absurd (long_may input long may)) to
+    by_length (inr short) = subst (λ (t : List ℕ). LeadsTo t r) (take_all (most_bytes + 1) input (omega (arith, short))) to
 
--- what was computed of the front that was read holds of the whole input
-pub of_input : (most : ℕ) (a : Option (List ℕ)) (text : List ℕ) (o : Result Reached Fault) → IfSome a (λ input. text ≡ take most input)
-    → most ≡ most_bytes + 1 → LeadsTo text o → IfSome a (λ input. LeadsTo input o)
-of_input most None text o front is to = tt
-of_input most (Some input) text o front is to =
-    leads_too text input o (ap parsed front ∙ ap (λ (n : ℕ). parsed (take n input)) is ∙ same_parsed input) to
+of_input : (text input : List ℕ) (r : Result Reached Fault) → text ≡ take (most_bytes + 1) input → LeadsTo text r → LeadsTo input r
+of_input text input r front to = of_front input r (subst (λ (t : List ℕ). LeadsTo t r) front to)
 
--- memory ran out before the line of a fault was made
-pub no_memory_told : (fault : Fault) (r : Result Outcome ScriptFault) (old new : Option (List ℕ))
-    → IfOk r (λ told. (told ≡ Refused) × Appends old new (fault_line NoMemory)) → IfOk r (λ told. Tells (Err fault) told old new)
-no_memory_told fault (Ok told) old new wrote = rw wrote.0 (inr wrote.1)
-no_memory_told fault (Err e) old new wrote = tt
+-- what was written for the text that was read is what the whole input leads to
+pub reports : (a : Option (List ℕ)) (text front : List ℕ) (r : Result Outcome ScriptFault) (old new : Option (List ℕ))
+    → text ≡ front → IfSome a (λ input. front ≡ take (most_bytes + 1) input) → (r ≡ Ok Report → WritesReport text old new)
+    → r ≡ Ok Report → IfSome a (λ input. WritesReport input old new)
+reports None text front r old new same cut told is = tt
+reports (Some input) text front r old new same cut told is = whole (told is)
+  where
+    whole : WritesReport text old new → WritesReport input old new
+    whole (reached, (to, wrote)) = (reached, (of_input text input (Ok reached) (same ∙ cut) to, wrote))
 
--- the line of a fault was written, or that memory ran out
-refused_told : (text : List ℕ) (o : Result Reached Fault) (old new : Option (List ℕ)) → LeadsTo text o → Tells o Refused old new → WritesFault text old new
-refused_told text (Ok reached) old new to wrote = (NoMemory, (tt, wrote))
-refused_told text (Err fault) old new to (inl wrote) = (fault, (to, wrote))
-refused_told text (Err fault) old new to (inr wrote) = (NoMemory, (tt, wrote))
+pub refuses : (a : Option (List ℕ)) (text front : List ℕ) (r : Result Outcome ScriptFault) (old new : Option (List ℕ))
+    → text ≡ front → IfSome a (λ input. front ≡ take (most_bytes + 1) input) → (r ≡ Ok Refused → WritesFault text old new)
+    → r ≡ Ok Refused → IfSome a (λ input. RanOut input old new)
+refuses None text front r old new same cut told is = tt
+refuses (Some input) text front r old new same cut told is = whole (told is)
+  where
+    whole : WritesFault text old new → RanOut input old new
+    whole (fault, (to, wrote)) = inl (fault, (of_input text input (Err fault) (same ∙ cut) to, wrote))
 
-pub refuses : (a : Option (List ℕ)) (o : Result Reached Fault) (r : Result Outcome ScriptFault) (old new : Option (List ℕ))
-    → IfSome a (λ text. LeadsTo text o) → IfOk r (λ told. Tells o told old new) → r ≡ Ok Refused → IfSome a (λ text. WritesFault text old new)
-refuses None o r old new to told refused = tt
-refuses (Some text) o r old new to told refused = refused_told text o old new to (IfOk-at_ok (λ (u : Outcome). Tells o u old new) refused told)
+-- memory ran out before the script was read
+pub ran_out : (a : Option (List ℕ)) (old new : Option (List ℕ)) → Appends old new (fault_line NoMemory) → IfSome a (λ input. RanOut input old new)
+ran_out None old new wrote = tt
+ran_out (Some input) old new wrote = inr wrote
+
+-- what was told of a text's outcome
+pub tells_report : (text : List ℕ) (o : Result Reached Fault) (r : Result Outcome ScriptFault) (old new : Option (List ℕ))
+    → LeadsTo text o → IfOk r (λ told. Tells o told old new) → r ≡ Ok Report → WritesReport text old new
+tells_report text (Ok reached) r old new to told is = (reached, (to, IfOk-at_ok (λ (u : Outcome). Tells (Ok reached) u old new) is told))
+tells_report text (Err fault) r old new to told is = absurd (IfOk-at_ok (λ (u : Outcome). Tells (Err fault) u old new) is told)
+
+-- there was no memory for the report of a script
+leads_may : (text : List ℕ) (reached : Reached) → LeadsTo text (Ok reached) → MayBeScript text
+leads_may text reached (script, (is, to)) = script_may text (said_by script) is
+
+pub tells_refused : (text : List ℕ) (o : Result Reached Fault) (r : Result Outcome ScriptFault) (old new : Option (List ℕ))
+    → LeadsTo text o → IfOk r (λ told. Tells o told old new) → r ≡ Ok Refused → WritesFault text old new
+tells_refused text (Ok reached) r old new to told is =
+    (NoMemory, (leads_may text reached to, IfOk-at_ok (λ (u : Outcome). Tells (Ok reached) u old new) is told))
+tells_refused text (Err fault) r old new to told is = (fault, (to, IfOk-at_ok (λ (u : Outcome). Tells (Err fault) u old new) is told))
 
 -- the two laws hold of every text
 pub every_byte : (a : Option (List ℕ)) → IfSome a EveryByte

@@ -1,8 +1,11 @@
 -- What a run writes, given what its reader had. Part of the promises.
-use Rattle.std.specs.Prelude.{◌≡◌, ◌⊎◌, ℕ, List, Option, Result, Ok, Err}
+use Rattle.std.specs.Prelude.{◌≡◌, ◌⊎◌, ℕ, List, Option, Some, Result, Ok, Err}
 use Rattle.std.specs.Io.KnownBytes.{Appends}
-use Rattle.world.specs.States.{State}
-use Rattle.world.specs.Headline.{HeadlineHolds}
+use Rattle.world.specs.declared.limits.Limits.{Limits}
+use Rattle.world.specs.declared.event.Event.{Event}
+use Rattle.world.specs.States.{State, opening}
+use Rattle.world.specs.Runs.{run}
+use Rattle.world.specs.Headline.{HeadlineHolds, TicketsHold, RestHolds, TableHolds, EdgesHold}
 use Rattle.script.specs.declared.fault.Fault.{Fault}
 use Rattle.script.specs.declared.fault.Fault.TheVariants.{NoMemory}
 use Rattle.script.specs.declared.running.Outcome.{Outcome}
@@ -12,7 +15,7 @@ use Rattle.script.specs.declared.script.Script.TheVariants as script
 use Rattle.script.specs.declared.script.Reached.{Reached}
 use Rattle.script.specs.declared.script.Reached.TheVariants.{Flow, World}
 use Rattle.script.specs.Plans.{FlowPlan, WorldPlan, events_in}
-use Rattle.script.specs.Scripts.{FlowOf, parsed, said_by}
+use Rattle.script.specs.Scripts.{FlowOf, MayBeScript, parsed, said_by}
 use Rattle.script.specs.Plays.{reached_by, world_of}
 use Rattle.script.specs.Reports.{report, fault_line}
 use Rattle.script.specs.WorldReports.{world_report}
@@ -24,26 +27,31 @@ report_of (Flow transfer) = report transfer
 report_of (World state) = world_report state
 
 -- What a text leads to: the state after the whole script that it is, or its first fault. The whole text is
--- parsed before the first step is made. Or memory ran out, which says nothing of the text.
+-- parsed before the first step is made. Memory runs out only for a text that is a script, or may be one: it is not too
+-- long, and its header is good.
 abbrev pub LeadsTo : List ℕ → Result Reached Fault → Type 0
 LeadsTo text (Ok reached) = (script : Script) × ((parsed text ≡ Ok (said_by script)) × (reached_by script ≡ Ok reached))
-LeadsTo text (Err NoMemory) = Unit {0}
+LeadsTo text (Err NoMemory) = MayBeScript text
 LeadsTo text (Err fault) = (parsed text ≡ Err fault) ⊎ ((script : Script) × ((parsed text ≡ Ok (said_by script)) × (reached_by script ≡ Err fault)))
 
 -- the report of the state after the whole script, and nothing else
 abbrev pub WritesReport : List ℕ → Option (List ℕ) → Option (List ℕ) → Type 0
 WritesReport text old new = (reached : Reached) × (LeadsTo text (Ok reached) × Appends old new (report_of reached))
 
--- the line of the script's first fault, or that memory ran out, and nothing else
+-- the line of the script's first fault, or that memory ran out for it, and nothing else
 abbrev pub WritesFault : List ℕ → Option (List ℕ) → Option (List ℕ) → Type 0
 WritesFault text old new = (fault : Fault) × (LeadsTo text (Err fault) × Appends old new (fault_line fault))
 
--- what was written of an outcome: its line, or that memory ran out
+-- the same, or that memory ran out before the script was read
+abbrev pub RanOut : List ℕ → Option (List ℕ) → Option (List ℕ) → Type 0
+RanOut text old new = WritesFault text old new ⊎ Appends old new (fault_line NoMemory)
+
+-- what was written of an outcome: the report of a state, or that there was no memory for it; the line of a fault
 abbrev pub Tells : Result Reached Fault → Outcome → Option (List ℕ) → Option (List ℕ) → Type 0
 Tells (Ok reached) Report old new = Appends old new (report_of reached)
 Tells (Ok reached) Refused old new = Appends old new (fault_line NoMemory)
 Tells (Err fault) Report old new = ⊥
-Tells (Err fault) Refused old new = Appends old new (fault_line fault) ⊎ Appends old new (fault_line NoMemory)
+Tells (Err fault) Refused old new = Appends old new (fault_line fault)
 
 -- the two laws, of the script of one direction that a text is
 abbrev pub EveryByte : List ℕ → Type 0
@@ -52,7 +60,18 @@ EveryByte text = (plan : FlowPlan) → parsed text ≡ Ok (FlowOf plan) → Keep
 abbrev pub EveryEnd : List ℕ → Type 0
 EveryEnd text = (plan : FlowPlan) → parsed text ≡ Ok (FlowOf plan) → KeepsEnd plan
 
--- the headline, of the script of a world that a text is
+-- what holds after a run of these events: the headline, and what it depends on
+pub record RunHolds (l : Limits) (events : List Event) (st : State) : Type 0 where
+  pub headline : HeadlineHolds l events st
+  pub tickets : TicketsHold st
+  pub rest : RestHolds st
+  pub table : TableHolds st
+  pub edges : EdgesHold st
+
+abbrev pub EveryRunIsSound : Type 0
+EveryRunIsSound = (l : Limits) (events : List Event) (st : State) → run (opening l) events ≡ Some st → RunHolds l events st
+
+-- the same, of the script of a world that a text is
 abbrev pub EveryRun : List ℕ → Type 0
 EveryRun text = (plan : WorldPlan) (st : State) → parsed text ≡ Ok (said_by (script.World plan)) → world_of plan ≡ Ok st
-    → HeadlineHolds plan.limits (events_in plan.events) st
+    → RunHolds plan.limits (events_in plan.events) st

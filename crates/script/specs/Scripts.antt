@@ -1,5 +1,5 @@
 -- The script that a text is, or its first fault. Part of the promises.
-use Rattle.std.specs.Prelude.{ℕ, nat_lt, if◌then◌else◌, List, [], ◌∷◌, map, length, Option, Some, None, Result, Ok, Err}
+use Rattle.std.specs.Prelude.{ℕ, nat_lt, if◌then◌else◌, List, [], ◌∷◌, ◌≤◌, map, length, IsSome, Option, Some, None, Result, Ok, Err}
 use Rattle.world.specs.declared.limits.Limits.{Limits}
 use Rattle.script.specs.declared.fault.Fault.{Fault}
 use Rattle.script.specs.declared.fault.Fault.TheVariants.{TooLong, NoWorld, Malformed}
@@ -11,7 +11,7 @@ use Rattle.script.specs.declared.step.NumberedStep.{NumberedStep}
 use Rattle.script.specs.declared.event.NumberedEvent.{NumberedEvent}
 use Rattle.script.specs.Plans.{FlowPlan}
 use Rattle.script.specs.Texts.{NumberedLine, lines_of, telling_lines}
-use Rattle.script.specs.Headers.{header_of}
+use Rattle.script.specs.Headers.{header_of, first_header}
 use Rattle.script.specs.Steps.{step_of}
 use Rattle.script.specs.Events.{Said, said_of, event_of}
 use Rattle.script.specs.Faults.{and_then}
@@ -67,3 +67,7 @@ plan_of (l ∷ ls) = and_then (λ h. headed h ls) (or_malformed l.number (header
 
 abbrev pub parsed : List ℕ → Result Plan Fault
 parsed text = if nat_lt most_bytes (length text) then Err TooLong else plan_of (telling_lines 1 (lines_of text))
+
+-- A text of a script's size whose header is good.
+abbrev pub MayBeScript : List ℕ → Type 0
+MayBeScript text = (length text ≤ most_bytes) × IsSome (first_header (telling_lines 1 (lines_of text)))

@@ -1,13 +1,13 @@
-ghost use Rattle.std.specs.Prelude.{◌≡◌, ◌≤◌};
-ghost use Rattle.script.specs.Faults.{Gives};
-ghost use Rattle.script.specs.Transfers.{run_of};
+ghost use Rattle.std.specs.Prelude.{◌≡◌, ◌≤◌, IfOk};
+ghost use Rattle.script.specs.Faults.{Gives, Plays};
+ghost use Rattle.script.specs.Transfers.{opening, line_stepped, run_of};
 
-use crate::{Fault, NumberedStep, Step, Transfer};
-use std::alloc::Global;
+use crate::{Fault, NumberedStep, Transfer};
+use std::alloc::{AllocError, Global};
 use std::marker::Model;
 
 /// A script of one direction: the maximum size of its ring, and its steps.
-#[derive(Debug, Drop)]
+#[derive(Drop)]
 pub struct FlowScript {
     ring: usize,
     steps: Vec<NumberedStep>,
@@ -52,23 +52,29 @@ impl FlowScript {
     pub fn carry_out(&self, alloc: Global) -> Result<Transfer, Fault>
         ensures { Gives (run_of self.now) result }
     {
-        let mut transfer = Transfer::new(alloc, self.ring)?;
+        let mut transfer = self.open(alloc)?;
+        match self.play(&mut transfer) {
+            Ok(()) => Ok(transfer),
+            Err(fault) => Err(fault),
+        }
+    }
+
+    /// The state before the first step. Fails only if there is no memory for its ring.
+    pub fn open(&self, alloc: Global) -> Result<Transfer, AllocError>
+        ensures { IfOk result (λ transfer. transfer ≡ opening self.now.ring) }
+    {
+        Transfer::new(alloc, self.ring)
+    }
+
+    /// Makes all steps, or those before the first that is refused, which has the fault: it is not allowed, or it is and
+    /// memory ran out for it.
+    #[tactic(auto, using(crate::proofs::Playing::played_more, std::proofs::lemmas::Option::gets, std::proofs::lemmas::Grind::common_steps))]
+    pub fn play(&self, transfer: &mut Transfer) -> Result<(), Fault>
+        ensures { Plays line_stepped transfer.old self.now.steps result transfer.new }
+    {
         for numbered in &self.steps {
             transfer.carry_out(numbered)?;
         }
-        Ok(transfer)
-    }
-
-    /// The state before the step of a line, and that step. None if no step has that line, if one before it is refused,
-    /// or if memory ran out.
-    pub(crate) fn before(&self, alloc: Global, line: u64) -> Option<(Transfer, &Step)> {
-        let mut transfer = Transfer::new(alloc, self.ring).ok()?;
-        for numbered in self.steps() {
-            if numbered.line == line {
-                return Some((transfer, &numbered.step));
-            }
-            transfer.step(&numbered.step).ok()?;
-        }
-        None
+        Ok(())
     }
 }

@@ -11,7 +11,7 @@ use token::MAX_GENERATION;
 use world::Limits;
 
 /// What a script covers, and its sizes.
-#[derive(Clone, Copy, Debug, PartialEq, Eq)]
+#[derive(Clone, Copy)]
 pub enum Header {
     /// One direction, with a ring of at most this many bytes.
     Flow(usize),

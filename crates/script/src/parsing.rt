@@ -1,8 +1,6 @@
-ghost use Rattle.std.specs.Prelude.{◌≡◌, ◌≤◌, ◌^◌, ◌<◌, length, IsErrOf, IsSome};
+ghost use Rattle.std.specs.Prelude.{◌≡◌, ◌^◌, ◌<◌, IsErrOf};
 ghost use Rattle.script.specs.Faults.{GivesBy};
-ghost use Rattle.script.specs.Texts.{lines_of, telling_lines};
-ghost use Rattle.script.specs.Headers.{first_header};
-ghost use Rattle.script.specs.Scripts.{most_bytes, parsed, steps_of, events_of, said_by, said_lines};
+ghost use Rattle.script.specs.Scripts.{MayBeScript, parsed, steps_of, events_of, said_by, said_lines};
 
 use crate::events::event;
 use crate::header::{Header, read_header};
@@ -17,7 +15,7 @@ use std::alloc::Global;
 /// a script does.
 pub fn parse(alloc: Global, text: &[u8]) -> Result<Script, Fault>
     ensures script { GivesBy said_by (parsed text.now) result }
-    ensures memory { IsErrOf result Fault.NoMemory → (length text.now ≤ most_bytes) × IsSome (first_header (telling_lines 1 (lines_of text.now))) }
+    ensures memory { IsErrOf result Fault.NoMemory → MayBeScript text.now }
 {
     if text.len() > MAX_BYTES {
         return Err(Fault::TooLong);

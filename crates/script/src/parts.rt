@@ -2,13 +2,10 @@
 
 use crate::event_parts::{accepting, kind, lone_who, name, side, slot, worker};
 use crate::header::{generation, ring, size};
-use crate::limits::{MAX_BUDGET, MAX_DIGITS, MAX_SLOTS, MAX_WORKERS};
+use crate::limits::{MAX_BUDGET, MAX_SLOTS, MAX_WORKERS};
 use crate::lines::Pieces;
 use crate::values::{is_hex_text, number};
-use flow::Flow;
 use kernel_model::MAX_POLLED;
-use std::fmt;
-use token::MAX_GENERATION;
 
 /// What a word may be, at its position.
 #[derive(Clone, Copy)]
@@ -146,23 +143,13 @@ impl Forms {
     }
 }
 
-/// What is wrong after the first word of a line.
+/// What is wrong with a line.
+#[derive(Drop)]
 pub(crate) struct Wrong<'a> {
     /// The malformed word, or none where one is missing.
     pub(crate) word: Option<&'a [u8]>,
-    /// What is expected in its place.
-    pub(crate) wanted: Wanted,
-}
-
-/// What is expected in place of a word. It prints as the text that a person sees.
-#[derive(Clone, Copy)]
-pub(crate) enum Wanted {
-    /// A word of this kind.
-    Word(Part),
-    /// The end of the line.
-    End,
-    /// The end of a poll, which has as many names as one can have.
-    EndOfPoll,
+    /// What is expected in its place, as a person is told it.
+    pub(crate) wanted: &'static str,
 }
 
 /// The first word that does not match the parts which have to follow the line's first word.
@@ -171,18 +158,18 @@ pub(crate) fn first_wrong<'a>(parts: &'static [Part], mut words: Pieces<'a>) -> 
     for _place in 0..MAX_POLLED {
         let word = words.next();
         let Some((part, rest)) = left.split_first() else {
-            return malformed(word?, Wanted::End);
+            return malformed(word?, "the line should end before this word");
         };
         match word {
             Some(word) if part.takes(word) => left = part.rest(word, rest),
-            Some(word) => return malformed(word, Wanted::Word(*part)),
+            Some(word) => return malformed(word, part.wanted()),
             None => return part.missing(),
         }
     }
-    malformed(words.next()?, Wanted::EndOfPoll)
+    malformed(words.next()?, "a poll has at most 256 names")
 }
 
-fn malformed<'a>(word: &'a [u8], wanted: Wanted) -> Option<Wrong<'a>> {
+fn malformed<'a>(word: &'a [u8], wanted: &'static str) -> Option<Wrong<'a>> {
     Some(Wrong {
         word: Some(word),
         wanted,
@@ -193,23 +180,39 @@ impl Part {
     /// Whether a word is of this kind.
     fn takes(self, word: &[u8]) -> bool {
         match self {
+            Part::Slots | Part::Workers | Part::Ring | Part::Budget | Part::Generation => {
+                self.takes_size(word)
+            }
+            Part::Slot => slot(word).is_some(),
+            Part::Worker => worker(word).is_some(),
+            Part::Actor => word == b"poller".as_slice() || worker(word).is_some(),
+            Part::Reported => lone_who(word).is_some() || slot(word).is_some(),
+            Part::Name => name(word).is_some(),
+            Part::Reply => REPLIES.row(word).is_some(),
+            _ => self.takes_operand(word),
+        }
+    }
+
+    /// Whether a word is this one of the sizes in a header.
+    fn takes_size(self, word: &[u8]) -> bool {
+        match self {
             Part::Slots => size(b"slots=", MAX_SLOTS, word).is_some(),
             Part::Workers => size(b"workers=", MAX_WORKERS, word).is_some(),
             Part::Ring => ring(word).is_some(),
             Part::Budget => size(b"budget=", MAX_BUDGET, word).is_some(),
-            Part::Generation => generation(word).is_some(),
-            Part::Slot => slot(word).is_some(),
+            _ => generation(word).is_some(),
+        }
+    }
+
+    /// Whether a word is what this part has, where that names nobody.
+    fn takes_operand(self, word: &[u8]) -> bool {
+        match self {
             Part::Side => side(word).is_some(),
             Part::Hex => is_hex_text(word) && word.len() % 2 == 0,
-            Part::Worker => worker(word).is_some(),
-            Part::Actor => word == b"poller".as_slice() || worker(word).is_some(),
             Part::Accepting => accepting(word).is_some(),
-            Part::Reported => lone_who(word).is_some() || slot(word).is_some(),
-            Part::Name => name(word).is_some(),
-            Part::Reply => REPLIES.row(word).is_some(),
             Part::Count => number(word).is_some(),
-            Part::Full => word == b"full".as_slice(),
             Part::Kind => kind(word).is_some(),
+            _ => word == b"full".as_slice(),
         }
     }
 
@@ -232,81 +235,35 @@ impl Part {
             Part::Generation | Part::Name | Part::Full => None,
             _ => Some(Wrong {
                 word: None,
-                wanted: Wanted::Word(self),
+                wanted: self.wanted(),
             }),
         }
     }
 
-    /// Writes what is expected in place of a word that is not of this kind.
-    fn write_wanted<W: fmt::Write>(self, f: &mut fmt::Formatter<W>) -> fmt::Result {
+    /// What is expected in place of a word that is not of this kind. The numbers are those of `limits`; a row tries
+    /// each text with the last word that is taken and the first that is not.
+    fn wanted(self) -> &'static str {
         match self {
-            Part::Slots => write!(f, "slots=1 to slots={MAX_SLOTS} is wanted"),
-            Part::Workers => write!(f, "workers=1 to workers={MAX_WORKERS} is wanted"),
-            Part::Ring => {
-                let most = Flow::MAX;
-                write!(f, "ring=1 to ring={most} is wanted")
+            Part::Slots => "slots=1 to slots=64 is wanted",
+            Part::Workers => "workers=1 to workers=16 is wanted",
+            Part::Ring => "ring=1 to ring=65536 is wanted",
+            Part::Budget => "budget=1 to budget=1024 is wanted",
+            Part::Generation => "gen=0 to gen=140737488355326, or the end of the line, is wanted",
+            Part::Slot => "the number of a slot, 0 to 63, is wanted",
+            Part::Side => "client or target is wanted",
+            Part::Hex => "1 to 1024 bytes as pairs of lower-case hexadecimal digits are wanted",
+            Part::Worker => "the number of a worker, 0 to 15, is wanted",
+            Part::Actor => "poller or the number of a worker, 0 to 15, is wanted",
+            Part::Accepting => "one of again, blocked, ok and starved is wanted",
+            Part::Reported => "listener, waker or the number of a slot, 0 to 63, is wanted",
+            Part::Name => "listener, waker or SLOT.GEN.SIDE, as in 0.1.client, is wanted",
+            Part::Reply => REPLIES.wanted,
+            Part::Count =>
+                "a number from 0 to 18446744073709551615 without leading zeros is wanted",
+            Part::Full => "full, or the end of the line, is wanted",
+            Part::Kind => {
+                "one of aborted, notconnected, other, pipe, refused, reset, timedout and zero is wanted"
             }
-            Part::Budget => write!(f, "budget=1 to budget={MAX_BUDGET} is wanted"),
-            Part::Generation => {
-                let most = MAX_GENERATION - 1;
-                write!(f, "gen=0 to gen={most}, or the end of the line, is wanted")
-            }
-            Part::Slot => {
-                let last = MAX_SLOTS - 1;
-                write!(f, "the number of a slot, 0 to {last}, is wanted")
-            }
-            Part::Side => f.write_str("client or target is wanted"),
-            Part::Hex => {
-                let most = MAX_DIGITS / 2;
-                write!(
-                    f,
-                    "1 to {most} bytes as pairs of lower-case hexadecimal digits are wanted"
-                )
-            }
-            Part::Worker => {
-                let last = MAX_WORKERS - 1;
-                write!(f, "the number of a worker, 0 to {last}, is wanted")
-            }
-            Part::Actor => {
-                let last = MAX_WORKERS - 1;
-                write!(
-                    f,
-                    "poller or the number of a worker, 0 to {last}, is wanted"
-                )
-            }
-            Part::Accepting => f.write_str("one of again, blocked, ok and starved is wanted"),
-            Part::Reported => {
-                let last = MAX_SLOTS - 1;
-                write!(
-                    f,
-                    "listener, waker or the number of a slot, 0 to {last}, is wanted"
-                )
-            }
-            Part::Name => f.write_str(
-                "listener, waker or SLOT.GEN.SIDE, as in 0.1.client, is wanted",
-            ),
-            Part::Reply => f.write_str(REPLIES.wanted),
-            Part::Count => {
-                let most = u64::MAX;
-                write!(
-                    f,
-                    "a number from 0 to {most} without leading zeros is wanted"
-                )
-            }
-            Part::Full => f.write_str("full, or the end of the line, is wanted"),
-            Part::Kind => f.write_str(
-                "one of aborted, notconnected, other, pipe, refused, reset, timedout and zero is wanted",
-            ),
-        }
-    }
-}
-
-impl fmt::Display for Wanted {
-    fn fmt<W: fmt::Write>(&self, f: &mut fmt::Formatter<W>) -> fmt::Result {
-        match *self {
-            Wanted::Word(part) => part.write_wanted(f),
-            Wanted::End => f.write_str("the line should end before this word"),
-            Wanted::EndOfPoll => write!(f, "a poll has at most {MAX_POLLED} names"),
         }
     }
 }

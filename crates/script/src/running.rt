@@ -2,16 +2,16 @@ ghost use Rattle.std.specs.Prelude.{◌≡◌, ◌+◌, IfOk, IfErr, IfSome, Ok,
 ghost use Rattle.std.specs.Io.KnownBytes.{Appends};
 ghost use Rattle.script.specs.Scripts.{most_bytes};
 ghost use Rattle.input.specs.Reads.{TakesAtMost};
-ghost use Rattle.script.specs.Runs.{LeadsTo, Tells, WritesReport, WritesFault, EveryByte, EveryEnd, EveryRun};
+ghost use Rattle.script.specs.Reports.{fault_line};
+ghost use Rattle.script.specs.Runs.{LeadsTo, Tells, WritesReport, WritesFault, RanOut, EveryByte, EveryEnd, EveryRun};
 
+use crate::laws::every_run_is_sound;
 use crate::limits::MAX_BYTES;
-use crate::report::fault_line;
 use crate::{Explain, Fault, Reached, parse};
 use input::InputFault;
 use std::alloc::Global;
 use std::io::{Read, Write};
 use thiserror::Error;
-use world::laws::every_run_holds;
 
 /// What a run wrote.
 #[derive(Clone, Copy, Debug, PartialEq, Eq)]
@@ -50,7 +50,7 @@ pub fn run<R: Read, W: Write, X: Explain>(
     // What is written is the report of the script that was read, or the line of its fault, or that memory ran out, and
     // nothing else.
     ensures report { result ≡ Ok Outcome.Report → IfSome (R.remaining reader.old) (λ text. WritesReport text (W.contents writer.old) (W.contents writer.new)) }
-    ensures refused { result ≡ Ok Outcome.Refused → IfSome (R.remaining reader.old) (λ text. WritesFault text (W.contents writer.old) (W.contents writer.new)) }
+    ensures refused { result ≡ Ok Outcome.Refused → IfSome (R.remaining reader.old) (λ text. RanOut text (W.contents writer.old) (W.contents writer.new)) }
 
     // If the script could not be read, nothing is written.
     ensures unread { result ≡ Err ScriptFault.Read → writer.new ≡ writer.old }
@@ -63,32 +63,47 @@ pub fn run<R: Read, W: Write, X: Explain>(
     ensures every_byte { IfSome (R.remaining reader.old) EveryByte }
     ensures every_end { IfSome (R.remaining reader.old) EveryEnd }
 
-    // In every script of a world, the headline holds for its events and for the world after them.
+    // In every script of a world, the headline and what it depends on hold for its events and for the world after
+    // them.
     ensures every_run { IfSome (R.remaining reader.old) EveryRun }
 {
-    every_run_holds();
-    let outcome = play(alloc, reader, MAX_BYTES + 1, explain)?;
-    tell(alloc, writer, outcome)
+    every_run_is_sound();
+    read_and_answer(alloc, reader, writer, explain)
 }
 
-/// Reads a script, of which one byte too many is enough to know that it is too long, and computes the state after it or
-/// its fault. `Err` means that it could not be read.
-fn play<R: Read, X: Explain>(
+/// Reads a script, of which one byte too many is enough to know that it is too long, and answers it.
+fn read_and_answer<R: Read, W: Write, X: Explain>(
     alloc: Global,
     reader: &mut R,
-    most: usize,
+    writer: &mut W,
     explain: &X,
-) -> Result<Result<Reached, Fault>, ScriptFault>
-    requires { most ≡ most_bytes + 1 }
-    ensures ok { IfOk result (λ outcome. IfSome (R.remaining reader.old) (λ text. LeadsTo text outcome)) }
+) -> Result<Outcome, ScriptFault>
+    ensures report { result ≡ Ok Outcome.Report → IfSome (R.remaining reader.old) (λ text. WritesReport text (W.contents writer.old) (W.contents writer.new)) }
+    ensures refused { result ≡ Ok Outcome.Refused → IfSome (R.remaining reader.old) (λ text. RanOut text (W.contents writer.old) (W.contents writer.new)) }
+    ensures unread { result ≡ Err ScriptFault.Read → writer.new ≡ writer.old }
     ensures taken { TakesAtMost (most_bytes + 1) (R.remaining reader.old) (R.remaining reader.new) }
-    ensures err { IfErr result (λ fault. fault ≡ ScriptFault.Read) }
 {
-    match input::read_at_most(alloc, reader, most) {
-        Ok(text) => Ok(explained(alloc, text.as_slice(), explain)),
-        Err(InputFault::NoMemory) => Ok(Err(Fault::NoMemory)),
+    match input::read_at_most(alloc, reader, MAX_BYTES + 1) {
+        Ok(text) => answer(alloc, text.as_slice(), writer, explain),
+        Err(InputFault::NoMemory) => tell_fault(writer, Fault::NoMemory),
         Err(InputFault::Unreadable) => Err(ScriptFault::Read),
     }
+}
+
+/// Computes the state after the script that a text stands for, and then writes its report or the one line of the
+/// script's fault, which `explain` is told first.
+pub fn answer<W: Write, X: Explain>(
+    alloc: Global,
+    text: &[u8],
+    writer: &mut W,
+    explain: &X,
+) -> Result<Outcome, ScriptFault>
+    ensures report { result ≡ Ok Outcome.Report → WritesReport text.now (W.contents writer.old) (W.contents writer.new) }
+    ensures refused { result ≡ Ok Outcome.Refused → WritesFault text.now (W.contents writer.old) (W.contents writer.new) }
+    ensures err { IfErr result (λ fault. fault ≡ ScriptFault.Write) }
+{
+    let outcome = explained(alloc, text, explain);
+    tell(alloc, writer, outcome)
 }
 
 /// The state after the script that a text stands for, or its fault, which `explain` is told.
@@ -120,7 +135,7 @@ fn tell<W: Write>(
 {
     match outcome {
         Ok(reached) => tell_state(alloc, writer, &reached),
-        Err(fault) => tell_fault(alloc, writer, fault),
+        Err(fault) => tell_fault(writer, fault),
     }
 }
 
@@ -139,18 +154,18 @@ fn tell_state<W: Write>(
     }
 }
 
-/// Writes the line of a fault, or that there was no memory for it.
-fn tell_fault<W: Write>(alloc: Global, writer: &mut W, fault: Fault) -> Result<Outcome, ScriptFault>
-    ensures ok { IfOk result (λ told. Tells (Err fault) told (W.contents writer.old) (W.contents writer.new)) }
+/// Writes the line of a fault. It allocates no memory, so each fault is told as itself.
+fn tell_fault<W: Write>(writer: &mut W, fault: Fault) -> Result<Outcome, ScriptFault>
+    ensures ok { IfOk result (λ told. (told ≡ Outcome.Refused) × Appends (W.contents writer.old) (W.contents writer.new) (fault_line fault)) }
     ensures err { IfErr result (λ fault. fault ≡ ScriptFault.Write) }
 {
-    match fault_line(alloc, fault) {
-        Ok(line) => write(writer, line.as_bytes(), Outcome::Refused),
-        Err(_) => write(writer, NO_MEMORY, Outcome::Refused),
+    if write!(writer, "{fault}\n").is_err() || writer.flush().is_err() {
+        return Err(ScriptFault::Write);
     }
+    Ok(Outcome::Refused)
 }
 
-/// The line that says that memory ran out, which needs no memory itself.
+/// The line that says that memory ran out.
 const NO_MEMORY: &[u8] = b"out of memory\n";
 
 /// Writes all of a line, and flushes it.

@@ -5,7 +5,7 @@ use crate::Word;
 use std::marker::Model;
 
 /// The bytes that a step brings.
-#[derive(Debug, Drop)]
+#[derive(Drop)]
 pub struct Bytes {
     bytes: Vec<u8>,
 }
@@ -42,7 +42,7 @@ impl Bytes {
 }
 
 /// A step of a script of one direction.
-#[derive(Debug, Drop)]
+#[derive(Drop)]
 pub enum Step {
     /// Bytes arrive at the source.
     Arrive(Bytes),
@@ -61,7 +61,7 @@ pub enum Step {
 }
 
 /// A step, and its line number in the text, from 1.
-#[derive(Debug, Drop)]
+#[derive(Drop)]
 pub struct NumberedStep {
     /// The line number; skipped lines count.
     pub line: u64,

@@ -1,5 +1,3 @@
-mod causes;
-
 use super::*;
 use kernel_model::Refusal;
 use std::alloc::{AllocError, Global};
@@ -125,6 +123,27 @@ fn words_are_told_as_scripts_have_them(rt: HostRuntime) -> Result<(), Fail> {
     ] {
         assert_eq!(rt; word.text(), text);
         assert_eq!(rt; word.to_string(rt.alloc())?.as_str(), text);
+    }
+    Ok(())
+}
+
+// The rest of the causes are rows of `tests/program/causes`.
+#[test]
+fn a_fault_has_a_cause(rt: HostRuntime) -> Result<(), Fail> {
+    for (text, fault, told) in [
+        (
+            b"flow ring=1\nread x".as_slice(),
+            Fault::Malformed(2),
+            "line 2: read: \"x\": a number from 0 to 18446744073709551615 without leading zeros is wanted",
+        ),
+        (
+            b"flow ring=1\nend".as_slice(),
+            Fault::NotAllowed(2, Word::End),
+            "line 2: end: the end of input has not come",
+        ),
+    ] {
+        let cause = cause(rt.alloc(), text, fault).ok_or(AllocError)?;
+        assert_eq!(rt; cause.as_str(), told);
     }
     Ok(())
 }

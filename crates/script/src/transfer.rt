@@ -1,8 +1,7 @@
 ghost use Rattle.std.specs.Prelude.{◌≡◌, ◌≤◌, IfOk, IsErrOf, IsTrue};
 ghost use Rattle.kernel_model.specs.Outcome.{Meets, MeetsAlways};
 ghost use Rattle.script.specs.Faults.{Carries};
-ghost use Rattle.script.specs.Steps.{word_of};
-ghost use Rattle.script.specs.Transfers.{opening, stepped, takes_memory, read_size};
+ghost use Rattle.script.specs.Transfers.{opening, stepped, line_stepped, takes_memory, read_size};
 
 use crate::{Fault, NumberedStep, Step};
 use flow::Flow;
@@ -66,7 +65,7 @@ impl Transfer {
 
     /// Makes the step of a line, or returns the fault of that line.
     pub(crate) fn carry_out(&mut self, numbered: &NumberedStep) -> Result<(), Fault>
-        ensures { Carries numbered.now.line (word_of numbered.now.step) (stepped self.old numbered.now.step) self.old result self.new }
+        ensures { Carries (line_stepped self.old numbered.now) self.old result self.new }
     {
         match self.step(&numbered.step) {
             Ok(()) => Ok(()),

@@ -1,16 +1,14 @@
-ghost use Rattle.std.specs.Prelude.{◌≡◌};
-ghost use Rattle.world.specs.States.{IsWithinLimits};
-ghost use Rattle.world.specs.Steps.{step};
-ghost use Rattle.script.specs.Faults.{Gives, Carries};
-ghost use Rattle.script.specs.Words.{event_word};
-ghost use Rattle.script.specs.Plays.{world_of};
+ghost use Rattle.std.specs.Prelude.{◌≡◌, IfOk};
+ghost use Rattle.world.specs.States.{IsWithinLimits, opening};
+ghost use Rattle.script.specs.Faults.{Gives, Carries, Plays};
+ghost use Rattle.script.specs.Plays.{line_happened, world_of};
 
 use crate::event::word_of;
 use crate::{Fault, NumberedEvent};
 use kernel_model::Refusal;
-use std::alloc::Global;
+use std::alloc::{AllocError, Global};
 use std::marker::Model;
-use world::{Event, Limits, World};
+use world::{Limits, World};
 
 /// A script of a world: its sizes, and its events.
 #[derive(Drop)]
@@ -57,30 +55,36 @@ impl WorldScript {
     pub fn carry_out(&self, alloc: Global) -> Result<World, Fault>
         ensures { Gives (world_of self.now) result }
     {
-        let mut world = World::new(alloc, self.limits)?;
-        for numbered in &self.events {
-            happen(&mut world, numbered)?;
+        let mut world = self.open(alloc)?;
+        match self.play(&mut world) {
+            Ok(()) => Ok(world),
+            Err(fault) => Err(fault),
         }
-        Ok(world)
     }
 
-    /// The world before the event of a line, and that event. None if no event has that line, if one before it is
-    /// refused, or if memory ran out.
-    pub(crate) fn before(&self, alloc: Global, line: u64) -> Option<(World, &Event)> {
-        let mut world = World::new(alloc, self.limits).ok()?;
-        for numbered in self.events() {
-            if numbered.line == line {
-                return Some((world, &numbered.event));
-            }
-            world.step(&numbered.event).ok()?;
+    /// The world before the first event. Fails only if there is no memory for it.
+    pub fn open(&self, alloc: Global) -> Result<World, AllocError>
+        ensures { IfOk result (λ world. world ≡ opening self.now.limits) }
+    {
+        World::new(alloc, self.limits)
+    }
+
+    /// Makes all events happen, or those before the first that is refused, which has the fault: it is not allowed, or
+    /// it is and memory ran out for it.
+    #[tactic(auto, using(crate::proofs::Playing::played_more, std::proofs::lemmas::Option::gets, std::proofs::lemmas::Grind::common_steps))]
+    pub fn play(&self, world: &mut World) -> Result<(), Fault>
+        ensures { Plays line_happened world.old self.now.events result world.new }
+    {
+        for numbered in &self.events {
+            happen(world, numbered)?;
         }
-        None
+        Ok(())
     }
 }
 
 /// Makes the event of a line happen, or returns the fault of that line.
 fn happen(world: &mut World, numbered: &NumberedEvent) -> Result<(), Fault>
-    ensures { Carries numbered.now.line (event_word numbered.now.event) (step world.old numbered.now.event) world.old result world.new }
+    ensures { Carries (line_happened world.old numbered.now) world.old result world.new }
 {
     match world.step(&numbered.event) {
         Ok(()) => Ok(()),
