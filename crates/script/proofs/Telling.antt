@@ -19,7 +19,7 @@ use Rattle.script.specs.Headers.{header_of, first_header}
 use Rattle.script.specs.Scripts.{Plan, MayBeScript, most_bytes, or_malformed, headed, plan_of, parsed, said_by}
 use Rattle.script.specs.Plays.{reached_by}
 use Rattle.script.specs.Reports.{fault_line}
-use Rattle.script.specs.Runs.{LeadsTo, Tells, WritesReport, WritesFault, RanOut, EveryByte, EveryEnd}
+use Rattle.script.specs.Runs.{LeadsTo, Tells, WritesReport, AnswersFault, WritesFault, EveryByte, EveryEnd}
 use Rattle.script.proofs.Keeping.{keeps_bytes, keeps_end}
 
 -- a text that is a script is as long as one may be, and has a good header
@@ -107,16 +107,16 @@ reports (Some input) text front r old new same cut told is = whole (told is)
     whole (reached, (to, wrote)) = (reached, (of_input text input (Ok reached) (same ∙ cut) to, wrote))
 
 pub refuses : (a : Option (List ℕ)) (text front : List ℕ) (r : Result Outcome ScriptFault) (old new : Option (List ℕ))
-    → text ≡ front → IfSome a (λ input. front ≡ take (most_bytes + 1) input) → (r ≡ Ok Refused → WritesFault text old new)
-    → r ≡ Ok Refused → IfSome a (λ input. RanOut input old new)
+    → text ≡ front → IfSome a (λ input. front ≡ take (most_bytes + 1) input) → (r ≡ Ok Refused → AnswersFault text old new)
+    → r ≡ Ok Refused → IfSome a (λ input. WritesFault input old new)
 refuses None text front r old new same cut told is = tt
 refuses (Some input) text front r old new same cut told is = whole (told is)
   where
-    whole : WritesFault text old new → RanOut input old new
+    whole : AnswersFault text old new → WritesFault input old new
     whole (fault, (to, wrote)) = inl (fault, (of_input text input (Err fault) (same ∙ cut) to, wrote))
 
 -- memory ran out before the script was read
-pub ran_out : (a : Option (List ℕ)) (old new : Option (List ℕ)) → Appends old new (fault_line NoMemory) → IfSome a (λ input. RanOut input old new)
+pub ran_out : (a : Option (List ℕ)) (old new : Option (List ℕ)) → Appends old new (fault_line NoMemory) → IfSome a (λ input. WritesFault input old new)
 ran_out None old new wrote = tt
 ran_out (Some input) old new wrote = inr wrote
 
@@ -131,7 +131,7 @@ leads_may : (text : List ℕ) (reached : Reached) → LeadsTo text (Ok reached) 
 leads_may text reached (script, (is, to)) = script_may text (said_by script) is
 
 pub tells_refused : (text : List ℕ) (o : Result Reached Fault) (r : Result Outcome ScriptFault) (old new : Option (List ℕ))
-    → LeadsTo text o → IfOk r (λ told. Tells o told old new) → r ≡ Ok Refused → WritesFault text old new
+    → LeadsTo text o → IfOk r (λ told. Tells o told old new) → r ≡ Ok Refused → AnswersFault text old new
 tells_refused text (Ok reached) r old new to told is =
     (NoMemory, (leads_may text reached to, IfOk-at_ok (λ (u : Outcome). Tells (Ok reached) u old new) is told))
 tells_refused text (Err fault) r old new to told is = (fault, (to, IfOk-at_ok (λ (u : Outcome). Tells (Err fault) u old new) is told))

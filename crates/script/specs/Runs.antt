@@ -39,12 +39,12 @@ abbrev pub WritesReport : List ℕ → Option (List ℕ) → Option (List ℕ) �
 WritesReport text old new = (reached : Reached) × (LeadsTo text (Ok reached) × Appends old new (report_of reached))
 
 -- the line of the script's first fault, or that memory ran out for it, and nothing else
-abbrev pub WritesFault : List ℕ → Option (List ℕ) → Option (List ℕ) → Type 0
-WritesFault text old new = (fault : Fault) × (LeadsTo text (Err fault) × Appends old new (fault_line fault))
+abbrev pub AnswersFault : List ℕ → Option (List ℕ) → Option (List ℕ) → Type 0
+AnswersFault text old new = (fault : Fault) × (LeadsTo text (Err fault) × Appends old new (fault_line fault))
 
 -- the same, or that memory ran out before the script was read
-abbrev pub RanOut : List ℕ → Option (List ℕ) → Option (List ℕ) → Type 0
-RanOut text old new = WritesFault text old new ⊎ Appends old new (fault_line NoMemory)
+abbrev pub WritesFault : List ℕ → Option (List ℕ) → Option (List ℕ) → Type 0
+WritesFault text old new = AnswersFault text old new ⊎ Appends old new (fault_line NoMemory)
 
 -- what was written of an outcome: the report of a state, or that there was no memory for it; the line of a fault
 abbrev pub Tells : Result Reached Fault → Outcome → Option (List ℕ) → Option (List ℕ) → Type 0

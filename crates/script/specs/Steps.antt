@@ -16,13 +16,18 @@ lone_step name =
     else if bytes_eq name (codes "shut") then Some Shut
     else None
 
+-- a step of two words, of which the second is a count
+abbrev pub counted_step : List ℕ → List ℕ → Option Step
+counted_step name operand =
+    if bytes_eq name (codes "read") then option_map Read (number_of operand)
+    else if bytes_eq name (codes "wrote") then option_map (λ n. Wrote n false) (number_of operand)
+    else None
+
 -- a step of two words
 abbrev pub step_with : List ℕ → List ℕ → Option Step
 step_with name operand =
     if bytes_eq name (codes "arrive") then option_map Arrive (bytes_of operand)
-    else if bytes_eq name (codes "read") then option_map Read (number_of operand)
-    else if bytes_eq name (codes "wrote") then option_map (λ n. Wrote n false) (number_of operand)
-    else None
+    else counted_step name operand
 
 -- a step of three words
 abbrev pub full_step : List ℕ → List ℕ → List ℕ → Option Step

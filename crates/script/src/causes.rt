@@ -123,8 +123,12 @@ fn not_in_flow(alloc: Global, script: &FlowScript, number: u64) -> Option<&'stat
     let Err(Fault::NotAllowed(..)) = script.play(&mut transfer) else {
         return None;
     };
-    let numbered = script.steps().iter().find(|step| step.line == number)?;
-    Some(step_reason(&transfer, &numbered.step))
+    for numbered in script.steps() {
+        if numbered.line == number {
+            return Some(step_reason(&transfer, &numbered.step));
+        }
+    }
+    None
 }
 
 fn not_in_world(alloc: Global, script: &WorldScript, number: u64) -> Option<&'static str> {
@@ -132,6 +136,10 @@ fn not_in_world(alloc: Global, script: &WorldScript, number: u64) -> Option<&'st
     let Err(Fault::NotAllowed(..)) = script.play(&mut world) else {
         return None;
     };
-    let numbered = script.events().iter().find(|event| event.line == number)?;
-    Some(event_reason(&world, &numbered.event))
+    for numbered in script.events() {
+        if numbered.line == number {
+            return Some(event_reason(&world, &numbered.event));
+        }
+    }
+    None
 }

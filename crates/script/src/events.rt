@@ -21,7 +21,10 @@ pub(crate) fn event(alloc: Global, line: &[u8]) -> Result<Option<Event>, AllocEr
         return Ok(None);
     };
     if word == b"poll".as_slice() {
-        Ok(names(alloc, words)?.map(|names| Event::Poll(Polling::Poll(names))))
+        match names(alloc, words)? {
+            Some(names) => Ok(Some(Event::Poll(Polling::Poll(names)))),
+            None => Ok(None),
+        }
     } else {
         event_of_counted(alloc, word, words)
     }

@@ -184,7 +184,7 @@ fn poll_reason(world: &World, polling: &Polling) -> &'static str {
         Polling::Poll(names) => first_of(&[
             (!world.batch().is_empty(), "the batch is not empty"),
             (
-                !names.iter().all(|name| world.kernel().is_queued(name)),
+                !are_queued(world.kernel(), names.as_slice()),
                 "a name is not in the queue",
             ),
             (
@@ -198,6 +198,16 @@ fn poll_reason(world: &World, polling: &Polling) -> &'static str {
             "the poller has no ticket to put",
         )]),
     }
+}
+
+/// Whether each name is in the queue.
+fn are_queued(kernel: &Kernel, names: &[Name]) -> bool {
+    for name in names {
+        if !kernel.is_queued(name) {
+            return false;
+        }
+    }
+    true
 }
 
 fn work_reason(world: &World, worker: &Worker, act: Act) -> &'static str {

@@ -3,7 +3,7 @@ ghost use Rattle.std.specs.Io.KnownBytes.{Appends};
 ghost use Rattle.script.specs.Scripts.{most_bytes};
 ghost use Rattle.input.specs.Reads.{TakesAtMost};
 ghost use Rattle.script.specs.Reports.{fault_line};
-ghost use Rattle.script.specs.Runs.{LeadsTo, Tells, WritesReport, WritesFault, RanOut, EveryByte, EveryEnd, EveryRun};
+ghost use Rattle.script.specs.Runs.{LeadsTo, Tells, WritesReport, AnswersFault, WritesFault, EveryByte, EveryEnd, EveryRun};
 
 use crate::laws::every_run_is_sound;
 use crate::limits::MAX_BYTES;
@@ -50,7 +50,7 @@ pub fn run<R: Read, W: Write, X: Explain>(
     // What is written is the report of the script that was read, or the line of its fault, or that memory ran out, and
     // nothing else.
     ensures report { result ≡ Ok Outcome.Report → IfSome (R.remaining reader.old) (λ text. WritesReport text (W.contents writer.old) (W.contents writer.new)) }
-    ensures refused { result ≡ Ok Outcome.Refused → IfSome (R.remaining reader.old) (λ text. RanOut text (W.contents writer.old) (W.contents writer.new)) }
+    ensures refused { result ≡ Ok Outcome.Refused → IfSome (R.remaining reader.old) (λ text. WritesFault text (W.contents writer.old) (W.contents writer.new)) }
 
     // If the script could not be read, nothing is written.
     ensures unread { result ≡ Err ScriptFault.Read → writer.new ≡ writer.old }
@@ -79,7 +79,7 @@ fn read_and_answer<R: Read, W: Write, X: Explain>(
     explain: &X,
 ) -> Result<Outcome, ScriptFault>
     ensures report { result ≡ Ok Outcome.Report → IfSome (R.remaining reader.old) (λ text. WritesReport text (W.contents writer.old) (W.contents writer.new)) }
-    ensures refused { result ≡ Ok Outcome.Refused → IfSome (R.remaining reader.old) (λ text. RanOut text (W.contents writer.old) (W.contents writer.new)) }
+    ensures refused { result ≡ Ok Outcome.Refused → IfSome (R.remaining reader.old) (λ text. WritesFault text (W.contents writer.old) (W.contents writer.new)) }
     ensures unread { result ≡ Err ScriptFault.Read → writer.new ≡ writer.old }
     ensures taken { TakesAtMost (most_bytes + 1) (R.remaining reader.old) (R.remaining reader.new) }
 {
@@ -99,7 +99,7 @@ pub fn answer<W: Write, X: Explain>(
     explain: &X,
 ) -> Result<Outcome, ScriptFault>
     ensures report { result ≡ Ok Outcome.Report → WritesReport text.now (W.contents writer.old) (W.contents writer.new) }
-    ensures refused { result ≡ Ok Outcome.Refused → WritesFault text.now (W.contents writer.old) (W.contents writer.new) }
+    ensures refused { result ≡ Ok Outcome.Refused → AnswersFault text.now (W.contents writer.old) (W.contents writer.new) }
     ensures err { IfErr result (λ fault. fault ≡ ScriptFault.Write) }
 {
     let outcome = explained(alloc, text, explain);

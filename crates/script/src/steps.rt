@@ -1,6 +1,6 @@
 // The steps in a script of one direction: one function for each number of words.
 ghost use Rattle.std.specs.Prelude.{◌≡◌, IfOk};
-ghost use Rattle.script.specs.Steps.{lone_step, step_with, full_step, step_of};
+ghost use Rattle.script.specs.Steps.{lone_step, counted_step, step_with, full_step, step_of};
 
 use crate::Step;
 use crate::lines::Pieces;
@@ -42,13 +42,25 @@ fn step_with(alloc: Global, name: &[u8], operand: &[u8]) -> Result<Option<Step>,
     ensures { IfOk result (λ step. step ≡ step_with name.now operand.now) }
 {
     if name == b"arrive".as_slice() {
-        Ok(bytes(alloc, operand)?.map(Step::Arrive))
-    } else if name == b"read".as_slice() {
-        Ok(number(operand).map(Step::Read))
-    } else if name == b"wrote".as_slice() {
-        Ok(number(operand).map(|count| Step::Wrote(count, false)))
+        match bytes(alloc, operand)? {
+            Some(bytes) => Ok(Some(Step::Arrive(bytes))),
+            None => Ok(None),
+        }
     } else {
-        Ok(None)
+        Ok(counted_step(name, operand))
+    }
+}
+
+/// A step of two words, of which the second is a count.
+fn counted_step(name: &[u8], operand: &[u8]) -> Option<Step>
+    ensures { result ≡ counted_step name.now operand.now }
+{
+    if name == b"read".as_slice() {
+        Some(Step::Read(number(operand)?))
+    } else if name == b"wrote".as_slice() {
+        Some(Step::Wrote(number(operand)?, false))
+    } else {
+        None
     }
 }
 
@@ -57,7 +69,7 @@ fn full_step(name: &[u8], operand: &[u8], mark: &[u8]) -> Option<Step>
     ensures { result ≡ full_step name.now operand.now mark.now }
 {
     if name == b"wrote".as_slice() && mark == b"full".as_slice() {
-        number(operand).map(|count| Step::Wrote(count, true))
+        Some(Step::Wrote(number(operand)?, true))
     } else {
         None
     }
