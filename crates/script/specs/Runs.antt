@@ -5,7 +5,8 @@ use Rattle.world.specs.declared.limits.Limits.{Limits}
 use Rattle.world.specs.declared.event.Event.{Event}
 use Rattle.world.specs.States.{State, opening}
 use Rattle.world.specs.Runs.{run}
-use Rattle.world.specs.Headline.{HeadlineHolds, TicketsHold, RestHolds, TableHolds, EdgesHold}
+use Rattle.world.specs.Headline.{HeadlineHolds}
+use Rattle.world.specs.Support.{TicketsHold, RestHolds, TableHolds, EdgesHold}
 use Rattle.script.specs.declared.fault.Fault.{Fault}
 use Rattle.script.specs.declared.fault.Fault.TheVariants.{NoMemory}
 use Rattle.script.specs.declared.running.Outcome.{Outcome}
