@@ -1,6 +1,10 @@
--- What is reported, and what the log says of a connection that could not be opened. Part of the promises.
-use Rattle.std.specs.Prelude.{ℕ, List, map}
+-- Where a server listens, what is reported, and what the log says of a connection that could not be opened. Part of the
+-- promises.
+use Rattle.std.specs.Prelude.{◌≡◌, ℕ, List, map}
 use Rattle.std.specs.declared.net.SocketAddr.{SocketAddr}
+use Rattle.std.specs.Net.Addr.{IsV4And, ipv4_octets}
+use Rattle.std.specs.Net.Socket.{socket_ip, IsPlainSocket}
+use Rattle.settings.specs.Addresses.{SocketAddress}
 use Rattle.mio.specs.declared.event.event.Event.{Event}
 use Rattle.mio.specs.Event.{event_token}
 use Rattle.relay_log.specs.declared.cause.Cause.{Cause}
@@ -21,3 +25,14 @@ numbers events = map (λ (event : Event). (event_token event).0) events
 pub record Watched : Type 0 where
   pub target : SocketAddr
   pub reported : List ℕ
+
+-- a socket that listens: the address that the system was asked for, and the one that it told, which has its port where
+-- any port was asked for
+pub record Listens (L : Type 0) : Type 0 where
+  pub listener : L
+  pub asked : SocketAddr
+  pub address : SocketAddr
+
+-- it is this IPv4 address and port
+abbrev pub IsAt : SocketAddress → SocketAddr → Type 0
+IsAt (octets, port) address = IsV4And (socket_ip address) (λ ip. ipv4_octets ip ≡ octets) × IsPlainSocket address port

@@ -1,27 +1,47 @@
--- What a wire over a socket knows of it, and what each call on it changes. Part of the promises.
-use Rattle.std.specs.Prelude.{◌≡◌, ℕ, ◌==◌, Bool, if◌then◌else◌, length, Option}
+-- What a wire over a socket knows of it, what each call on it changes, and the system calls that it makes. Part of the
+-- promises.
+use Rattle.std.specs.Prelude.{◌≡◌, ℕ, ◌==◌, Bool, true, false, if◌then◌else◌, length, Option, Some, None, Result, Ok, Err}
+use Rattle.std.specs.declared.io.Error.{Error}
 use Rattle.std.specs.declared.net.SocketAddr.{SocketAddr}
+use Rattle.std.specs.IoError.{error_kind}
+use Rattle.token.specs.Names.{EndName}
 use Rattle.token.specs.declared.side.Side.TheVariants.{Target}
 use Rattle.relay_core.specs.declared.call.Call.{Call}
 use Rattle.relay_core.specs.declared.call.Call.TheVariants as call
 use Rattle.engine.specs.Asked.{Asked, Read, Write, Join, Shut, Given, Brought, Took, Done, Refused}
-use Rattle.engine.specs.Classes.{class_of}
+use Rattle.engine.specs.Classes.{class_of, pending_kind}
 use Rattle.engine.specs.Tallies.{Tallied, tally, connected, counted, fault_more}
+use Rattle.engine.specs.Wires.{call_gave}
 use Rattle.server.specs.SocketsDelays.{Sending, waiting, prompt, IsOffered}
 
--- the count of its answers, when it sends, and the address at its other end, where it was told
+-- the count of its answers, when it sends, the address at its other end, where it was told, and the name under which it
+-- is reported, if it is
 pub record Socket : Type 0 where
   pub tally : Tallied
   pub sending : Sending
   pub peer : Option SocketAddr
+  pub watched : Option EndName
 
--- a new one, which is known to be connected or not
+-- a wire: the system's socket, and what is known of it
+pub record Wired (S : Type 0) : Type 0 where
+  pub stream : S
+  pub socket : Socket
+
+-- a new one, which is known to be connected or not, and not reported
 abbrev pub fresh_wire : Bool → Option SocketAddr → Socket
-fresh_wire joined peer = record { tally = tally joined 0 0; sending = waiting; peer = peer }
+fresh_wire joined peer = record { tally = tally joined 0 0; sending = waiting; peer = peer; watched = None }
 
 -- one that sends at once
 abbrev pub promptly : Socket → Socket
 promptly socket = record socket { sending = prompt }
+
+-- one that is reported under this name
+abbrev pub under : EndName → Socket → Socket
+under name socket = record socket { watched = Some name }
+
+-- the same, but for the name under which it is reported
+abbrev pub SameButWatched : Socket → Socket → Type 0
+SameButWatched old new = new ≡ record old { watched = new.watched }
 
 -- the call that was asked for. Its class depends on no side, but for what is known of the connection
 abbrev pub call_of : Asked → Call
@@ -48,8 +68,48 @@ abbrev pub SendsAfter : Asked → Sending → Sending → Type 0
 SendsAfter (Write offer) old new = IsOffered (length offer) old new
 SendsAfter asked old new = new ≡ old
 
--- all that a call changed
+-- all that a call changed of what is known
 pub record IsCalled (asked : Asked) (given : Given) (old new : Socket) : Type 0 where
   pub tally : new.tally ≡ tally_after asked given old.tally
   pub sending : SendsAfter asked old.sending new.sending
   pub peer : new.peer ≡ old.peer
+  pub watched : new.watched ≡ old.watched
+
+-- One system call on a socket, with its answer: read(2), write(2) or shutdown(2); SO_ERROR of socket(7); getpeername(2);
+-- TCP_NODELAY of tcp(7), on or off; and epoll_ctl(2), which registered the socket under this number
+pub data Made : Type 0 where
+  Called : Asked → Given → Made
+  Pending : Result (Option Error) Error → Made
+  Named : Result SocketAddr Error → Made
+  SentAtOnce : Bool → Made
+  Registered : ℕ → Made
+
+-- What a system call does to a socket of the type S, only the system knows. So what follows holds for any such relation
+module _ {S : Type 0} where
+  -- the socket option is set where it is to change, and is left alone elsewhere
+  pub record Switches (did : Made → S → S → Type 0) (was is : Bool) (before after : S) : Type 0 where
+    pub on : was ≡ false → is ≡ true → did (SentAtOnce true) before after
+    pub off : was ≡ true → is ≡ false → did (SentAtOnce false) before after
+    pub kept : is ≡ was → after ≡ before
+
+  -- a pending error is a failure; without one the socket has a peer, or the question for it says why not
+  abbrev pub JoinGives : (Made → S → S → Type 0) → Result (Option Error) Error → Given → S → Type 0
+  JoinGives did (Err error) given socket = given ≡ Refused (error_kind error)
+  JoinGives did (Ok (Some error)) given socket = given ≡ Refused (pending_kind (error_kind error))
+  JoinGives did (Ok None) given socket = (named : Result SocketAddr Error) × did (Named named) socket socket × (given ≡ call_gave named)
+
+  -- The system calls of a call on the wire. A read, a write and a shutdown are one, for all that was asked, and give what
+  -- it gave. After a write the socket option may change. A join asks for the pending error, and then for the peer
+  abbrev pub Makes : (Made → S → S → Type 0) → Asked → Given → Bool → Bool → S → S → Type 0
+  Makes did (Read most) given was is before after = did (Called (Read most) given) before after
+  Makes did (Write offer) given was is before after =
+      (written : S) × did (Called (Write offer) given) before written × Switches did was is written after
+  Makes did Join given was is before after =
+      (pending : Result (Option Error) Error) × did (Pending pending) before after × JoinGives did pending given after
+  Makes did Shut given was is before after = did (Called Shut given) before after
+
+  -- all that a call on the wire does
+  abbrev pub IsDone : (Made → S → S → Type 0) → Asked → Given → Wired S → Wired S → Type 0
+  IsDone did asked given old new =
+      IsCalled asked given old.socket new.socket
+      × Makes did asked given old.socket.sending.at_once new.socket.sending.at_once old.stream new.stream

@@ -3,6 +3,7 @@
 mod bound;
 mod delay;
 mod poll;
+mod stream;
 mod wire;
 
 pub use bound::{Bound, bind};

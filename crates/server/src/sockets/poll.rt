@@ -1,7 +1,7 @@
 ghost use Rattle.std.specs.Prelude.{◌≡◌, ◌⊎◌, ◌+◌, ◌≤◌, ◌++◌, [], length, true, false, Some, None, IfOk, OnOk, IfErr, OnErr, vec_len, vec_capacity};
 ghost use Rattle.mio.specs.Events.{items};
 ghost use Rattle.server.specs.SocketsFronts.{numbers};
-ghost use Rattle.server.specs.SocketsWires.{fresh_wire, promptly};
+ghost use Rattle.server.specs.SocketsWires.{SameButWatched, fresh_wire, promptly, under};
 
 use crate::faults::ServerFault;
 use crate::front::{Front, Line, Unopened};
@@ -78,7 +78,7 @@ impl Sockets {
 impl Sockets {
     /// Starts the connection to the target.
     fn begin<N: Net + Log>(&self, rt: &N) -> Result<SocketWire, Unopened>
-        ensures begun { IfOk result (λ target. target ≡ fresh_wire false None) }
+        ensures begun { IfOk result (λ target. target.socket ≡ fresh_wire false None) }
         ensures refused { IfErr result (λ why. why ≡ Unopened.Connect) }
     {
         match TcpStream::connect(rt, self.target) {
@@ -91,9 +91,10 @@ impl Sockets {
         }
     }
 
-    /// Has a socket reported under a token.
+    /// Has a socket reported for reading and writing under a token.
     fn watch<N: Log>(&self, rt: &N, wire: &mut SocketWire, token: Token) -> Result<(), Unopened>
-        ensures same { wire.new ≡ wire.old }
+        ensures watched { OnOk result (wire.new.socket ≡ under token wire.old.socket) }
+        ensures unwatched { OnErr result (wire.new.socket ≡ wire.old.socket) }
         ensures refused { IfErr result (λ why. why ≡ Unopened.Register) }
     {
         match wire.watch(self.poll.registry(), token) {
@@ -150,7 +151,7 @@ impl Front for Sockets {
     }
 
     fn accept(&mut self) -> io::Result<SocketWire>
-        ensures accepted { IfOk result (λ client. (peer : SocketAddr) × (client ≡ fresh_wire true (Some peer))) }
+        ensures accepted { IfOk result (λ client. (peer : SocketAddr) × (client.socket ≡ fresh_wire true (Some peer))) }
         ensures same { self.new ≡ self.old }
     {
         let (stream, peer) = self.listener.accept()?;
@@ -165,10 +166,10 @@ impl Front for Sockets {
         client_token: Token,
         target_token: Token,
     ) -> Result<SocketWire, Unopened>
-        ensures opened { IfOk result (λ target. target ≡ promptly (fresh_wire false None)) }
-        ensures client { OnOk result (client.new ≡ promptly client.old) }
-        ensures unopened { OnErr result (client.new ≡ client.old) }
-        ensures same { client.new.tally ≡ client.old.tally }
+        ensures opened { IfOk result (λ target. target.socket ≡ promptly (under target_token (fresh_wire false None))) }
+        ensures client { OnOk result (client.new.socket ≡ promptly (under client_token client.old.socket)) }
+        ensures unopened { OnErr result (SameButWatched client.old.socket client.new.socket) }
+        ensures same { client.new.socket.tally ≡ client.old.socket.tally }
         ensures kept { self.new ≡ self.old }
     {
         let mut target = self.begin(rt)?;
@@ -184,7 +185,7 @@ impl Front for Sockets {
     }
 
     fn peer(client: &SocketWire) -> Option<SocketAddr>
-        ensures { result ≡ client.now.peer }
+        ensures { result ≡ client.now.socket.peer }
     {
         client.peer()
     }

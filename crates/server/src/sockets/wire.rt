@@ -1,87 +1,98 @@
-ghost use Rattle.std.specs.Prelude.{◌≡◌, true, false, Some, None};
+ghost use Rattle.std.specs.Prelude.{◌≡◌, true, false, Some, None, OnOk, OnErr};
 ghost use Rattle.std.specs.IoError.{error_kind};
+ghost use Rattle.token.specs.Names.{end_number};
 ghost use Rattle.relay_core.specs.Calls.{side_of};
+ghost use Rattle.engine.specs.Asked as ask;
 ghost use Rattle.engine.specs.Classes.{class_of, pending_kind};
 ghost use Rattle.engine.specs.Tallies.{counted};
-ghost use Rattle.server.specs.SocketsWires.{fresh_wire, promptly, took};
+ghost use Rattle.engine.specs.Wires.{call_gave};
+ghost use Rattle.server.specs.SocketsDelays.{IsOffered};
+ghost use Rattle.server.specs.SocketsWires.{Registered, Switches, Makes, fresh_wire, promptly, took, under};
 
 use crate::front::Line;
 use crate::sockets::delay::Delay;
+use crate::sockets::stream::Stream;
 use engine::{Tally, Wire};
+use mio::Registry;
 use mio::net::TcpStream;
-use mio::{Interest, Registry};
 use relay_core::{Call, Side};
 use std::io;
-use std::io::{Read, Write};
 use std::marker::Model;
-use std::net::{Shutdown, SocketAddr};
+use std::net::SocketAddr;
 use token::Token;
 
 /// The wire over one system socket. A read or a write is one system call, which never waits.
 ///
-/// It counts its answers by [`class_of`](engine::class_of). It does not specify its bytes, since only the system knows
-/// which bytes come.
+/// It counts its answers by [`class_of`](engine::class_of). It specifies the system calls that it makes, and gives their
+/// answers unchanged. It does not specify its bytes, since only the system knows which bytes come.
 #[derive(Drop)]
-pub struct SocketWire {
-    pub(crate) stream: TcpStream,
+pub struct SocketWire<S = TcpStream> {
+    pub(crate) stream: S,
     tally: Tally,
     delay: Delay,
     peer: Option<SocketAddr>,
+    watched: Option<Token>,
 }
 
-impl Model for SocketWire {
-    ghost use Rattle.server.specs.SocketsWires.{Socket};
+impl<S> Model for SocketWire<S> {
+    ghost use Rattle.server.specs.SocketsWires.{Wired};
 
-    ghost Value = { Socket };
+    ghost Value = { Wired S };
 
-    ghost view = { λ w. record { tally = w.tally; sending = w.delay; peer = w.peer } };
+    ghost view = { λ w. record { stream = w.stream; socket = record { tally = w.tally; sending = w.delay; peer = w.peer; watched = w.watched } } };
 }
 
-impl SocketWire {
+impl<S: Stream> SocketWire<S> {
     /// A client's socket, which is connected, and the client's address.
-    pub(crate) fn accepted(stream: TcpStream, peer: SocketAddr) -> SocketWire
-        ensures { result ≡ fresh_wire true (Some peer) }
+    pub(crate) fn accepted(stream: S, peer: SocketAddr) -> SocketWire<S>
+        ensures { result ≡ record { stream = stream; socket = fresh_wire true (Some peer) } }
     {
         SocketWire {
             stream,
             tally: Tally::new(true),
             delay: Delay::new(),
             peer: Some(peer),
+            watched: None,
         }
     }
 
     /// A target's socket, which is connecting.
-    pub(crate) fn connecting(stream: TcpStream) -> SocketWire
-        ensures { result ≡ fresh_wire false None }
+    pub(crate) fn connecting(stream: S) -> SocketWire<S>
+        ensures { result ≡ record { stream = stream; socket = fresh_wire false None } }
     {
         SocketWire {
             stream,
             tally: Tally::new(false),
             delay: Delay::new(),
             peer: None,
+            watched: None,
         }
     }
 
     /// The address of the client, if the wire is a client's.
     pub fn peer(&self) -> Option<SocketAddr>
-        ensures { result ≡ self.now.peer }
+        ensures { result ≡ self.now.socket.peer }
     {
         self.peer
     }
 
-    /// Has the socket reported for reading and writing, edge-triggered, under a token's number (epoll_ctl(2)).
+    /// Has the socket reported for reading and writing, edge-triggered, under a token's number.
     pub(crate) fn watch(&mut self, registry: &Registry, token: Token) -> io::Result<()>
-        ensures { self.new ≡ self.old }
+        ensures registered { OnOk result (S.did (Registered (end_number token)) self.old.stream self.new.stream) }
+        ensures watched { OnOk result (self.new.socket ≡ under token self.old.socket) }
+        ensures unwatched { OnErr result (self.new.socket ≡ self.old.socket) }
     {
-        let both = Interest::READABLE | Interest::WRITABLE;
-        registry.register(&mut self.stream, mio::Token(token.value() as usize), both)
+        self.stream.register(registry, token.value())?;
+        self.watched = Some(token);
+        Ok(())
     }
 
     /// Counts an error of a call by its class, and gives it.
     fn refuse(&mut self, call: Call, error: io::Error) -> io::Error
         requires { side_of call ≡ Side.Target }
         ensures same { result ≡ error }
-        ensures counted { self.new ≡ record self.old { tally = counted (class_of call self.old.tally.joined (error_kind error)) self.old.tally } }
+        ensures counted { self.new.socket ≡ record self.old.socket { tally = counted (class_of call self.old.socket.tally.joined (error_kind error)) self.old.socket.tally } }
+        ensures stream { self.new.stream ≡ self.old.stream }
     {
         self.tally.refuse(call, error.kind());
         error
@@ -89,7 +100,8 @@ impl SocketWire {
 
     /// A write took `count` of the bytes that were offered.
     fn took(&mut self, count: usize, offered: usize)
-        ensures { self.new ≡ record self.old { tally = took count offered self.old.tally } }
+        ensures counted { self.new.socket ≡ record self.old.socket { tally = took count offered self.old.socket.tally } }
+        ensures stream { self.new.stream ≡ self.old.stream }
     {
         if count > 0 {
             self.tally.connect();
@@ -98,15 +110,27 @@ impl SocketWire {
         }
     }
 
-    /// The state of the connection: the error that is pending on the socket (SO_ERROR of socket(7)), or that it has no
-    /// peer yet (getpeername(2)).
-    fn stand(&self) -> io::Result<()> {
-        if let Some(error) = self.stream.take_error()? {
-            return Err(failure(error));
+    /// So many bytes were offered. In bulk the socket may wait for more from now on.
+    fn offered(&mut self, bytes: usize)
+        ensures offered { IsOffered bytes self.old.socket.sending self.new.socket.sending }
+        ensures same { self.new.socket ≡ record self.old.socket { sending = self.new.socket.sending } }
+        ensures switched { Switches S.did self.old.socket.sending.at_once self.new.socket.sending.at_once self.old.stream self.new.stream }
+    {
+        if self.delay.offer(bytes) {
+            self.stream.send_at_once(false);
         }
-        self.stream.peer_addr()?;
-        Ok(())
     }
+}
+
+/// Whether a socket is connected: its pending error, or that it has no peer yet.
+fn stand<S: Stream>(stream: &mut S) -> io::Result<()>
+    ensures { Makes S.did ask.Join (call_gave result) true true stream.old stream.new }
+{
+    if let Some(error) = stream.pending()? {
+        return Err(failure(error));
+    }
+    stream.peer()?;
+    Ok(())
 }
 
 /// An error that was pending on a socket, as the answer of a call. It is always a failure of the connection.
@@ -116,13 +140,13 @@ fn failure(pending: io::Error) -> io::Error
     io::Error::from(engine::pending(pending.kind()))
 }
 
-impl Wire for SocketWire {
+impl<S: Stream> Wire for SocketWire<S> {
     ghost use Rattle.engine.specs.Wires.{counts_alone};
-    ghost use Rattle.server.specs.SocketsWires.{IsCalled};
+    ghost use Rattle.server.specs.SocketsWires.{IsDone};
 
-    ghost told = { λ w. counts_alone w.tally.faults w.tally.blocks };
+    ghost told = { λ w. counts_alone w.socket.tally.faults w.socket.tally.blocks };
 
-    ghost does = { IsCalled };
+    ghost does = { IsDone S.did };
 
     fn read(&mut self, buffer: &mut [u8]) -> io::Result<usize> {
         match self.stream.read(buffer) {
@@ -136,9 +160,7 @@ impl Wire for SocketWire {
 
     fn write(&mut self, offer: &[u8]) -> io::Result<usize> {
         let answer = self.stream.write(offer);
-        if self.delay.offer(offer.len()) {
-            let _ = self.stream.set_nodelay(false);
-        }
+        self.offered(offer.len());
         match answer {
             Ok(count) => {
                 self.took(count, offer.len());
@@ -149,14 +171,14 @@ impl Wire for SocketWire {
     }
 
     fn shut_write(&mut self) -> io::Result<()> {
-        match self.stream.shutdown(Shutdown::Write) {
+        match self.stream.shut_write() {
             Ok(()) => Ok(()),
             Err(error) => Err(self.refuse(Call::Shut(Side::Target), error)),
         }
     }
 
     fn joined(&mut self) -> io::Result<()> {
-        match self.stand() {
+        match stand(&mut self.stream) {
             Ok(()) => {
                 self.tally.connect();
                 Ok(())
@@ -174,13 +196,14 @@ impl Wire for SocketWire {
     }
 }
 
-impl Line for SocketWire {
+impl<S: Stream> Line for SocketWire<S> {
     fn settle(&mut self)
-        ensures told { (self.new.tally.faults ≡ self.old.tally.faults) × (self.new.tally.blocks ≡ self.old.tally.blocks) }
-        ensures settled { self.new ≡ promptly self.old }
+        ensures told { (self.new.socket.tally.faults ≡ self.old.socket.tally.faults) × (self.new.socket.tally.blocks ≡ self.old.socket.tally.blocks) }
+        ensures settled { self.new.socket ≡ promptly self.old.socket }
+        ensures switched { Switches S.did self.old.socket.sending.at_once true self.old.stream self.new.stream }
     {
         if self.delay.settle() {
-            let _ = self.stream.set_nodelay(true);
+            self.stream.send_at_once(true);
         }
     }
 }
