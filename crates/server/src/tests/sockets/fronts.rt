@@ -7,46 +7,67 @@ use std::alloc::AllocError;
 use std::io::Write;
 use std::time::{Duration, Instant};
 
+/// What a server that listens at this port answers, and what it logs at level error.
+fn listening(rt: &HostRuntime, port: u16) -> Result<(Option<ServerFault>, Lines), Fail> {
+    let sink = Memory::new(rt.alloc());
+    let log = Logged::new(rt, Level::Error, &sink);
+    let fault = bind(&log, &settings(port)).err();
+    Ok((fault, sink.into_lines()))
+}
+
+/// Whether the first line that was logged begins with this text. A line for which there was no memory is missing.
+fn begins(lines: &Lines, text: &str) -> Result<bool, AllocError> {
+    let line = lines.as_slice().first().ok_or(AllocError)?;
+    Ok(line.as_str().starts_with(text))
+}
+
 // A port that is taken is told, with the system's cause in the log.
 #[test]
 fn listens_once(rt: HostRuntime) -> Result<(), Fail> {
     let first = bind(&rt, &settings(0))?;
     let address = first.text();
-    let sink = Memory::new(rt.alloc());
-    let log = Logged::new(&rt, Level::Error, &sink);
-    let fault = bind(&log, &settings(address.port())).map(drop);
-    assert_eq!(rt; fault, Err(ServerFault::Listen));
-    let wanted = format!(in rt.alloc(); "[ERROR relayd] listen: {address}: ")?;
-    let lines = sink.into_lines();
-    let line = lines.as_slice().first().ok_or(AllocError)?;
-    assert!(rt; line.as_str().starts_with(wanted.as_str()));
     assert!(rt; address.port() > 0);
+    let (fault, lines) = listening(&rt, address.port())?;
+    assert_eq!(rt; fault, Some(ServerFault::Listen));
+    let wanted = format!(in rt.alloc(); "[ERROR relayd] listen: {address}: ")?;
+    assert!(rt; begins(&lines, wanted.as_str())?);
     Ok(())
 }
 
-// The listener is reported as 0, the waker once as 1, and an opened socket for writing and for reading.
-#[test]
-fn reports_by_number(rt: HostRuntime) -> Result<(), Fail> {
-    let target = listener(&rt)?;
-    let (mut front, waker, address) = front(&rt, target.local_addr()?)?;
+/// Whether nobody waits to be accepted.
+fn none_waits(front: &mut Sockets) -> bool {
     let none = front.accept().map(drop).map_err(|error| error.kind());
-    assert_eq!(rt; none, Err(ErrorKind::WouldBlock));
-    let mut peer = TcpStream::connect(&rt, address)?;
-    reports(rt.alloc(), &mut front, &[0])?;
-    let mut client = front.accept()?;
+    none == Err(ErrorKind::WouldBlock)
+}
+
+/// Whether a poll that has nothing to report waits as long as it may.
+fn waits(rt: &HostRuntime, front: &mut Sockets) -> Result<bool, Fail> {
+    let mut batch = Vec::with_capacity(rt.alloc(), MAX_BATCH)?;
+    let start = Instant::now(rt)?;
+    front.poll(&mut batch)?;
+    Ok(batch.is_empty() && start.elapsed(rt)? >= Duration::from_millis(190))
+}
+
+// The listener is reported as 0, and the waker once as 1.
+#[test]
+fn reports_listener_and_waker(rt: HostRuntime) -> Result<(), Fail> {
+    let target = listener(&rt)?;
+    let (mut front, waker, peer, client) = accepted(&rt, target.local_addr()?)?;
+    assert!(rt; none_waits(&mut front));
     assert_eq!(rt; client.peer(), Some(peer.local_addr()?));
     crosses(&client);
     shared(&waker);
     wake(&front, &waker);
     reports(rt.alloc(), &mut front, &[1])?;
-    let mut batch = Vec::with_capacity(rt.alloc(), MAX_BATCH)?;
-    let start = Instant::now(&rt)?;
-    front.poll(&mut batch)?;
-    assert!(rt; batch.is_empty());
-    assert!(rt;
-        start.elapsed(&rt)? >= Duration::from_millis(190),
-        "too short a wait"
-    );
+    assert!(rt; waits(&rt, &mut front)?);
+    Ok(())
+}
+
+// An opened socket is reported under its number, for writing and for reading.
+#[test]
+fn reports_both_sockets(rt: HostRuntime) -> Result<(), Fail> {
+    let target = listener(&rt)?;
+    let (mut front, _waker, mut peer, mut client) = accepted(&rt, target.local_addr()?)?;
     let (near, far) = (token(Side::Client)?, token(Side::Target)?);
     let _target = front.open(&rt, &mut client, near, far)?;
     reports(rt.alloc(), &mut front, &[near.value(), far.value()])?;
@@ -89,8 +110,7 @@ fn unopened(rt: HostRuntime) -> Result<(), Fail> {
     ] {
         let (why, lines) = opened_twice(&rt, target)?;
         assert_eq!(rt; why, Some(unopened));
-        let line = lines.as_slice().first().ok_or(AllocError)?;
-        assert!(rt; line.as_str().starts_with(text));
+        assert!(rt; begins(&lines, text)?);
     }
     Ok(())
 }
@@ -101,6 +121,12 @@ fn crosses<T: Send>(_value: &T) {}
 /// What threads may share.
 fn shared<T: Sync>(_value: &T) {}
 
+/// Whether a fault prints as this text.
+fn prints(alloc: Global, fault: ServerFault, text: &str) -> Result<bool, AllocError> {
+    let printed = format!(in alloc; "{fault}")?;
+    Ok(printed.as_str() == text)
+}
+
 #[test]
 fn texts(rt: HostRuntime) -> Result<(), Fail> {
     for (fault, text) in [
@@ -110,8 +136,7 @@ fn texts(rt: HostRuntime) -> Result<(), Fail> {
         (ServerFault::Worn, "claims worn"),
         (ServerFault::NoMemory, "out of memory"),
     ] {
-        let printed = format!(in rt.alloc(); "{fault}")?;
-        assert_eq!(rt; printed.as_str(), text);
+        assert!(rt; prints(rt.alloc(), fault, text)?);
     }
     assert_eq!(rt; Cause::from(Unopened::Connect), Cause::Connect);
     assert_eq!(rt; Cause::from(Unopened::Register), Cause::Register);
