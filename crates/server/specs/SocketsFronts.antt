@@ -1,5 +1,4 @@
--- Where a server listens, what is reported, and what the log says of a connection that could not be opened. Part of the
--- promises.
+-- Where a server listens, and what is reported. Part of the promises.
 use Rattle.std.specs.Prelude.{◌≡◌, ℕ, List, map}
 use Rattle.std.specs.declared.net.SocketAddr.{SocketAddr}
 use Rattle.std.specs.Net.Addr.{IsV4And, ipv4_octets}
@@ -7,15 +6,6 @@ use Rattle.std.specs.Net.Socket.{socket_ip, IsPlainSocket}
 use Rattle.settings.specs.Addresses.{SocketAddress}
 use Rattle.mio.specs.declared.event.event.Event.{Event}
 use Rattle.mio.specs.Event.{event_token}
-use Rattle.relay_log.specs.declared.cause.Cause.{Cause}
-use Rattle.relay_log.specs.declared.cause.Cause.TheVariants as cause
-use Rattle.server.specs.declared.front.Unopened.{Unopened}
-use Rattle.server.specs.declared.front.Unopened.TheVariants.{Connect, Register}
-
--- the word for the log
-abbrev pub cause_of : Unopened → Cause
-cause_of Connect = cause.Connect
-cause_of Register = cause.Register
 
 -- the numbers of what is reported, in the order of the reports
 abbrev pub numbers : List Event → List ℕ

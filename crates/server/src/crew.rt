@@ -1,23 +1,33 @@
-//! The threads of a server: what each thread owns, and the loop of a worker.
-ghost use Rattle.std.specs.Prelude.{◌≡◌, IfOk, IfSome};
+//! The threads of a server: what each of them owns, the loop of a worker, and the loop of the poller's thread.
+ghost use Rattle.std.specs.Prelude.{◌≡◌, IfOk, IfSome, length};
 ghost use Rattle.claims.specs.Seats.{fresh_seat, HoldsNothing};
+ghost use Rattle.dispatch.specs.Hands.{empty_hand};
 ghost use Rattle.server.specs.Crews.{AreFresh};
-ghost use Rattle.server.specs.Hands.{empty_hand};
 
-use crate::faults::ServerFault;
-use crate::front::Front;
-use crate::gate::Gate;
-use crate::hand::Hand;
-use crate::note::Note;
-use crate::putting::{give_slots, put_tickets};
-use crate::shared::{Own, Shared};
-use crate::worker::worker_turn;
+use crate::fault_record::FaultRecord;
 use claims::ClaimSeat;
+use dispatch::{
+    Front, Gate, Hand, Own, Poller, ServerFault, Shared, give_slots, own_turn, poller_round,
+    put_tickets, worker_turn,
+};
 use log::Log;
 use ready::{FreeQueue, ReadyQueue};
 use std::alloc::{AllocError, Global};
+use std::net::Net;
 use std::sync::Wait;
 use std::thread;
+
+/// What every thread of a server is handed.
+#[derive(Drop)]
+pub(crate) struct Crew<'a, F: Front, G: Gate, R> {
+    pub(crate) rt: &'a R,
+    pub(crate) alloc: Global,
+    pub(crate) gate: &'a G,
+    pub(crate) faults: &'a FaultRecord,
+    pub(crate) shared: &'a Shared<F>,
+    /// Whether the poller's thread runs turns, too.
+    pub(crate) poller_works: bool,
+}
 
 /// What the threads of a server are made from: for each of them a seat, an end of the queue of tickets and an end of
 /// the queue of free slots.
@@ -58,60 +68,90 @@ pub(crate) fn next_own<F: Front>(
 /// The loop of a worker: it takes tickets and runs their turns until the queue of tickets is closed and empty, or a
 /// fault is recorded. A fault of its own is recorded, and ends all other threads too.
 pub(crate) fn work<F: Front, G: Gate, R: Wait + Log>(
-    rt: &R,
-    alloc: Global,
-    gate: &G,
-    note: &Note,
-    shared: &Shared<F>,
+    crew: &Crew<F, G, R>,
     number: usize,
     mut own: Own,
 )
-    requires { own.seat ≡ fresh_seat shared.now.claims }
+    requires { own.seat ≡ fresh_seat crew.now.shared.now.claims }
 {
-    if let Err(fault) = run_turns(rt, alloc, gate, note, shared, &mut own) {
-        end_all(rt, note, shared, number, &mut own.ready, fault);
+    let ended = run_turns(crew, &mut own);
+    end_work(crew, number, &mut own.ready, ended);
+}
+
+/// What a worker does at its end: a fault is recorded, and ends all other threads. Workers that sleep are woken, and so
+/// is the poller.
+pub(crate) fn end_work<F: Front, G: Gate, R: Wait>(
+    crew: &Crew<F, G, R>,
+    number: usize,
+    ready: &mut ReadyQueue,
+    ended: Result<(), ServerFault>,
+) {
+    if let Err(fault) = ended {
+        crew.faults.write(crew.rt, number, fault);
+        ready.close();
+        F::wake(&crew.shared.waker);
     }
 }
 
-/// Records a worker's fault and ends all other threads: workers that sleep are woken, and so is the poller.
-pub(crate) fn end_all<F: Front, R: Wait>(
-    rt: &R,
-    note: &Note,
-    shared: &Shared<F>,
-    number: usize,
-    ready: &mut ReadyQueue,
-    fault: ServerFault,
-) {
-    note.write(rt, number, fault);
-    ready.close();
-    F::wake(&shared.waker);
-}
-
 fn run_turns<F: Front, G: Gate, R: Wait + Log>(
-    rt: &R,
-    alloc: Global,
-    gate: &G,
-    note: &Note,
-    shared: &Shared<F>,
+    crew: &Crew<F, G, R>,
     own: &mut Own,
 ) -> Result<(), ServerFault>
-    requires same { own.old.seat.table ≡ shared.now.claims }
+    requires same { own.old.seat.table ≡ crew.now.shared.now.claims }
     requires idle { HoldsNothing own.old.seat }
 {
-    for _turn in rt.forever() {
-        if note.is_written() {
+    for _turn in crew.rt.forever() {
+        if crew.faults.is_written() {
             return Ok(());
         }
         if !own.hand.has_room() {
-            put_tickets(rt, &mut own.ready, &mut own.hand);
-            give_slots(rt, &mut own.free, &mut own.hand);
+            put_tickets(crew.rt, &mut own.ready, &mut own.hand);
+            give_slots(crew.rt, &mut own.free, &mut own.hand);
             thread::yield_now();
             continue;
         }
-        let Some(ticket) = own.ready.take(rt) else {
+        let Some(ticket) = own.ready.take(crew.rt) else {
             return Ok(());
         };
-        worker_turn(rt, alloc, shared, own, gate, ticket)?;
+        worker_turn(crew.rt, crew.alloc, crew.shared, own, crew.gate, ticket)?;
+    }
+    Ok(())
+}
+
+/// The loop of the poller's thread, whose fault is recorded like a worker's. At its end the queue of tickets is closed,
+/// which ends the workers.
+pub(crate) fn lead<F: Front + Drop, G: Gate, R: Net + Wait + Log>(
+    crew: &Crew<F, G, R>,
+    mut own: Own,
+    mut poller: Poller<F>,
+)
+    requires unused { own.seat ≡ fresh_seat crew.now.shared.now.claims }
+    requires sized { length poller.table ≡ crew.now.shared.now.claims.words }
+{
+    if let Err(fault) = run_rounds(crew, &mut own, &mut poller) {
+        crew.faults.write(crew.rt, 0, fault);
+    }
+    own.ready.close();
+}
+
+/// Makes rounds until the poller is over, or a fault is recorded.
+pub(crate) fn run_rounds<F: Front, G: Gate, R: Net + Wait + Log>(
+    crew: &Crew<F, G, R>,
+    own: &mut Own,
+    poller: &mut Poller<F>,
+) -> Result<(), ServerFault>
+    requires same { own.old.seat.table ≡ crew.now.shared.now.claims }
+    requires idle { HoldsNothing own.old.seat }
+    requires sized { length poller.old.table ≡ crew.now.shared.now.claims.words }
+{
+    for _round in crew.rt.forever() {
+        if crew.faults.is_written() || poller.is_over() {
+            return Ok(());
+        }
+        poller_round(crew.rt, crew.alloc, crew.shared, own, poller)?;
+        if crew.poller_works {
+            own_turn(crew.rt, crew.alloc, crew.shared, own, crew.gate)?;
+        }
     }
     Ok(())
 }

@@ -1,9 +1,5 @@
-mod fake;
+mod failing;
 mod faults;
 mod holding;
-mod parts;
-mod poller;
 mod serving;
-mod settling;
 mod sockets;
-mod worker;

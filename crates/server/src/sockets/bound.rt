@@ -1,7 +1,7 @@
 ghost use Rattle.std.specs.Prelude.{◌≡◌, IfOk, IfErr};
 ghost use Rattle.server.specs.SocketsFronts.{IsAt};
 
-use crate::faults::ServerFault;
+use dispatch::ServerFault;
 use log::{Log, error};
 use mio::net::TcpListener;
 use settings::Settings;

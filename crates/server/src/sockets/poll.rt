@@ -3,11 +3,10 @@ ghost use Rattle.mio.specs.Events.{items};
 ghost use Rattle.server.specs.SocketsFronts.{numbers};
 ghost use Rattle.server.specs.SocketsWires.{SameButWatched, fresh_wire, promptly, under};
 
-use crate::faults::ServerFault;
-use crate::front::{Front, Line, Unopened};
-use crate::limits::{LISTENER, MAX_BATCH, MAX_WAIT_MILLIS, WAKER};
+use crate::limits::MAX_WAIT_MILLIS;
 use crate::sockets::bound::Bound;
 use crate::sockets::wire::SocketWire;
+use dispatch::{Front, LISTENER, MAX_BATCH, ServerFault, Settle, Unopened, WAKER};
 use log::{Log, debug, error};
 use mio::net::{TcpListener, TcpStream};
 use mio::{Events, Interest, Poll, Waker};
@@ -127,6 +126,8 @@ fn put_numbers(batch: &mut Vec<u64>, events: &Events)
 }
 
 impl Front for Sockets {
+    ghost reported = { λ s. s.reported };
+
     type Client = SocketWire;
 
     type Target = SocketWire;
@@ -138,7 +139,7 @@ impl Front for Sockets {
         ensures most { vec_len batch.new ≤ MAX_BATCH }
         ensures capacity { vec_capacity batch.new ≡ vec_capacity batch.old }
         ensures failed { OnErr result (batch.new.items ≡ []) }
-        ensures reported { OnOk result (batch.new.items ≡ self.new.reported) }
+        ensures reported { batch.new.items ≡ self.new.reported }
         ensures same { self.new.target ≡ self.old.target }
     {
         batch.clear();

@@ -9,9 +9,9 @@ ghost use Rattle.engine.specs.Wires.{call_gave};
 ghost use Rattle.server.specs.SocketsDelays.{IsOffered};
 ghost use Rattle.server.specs.SocketsWires.{Registered, Switches, Makes, fresh_wire, promptly, took, under};
 
-use crate::front::Line;
 use crate::sockets::delay::Delay;
 use crate::sockets::stream::Stream;
+use dispatch::Settle;
 use engine::{Tally, Wire};
 use mio::Registry;
 use mio::net::TcpStream;
@@ -196,7 +196,7 @@ impl<S: Stream> Wire for SocketWire<S> {
     }
 }
 
-impl<S: Stream> Line for SocketWire<S> {
+impl<S: Stream> Settle for SocketWire<S> {
     fn settle(&mut self)
         ensures told { (self.new.socket.tally.faults ≡ self.old.socket.tally.faults) × (self.new.socket.tally.blocks ≡ self.old.socket.tally.blocks) }
         ensures settled { self.new.socket ≡ promptly self.old.socket }

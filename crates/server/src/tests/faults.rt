@@ -1,47 +1,42 @@
 // What a fault of one thread does to the others, and which fault is answered.
-ghost use Rattle.std.specs.Prelude.{◌≡◌, length, IfOk};
-ghost use Rattle.server.specs.Crews.{AreFresh};
+ghost use Rattle.std.specs.Prelude.{◌≡◌, length};
+ghost use Rattle.claims.specs.Seats.{fresh_seat};
 
-use super::fake::{Fake, Script};
-use super::parts::parts_of;
-use super::poller::poller_of;
-use crate::crew::{Parts, end_all, next_own, work};
-use crate::gate::OpenGate;
-use crate::note::Note;
-use crate::serving::{run_rounds, run_threads};
-use crate::{Poller, ServerFault, Shared};
+use super::failing::{Failing, server_without_reports};
+use crate::crew::{Crew, end_work, next_own, run_rounds, work};
+use crate::fault_record::FaultRecord;
+use crate::serving::{Server, run_threads};
+use dispatch::{OpenGate, Own, Poller, ServerFault, Shared};
 use log::sink::{Discard, Locked};
-use log::{Level, Logged};
+use log::{Level, Log, Logged};
 use ready::Ticket;
 use std::alloc::{AllocError, Global};
 use std::io::ErrorKind;
+use std::net::Net;
 use std::sync::Wait;
-use std::sync::atomic::AtomicU64;
 use std::sync::atomic::Ordering::SeqCst;
 use std::test::Fail;
 
 /// How much is kept in hand here: all that two rounds may put there.
 const HAND: usize = 514;
 
-/// A server of one slot and three threads, whose front has no connection. Each of its polls fails like this.
-fn failing(
-    rt: &impl Wait,
+/// What a thread of such a server is handed.
+fn crew_of<'a, R>(
+    rt: &'a R,
     alloc: Global,
-    kind: ErrorKind,
-) -> Result<(Shared<Fake>, Parts, Poller<Fake>), AllocError>
-    ensures seats { IfOk result (λ made. AreFresh made.0.claims made.1.seats.items) }
-    ensures sized { IfOk result (λ made. length made.2.table ≡ made.0.claims.words) }
+    faults: &'a FaultRecord,
+    shared: &'a Shared<Failing>,
+) -> Crew<'a, Failing, OpenGate, R>
+    ensures { result.shared.now ≡ shared.now }
 {
-    let waker = AtomicU64::new(0);
-    let (shared, parts) = parts_of::<Fake>(rt, alloc, waker, 1, 1, 3, 1)?;
-    let script = Script {
-        batches: &[],
-        accepts: &[],
-        opens: &[],
-    };
-    let mut poller = poller_of(alloc, 1, 0, script)?;
-    poller.front.failing = Some(kind);
-    Ok((shared, parts, poller))
+    Crew {
+        rt,
+        alloc,
+        gate: &OpenGate,
+        faults,
+        shared,
+        poller_works: true,
+    }
 }
 
 /// Threads by number, the poller's first, and the fault of each, in the order in which they are noted.
@@ -72,67 +67,125 @@ const NOTED: [(&[(usize, ServerFault)], Option<ServerFault>); 5] = [
 #[test]
 fn the_fault_of_the_first_thread_is_kept(rt: HostRuntime) -> Result<(), Fail> {
     for (row, (faults, kept)) in NOTED.iter().enumerate() {
-        let note = Note::new();
+        let record = FaultRecord::new();
         for (number, fault) in *faults {
-            note.write(&rt, *number, *fault);
+            record.write(&rt, *number, *fault);
         }
-        assert_eq!(rt; note.is_written(), kept.is_some(), "in row {row}");
-        assert_eq!(rt; note.into_fault(), *kept, "in row {row}");
+        assert_eq!(rt; record.is_written(), kept.is_some(), "in row {row}");
+        assert_eq!(rt; record.into_fault(), *kept, "in row {row}");
     }
     Ok(())
 }
 
+// Another worker's fault comes later. The first worker's goes before, the third worker's does not.
 #[test]
 fn a_worker_s_fault_is_told_to_all(rt: HostRuntime) -> Result<(), Fail> {
-    let (shared, mut parts, _poller) = failing(&rt, rt.alloc(), ErrorKind::Other)?;
+    let Server {
+        shared,
+        mut parts,
+        ..
+    } = server_without_reports(&rt, rt.alloc(), ErrorKind::Other)?;
     let (Some(mut mine), Some(mut other)) = (parts.ready.pop(), parts.ready.pop()) else {
         panic!(rt; "there are not two ends")
     };
-    // Another worker's fault comes later. The first worker's goes before, the third worker's does not.
     for (later, kept) in [(3, ServerFault::Worn), (1, ServerFault::NoMemory)] {
-        let note = Note::new();
-        end_all(&rt, &note, &shared, 2, &mut mine, ServerFault::Worn);
-        note.write(&rt, later, ServerFault::NoMemory);
-        assert_eq!(rt; note.into_fault(), Some(kept));
+        let faults = FaultRecord::new();
+        let crew = crew_of(&rt, rt.alloc(), &faults, &shared);
+        end_work(&crew, 2, &mut mine, Err(ServerFault::Worn));
+        faults.write(&rt, later, ServerFault::NoMemory);
+        assert_eq!(rt; faults.into_fault(), Some(kept));
     }
     assert_eq!(rt; other.take(&rt), None);
     assert_eq!(rt; shared.waker.load(SeqCst), 2);
     Ok(())
 }
 
-// A ticket waits, and a report would fail.
-#[tactic(auto, using(claims::proofs::Seats::fresh_holds_nothing))]
-#[test]
-fn nothing_begins_after_a_fault(rt: HostRuntime) -> Result<(), Fail> {
-    let alloc = rt.alloc();
-    let log = Logged::new(&rt, Level::Error, Discard);
-    let (shared, mut parts, mut poller) = failing(&rt, alloc, ErrorKind::Other)?;
-    let (Some(mut first), Some(second)) = (
-        next_own(alloc, &shared, &mut parts, HAND)?,
-        next_own(alloc, &shared, &mut parts, HAND)?,
-    ) else {
-        panic!(rt; "there are not two threads")
-    };
+/// Puts two tickets of a slot that is free, closes their queue, and lets a worker work. Answers whether it took a ticket,
+/// and whether it took both, with a fault recorded before or without.
+fn takes<R: Wait + Log>(
+    rt: &R,
+    alloc: Global,
+    shared: &Shared<Failing>,
+    mut first: Own,
+    second: Own,
+    fault: Option<ServerFault>,
+) -> (bool, bool)
+    requires { second.seat ≡ fresh_seat shared.now.claims }
+{
+    let faults = FaultRecord::new();
+    if let Some(fault) = fault {
+        faults.write(rt, 2, fault);
+    }
     let ticket = Ticket {
         slot: 0,
         generation: 1,
     };
-    assert!(rt; first.ready.put(&rt, ticket).is_ok());
-    let note = Note::new();
-    note.write(&rt, 2, ServerFault::Worn);
-    let ended = run_rounds(
-        &log,
-        alloc,
-        &OpenGate,
-        &note,
-        &shared,
-        &mut first,
-        &mut poller,
-        true,
-    );
-    assert_eq!(rt; (ended, poller.front.polled), (Ok(()), 0));
-    work(&log, alloc, &OpenGate, &note, &shared, 1, second);
-    assert_eq!(rt; first.ready.try_take(&rt), Some(ticket));
+    let _ = first.ready.put(rt, ticket);
+    let _ = first.ready.put(rt, ticket);
+    first.ready.close();
+    work(&crew_of(rt, alloc, &faults, shared), 1, second);
+    let both = first.ready.try_take(rt).is_none();
+    let one = first.ready.try_take(rt).is_none();
+    (one, both)
+}
+
+// Each of the turns finds the slot free, and is Busy. A worker goes on after it, but begins none after a fault.
+#[test]
+fn a_worker_goes_on_until_a_fault(rt: HostRuntime) -> Result<(), Fail> {
+    let alloc = rt.alloc();
+    let log = Logged::new(&rt, Level::Error, Discard);
+    for (fault, took) in [(None, true), (Some(ServerFault::Worn), false)] {
+        let Server {
+            shared,
+            mut parts,
+            ..
+        } = server_without_reports(&rt, alloc, ErrorKind::Other)?;
+        let (Some(first), Some(second)) = (
+            next_own(alloc, &shared, &mut parts, HAND)?,
+            next_own(alloc, &shared, &mut parts, HAND)?,
+        ) else {
+            panic!(rt; "there are not two threads")
+        };
+        assert_eq!(rt;
+            takes(&log, alloc, &shared, first, second, fault),
+            (took, took)
+        );
+    }
+    Ok(())
+}
+
+/// Lets a poller make rounds after a fault was recorded. Answers whether it ended well, and how often it waited.
+fn rounds_after<R: Net + Wait + Log>(
+    rt: &R,
+    alloc: Global,
+    shared: &Shared<Failing>,
+    mut own: Own,
+    mut poller: Poller<Failing>,
+) -> (bool, usize)
+    requires unused { own.seat ≡ fresh_seat shared.now.claims }
+    requires sized { length poller.table ≡ shared.now.claims.words }
+{
+    let faults = FaultRecord::new();
+    faults.write(rt, 2, ServerFault::Worn);
+    let crew = crew_of(rt, alloc, &faults, shared);
+    let ended = run_rounds(&crew, &mut own, &mut poller);
+    (ended.is_ok(), poller.front.polled)
+}
+
+#[test]
+fn no_round_begins_after_a_fault(rt: HostRuntime) -> Result<(), Fail> {
+    let alloc = rt.alloc();
+    let log = Logged::new(&rt, Level::Error, Discard);
+    let Server {
+        shared,
+        mut parts,
+        poller,
+        ..
+    } = server_without_reports(&rt, alloc, ErrorKind::Other)?;
+    let Some(own) = next_own(alloc, &shared, &mut parts, HAND)? else {
+        panic!(rt; "there is no thread")
+    };
+    assert_eq!(rt; rounds_after(&log, alloc, &shared, own, poller), (true, 0));
     Ok(())
 }
 
@@ -142,8 +195,8 @@ fn a_failed_wait_ends_all_threads(rt: HostRuntime) -> Result<(), Fail> {
     let alloc = rt.alloc();
     let sink = Locked::new(rt, Vec::new(alloc));
     let log = Logged::new(rt, Level::Error, &sink);
-    let (shared, parts, poller) = failing(&rt, alloc, ErrorKind::PermissionDenied)?;
-    let served = run_threads(&log, alloc, &OpenGate, &shared, parts, poller, 2, true);
+    let server = server_without_reports(&rt, alloc, ErrorKind::PermissionDenied)?;
+    let served = run_threads(&log, alloc, &OpenGate, server);
     let bytes = sink.into_inner();
     // A worker that was not started, and a line that is missing, are refused allocations.
     if served == Err(ServerFault::Threads) || bytes.is_empty() {

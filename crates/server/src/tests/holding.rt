@@ -1,6 +1,6 @@
 // A gate that shows whether two turns can be under way at once.
 
-use crate::gate::Gate;
+use dispatch::Gate;
 use std::sync::atomic::AtomicBool;
 use std::sync::atomic::Ordering::SeqCst;
 use std::thread;

@@ -1,15 +1,16 @@
 // A server over real sockets on loopback, with its clients and its target in the same process.
 
 use super::holding::Holding;
-use crate::gate::OpenGate;
-use crate::serving::{serve, serve_as};
-use crate::sockets::bind;
+use crate::serving::{build, run_threads, serve};
+use crate::sockets::{Bound, Sockets, bind};
+use dispatch::{OpenGate, ServerFault};
 use log::sink::{Discard, Locked};
-use log::{Level, Logged};
+use log::{Level, Log, Logged};
 use settings::{LogLevel, Settings};
 use std::alloc::{AllocError, Global};
 use std::io::{self, Read, Write};
 use std::net::{Net, Shutdown, SocketAddr, TcpListener, TcpStream};
+use std::sync::Wait;
 use std::test::Fail;
 use std::thread;
 use std::thread::Threads;
@@ -146,6 +147,20 @@ fn echo_two(rt: &impl Threads, listener: &TcpListener) {
     let _ = thread::join(rt, || echo(listener, 2), || echo(listener, 2));
 }
 
+/// Serves like `serve`, but leaves all turns to the workers.
+fn serve_by_workers<R: Net + Wait + Threads + Log + Sync>(
+    rt: &R,
+    alloc: Global,
+    settings: &Settings,
+    gate: &Holding,
+    bound: Bound,
+) -> Result<(), ServerFault> {
+    let (front, waker) = Sockets::new(rt, alloc, bound, SocketAddr::from(settings.target))?;
+    let mut server = build(rt, alloc, settings, front, waker)?;
+    server.poller_works = false;
+    run_threads(rt, alloc, gate, server)
+}
+
 // A client is connected when both have shut their side before the server begins.
 #[test]
 fn two_workers_run_at_once(rt: HostRuntime) -> Result<(), Fail> {
@@ -164,7 +179,7 @@ fn two_workers_run_at_once(rt: HostRuntime) -> Result<(), Fail> {
     let gate = Holding::new();
     let (served, echoed) = thread::join(
         &rt,
-        || serve_as(&log, alloc, &settings, &gate, bound, false),
+        || serve_by_workers(&log, alloc, &settings, &gate, bound),
         || echo(&listener, 2),
     );
     assert_eq!(rt; served, Ok(()));

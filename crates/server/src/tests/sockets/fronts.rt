@@ -2,7 +2,6 @@ use super::*;
 use crate::{ServerFault, Unopened};
 use log::sink::{Lines, Memory};
 use log::{Level, Logged};
-use relay_log::Cause;
 use std::alloc::AllocError;
 use std::io::Write;
 use std::time::{Duration, Instant};
@@ -138,7 +137,5 @@ fn texts(rt: HostRuntime) -> Result<(), Fail> {
     ] {
         assert!(rt; prints(rt.alloc(), fault, text)?);
     }
-    assert_eq!(rt; Cause::from(Unopened::Connect), Cause::Connect);
-    assert_eq!(rt; Cause::from(Unopened::Register), Cause::Register);
     Ok(())
 }

@@ -1,5 +1,5 @@
 use super::*;
-use crate::Line;
+use crate::Settle;
 use engine::Wire;
 use std::io::{Read, Write};
 

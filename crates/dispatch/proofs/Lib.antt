@@ -1,0 +1,4 @@
+pub mod Connections
+pub mod Outgoing
+pub mod Reports
+pub mod WholeRounds

@@ -1,0 +1,64 @@
+-- What an end of a queue has put, and behind it what is in hand.
+use Rattle.std.proofs.Common.{◌≡◌, ℕ, List, [], ◌∷◌, ◌++◌, drop, slice_get, sym, refl, ap, ◌∙◌, append_assoc}
+use Rattle.std.specs.Prelude.{Some, map}
+use Rattle.std.proofs.lemmas.List.{map-append, append-nil}
+use Rattle.std.proofs.lemmas.Option.{none-some, same_Some}
+use Rattle.ready.specs.declared.history.History.{History}
+use Rattle.ready.specs.Steps.{PutOne}
+use Rattle.ready.specs.declared.ticket.Ticket.{Ticket}
+use Rattle.ready.specs.Steps.{EndState}
+use Rattle.dispatch.specs.declared.shared.Own.{Own}
+use Rattle.dispatch.specs.Hands.{HandState}
+use Rattle.dispatch.specs.Outgoing.{outgoing, Inserted, tickets_out, slots_out}
+
+module _ {T : Type 0} where
+  put_behind : (puts : List (ℕ × T)) (place : ℕ) (item : T) (left : List T) →
+      map (λ (put : ℕ × T). put.1) (puts ++ (place, item) ∷ []) ++ left ≡ map (λ (put : ℕ × T). put.1) puts ++ item ∷ left
+  put_behind puts place item left =
+      ap (λ (items : List T). items ++ left) (map-append (λ (put : ℕ × T). put.1) puts ((place, item) ∷ []))
+      ∙ append_assoc (map (λ (put : ℕ × T). put.1) puts) (item ∷ []) left
+
+  -- the oldest of what is in hand is put
+  pub put_oldest : (old new : History T) (item : T) (before left : List T) →
+      slice_get before 0 ≡ Some item → left ≡ drop 1 before → PutOne old item new →
+      outgoing new left ≡ outgoing old before
+  put_oldest old new item [] left is rest put = absurd (none-some item is)
+  put_oldest old new item (x ∷ xs) left is rest put =
+      ap (λ (h : History T). outgoing h left) put.put
+      ∙ put_behind old.put _ item left
+      ∙ ap (λ (items : List T). outgoing old (item ∷ items)) rest
+      ∙ ap (λ (first : T). outgoing old (first ∷ xs)) (sym (same_Some x item is))
+
+  -- an item that was not in hand is put
+  pub put_inserts : (old new : History T) (item : T) (hand : List T) → PutOne old item new →
+      Inserted item (outgoing old hand) (outgoing new hand)
+  put_inserts old new item hand put = record {
+    before = map (λ (put : ℕ × T). put.1) old.put;
+    after = hand;
+    was = refl;
+    is = ap (λ (h : History T). outgoing h hand) put.put ∙ put_behind old.put _ item hand;
+  }
+
+  -- it is kept in hand
+  pub kept_inserts : (history : History T) (item : T) (hand : List T) →
+      Inserted item (outgoing history hand) (outgoing history (hand ++ item ∷ []))
+  kept_inserts history item hand = record {
+    before = outgoing history hand;
+    after = [];
+    was = sym (append-nil (outgoing history hand));
+    is = sym (append_assoc (map (λ (put : ℕ × T). put.1) history.put) hand (item ∷ []));
+  }
+
+-- the queue refused a ticket, which is the last in hand now
+pub refused_ticket : (own : Own) (ready : EndState Ticket) (hand : HandState) (item ticket : Ticket) →
+    ready ≡ own.ready → item ≡ ticket → hand ≡ record own.hand { tickets = own.hand.tickets ++ item ∷ [] } →
+    Inserted ticket (tickets_out own) (outgoing ready.history hand.tickets)
+refused_ticket own ready hand item ticket same is kept =
+    rw (same, kept, is) (kept_inserts own.ready.history ticket own.hand.tickets)
+
+-- it refused a slot
+pub refused_slot : (own : Own) (free : EndState ℕ) (hand : HandState) (item slot : ℕ) →
+    free ≡ own.free → item ≡ slot → hand ≡ record own.hand { slots = own.hand.slots ++ item ∷ [] } →
+    Inserted slot (slots_out own) (outgoing free.history hand.slots)
+refused_slot own free hand item slot same is kept =
+    rw (same, kept, is) (kept_inserts own.free.history slot own.hand.slots)

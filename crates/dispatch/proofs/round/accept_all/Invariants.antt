@@ -1,0 +1,15 @@
+use Rattle.std.proofs.Common.{◌≡◌, ◌+◌, ◌≤◌}
+use Rattle.dispatch.specs.Hands.{ticket_room}
+use Rattle.dispatch.specs.Openings.{Between, AcceptDone}
+use Rattle.dispatch.proofs.round.accept_all.Given as goal
+
+-- each try takes at most one ticket in hand
+abbrev pub invariant-loop-try : goal.invariant-loop-try
+invariant-loop-try g l = record {
+  between : Between l.shared.claims l.own l.poller;
+  room : 256 ≤ l._try + ticket_room l.own.hand;
+  tries : l._try + l.poller.tries ≡ 256;
+  done : AcceptDone l.fn.poller l.poller l.fn.own l.own;
+  over : l.poller.over ≡ l.fn.poller.over;
+  reported : l.poller.reported ≡ l.fn.poller.reported;
+}

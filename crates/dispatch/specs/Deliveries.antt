@@ -1,0 +1,51 @@
+-- What delivering the reports of one poll does. Part of the promises. Each report that names an end of a connection
+-- which its slot still has becomes a note, and each note that found nobody at work there makes a ticket.
+use Rattle.std.specs.Prelude.{◌≡◌, ℕ, ◌+◌, ◌==◌, ◌⊎◌, List, [], ◌∷◌, ◌++◌, Option, Some, None, length, if◌then◌else◌, slice_index}
+use Rattle.std.specs.List.{filter_map, count_by}
+use Rattle.claims.specs.declared.view.Account.{Account}
+use Rattle.claims.specs.Seats.{SeatState, account_at}
+use Rattle.ready.specs.declared.ticket.Ticket.{Ticket}
+use Rattle.token.specs.declared.name.Name.{Name}
+use Rattle.token.specs.declared.name.Name.TheVariants.{Listener, Waker, End}
+use Rattle.token.specs.Numbers.{name_of}
+use Rattle.dispatch.specs.Hands.{HandState}
+
+-- The connection that a name is of, if its slot still has it: the slot's generation in the table is the name's. A slot that the table
+-- lacks reads as generation 0, which no end has
+abbrev pub connection : List ℕ → Option Name → Option Ticket
+connection generations (Some (End end)) =
+    if slice_index generations end.slot == end.generation then Some (record { slot = end.slot; generation = end.generation }) else None
+connection generations (Some Listener) = None
+connection generations (Some Waker) = None
+connection generations None = None
+
+-- the connection that a report is for, by the report's number
+abbrev pub reported : List ℕ → ℕ → Option Ticket
+reported generations number = connection generations (name_of number)
+
+-- the connections that the reports of a batch are for, in order
+abbrev pub all_reported : List ℕ → List ℕ → List Ticket
+all_reported generations batch = filter_map (reported generations) batch
+
+-- how many of these are for this slot
+abbrev pub at_slot : ℕ → List Ticket → ℕ
+at_slot slot tickets = count_by (λ t. t.slot == slot) tickets
+
+-- some of the items of a list, in its order
+abbrev pub IsSubsequence : List Ticket → List Ticket → Type 0
+IsSubsequence some [] = some ≡ []
+IsSubsequence some (x ∷ xs) = IsSubsequence some xs ⊎ ((rest : List Ticket) × (some ≡ x ∷ rest) × IsSubsequence rest xs)
+
+-- so many posts more, of which so many were answered Wake
+abbrev pub raised : ℕ → ℕ → Account → Account
+raised posts wakes a = record a { posted = a.posted + posts; minted = a.minted + wakes }
+
+-- Each report for a connection was posted at its slot, by one exchange, and those of them that woke left their tickets in hand, in
+-- order. Nothing else of the seat or of the hand changed
+pub record Delivered (generations batch : List ℕ) (old new : SeatState) (had has : HandState) : Type 0 where
+  pub woke : List Ticket
+  pub in_order : IsSubsequence woke (all_reported generations batch)
+  pub table : new.table ≡ old.table
+  pub accounts : (slot : ℕ) → account_at new slot ≡ raised (at_slot slot (all_reported generations batch)) (at_slot slot woke) (account_at old slot)
+  pub exchanges : new.steps ≡ old.steps + length (all_reported generations batch)
+  pub hand : has ≡ record had { tickets = had.tickets ++ woke }

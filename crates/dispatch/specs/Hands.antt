@@ -1,0 +1,27 @@
+-- What a thread has in hand: the tickets and the free slots that a queue refused, oldest first. Part of the promises.
+use Rattle.std.specs.Prelude.{◌≡◌, ℕ, ◌-◌, ◌<◌, ◌≤◌, List, [], length}
+use Rattle.ready.specs.declared.ticket.Ticket.{Ticket}
+
+-- at most `capacity` of each
+pub record HandState : Type 0 where
+  pub tickets : List Ticket
+  pub slots : List ℕ
+  pub capacity : ℕ
+
+abbrev pub empty_hand : ℕ → HandState
+empty_hand capacity = record { tickets = []; slots = []; capacity = capacity }
+
+-- how many tickets more it takes
+abbrev pub ticket_room : HandState → ℕ
+ticket_room h = h.capacity - length h.tickets
+
+-- one ticket more and one slot more fit
+pub record HasRoom (h : HandState) : Type 0 where
+  pub tickets : length h.tickets < h.capacity
+  pub slots : length h.slots < h.capacity
+
+-- nothing came in, and as much fits as before or more
+pub record Shrank (old new : HandState) : Type 0 where
+  pub tickets : length new.tickets ≤ length old.tickets
+  pub slots : length new.slots ≤ length old.slots
+  pub capacity : new.capacity ≡ old.capacity

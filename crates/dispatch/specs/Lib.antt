@@ -1,0 +1,10 @@
+-- The crate's definitions. The first line of each file says whether the promises need it.
+pub mod Accepts
+pub mod Deliveries
+pub mod Fronts
+pub mod Hands
+pub mod Openings
+pub mod Outgoing
+pub mod Polls
+pub mod Rounds
+pub mod Turns

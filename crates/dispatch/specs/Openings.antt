@@ -1,0 +1,70 @@
+-- What accepting and opening connections does to what the poller's thread owns. Part of the promises.
+use Rattle.std.specs.Prelude.{◌≡◌, ℕ, ◌+◌, ◌==◌, List, [], ◌∷◌, ◌++◌, length, map, slice_index, slice_set}
+use Rattle.std.specs.List.{count_by}
+use Rattle.claims.specs.Seats.{SeatState, TableId, account_at, HoldsNothing}
+use Rattle.ready.specs.declared.ticket.Ticket.{Ticket}
+use Rattle.dispatch.specs.declared.shared.Own.{Own}
+use Rattle.dispatch.specs.Deliveries.{at_slot}
+use Rattle.dispatch.specs.Hands.{HandState}
+use Rattle.dispatch.specs.Polls.{PollerState, Counted}
+use Rattle.dispatch.specs.Turns.{Rose}
+
+-- Between two steps of a round the poller's thread holds no slot, its seat is one of these claim words, and its table has a
+-- generation for each slot
+pub record Between (claims : TableId) (own : Own) (poller : PollerState) : Type 0 where
+  pub same : own.seat.table ≡ claims
+  pub idle : HoldsNothing own.seat
+  pub sized : length poller.table ≡ claims.words
+
+-- how often a slot stands in a list
+abbrev pub times : ℕ → List ℕ → ℕ
+times slot slots = count_by (λ s. s == slot) slots
+
+-- the free slots that a thread has taken out of their queue so far
+abbrev pub slots_in : Own → List ℕ
+slots_in own = map (λ (take : ℕ × ℕ). take.1) own.free.history.taken
+
+-- Connections that were opened, in order: each has the next generation of its slot, and the table has it from then on
+abbrev pub AreOpened : List ℕ → List Ticket → List ℕ → Type 0
+AreOpened old [] new = new ≡ old
+AreOpened old (t ∷ ts) new = (t.generation ≡ slice_index old t.slot + 1) × AreOpened (slice_set old t.slot t.generation) ts new
+
+-- Of each slot, what was taken out of the queue or was in hand is in hand, or left it in one of these two ways
+abbrev pub SlotsCounted : Own → Own → List Ticket → List ℕ → Type 0
+SlotsCounted had has opened lost =
+    (slot : ℕ) → times slot (slots_in has) + times slot had.hand.slots
+    ≡ times slot (slots_in had) + (times slot has.hand.slots + (at_slot slot opened + times slot lost))
+
+-- free slots were taken, which are in hand, and nothing else changed
+pub record OnlyTook (had has : Own) : Type 0 where
+  pub seat : has.seat ≡ had.seat
+  pub ready : has.ready ≡ had.ready
+  pub tickets : has.hand.tickets ≡ had.hand.tickets
+  pub capacity : has.hand.capacity ≡ had.hand.capacity
+  pub gave : has.free.history.put ≡ had.free.history.put
+  pub slots : SlotsCounted had has [] []
+
+-- the connection has the one note of its opening, and the one ticket for it is in hand
+pub record Started (ticket : Ticket) (old new : SeatState) (had has : HandState) : Type 0 where
+  pub account : Rose 1 1 (account_at old ticket.slot) (account_at new ticket.slot)
+  pub hand : has ≡ record had { tickets = had.tickets ++ ticket ∷ [] }
+
+-- These connections were opened, each with the next generation of its slot, with one note and with one ticket, which is in hand
+-- behind the others. And these slots are no longer used
+pub record Connected (opened : List Ticket) (lost : List ℕ) (old new : PollerState) (had has : Own) : Type 0 where
+  pub table : AreOpened old.table opened new.table
+  pub counted : Counted old.opened (length opened) new.opened
+  pub unused : Counted old.lost (length lost) new.lost
+  pub batch : new.batch ≡ old.batch
+  pub accounts : (slot : ℕ) → Rose (at_slot slot opened) (at_slot slot opened) (account_at had.seat slot) (account_at has.seat slot)
+  pub tickets : has.hand.tickets ≡ had.hand.tickets ++ opened
+  pub ready : has.ready ≡ had.ready
+  pub gave : has.free.history.put ≡ had.free.history.put
+
+-- What accepting did: connections were opened, and each slot that was taken was opened, or is in hand, or is no longer used. A
+-- connection whose opening failed leaves its slot in hand
+pub record AcceptDone (old new : PollerState) (had has : Own) : Type 0 where
+  pub opened : List Ticket
+  pub lost : List ℕ
+  pub connected : Connected opened lost old new had has
+  pub slots : SlotsCounted had has opened lost

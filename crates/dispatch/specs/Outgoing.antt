@@ -1,0 +1,39 @@
+-- What a thread was to put into the queues so far: what its end of a queue has put, and behind it what is in hand for
+-- that queue. Part of the promises. Nothing that was to be put is lost, doubled or moved while this list stays the same.
+use Rattle.std.specs.Prelude.{◌≡◌, ◌⊎◌, ℕ, List, [], ◌∷◌, ◌++◌, map}
+use Rattle.ready.specs.declared.history.History.{History}
+use Rattle.ready.specs.declared.ticket.Ticket.{Ticket}
+use Rattle.ready.specs.Steps.{EndState, PutLast, HeldOnce}
+use Rattle.dispatch.specs.Hands.{HandState}
+use Rattle.dispatch.specs.declared.shared.Own.{Own}
+
+module _ {T : Type 0} where
+  abbrev pub outgoing : History T → List T → List T
+  outgoing history hand = map (λ (put : ℕ × T). put.1) history.put ++ hand
+
+  -- one item more, at some place of the list. The others are what they were, in order
+  pub record Inserted (item : T) (old new : List T) : Type 0 where
+    pub before : List T
+    pub after : List T
+    pub was : old ≡ before ++ after
+    pub is : new ≡ before ++ item ∷ after
+
+  -- nothing is left in hand for a queue, unless the queue was full at one moment of the call
+  abbrev pub PutAll : EndState T → List T → Type 0
+  PutAll end left = (left ≡ []) ⊎ HeldOnce end.capacity end.history
+
+-- the tickets that a thread was to put so far, in order
+abbrev pub tickets_out : Own → List Ticket
+tickets_out own = outgoing own.ready.history own.hand.tickets
+
+-- the free slots that it was to give so far, in order
+abbrev pub slots_out : Own → List ℕ
+slots_out own = outgoing own.free.history own.hand.slots
+
+-- the ticket is not lost: it is the last that this end of the queue has put, or the last in hand
+abbrev pub KeepsTicket : Ticket → History Ticket → HandState → Type 0
+KeepsTicket ticket history hand = PutLast ticket history ⊎ ((before : List Ticket) × (hand.tickets ≡ before ++ ticket ∷ []))
+
+-- the same of a free slot
+abbrev pub KeepsSlot : ℕ → History ℕ → HandState → Type 0
+KeepsSlot slot history hand = PutLast slot history ⊎ ((before : List ℕ) × (hand.slots ≡ before ++ slot ∷ []))

@@ -1,0 +1,43 @@
+-- What the poller keeps between its rounds. Part of the promises.
+use Rattle.std.specs.Prelude.{◌≡◌, ◌⊎◌, ℕ, ◌+◌, ◌<◌, ◌≤◌, min, Bool, false, List, All}
+use Rattle.dispatch.specs.declared.accepting.Accepted.{Accepted}
+use Rattle.dispatch.specs.declared.accepting.Accepted.TheVariants.{Again, Blocked, Starved}
+
+-- What the front reported at the last wait, each slot's generation, the reports that this round delivers, the accept flag (whether a connection may wait to be accepted), whether
+-- accept(2) was starved at its last answer, how many tries of it the last round left, the bytes of a ring, after how many
+-- connections it stops accepting (0 for never), how many it has opened, how many slots it no longer uses, and whether it is over
+pub record PollerState : Type 0 where
+  pub reported : List ℕ
+  pub table : List ℕ
+  pub batch : List ℕ
+  pub accepting : Bool
+  pub starved : Bool
+  pub tries : ℕ
+  pub ring : ℕ
+  pub stop_after : ℕ
+  pub opened : ℕ
+  pub lost : ℕ
+  pub over : Bool
+
+-- every entry is a generation
+abbrev pub AreGenerations : List ℕ → Type 0
+AreGenerations table = All (λ generation. generation ≤ 140737488355327) table
+
+-- only the answer that none waits takes the accept flag down
+abbrev pub flag_after : Accepted → Bool → Bool
+flag_after Again flag = flag
+flag_after Blocked flag = false
+flag_after Starved flag = flag
+
+-- all connections that are to be opened have been
+pub record HasOpenedAll (p : PollerState) : Type 0 where
+  pub limited : 0 < p.stop_after
+  pub opened : p.stop_after ≤ p.opened
+
+-- a count of 64 bits, so many later: it stays at its greatest value
+abbrev pub counted_up : ℕ → ℕ → ℕ
+counted_up count more = min (count + more) 18446744073709551615
+
+-- such a count rose by so many, or has reached its greatest value
+abbrev pub Counted : ℕ → ℕ → ℕ → Type 0
+Counted old more new = (new ≡ old + more) ⊎ ((18446744073709551615 ≤ old + more) × (18446744073709551615 ≤ new))

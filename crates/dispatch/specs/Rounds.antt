@@ -1,0 +1,48 @@
+-- What a round of the poller does. Part of the promises.
+use Rattle.std.specs.Prelude.{◌≡◌, ◌⊎◌, ℕ, ◌+◌, ◌<◌, ◌≤◌, true, false, List, [], ◌++◌, length}
+use Rattle.claims.specs.Seats.{account_at}
+use Rattle.ready.specs.declared.ticket.Ticket.{Ticket}
+use Rattle.ready.specs.Steps.{HeldOnce}
+use Rattle.dispatch.specs.declared.shared.Own.{Own}
+use Rattle.dispatch.specs.Deliveries.{all_reported, at_slot, IsSubsequence}
+use Rattle.dispatch.specs.Hands.{ticket_room}
+use Rattle.dispatch.specs.Openings.{AreOpened, SlotsCounted}
+use Rattle.dispatch.specs.Outgoing.{tickets_out}
+use Rattle.dispatch.specs.Polls.{PollerState, HasOpenedAll, Counted}
+use Rattle.dispatch.specs.Turns.{Rose}
+
+-- The reports of the batch were delivered: each that is for a connection was posted at its slot, and those that woke made their
+-- tickets. Then connections were opened, each with one post and one ticket at its slot. All tickets that were to be put before, then
+-- those of the reports, then those of the openings are put or in hand, in this order. Each slot that was taken was opened, or is in
+-- hand, or is no longer used
+pub record RoundDone (old new : PollerState) (had has : Own) : Type 0 where
+  pub woke : List Ticket
+  pub opened : List Ticket
+  pub lost : List ℕ
+  pub in_order : IsSubsequence woke (all_reported old.table new.batch)
+  pub accounts : (slot : ℕ) → Rose (at_slot slot (all_reported old.table new.batch) + at_slot slot opened) (at_slot slot woke + at_slot slot opened) (account_at had.seat slot) (account_at has.seat slot)
+  pub tickets : tickets_out has ≡ tickets_out had ++ (woke ++ opened)
+  pub table : AreOpened old.table opened new.table
+  pub counted : Counted old.opened (length opened) new.opened
+  pub unused : Counted old.lost (length lost) new.lost
+  pub gave : has.free.history.put ≡ had.free.history.put
+  pub slots : SlotsCounted had has opened lost
+
+-- no free slot is in hand, and at one moment there was none in the queue
+pub record NoSlot (own : Own) : Type 0 where
+  pub hand : own.hand.slots ≡ []
+  pub queue : HeldOnce 0 own.free.history
+
+-- why accepting ends: no connection may be waiting, or no slot is free, or all were opened, or the system lacked what accept(2)
+-- needs, or it was tried 256 times
+abbrev pub AcceptEnded : PollerState → Own → Type 0
+AcceptEnded p own = (p.accepting ≡ false) ⊎ (NoSlot own ⊎ (HasOpenedAll p ⊎ ((p.starved ≡ true) ⊎ (p.tries ≡ 0))))
+
+-- a round ends early if its hand has not room for a ticket of each slot and 512 more
+abbrev pub EndedEarly : ℕ → Own → Type 0
+EndedEarly slots own = ticket_room own.hand < 512 + slots
+
+-- the poller is over only once all connections were opened, and each slot is back in hand or no longer used
+pub record IsOver (slots : ℕ) (p : PollerState) (own : Own) : Type 0 where
+  pub opened : HasOpenedAll p
+  pub back : slots ≤ length own.hand.slots + p.lost

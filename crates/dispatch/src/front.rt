@@ -1,0 +1,91 @@
+ghost use Rattle.std.specs.Prelude.{◌≡◌, ◌≤◌, ℕ, List, [], OnErr, vec_len, vec_capacity};
+
+use crate::limits::MAX_BATCH;
+use engine::Wire;
+use log::Log;
+use relay_log::Cause;
+use std::io;
+use std::net::{Net, SocketAddr};
+use thiserror::Error;
+use token::Token;
+
+/// A wire that may hold bytes back. In addition to a wire's calls, it is told when a turn on its connection has ended
+/// quiet.
+pub trait Settle: Wire {
+    /// No call is worth trying on this connection before the next report. What was held back so that more could be sent
+    /// with it is sent now. It changes nothing that the wire specifies.
+    fn settle(&mut self)
+        ensures same { Self.told self.new ≡ Self.told self.old };
+}
+
+/// Why an accepted connection could not be opened.
+#[derive(Clone, Copy, Debug, PartialEq, Eq, Error)]
+pub enum Unopened {
+    /// The connection to the target could not be started (socket(2), connect(2)).
+    #[error("connect: failed")]
+    Connect,
+    /// A socket could not be registered for reports (epoll_ctl(2)).
+    #[error("register: failed")]
+    Register,
+}
+
+impl From<Unopened> for Cause {
+    ghost use Rattle.std.specs.Prelude.{◌≡◌};
+    ghost use Rattle.dispatch.specs.Fronts.{cause_of};
+
+    ghost from_gives = { λ unopened cause. cause ≡ cause_of unopened };
+
+    fn from(unopened: Unopened) -> Cause {
+        match unopened {
+            Unopened::Connect => Cause::Connect,
+            Unopened::Register => Cause::Register,
+        }
+    }
+}
+
+/// Where connections and reports come from: the system's sockets, or an in-memory fake.
+pub trait Front {
+    // The numbers that the last wait for reports gave.
+    ghost reported: { Self → List ℕ };
+
+    /// The wire of a client.
+    type Client: Settle + Drop;
+
+    /// The wire of a target.
+    type Target: Settle + Drop;
+
+    /// What another thread uses to end a wait for reports.
+    type Waker;
+
+    /// Waits at most 200 milliseconds for reports, and replaces the contents of the batch by the numbers of their
+    /// tokens, at most [`MAX_BATCH`] (epoll_wait(2)). After an error the batch is empty. It allocates no memory.
+    fn poll(&mut self, batch: &mut Vec<u64>) -> io::Result<()>
+        requires room { MAX_BATCH ≤ vec_capacity batch.old }
+        ensures most { vec_len batch.new ≤ MAX_BATCH }
+        ensures capacity { vec_capacity batch.new ≡ vec_capacity batch.old }
+        ensures reported { batch.new.items ≡ reported self.new }
+        ensures failed { OnErr result (batch.new.items ≡ []) };
+
+    /// The next connection that waits (accept(2)).
+    fn accept(&mut self) -> io::Result<Self::Client>
+        ensures reported { reported self.new ≡ reported self.old };
+
+    /// Starts the connection to the target (connect(2)), and has both sockets reported for reading and writing, each
+    /// under its token. After an error no target is left open, and the client may still be reported until it is closed.
+    /// It changes nothing that the client's wire specifies.
+    fn open<N: Net + Log>(
+        &mut self,
+        rt: &N,
+        client: &mut Self::Client,
+        client_token: Token,
+        target_token: Token,
+    ) -> Result<Self::Target, Unopened>
+        ensures same { Self.Client.told client.new ≡ Self.Client.told client.old }
+        ensures reported { reported self.new ≡ reported self.old };
+
+    /// Ends the wait in progress, or else the next one, which then reports the waker's number, 1.
+    fn wake(waker: &Self::Waker);
+
+    /// A client's address, if it is known. It is only for the log.
+    fn peer(client: &Self::Client) -> Option<SocketAddr>;
+}

@@ -1,0 +1,115 @@
+ghost use Rattle.std.specs.Prelude.{◌≡◌, ◌+◌, ◌<◌, ◌≤◌, ◌↔◌, [], ◌∷◌, ◌++◌, length, drop, slice_get, IsTrue, IsSome, IfOk};
+ghost use Rattle.dispatch.specs.Hands.{empty_hand, ticket_room, HasRoom};
+
+use circular_buffer::HeapCircularBuffer;
+use ready::Ticket;
+use std::alloc::{AllocError, Global};
+use std::marker::Model;
+
+/// What a thread still has to put into a queue: tickets and free slots that a queue refused, oldest first.
+#[derive(Drop)]
+pub struct Hand {
+    tickets: HeapCircularBuffer<Ticket>,
+    slots: HeapCircularBuffer<usize>,
+}
+
+impl Model for Hand {
+    ghost use Rattle.std.specs.Prelude.{◌≡◌, ◌≤◌, length};
+    ghost use Rattle.dispatch.specs.Hands.{HandState};
+
+    ghost Value = { HandState };
+
+    ghost view = { λ h. record { tickets = h.tickets.items; slots = h.slots.items; capacity = h.tickets.capacity } };
+
+    ghost invariant = { λ h. (h.slots.capacity ≡ h.tickets.capacity) × (length h.tickets.items ≤ h.tickets.capacity) × (length h.slots.items ≤ h.slots.capacity) };
+}
+
+impl Hand {
+    /// An empty hand for at most `capacity` tickets and as many slots. No later call allocates memory.
+    pub fn new(alloc: Global, capacity: usize) -> Result<Hand, AllocError>
+        ensures { IfOk result (λ hand. hand ≡ empty_hand capacity) }
+    {
+        Ok(Hand {
+            tickets: HeapCircularBuffer::with_capacity(alloc, capacity)?,
+            slots: HeapCircularBuffer::with_capacity(alloc, capacity)?,
+        })
+    }
+
+    /// Whether one more ticket and one more slot fit.
+    pub fn has_room(&self) -> bool
+        ensures { IsTrue result ↔ HasRoom self.now }
+    {
+        self.tickets.len() < self.tickets.capacity() && self.slots.len() < self.slots.capacity()
+    }
+
+    /// How many more tickets fit.
+    pub fn room(&self) -> usize
+        ensures { result ≡ ticket_room self.now }
+    {
+        self.tickets.capacity() - self.tickets.len()
+    }
+
+    /// How many tickets there are.
+    pub fn tickets(&self) -> usize
+        ensures { result ≡ length self.now.tickets }
+    {
+        self.tickets.len()
+    }
+
+    /// How many slots there are.
+    pub fn slots(&self) -> usize
+        ensures { result ≡ length self.now.slots }
+    {
+        self.slots.len()
+    }
+
+    /// Adds a ticket at the back.
+    pub fn keep_ticket(&mut self, ticket: Ticket)
+        requires { length self.old.tickets < self.old.capacity }
+        ensures { self.new ≡ record self.old { tickets = self.old.tickets ++ ticket ∷ [] } }
+    {
+        let _ = self.tickets.try_push_back(ticket);
+    }
+
+    /// Adds a slot at the back.
+    pub fn keep_slot(&mut self, slot: usize)
+        requires { length self.old.slots < self.old.capacity }
+        ensures { self.new ≡ record self.old { slots = self.old.slots ++ slot ∷ [] } }
+    {
+        let _ = self.slots.try_push_back(slot);
+    }
+
+    /// Puts a ticket back at the front: it is the oldest again.
+    pub fn return_ticket(&mut self, ticket: Ticket)
+        requires { length self.old.tickets < self.old.capacity }
+        ensures { self.new ≡ record self.old { tickets = ticket ∷ self.old.tickets } }
+    {
+        let _ = self.tickets.try_push_front(ticket);
+    }
+
+    /// Puts a slot back at the front: it is the oldest again.
+    pub fn return_slot(&mut self, slot: usize)
+        requires { length self.old.slots < self.old.capacity }
+        ensures { self.new ≡ record self.old { slots = slot ∷ self.old.slots } }
+    {
+        let _ = self.slots.try_push_front(slot);
+    }
+
+    /// Takes the oldest ticket.
+    pub fn take_ticket(&mut self) -> Option<Ticket>
+        ensures value { result ≡ slice_get self.old.tickets 0 }
+        ensures room { IsSome result → length self.new.tickets < self.new.capacity }
+        ensures left { self.new ≡ record self.old { tickets = drop 1 self.old.tickets } }
+    {
+        self.tickets.pop_front()
+    }
+
+    /// Takes the oldest slot.
+    pub fn take_slot(&mut self) -> Option<usize>
+        ensures value { result ≡ slice_get self.old.slots 0 }
+        ensures room { IsSome result → length self.new.slots < self.new.capacity }
+        ensures left { self.new ≡ record self.old { slots = drop 1 self.old.slots } }
+    {
+        self.slots.pop_front()
+    }
+}

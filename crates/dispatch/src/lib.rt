@@ -1,0 +1,43 @@
+//! What the threads of the relay do, over parts that are lent to them: reports become notes, tickets become turns, and
+//! accepted connections are opened. Nothing here starts a thread or knows a socket; `server` does both.
+//!
+//! A report about a socket becomes a note at its slot ([`deliver`]). The first note at a slot that nobody holds makes a
+//! ticket, and the thread that takes the ticket runs one turn of the connection in that slot ([`worker_turn`]). A slot
+//! is held by one thread at a time, by the rule of the claim words (`claims`), so a connection's two sockets and its
+//! pair are never touched by two threads, and no note is lost between them. The poller's thread makes rounds
+//! ([`poller_round`]): it puts its tickets, waits for reports, delivers them, and accepts and opens connections.
+//!
+//! - [`Front`] is where connections and reports come from: the system's sockets, or an in-memory fake.
+//! - [`Shared`] is what all threads share, and [`Own`] what one thread owns: its seat at the claim words, its ends of
+//!   the two queues, and a [`Hand`] for what a queue refused.
+//! - [`Gate`] lets a test hold a turn back.
+#![tactic(auto)]
+
+mod accepting;
+mod delivering;
+mod faults;
+mod front;
+mod gate;
+mod hand;
+mod limits;
+mod opening;
+mod poller;
+mod putting;
+mod round;
+mod shared;
+#[cfg(test)]
+mod tests;
+mod visit;
+mod worker;
+
+pub use delivering::deliver;
+pub use faults::ServerFault;
+pub use front::{Front, Settle, Unopened};
+pub use gate::{Gate, OpenGate};
+pub use hand::Hand;
+pub use limits::{LISTENER, MAX_ACCEPTS, MAX_BATCH, WAKER};
+pub use poller::Poller;
+pub use putting::{give_slots, put_tickets};
+pub use round::poller_round;
+pub use shared::{Own, Shared};
+pub use worker::{Worked, own_turn, worker_turn};

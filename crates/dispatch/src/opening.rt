@@ -1,0 +1,190 @@
+//! Opens an accepted connection, in the order in which it happens: a free slot, the names of the slot's next
+//! connection, the connection to the target, the pair, the place, and the one note that starts it.
+ghost use Rattle.std.specs.Prelude.{◌≡◌, ◌≢◌, ◌⊎◌, ◌+◌, ◌<◌, ◌≤◌, [], ◌∷◌, length, Err, IfOk, IfErr, OnOk, OnSome, IfSome, IsNone, slice_index};
+ghost use Rattle.claims.specs.Seats.{HoldsNothing, OnlyAt};
+ghost use Rattle.relay_core.specs.Pairs.{fresh};
+ghost use Rattle.dispatch.specs.Turns.{HoldsOnly};
+ghost use Rattle.dispatch.specs.Hands.{ticket_room};
+ghost use Rattle.dispatch.specs.Openings.{Between, Started, Connected, AcceptDone};
+ghost use Rattle.dispatch.specs.Polls.{AreGenerations};
+
+use crate::faults::ServerFault;
+use crate::front::Front;
+use crate::poller::Poller;
+use crate::shared::{Own, Shared};
+use berths::Berth;
+use claims::{Adopted, Posted, Released};
+use log::Log;
+use ready::Ticket;
+use relay_core::Pair;
+use relay_log::{Cause, log_drop, log_open, log_peer};
+use std::alloc::Global;
+use std::net::Net;
+use std::sync::Wait;
+use token::{Side, Token, next_gen};
+
+/// The names of a connection's two ends.
+#[derive(Clone, Copy, Debug, PartialEq, Eq)]
+pub(crate) struct Names {
+    pub(crate) client: Token,
+    pub(crate) target: Token,
+}
+
+/// Opens an accepted connection in the free slot in hand. It gets the slot's next generation, one note and one ticket,
+/// and is logged. If its opening fails, it is closed and logged, and its slot is as it was, and in hand.
+///
+/// A slot outside the table, at its last generation or not free, none of which happens in any run, is no longer used,
+/// and the connection is closed.
+///
+/// The only refusal is `Worn`: the seat has posted 2^56 times.
+pub(crate) fn open<F: Front, R: Net + Wait + Log>(
+    rt: &R,
+    alloc: Global,
+    shared: &Shared<F>,
+    own: &mut Own,
+    poller: &mut Poller<F>,
+    client: F::Client,
+) -> Result<(), ServerFault>
+    requires between { Between shared.now.claims own.old poller.old }
+    requires room { 1 ≤ ticket_room own.old.hand }
+    ensures between { Between shared.now.claims own.new poller.new }
+    ensures worn { IfErr result (λ fault. fault ≡ ServerFault.Worn) }
+    ensures done { OnOk result (AcceptDone poller.old poller.new own.old own.new) }
+    ensures poller { poller.new ≡ record poller.old { table = poller.new.table; opened = poller.new.opened; lost = poller.new.lost } }
+    ensures room { OnOk result (ticket_room own.old.hand ≤ ticket_room own.new.hand + 1) }
+{
+    let Some(slot) = own.hand.take_slot() else {
+        return Ok(());
+    };
+    let Some(names) = next_names(poller.table(), slot) else {
+        poller.count_lost();
+        return Ok(());
+    };
+    match connect(rt, alloc, poller, client, names) {
+        Ok(berth) => place(rt, alloc, shared, own, poller, berth),
+        Err(cause) => {
+            own.hand.keep_slot(slot);
+            log_drop(rt, alloc, cause);
+            Ok(())
+        }
+    }
+}
+
+/// The names of the ends of a slot's next connection. None if the table lacks the slot, or if the slot has had its last
+/// generation.
+pub(crate) fn next_names(table: &[u64], slot: usize) -> Option<Names>
+    requires { AreGenerations table.now }
+    ensures client { IfSome result (λ names. names.client ≡ record { slot = slot; side = Side.Client; generation = slice_index table.now slot + 1 }) }
+    ensures target { IfSome result (λ names. names.target ≡ record { slot = slot; side = Side.Target; generation = slice_index table.now slot + 1 }) }
+    ensures inside { OnSome result (slot < length table.now) }
+    ensures none { IsNone result → slot ≤ 32767 → slot < length table.now → slice_index table.now slot ≡ 140737488355327 }
+{
+    let generation = next_gen(*table.get(slot)?)?;
+    let client = Token::pack(slot, Side::Client, generation).ok()?;
+    let target = Token::pack(slot, Side::Target, generation).ok()?;
+    Some(Names { client, target })
+}
+
+/// Starts the connection to the target, and makes the pair. A refusal closes the client's connection, and the target's
+/// if it had been started.
+pub(crate) fn connect<F: Front, N: Net + Log>(
+    rt: &N,
+    alloc: Global,
+    poller: &mut Poller<F>,
+    mut client: F::Client,
+    names: Names,
+) -> Result<Berth<F::Client, F::Target>, Cause>
+    ensures pair { IfOk result (λ berth. berth.pair ≡ fresh names.client.slot names.client.generation poller.old.ring) }
+    ensures same { poller.new ≡ poller.old }
+{
+    let target = poller
+        .front
+        .open(rt, &mut client, names.client, names.target)?;
+    match Pair::new(
+        alloc,
+        names.client.slot(),
+        names.client.generation(),
+        poller.ring(),
+    ) {
+        Ok(pair) => Ok(Berth {
+            pair,
+            client,
+            target,
+        }),
+        Err(_) => Err(Cause::Memory),
+    }
+}
+
+/// Places a prepared connection in its slot, which has it from then on.
+fn place<F: Front, R: Wait + Log>(
+    rt: &R,
+    alloc: Global,
+    shared: &Shared<F>,
+    own: &mut Own,
+    poller: &mut Poller<F>,
+    berth: Berth<F::Client, F::Target>,
+) -> Result<(), ServerFault>
+    requires between { Between shared.now.claims own.old poller.old }
+    requires inside { berth.pair.slot < length poller.old.table }
+    requires next { berth.pair.generation ≡ slice_index poller.old.table berth.pair.slot + 1 }
+    requires generation { berth.pair.generation ≤ 140737488355327 }
+    requires room { 1 ≤ ticket_room own.old.hand }
+    ensures between { Between shared.now.claims own.new poller.new }
+    ensures worn { IfErr result (λ fault. fault ≡ ServerFault.Worn) }
+    ensures done { OnOk result (Connected (record { slot = berth.pair.slot; generation = berth.pair.generation } ∷ []) [] poller.old poller.new own.old own.new ⊎ Connected [] (berth.pair.slot ∷ []) poller.old poller.new own.old own.new) }
+    ensures poller { poller.new ≡ record poller.old { table = poller.new.table; opened = poller.new.opened; lost = poller.new.lost } }
+    ensures free { OnOk result (own.new.free ≡ own.old.free) }
+    ensures slots { OnOk result (own.new.hand.slots ≡ own.old.hand.slots) }
+    ensures room { OnOk result (ticket_room own.old.hand ≤ ticket_room own.new.hand + 1) }
+{
+    let (slot, generation) = (berth.pair.slot(), berth.pair.generation());
+    if let Some(from) = F::peer(&berth.client) {
+        log_peer(rt, alloc, slot, generation, &from);
+    }
+    match shared.claims.adopt(&mut own.seat, slot) {
+        Adopted::NotFree => poller.count_lost(),
+        Adopted::Adopted => {
+            let ticket = Ticket { slot, generation };
+            start(rt, shared, own, ticket, berth)?;
+            poller.count_opened(ticket);
+            log_open(rt, alloc, slot, generation);
+        }
+    }
+    Ok(())
+}
+
+/// Puts a connection into the place of its slot, which is held, posts the note that starts it, and releases the slot.
+/// The notes of the previous connection are discarded.
+pub(crate) fn start<F: Front, R: Wait>(
+    rt: &R,
+    shared: &Shared<F>,
+    own: &mut Own,
+    ticket: Ticket,
+    berth: Berth<F::Client, F::Target>,
+) -> Result<(), ServerFault>
+    requires same { own.old.seat.table ≡ shared.now.claims }
+    requires inside { ticket.slot < shared.now.claims.words }
+    requires holder { HoldsOnly ticket.slot own.old.seat }
+    requires room { length own.old.hand.tickets < own.old.hand.capacity }
+    ensures idle { HoldsNothing own.new.seat }
+    ensures only { OnlyAt ticket.slot own.old.seat own.new.seat }
+    ensures worn { IfErr result (λ fault. fault ≡ ServerFault.Worn) }
+    ensures started { OnOk result (Started ticket own.old.seat own.new.seat own.old.hand own.new.hand) }
+    ensures exchanges { OnOk result (own.new.seat.steps ≡ own.old.seat.steps + 3) }
+    ensures ready { own.new.ready ≡ own.old.ready }
+    ensures free { own.new.free ≡ own.old.free }
+{
+    shared.claims.take(&mut own.seat, ticket.slot);
+    // A place that is not empty, which happens in no run, keeps what it has, and the connection is closed.
+    let _ = shared.berths.put_in(rt, &own.seat, ticket.slot, berth);
+    // A holder's own post never answers Wake: the release does.
+    let posted = shared.claims.post(&mut own.seat, ticket.slot);
+    if shared.claims.release(&mut own.seat, ticket.slot) == Released::Wake {
+        own.hand.keep_ticket(ticket);
+    }
+    if posted == Posted::Worn {
+        Err(ServerFault::Worn)
+    } else {
+        Ok(())
+    }
+}

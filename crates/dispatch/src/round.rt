@@ -1,0 +1,287 @@
+//! A round of the poller: it puts tickets, delivers reports, and accepts and opens connections.
+ghost use Rattle.std.specs.Prelude.{◌≡◌, ◌≢◌, ◌⊎◌, ◌+◌, ◌-◌, ◌<◌, ◌≤◌, ◌↔◌, [], length, Err, IsOk, OnOk, OnErr, IfErr, IfSome, IfOk, IsTrue, MatchResult, Contains, true, false};
+ghost use Rattle.std.specs.IoError.{error_kind};
+ghost use Rattle.std.specs.declared.io.ErrorKind.TheVariants.{Interrupted};
+ghost use Rattle.claims.specs.Seats.{HoldsNothing};
+ghost use Rattle.ready.specs.Steps.{HeldOnce};
+ghost use Rattle.dispatch.specs.Accepts.{accepted_of};
+ghost use Rattle.dispatch.specs.Deliveries.{Delivered};
+ghost use Rattle.dispatch.specs.Hands.{ticket_room};
+ghost use Rattle.dispatch.specs.Openings.{Between, OnlyTook, AcceptDone};
+ghost use Rattle.dispatch.specs.Outgoing.{PutAll};
+ghost use Rattle.dispatch.specs.Polls.{HasOpenedAll, flag_after};
+ghost use Rattle.dispatch.specs.Rounds.{RoundDone, AcceptEnded, EndedEarly, IsOver, NoSlot};
+
+use crate::accepting::{Accepted, accepted_of};
+use crate::delivering::deliver;
+use crate::faults::ServerFault;
+use crate::front::Front;
+use crate::limits::{MAX_ACCEPTS, MAX_BATCH};
+use crate::opening::open;
+use crate::poller::Poller;
+use crate::putting::put_tickets;
+use crate::shared::{Own, Shared};
+use log::{Log, error};
+use std::alloc::Global;
+use std::io;
+use std::net::Net;
+use std::sync::Wait;
+
+/// One round of the poller.
+///
+/// The tickets in hand are put, until one is refused; if the hand has no room for a ticket of each slot and 512 more,
+/// the round ends there. Then it waits once for reports and delivers them ([`deliver`]). While connections may be
+/// waiting and a slot is free, it accepts and opens them, with at most 256 calls of accept(2).
+///
+/// An opened connection has the slot's next generation, one note and one ticket, and is logged. A connection whose
+/// opening fails is closed and logged, and its slot is as it was, and in hand.
+///
+/// Refusals: `Poll` if waiting for reports failed, and `Worn` if the seat has posted 2^56 times. Then, too, the seat
+/// holds nothing.
+pub fn poller_round<F: Front, R: Net + Wait + Log>(
+    rt: &R,
+    alloc: Global,
+    shared: &Shared<F>,
+    own: &mut Own,
+    poller: &mut Poller<F>,
+) -> Result<(), ServerFault>
+    requires same { own.old.seat.table ≡ shared.now.claims }
+    requires idle { HoldsNothing own.old.seat }
+    requires sized { length poller.old.table ≡ shared.now.claims.words }
+    ensures same { own.new.seat.table ≡ own.old.seat.table }
+    ensures idle { HoldsNothing own.new.seat }
+    ensures sized { length poller.new.table ≡ length poller.old.table }
+    ensures round { result ≢ Err ServerFault.Worn → RoundDone poller.old poller.new own.old own.new }
+    ensures batch { result ≢ Err ServerFault.Worn → EndedEarly shared.now.claims.words own.new ⊎ (poller.new.batch ≡ poller.new.reported) }
+    ensures accepted { OnOk result (EndedEarly shared.now.claims.words own.new ⊎ AcceptEnded poller.new own.new) }
+    ensures over { OnOk result (poller.new.over ≡ true → (poller.old.over ≡ true) ⊎ IsOver shared.now.claims.words poller.new own.new) }
+{
+    poller.forget_reports();
+    put_tickets(rt, &mut own.ready, &mut own.hand);
+    let most = (MAX_BATCH + MAX_ACCEPTS).saturating_add(shared.claims.slots());
+    if own.hand.room() < most {
+        return Ok(());
+    }
+    poll(rt, own, poller)?;
+    deliver_batch(shared, own, poller)?;
+    accept_all(rt, alloc, shared, own, poller)?;
+    take_back(rt, shared, own, poller);
+    Ok(())
+}
+
+/// Waits for reports. After a signal the batch is empty. No ticket is left in hand meanwhile, unless the queue of
+/// tickets was full.
+fn poll<F: Front, R: Log>(rt: &R, _own: &Own, poller: &mut Poller<F>) -> Result<(), ServerFault>
+    requires put { PutAll _own.now.ready _own.now.hand.tickets }
+    ensures same { poller.new ≡ record poller.old { reported = poller.new.reported; batch = poller.new.batch } }
+    ensures batch { poller.new.batch ≡ poller.new.reported }
+    ensures failed { OnErr result (poller.new.batch ≡ []) }
+    ensures fault { IfErr result (λ fault. fault ≡ ServerFault.Poll) }
+    ensures few { length poller.new.batch ≤ 256 }
+{
+    let answer = poller.front.poll(&mut poller.batch);
+    polled(rt, answer)
+}
+
+/// What an answer to the wait for reports means. A signal ends a wait, and is no fault.
+fn polled<R: Log>(rt: &R, answer: io::Result<()>) -> Result<(), ServerFault>
+    ensures waited { IsOk result ↔ MatchResult answer (λ _. Unit {0}) (λ error. error_kind error ≡ Interrupted) }
+    ensures fault { IfErr result (λ fault. fault ≡ ServerFault.Poll) }
+{
+    match answer {
+        Ok(()) => Ok(()),
+        Err(error) if error.kind() == io::ErrorKind::Interrupted => Ok(()),
+        Err(error) => {
+            error!(rt; target: "relayd", "poll: {error}");
+            Err(ServerFault::Poll)
+        }
+    }
+}
+
+/// Delivers the reports of the batch, and raises the accept flag if the listener was reported.
+fn deliver_batch<F: Front>(
+    shared: &Shared<F>,
+    own: &mut Own,
+    poller: &mut Poller<F>,
+) -> Result<(), ServerFault>
+    requires between { Between shared.now.claims own.old poller.old }
+    requires room { length poller.old.batch ≤ ticket_room own.old.hand }
+    ensures between { Between shared.now.claims own.new poller.new }
+    ensures poller { poller.new ≡ record poller.old { accepting = poller.new.accepting } }
+    ensures worn { IfErr result (λ fault. fault ≡ ServerFault.Worn) }
+    ensures delivered { OnOk result (Delivered poller.old.table poller.old.batch own.old.seat own.new.seat own.old.hand own.new.hand) }
+    ensures flag { OnOk result (IsTrue poller.new.accepting ↔ (IsTrue poller.old.accepting ⊎ Contains poller.old.batch 0)) }
+    ensures ready { own.new.ready ≡ own.old.ready }
+    ensures free { own.new.free ≡ own.old.free }
+{
+    let listener = deliver(
+        &shared.claims,
+        &mut own.seat,
+        poller.table.as_slice(),
+        poller.batch.as_slice(),
+        &mut own.hand,
+    )?;
+    if listener {
+        poller.accepting = true;
+    }
+    Ok(())
+}
+
+/// Accepts and opens connections while one may be waiting and a slot is free.
+fn accept_all<F: Front, R: Net + Wait + Log>(
+    rt: &R,
+    alloc: Global,
+    shared: &Shared<F>,
+    own: &mut Own,
+    poller: &mut Poller<F>,
+) -> Result<(), ServerFault>
+    requires between { Between shared.now.claims own.old poller.old }
+    requires room { 256 ≤ ticket_room own.old.hand }
+    ensures between { Between shared.now.claims own.new poller.new }
+    ensures worn { IfErr result (λ fault. fault ≡ ServerFault.Worn) }
+    ensures done { OnOk result (AcceptDone poller.old poller.new own.old own.new) }
+    ensures ended { OnOk result (AcceptEnded poller.new own.new) }
+    ensures over { poller.new.over ≡ poller.old.over }
+    ensures reported { poller.new.reported ≡ poller.old.reported }
+{
+    poller.reset_tries();
+    for _try in 0..MAX_ACCEPTS {
+        if !may_accept(rt, own, poller) {
+            return Ok(());
+        }
+        if !accept_next(rt, alloc, shared, own, poller)? {
+            return Ok(());
+        }
+    }
+    Ok(())
+}
+
+/// Whether accept(2) is to be tried: a connection may be waiting, it would be opened, and a free slot is in hand.
+fn may_accept<F: Front, R: Wait>(rt: &R, own: &mut Own, poller: &Poller<F>) -> bool
+    requires room { 1 ≤ ticket_room own.old.hand }
+    ensures took { OnlyTook own.old own.new }
+    ensures ended { result ≡ false → AcceptEnded poller.now own.new }
+{
+    poller.is_accepting() && !poller.has_opened_all() && has_slot(rt, own)
+}
+
+/// Tries accept(2), and opens the connection that it gives. Answers whether the next try is worth making: not if the
+/// system lacked what accept(2) needs.
+fn accept_next<F: Front, R: Net + Wait + Log>(
+    rt: &R,
+    alloc: Global,
+    shared: &Shared<F>,
+    own: &mut Own,
+    poller: &mut Poller<F>,
+) -> Result<bool, ServerFault>
+    requires between { Between shared.now.claims own.old poller.old }
+    requires room { 1 ≤ ticket_room own.old.hand }
+    requires left { 1 ≤ poller.old.tries }
+    ensures between { Between shared.now.claims own.new poller.new }
+    ensures worn { IfErr result (λ fault. fault ≡ ServerFault.Worn) }
+    ensures done { OnOk result (AcceptDone poller.old poller.new own.old own.new) }
+    ensures room { OnOk result (ticket_room own.old.hand ≤ ticket_room own.new.hand + 1) }
+    ensures tries { poller.new.tries + 1 ≡ poller.old.tries }
+    ensures starved { IfOk result (λ more. more ≡ false → poller.new.starved ≡ true) }
+    ensures over { poller.new.over ≡ poller.old.over }
+    ensures reported { poller.new.reported ≡ poller.old.reported }
+{
+    match accept(poller) {
+        Ok(client) => {
+            open(rt, alloc, shared, own, poller, client)?;
+            Ok(true)
+        }
+        Err(error) => Ok(not_accepted(rt, poller, &error) != Accepted::Starved),
+    }
+}
+
+/// Tries accept(2) once.
+fn accept<F: Front>(poller: &mut Poller<F>) -> io::Result<F::Client>
+    requires left { 1 ≤ poller.old.tries }
+    ensures accepted { OnOk result (poller.new ≡ record poller.old { tries = poller.old.tries - 1; starved = false }) }
+    ensures refused { OnErr result (poller.new ≡ record poller.old { tries = poller.old.tries - 1 }) }
+{
+    poller.tries -= 1;
+    let client = poller.front.accept()?;
+    poller.starved = false;
+    Ok(client)
+}
+
+/// Whether a free slot is in hand, or can be taken. None is taken if one is in hand.
+fn has_slot<R: Wait>(rt: &R, own: &mut Own) -> bool
+    requires room { 1 ≤ ticket_room own.old.hand }
+    ensures took { OnlyTook own.old own.new }
+    ensures had { 1 ≤ length own.old.hand.slots → (result ≡ true) × (own.new ≡ own.old) }
+    ensures slot { result ≡ true → 1 ≤ length own.new.hand.slots }
+    ensures none { result ≡ false → NoSlot own.new × (own.new ≡ own.old) }
+{
+    own.hand.slots() > 0 || take_one(rt, own)
+}
+
+/// Takes a free slot in hand, if there is one.
+fn take_one<R: Wait>(rt: &R, own: &mut Own) -> bool
+    requires room { length own.old.hand.slots < own.old.hand.capacity }
+    ensures took { OnlyTook own.old own.new }
+    ensures slot { result ≡ true → 1 ≤ length own.new.hand.slots }
+    ensures queue { result ≡ false → HeldOnce 0 own.new.free.history }
+    ensures none { result ≡ false → own.new ≡ own.old }
+{
+    match own.free.try_take(rt) {
+        Some(slot) => {
+            own.hand.keep_slot(slot);
+            true
+        }
+        None => false,
+    }
+}
+
+/// What an answer without a connection does to the accept flag. That accept(2) is starved is logged once for as long as
+/// it lasts.
+fn not_accepted<F: Front, R: Log>(rt: &R, poller: &mut Poller<F>, error: &io::Error) -> Accepted
+    ensures class { result ≡ accepted_of (error_kind error.now) }
+    ensures flag { poller.new ≡ record poller.old { accepting = flag_after result poller.old.accepting; starved = poller.new.starved } }
+    ensures starved { result ≡ Accepted.Starved → poller.new.starved ≡ true }
+{
+    let class = accepted_of(error.kind());
+    match class {
+        Accepted::Again => {}
+        Accepted::Blocked => {
+            poller.accepting = false;
+            poller.starved = false;
+        }
+        Accepted::Starved => {
+            if !poller.starved {
+                error!(rt; target: "relayd", "accept: {error}");
+            }
+            poller.starved = true;
+        }
+    }
+    class
+}
+
+/// Once `stop_after` connections have been opened, takes the free slots in hand and checks whether they are
+/// all there. A slot that is no longer used counts as free.
+fn take_back<F: Front, R: Wait>(rt: &R, shared: &Shared<F>, own: &mut Own, poller: &mut Poller<F>)
+    ensures took { OnlyTook own.old own.new }
+    ensures poller { poller.new ≡ record poller.old { over = poller.new.over } }
+    ensures unlimited { (HasOpenedAll poller.old → ⊥) → (own.new ≡ own.old) × (poller.new ≡ poller.old) }
+    ensures over { poller.new.over ≡ true → (poller.old.over ≡ true) ⊎ IsOver shared.now.claims.words poller.new own.new }
+{
+    if !poller.has_opened_all() {
+        return;
+    }
+    take_all(rt, own, shared.claims.slots());
+    let slots = own.hand.slots() as u64;
+    poller.over = slots.saturating_add(poller.lost()) >= shared.claims.slots() as u64;
+}
+
+/// Takes free slots in hand, at most so many, until there is none or the hand is full.
+fn take_all<R: Wait>(rt: &R, own: &mut Own, most: usize)
+    ensures { OnlyTook own.old own.new }
+{
+    for _slot in 0..most {
+        if !own.hand.has_room() || !take_one(rt, own) {
+            return;
+        }
+    }
+}

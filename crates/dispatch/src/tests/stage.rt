@@ -1,0 +1,151 @@
+// A server of one thread, which makes the poller's rounds and runs a worker's turns.
+ghost use Rattle.std.specs.Prelude.{◌≡◌, ◌≤◌, length, IfOk};
+ghost use Rattle.claims.specs.Seats.{fresh_seat, HoldsNothing};
+
+use super::fake::{Fake, Script};
+use crate::{
+    Gate, Hand, MAX_BATCH, Own, Poller, Shared, Worked, own_turn, poller_round, worker_turn,
+};
+use berths::Berths;
+use claims::{Claimed, Claims};
+use log::Log;
+use ready::{FreeQueue, ReadyQueue, Ticket};
+use std::alloc::{AllocError, Global};
+use std::net::Net;
+use std::sync::Wait;
+use std::sync::atomic::AtomicU64;
+
+/// Every server here has so many slots, and its queue of tickets room for as many.
+pub(crate) const SLOTS: usize = 2;
+
+#[derive(Drop)]
+pub(crate) struct Stage {
+    pub(crate) shared: Shared<Fake>,
+    pub(crate) own: Own,
+    pub(crate) poller: Poller<Fake>,
+    pub ghost same: { own.seat.table ≡ shared.claims },
+    pub ghost idle: { HoldsNothing own.seat },
+    pub ghost sized: { length poller.table ≡ shared.claims.words },
+}
+
+impl Stage {
+    /// Whether a round ended without a fault.
+    pub(crate) fn round<R: Net + Wait + Log>(&mut self, rt: &R, alloc: Global) -> bool {
+        poller_round(rt, alloc, &self.shared, &mut self.own, &mut self.poller).is_ok()
+    }
+
+    /// A worker's turn for a ticket. None where the hand is full, or the seat is worn.
+    pub(crate) fn turn<G: Gate, R: Wait + Log>(
+        &mut self,
+        rt: &R,
+        alloc: Global,
+        gate: &G,
+        ticket: Ticket,
+    ) -> Option<Worked> {
+        if !self.own.hand.has_room() {
+            return None;
+        }
+        worker_turn(rt, alloc, &self.shared, &mut self.own, gate, ticket).ok()
+    }
+
+    /// Whether the poller's own turn ended without a fault.
+    pub(crate) fn own_turn<G: Gate, R: Wait + Log>(
+        &mut self,
+        rt: &R,
+        alloc: Global,
+        gate: &G,
+    ) -> bool {
+        own_turn(rt, alloc, &self.shared, &mut self.own, gate).is_ok()
+    }
+
+    /// The word of each slot.
+    pub(crate) fn words(&self) -> (u64, u64) {
+        (self.word(0), self.word(1))
+    }
+
+    fn word(&self, slot: usize) -> u64 {
+        if slot < self.shared.claims.slots() {
+            self.shared.claims.peek(slot)
+        } else {
+            0
+        }
+    }
+
+    /// How often each wire of the connection in a slot was settled. None where the slot has no connection.
+    pub(crate) fn settled(self, rt: &impl Wait, slot: usize) -> Option<(u32, u32)> {
+        let Stage {
+            shared,
+            mut own,
+            ..
+        } = self;
+        if slot >= shared.claims.slots() {
+            return None;
+        }
+        match shared.claims.claim(&mut own.seat, slot) {
+            Claimed::Busy => None,
+            Claimed::Held => shared
+                .berths
+                .take_out(rt, &own.seat, slot)
+                .map(|berth| (berth.client.settled, berth.target.settled)),
+        }
+    }
+}
+
+/// A server whose front plays this script. Rings have four bytes.
+pub(crate) fn staged(
+    rt: &impl Wait,
+    alloc: Global,
+    budget: usize,
+    stop_after: u32,
+    script: Script,
+) -> Result<Stage, AllocError>
+    requires budget { (1 ≤ budget) × (budget ≤ 1024) }
+{
+    let (claims, own) = opened(rt, alloc)?;
+    let shared = Shared {
+        claims,
+        berths: Berths::new(alloc, SLOTS)?,
+        waker: AtomicU64::new(0),
+        budget,
+    };
+    let front = Fake::new(alloc, script)?;
+    let poller = Poller::new(alloc, front, SLOTS, 4, stop_after)?;
+    Ok(stage_of(shared, own, poller))
+}
+
+/// The claim words, and all that one thread owns.
+fn opened(rt: &impl Wait, alloc: Global) -> Result<(Claims, Own), AllocError>
+    ensures seat { IfOk result (λ made. made.1.seat ≡ fresh_seat made.0) }
+    ensures sized { IfOk result (λ made. made.0.words ≡ 2) }
+{
+    let Ok((claims, mut seats)) = Claims::open(alloc, SLOTS, 1) else {
+        return Err(AllocError);
+    };
+    let mut ready = ReadyQueue::new(alloc, SLOTS, 1)?;
+    let mut free = FreeQueue::new(rt, alloc, SLOTS, 1)?;
+    let hand = Hand::new(alloc, 2 * SLOTS + 2 * MAX_BATCH)?;
+    let Some(seat) = seats.pop() else {
+        return Err(AllocError);
+    };
+    let (Some(ready), Some(free)) = (ready.pop(), free.pop()) else {
+        return Err(AllocError);
+    };
+    let own = Own {
+        seat,
+        ready,
+        free,
+        hand,
+    };
+    Ok((claims, own))
+}
+
+fn stage_of(shared: Shared<Fake>, own: Own, poller: Poller<Fake>) -> Stage
+    requires seat { own.seat ≡ fresh_seat shared.claims }
+    requires sized { length poller.table ≡ shared.claims.words }
+{
+    Stage {
+        shared,
+        own,
+        poller,
+    }
+}

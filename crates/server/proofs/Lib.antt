@@ -1,2 +1,0 @@
-pub mod Outgoing
-pub mod Reports
