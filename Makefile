@@ -1,6 +1,6 @@
 # Thin targets over the toolchain's command `rt`. See README.md.
 
-.PHONY: help build run sim test test-program growths bench bench-turn install
+.PHONY: help build run sim test test-program test-drill growths bench bench-turn install
 
 # The settings file of `make run`.
 CONFIG ?= examples/relayd.toml
@@ -17,6 +17,7 @@ help:
 	@echo 'make install       installs what make build has built under PREFIX=/usr/local, with DESTDIR in front'
 	@echo 'make test          the gate: every proof and test from scratch, and the built program'
 	@echo 'make test-program  tests the built program as its users run it'
+	@echo 'make test-drill    plays the server beside the modelled machine'
 	@echo 'make growths       makes each memory allocation of the built tests and program fail in turn'
 	@echo 'make bench         compares the relay with other forwarders'
 	@echo 'make bench-turn    measures how fast a turn moves bytes in memory'
@@ -41,6 +42,12 @@ test:
 # Runs the built program over its rows, and the relay over loopback. Part of the gate; it needs Python 3.
 test-program: build
 	@tests/program/run $(PROGRAM)
+
+# Plays random scripts on the server's own calls and on the modelled machine, and compares them. Part of the gate; it
+# needs Python 3.
+test-drill: build
+	@.ci/build drill
+	@tests/drill/run
 
 # Makes each memory allocation fail in turn. Not part of the gate; it needs Python 3, a C compiler, and the crates'
 # tests as the gate or `rt test` builds them.

@@ -1,0 +1,3 @@
+-- The crate's definitions.
+pub mod Sizes
+pub mod Seats

@@ -1,0 +1,146 @@
+// The front over the modelled kernel.
+ghost use Rattle.std.specs.Prelude.{◌≡◌, ◌≤◌, [], OnErr, length, vec_len, vec_capacity};
+
+use crate::outside::Outside;
+use crate::wire::EndWire;
+use dispatch::{Front, MAX_BATCH, Unopened};
+use kernel_model::{Accepting, Watched};
+use log::Log;
+use std::alloc::{AllocError, Global};
+use std::cell::RefCell;
+use std::io::{self, ErrorKind};
+use std::net::{Net, SocketAddr};
+use std::rc::Rc;
+use token::{Name, Token};
+
+/// A front whose connections and reports are the modelled kernel's.
+#[derive(Drop)]
+pub struct KernelFront {
+    pub outside: Rc<RefCell<Outside>>,
+    /// The numbers that the last poll gave.
+    reported: Vec<u64>,
+    pub ghost few: { vec_len reported ≤ 256 },
+    pub ghost room: { 256 ≤ vec_capacity reported },
+}
+
+impl KernelFront {
+    /// A front that has reported nothing.
+    pub fn new(alloc: Global, outside: Rc<RefCell<Outside>>) -> Result<KernelFront, AllocError> {
+        Ok(KernelFront {
+            outside,
+            reported: Vec::with_capacity(alloc, MAX_BATCH)?,
+        })
+    }
+}
+
+/// Puts the numbers of these names into an empty list, as many as a poll gives.
+fn fill(numbers: &mut Vec<u64>, names: &[Name])
+    requires empty { vec_len numbers.old ≡ 0 }
+    requires room { MAX_BATCH ≤ vec_capacity numbers.old }
+    ensures most { vec_len numbers.new ≤ MAX_BATCH }
+    ensures capacity { vec_capacity numbers.new ≡ vec_capacity numbers.old }
+{
+    for name in names {
+        if numbers.len() < MAX_BATCH {
+            numbers.push_reserved(name.number());
+        }
+    }
+}
+
+/// The numbers of the reports that the kernel gives now, in an empty list.
+fn take_reports(outside: &Rc<RefCell<Outside>>, numbers: &mut Vec<u64>) -> io::Result<()>
+    requires empty { vec_len numbers.old ≡ 0 }
+    requires room { MAX_BATCH ≤ vec_capacity numbers.old }
+    ensures most { vec_len numbers.new ≤ MAX_BATCH }
+    ensures capacity { vec_capacity numbers.new ≡ vec_capacity numbers.old }
+    ensures failed { OnErr result (numbers.new.items ≡ []) }
+{
+    let Ok(mut outside) = outside.try_borrow_mut() else {
+        return Err(io::Error::from(ErrorKind::Other));
+    };
+    match outside.poll() {
+        Ok(Some(names)) => {
+            fill(numbers, names.as_slice());
+            Ok(())
+        }
+        Ok(None) => Err(io::Error::from(ErrorKind::Interrupted)),
+        Err(_) => Err(io::Error::from(ErrorKind::OutOfMemory)),
+    }
+}
+
+/// Copies numbers into an empty list that has room for them.
+fn copy(batch: &mut Vec<u64>, numbers: &[u64])
+    requires empty { batch.old.items ≡ [] }
+    requires few { length numbers.now ≤ 256 }
+    requires room { 256 ≤ vec_capacity batch.old }
+    ensures copied { batch.new.items ≡ numbers.now }
+    ensures capacity { vec_capacity batch.new ≡ vec_capacity batch.old }
+{
+    for number in numbers {
+        batch.push_reserved(*number);
+    }
+}
+
+impl Front for KernelFront {
+    ghost reported = { λ f. f.reported.items };
+
+    type Client = EndWire;
+
+    type Target = EndWire;
+
+    type Waker = Rc<RefCell<Outside>>;
+
+    fn poll(&mut self, batch: &mut Vec<u64>) -> io::Result<()> {
+        batch.clear();
+        self.reported.clear();
+        let answer = take_reports(&self.outside, &mut self.reported);
+        copy(batch, self.reported.as_slice());
+        answer
+    }
+
+    fn accept(&mut self) -> io::Result<EndWire> {
+        let shared = self.outside.clone()?;
+        let Ok(mut outside) = self.outside.try_borrow_mut() else {
+            return Err(io::Error::from(ErrorKind::Other));
+        };
+        match outside.accept() {
+            Accepting::Accepted => Ok(EndWire::accepted(shared)),
+            Accepting::Blocked => Err(io::Error::from(ErrorKind::WouldBlock)),
+            Accepting::Again => Err(io::Error::from(ErrorKind::ConnectionAborted)),
+            Accepting::Starved => Err(io::Error::from(ErrorKind::Other)),
+        }
+    }
+
+    fn open<N: Net + Log>(
+        &mut self,
+        _rt: &N,
+        client: &mut EndWire,
+        client_token: Token,
+        target_token: Token,
+    ) -> Result<EndWire, Unopened> {
+        let Ok(shared) = self.outside.clone() else {
+            return Err(Unopened::Connect);
+        };
+        let Ok(mut outside) = self.outside.try_borrow_mut() else {
+            return Err(Unopened::Connect);
+        };
+        if let Some(unopened) = outside.plan.next_open() {
+            return Err(unopened);
+        }
+        let Some((client_end, target_end)) = outside.open(client_token, target_token) else {
+            return Err(Unopened::Connect);
+        };
+        client.open(client_token, client_end);
+        Ok(EndWire::connecting(shared, target_token, target_end))
+    }
+
+    fn wake(waker: &Rc<RefCell<Outside>>) {
+        if let Ok(mut outside) = waker.try_borrow_mut() {
+            let _ = outside.kernel.spurious(Watched::Waker);
+        }
+    }
+
+    fn peer(_client: &EndWire) -> Option<SocketAddr> {
+        None
+    }
+}

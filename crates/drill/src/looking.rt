@@ -1,0 +1,70 @@
+// What queues and hands contain: everything is taken out and put back in the same order.
+use dispatch::Hand;
+use ready::{FreeQueue, ReadyQueue, Ticket};
+use std::alloc::{AllocError, Global};
+use std::sync::Wait;
+
+/// More than a queue ever has.
+const MOST: usize = 1_024;
+
+/// The tickets in the ready queue, in order.
+pub fn tickets_of(
+    rt: &impl Wait,
+    alloc: Global,
+    ready: &mut ReadyQueue,
+) -> Result<Vec<Ticket>, AllocError> {
+    let mut tickets = Vec::with_capacity(alloc, MOST)?;
+    for _ticket in 0..MOST {
+        let Some(ticket) = ready.try_take(rt) else {
+            break;
+        };
+        tickets.push(ticket)?;
+    }
+    for ticket in &tickets {
+        let _ = ready.put(rt, *ticket);
+    }
+    Ok(tickets)
+}
+
+/// The slots in the free queue, in order.
+pub fn slots_of(
+    rt: &impl Wait,
+    alloc: Global,
+    free: &mut FreeQueue,
+) -> Result<Vec<usize>, AllocError> {
+    let mut slots = Vec::with_capacity(alloc, MOST)?;
+    for _slot in 0..MOST {
+        let Some(slot) = free.try_take(rt) else {
+            break;
+        };
+        slots.push(slot)?;
+    }
+    for slot in &slots {
+        let _ = free.give(rt, *slot);
+    }
+    Ok(slots)
+}
+
+/// The tickets in a hand, in order.
+pub fn tickets_in(alloc: Global, hand: &mut Hand) -> Result<Vec<Ticket>, AllocError> {
+    let mut tickets = Vec::with_capacity(alloc, hand.tickets())?;
+    for _ticket in 0..hand.tickets() {
+        if let Some(ticket) = hand.take_ticket() {
+            hand.keep_ticket(ticket);
+            tickets.push(ticket)?;
+        }
+    }
+    Ok(tickets)
+}
+
+/// The slots in a hand, in order.
+pub fn slots_in(alloc: Global, hand: &mut Hand) -> Result<Vec<usize>, AllocError> {
+    let mut slots = Vec::with_capacity(alloc, hand.slots())?;
+    for _slot in 0..hand.slots() {
+        if let Some(slot) = hand.take_slot() {
+            hand.keep_slot(slot);
+            slots.push(slot)?;
+        }
+    }
+    Ok(slots)
+}

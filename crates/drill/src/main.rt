@@ -1,0 +1,45 @@
+//! Compares the server with the machine of `world`.
+//!
+//! The program owns a server in memory: its claim words, places, queues, workers and poller, over the modelled kernel.
+//! It reads scripts of large steps from standard input, makes each step by the server's own call, and writes down the
+//! events of a world to which the step amounts. A world makes the same events. After every step the report of the
+//! server's own state has to be the world's report, byte for byte.
+//!
+//! `session.rt` plays the scripts, `crew.rt` makes the steps, `outside.rt` and `calls.rt` are what the server's calls
+//! get, `tape.rt` keeps the events and the world, and `report.rt` is the server's report. `tests/drill` makes random
+//! scripts.
+#![tactic(auto)]
+
+mod actors;
+mod calls;
+mod crew;
+mod diary;
+mod front;
+mod gate;
+mod header;
+mod kinds;
+mod lines;
+mod looking;
+mod outside;
+mod parts;
+mod past;
+mod place;
+mod plan;
+mod play;
+mod reading;
+mod report;
+mod session;
+mod source;
+mod step;
+mod tape;
+mod totals;
+mod wire;
+
+use std::io::BufReader;
+use std::process::ExitCode;
+
+fn main(rt: HostRuntime) -> std::io::Result<ExitCode> {
+    let reader = BufReader::new(rt.alloc(), rt.reader())?;
+    let agreed = session::play_all(&rt, reader)?;
+    Ok(ExitCode::from(if agreed { 0 } else { 1 }))
+}

@@ -1,0 +1,173 @@
+// The line of a slot, by its word and by the connection in its place.
+ghost use Rattle.std.specs.Prelude.{◌≡◌, ◌<◌, ◌≤◌};
+ghost use Rattle.claims.specs.Seats.{HoldsNothing};
+
+use crate::front::KernelFront;
+use crate::lines::shown;
+use crate::wire::EndWire;
+use berths::Berth;
+use claims::Claimed;
+use dispatch::{Own, Shared};
+use kernel_model::{End, Kernel};
+use ready::Ticket;
+use relay_core::{Pair, Verdict};
+use std::alloc::{AllocError, Global};
+use std::sync::Wait;
+use token::{Direction, Name, Side};
+
+/// What the standing of a connection depends on.
+#[derive(Clone, Copy)]
+pub struct Standing<'k> {
+    pub kernel: &'k Kernel,
+    /// All tickets, in queues and in hands.
+    pub tickets: &'k [Ticket],
+    /// The most bytes of a ring.
+    pub ring: usize,
+}
+
+/// The lines of a slot, whose generation in the poller's table this is. It is looked at by a claim, which is released
+/// again: that leaves the word as it was.
+pub fn slot_lines(
+    rt: &impl Wait,
+    alloc: Global,
+    shared: &Shared<KernelFront>,
+    own: &mut Own,
+    standing: Standing<'_>,
+    slot: usize,
+    generation: u64,
+) -> Result<String, AllocError>
+    requires same { own.old.seat.table ≡ shared.now.claims }
+    requires idle { HoldsNothing own.old.seat }
+    ensures same { own.new.seat.table ≡ own.old.seat.table }
+    ensures idle { HoldsNothing own.new.seat }
+{
+    if slot >= shared.claims.slots() {
+        return format!(in alloc; "slot {slot} missing\n");
+    }
+    let word = shared.claims.peek(slot);
+    let notes = word / 4;
+    if word % 4 == 3 {
+        return format!(in alloc; "slot {slot} free gen={generation} notes={notes}\n");
+    }
+    match shared.claims.claim(&mut own.seat, slot) {
+        Claimed::Busy => format!(in alloc; "slot {slot} held notes={notes}\n"),
+        Claimed::Held => {
+            let berth = shared.berths.take_out(rt, &own.seat, slot);
+            let text = match &berth {
+                Some(berth) => connection_lines(alloc, standing, berth, slot, generation, notes),
+                None => format!(in alloc; "slot {slot} empty notes={notes}\n"),
+            };
+            if let Some(berth) = berth {
+                let _ = shared.berths.put_in(rt, &own.seat, slot, berth);
+            }
+            shared.claims.release(&mut own.seat, slot);
+            text
+        }
+    }
+}
+
+/// The three lines of a slot with a connection.
+fn connection_lines(
+    alloc: Global,
+    standing: Standing<'_>,
+    berth: &Berth<EndWire, EndWire>,
+    slot: usize,
+    generation: u64,
+    notes: u64,
+) -> Result<String, AllocError> {
+    let verdict = match berth.pair.verdict() {
+        Verdict::Live => "live",
+        Verdict::Done => "done",
+        Verdict::Failed(_) => "failed",
+    };
+    let own = berth.pair.generation();
+    if own != generation || berth.pair.slot() != slot {
+        return format!(in alloc; "slot {slot} gen={own} in the table gen={generation}\n");
+    }
+    let (Some(client), Some(target)) = (berth.client.descriptor(), berth.target.descriptor()) else {
+        return format!(in alloc; "slot {slot} not open\n");
+    };
+    let (Some(client_end), Some(target_end)) = (
+        standing.kernel.end(client),
+        standing.kernel.end(target),
+    ) else {
+        return format!(in alloc; "slot {slot} closed ends\n");
+    };
+    let (client_end, target_end) = (&client_end.socket, &target_end.socket);
+    let due = yes_or_no(is_due(standing, slot, own));
+    let movable = yes_or_no(is_movable(standing.ring, &berth.pair, client_end, target_end));
+    let up = way_line(alloc, &berth.pair, Direction::Up, client_end, target_end)?;
+    let down = way_line(alloc, &berth.pair, Direction::Down, target_end, client_end)?;
+    format!(in alloc;
+        "slot {slot} {verdict} gen={own} fds={client},{target} notes={notes} holder=none due={due} movable={movable}\n{slot} up {up}{slot} down {down}"
+    )
+}
+
+/// One direction after its name.
+fn way_line(
+    alloc: Global,
+    pair: &Pair,
+    direction: Direction,
+    source: &End,
+    destination: &End,
+) -> Result<String, AllocError> {
+    let sent = shown(alloc, destination.taken())?;
+    let ring = ring_bytes(alloc, pair, direction)?;
+    let ring = shown(alloc, ring.as_slice())?;
+    let unread = shown(alloc, source.unread())?;
+    let end = yes_or_no(pair.end_seen(direction));
+    let shut = yes_or_no(pair.is_shut(direction));
+    format!(in alloc; "sent={sent} ring={ring} unread={unread} end={end} shut={shut}\n")
+}
+
+/// The bytes in the ring of one direction.
+fn ring_bytes(alloc: Global, pair: &Pair, direction: Direction) -> Result<Vec<u8>, AllocError> {
+    let length = pair.ring_len(direction);
+    let mut bytes = Vec::with_capacity(alloc, length)?;
+    for index in 0..length {
+        bytes.push(pair.ring_byte(direction, index))?;
+    }
+    Ok(bytes)
+}
+
+/// Whether a report about the connection is queued, or a ticket for it is somewhere.
+fn is_due(standing: Standing<'_>, slot: usize, generation: u64) -> bool {
+    standing
+        .kernel
+        .queue()
+        .iter()
+        .any(|name| is_about(name, slot, generation))
+        || standing.tickets.iter().any(|ticket| ticket.slot == slot
+            && ticket.generation == generation)
+}
+
+fn is_about(name: &Name, slot: usize, generation: u64) -> bool {
+    match name {
+        Name::Listener | Name::Waker => false,
+        Name::End(token) => token.slot() == slot && token.generation() == generation,
+    }
+}
+
+/// Whether the connection could move.
+fn is_movable(ring: usize, pair: &Pair, client: &End, target: &End) -> bool {
+    pair.verdict() != Verdict::Live
+        || moves(ring, pair, Direction::Up, client, target)
+        || moves(ring, pair, Direction::Down, target, client)
+}
+
+/// Whether one direction could move.
+fn moves(ring: usize, pair: &Pair, direction: Direction, source: &End, destination: &End) -> bool {
+    let waiting = pair.ring_len(direction);
+    let joined = direction.destination() == Side::Client || pair.joined(Side::Target);
+    if waiting > 0 && destination.is_writable() {
+        return true;
+    }
+    if pair.end_seen(direction) {
+        return waiting == 0 && !pair.is_shut(direction) && (joined || destination.is_writable());
+    }
+    waiting < ring && source.is_readable()
+}
+
+pub fn yes_or_no(is_so: bool) -> &'static str {
+    if is_so { "yes" } else { "no" }
+}

@@ -1,0 +1,158 @@
+// The steps of a script, from its lines.
+use crate::step::{Inner, Later, Polled, Step, Wanted};
+use dispatch::Unopened;
+use kernel_model::Accepting;
+use std::alloc::{AllocError, Global};
+use token::{Kind, Side};
+use world::{Change, Event, Listening, Reported};
+
+/// The most bytes that one arrival brings.
+const MAX_BYTES: usize = 1_024;
+
+/// The first word of a text, and what follows the space behind it.
+fn cut(text: &str) -> (&str, &str) {
+    text.split_once(' ').unwrap_or((text, ""))
+}
+
+/// The step that a line stands for, if any.
+pub fn read_step(alloc: Global, line: &str) -> Result<Option<Step>, AllocError> {
+    let (word, rest) = cut(line);
+    let later = match word {
+        "own" => return Ok(Some(Step::Own)),
+        "show" => return Ok(Some(Step::Show)),
+        "call" => wanted(rest).map(Later::Call),
+        "accept" => accepting(rest).map(Later::Accept),
+        "open" => unopened(rest).map(Later::Open),
+        "poll" => polled(rest).map(Later::Poll),
+        "meanwhile" => outside(alloc, rest)?.map(Later::Meanwhile),
+        "polled" => outside(alloc, rest)?.map(Later::Polled),
+        "before" => inner(alloc, rest)?.map(Later::Before),
+        "after" => inner(alloc, rest)?.map(Later::After),
+        _ => return Ok(inner(alloc, line)?.map(Step::Now)),
+    };
+    Ok(later.map(Step::Later))
+}
+
+/// A step that may be made inside a turn.
+fn inner(alloc: Global, text: &str) -> Result<Option<Inner>, AllocError> {
+    let (word, rest) = cut(text);
+    match word {
+        "round" => Ok(Some(Inner::Round)),
+        "turn" => Ok(number(rest).map(Inner::Turn)),
+        _ => Ok(outside(alloc, text)?.map(Inner::Outside)),
+    }
+}
+
+fn number(word: &str) -> Option<usize> {
+    word.parse::<usize>().ok()
+}
+
+/// What happens outside of the server.
+fn outside(alloc: Global, text: &str) -> Result<Option<Event>, AllocError> {
+    let (word, rest) = cut(text);
+    match word {
+        "connect" => Ok(Some(Event::Listen(Listening::Connect))),
+        "spurious" => Ok(reported(rest).map(Event::Spurious)),
+        "vanish" => Ok(reported(rest).map(Event::Vanish)),
+        _ => network(alloc, word, rest),
+    }
+}
+
+/// What the network does to an end.
+fn network(alloc: Global, word: &str, rest: &str) -> Result<Option<Event>, AllocError> {
+    let (slot, rest) = cut(rest);
+    let (side_word, rest) = cut(rest);
+    let (Some(slot), Some(side)) = (number(slot), side(side_word)) else {
+        return Ok(None);
+    };
+    let change = match word {
+        "arrive" => bytes(alloc, rest)?.map(Change::Arrive),
+        "fin" => Some(Change::Fin),
+        "reset" => Some(Change::Reset),
+        "room" => Some(Change::Room),
+        _ => None,
+    };
+    Ok(change.map(|change| Event::Network(slot, side, change)))
+}
+
+/// 1 to 1,024 bytes in hexadecimal.
+fn bytes(alloc: Global, text: &str) -> Result<Option<Vec<u8>>, AllocError> {
+    match hex::decode(alloc, text) {
+        Ok(bytes) if !bytes.is_empty() && bytes.len() <= MAX_BYTES => Ok(Some(bytes)),
+        Err(hex::FromHexError::OutOfMemory) => Err(AllocError),
+        _ => Ok(None),
+    }
+}
+
+fn reported(text: &str) -> Option<Reported> {
+    match text {
+        "listener" => Some(Reported::Listener),
+        "waker" => Some(Reported::Waker),
+        _ => {
+            let (slot, rest) = cut(text);
+            Some(Reported::End(number(slot)?, side(rest)?))
+        }
+    }
+}
+
+fn side(word: &str) -> Option<Side> {
+    match word {
+        "client" => Some(Side::Client),
+        "target" => Some(Side::Target),
+        _ => None,
+    }
+}
+
+fn wanted(text: &str) -> Option<Wanted> {
+    let (word, rest) = cut(text);
+    match word {
+        "plain" => Some(Wanted::Plain),
+        "short" => Some(Wanted::Short(number(rest)?)),
+        "full" => Some(Wanted::Full(number(rest)?)),
+        "interrupted" => Some(Wanted::Interrupted),
+        "failed" => Some(Wanted::Failed(kind(rest)?)),
+        _ => None,
+    }
+}
+
+fn kind(word: &str) -> Option<Kind> {
+    match word {
+        "reset" => Some(Kind::Reset),
+        "pipe" => Some(Kind::Pipe),
+        "aborted" => Some(Kind::Aborted),
+        "refused" => Some(Kind::Refused),
+        "notconnected" => Some(Kind::NotConnected),
+        "timedout" => Some(Kind::TimedOut),
+        "zero" => Some(Kind::Zero),
+        "other" => Some(Kind::Other),
+        _ => None,
+    }
+}
+
+fn accepting(word: &str) -> Option<Accepting> {
+    match word {
+        "plain" => Some(Accepting::Accepted),
+        "again" => Some(Accepting::Again),
+        "starved" => Some(Accepting::Starved),
+        _ => None,
+    }
+}
+
+fn unopened(word: &str) -> Option<Option<Unopened>> {
+    match word {
+        "plain" => Some(None),
+        "connect" => Some(Some(Unopened::Connect)),
+        "register" => Some(Some(Unopened::Register)),
+        _ => None,
+    }
+}
+
+fn polled(text: &str) -> Option<Polled> {
+    let (word, rest) = cut(text);
+    match word {
+        "interrupted" => Some(Polled::Interrupted),
+        "first" => Some(Polled::First(number(rest)?)),
+        "backwards" => Some(Polled::Backwards),
+        _ => None,
+    }
+}

@@ -1,0 +1,120 @@
+// The scripts of the input, one after the other.
+ghost use Rattle.drill.specs.Sizes.{IsServerSize};
+
+use crate::crew::Crew;
+use crate::diary::Diary;
+use crate::header::read_header;
+use crate::outside::Outside;
+use crate::parts::parts_of;
+use crate::play::{Played, crew_of, play_line};
+use crate::source::Source;
+use crate::totals::Totals;
+use log::{Level, Log, Logged};
+use std::alloc::Global;
+use std::cell::RefCell;
+use std::io::{self, BufRead, ErrorKind};
+use std::net::Net;
+use std::rc::Rc;
+use std::sync::Wait;
+use world::Limits;
+
+/// How a script ended.
+#[derive(Drop)]
+enum Ending {
+    /// At this header.
+    Header(String),
+    /// With the input.
+    Input,
+    /// Where the server and the world differ, or at a line that is no step.
+    Fault,
+}
+
+/// Plays all scripts, and prints what was played. Answers whether the server and the world agreed throughout.
+pub fn play_all<R: Net + Wait + AllocGlobal + Print, B: BufRead>(
+    rt: &R,
+    reader: B,
+) -> io::Result<bool>
+where
+    B: Drop,
+{
+    let mut source = Source::new(rt.alloc(), reader);
+    let mut totals = Totals::new();
+    let mut header = source.next()?;
+    for _script in 0..u64::MAX {
+        let Some(line) = header else {
+            break;
+        };
+        let Some(sizes) = read_header(line.as_str()) else {
+            let number = source.number;
+            println!(rt; "line {number}: no header")?;
+            return Ok(false);
+        };
+        totals.scripts = totals.scripts.saturating_add(1);
+        match play_script(rt, sizes, &mut source, &mut totals)? {
+            Ending::Header(next) => header = Some(next),
+            Ending::Input => header = None,
+            Ending::Fault => return Ok(false),
+        }
+    }
+    totals.print(rt)?;
+    Ok(true)
+}
+
+/// Plays one script, whose header was read.
+fn play_script<R: Net + Wait + AllocGlobal + Print, B: BufRead>(
+    rt: &R,
+    sizes: Limits,
+    source: &mut Source<B>,
+    totals: &mut Totals,
+) -> io::Result<Ending>
+    requires { IsServerSize sizes }
+{
+    let alloc = rt.alloc();
+    let outside = Rc::new(alloc, RefCell::new(Outside::new(alloc, sizes, *totals)?))?;
+    let diary = Diary {
+        alloc,
+        outside: outside.clone()?,
+    };
+    let log = Logged::new(rt, Level::Info, diary);
+    let (shared, mut parts) = parts_of(rt, alloc, outside.clone()?, sizes)?;
+    let Some(crew) = crew_of(alloc, &outside, &shared, &mut parts, sizes)? else {
+        return Err(io::Error::from(ErrorKind::Other));
+    };
+    let ending = play_lines(&log, alloc, &crew, sizes.ring, source);
+    if let Ok(mut outside) = outside.try_borrow_mut() {
+        outside.tape.end();
+        *totals = outside.tape.totals;
+    }
+    ending
+}
+
+/// Plays the lines up to the next header.
+fn play_lines<R: Net + Wait + Log + Print, B: BufRead>(
+    rt: &R,
+    alloc: Global,
+    crew: &Crew<'_>,
+    ring: usize,
+    source: &mut Source<B>,
+) -> io::Result<Ending> {
+    for _line in 0..u64::MAX {
+        let Some(line) = source.next()? else {
+            return Ok(Ending::Input);
+        };
+        if line.as_str().starts_with("drill ") {
+            return Ok(Ending::Header(line));
+        }
+        let number = source.number;
+        match play_line(rt, alloc, crew, ring, line.as_str())? {
+            Played::Agreed => {}
+            Played::Differs => {
+                println!(rt; "line {number}: they differ after: {line}")?;
+                return Ok(Ending::Fault);
+            }
+            Played::Malformed => {
+                println!(rt; "line {number}: malformed: {line}")?;
+                return Ok(Ending::Fault);
+            }
+        }
+    }
+    Ok(Ending::Input)
+}

@@ -1,0 +1,77 @@
+// The steps of a script.
+use dispatch::Unopened;
+use kernel_model::Accepting;
+use token::Kind;
+use world::Event;
+
+/// One step of a script.
+#[derive(Drop)]
+pub enum Step {
+    /// A step that is made at once.
+    Now(Inner),
+    /// The poller's own turn, after a round that left exactly one ticket.
+    Own,
+    /// What one of the next calls gets, or what happens between two of them.
+    Later(Later),
+    /// The world's script and the report are printed.
+    Show,
+}
+
+/// A step that may also be made inside a turn.
+#[derive(Drop)]
+pub enum Inner {
+    /// Something happens outside of the server: at the network, or to a report.
+    Outside(Event),
+    /// One round of the poller.
+    Round,
+    /// A turn of the worker with this number, if there is a ticket.
+    Turn(usize),
+}
+
+/// What the next calls get. Each kind of call takes those that are meant for it in order, and without one it gets what
+/// the kernel has for it.
+#[derive(Drop)]
+pub enum Later {
+    /// A call of a turn gets this.
+    Call(Wanted),
+    /// This happens just before the next call of a turn.
+    Meanwhile(Event),
+    /// accept(2) gets this; `Accepted` and `Blocked` stand for what the kernel has.
+    Accept(Accepting),
+    /// An opening fails so, if at all.
+    Open(Option<Unopened>),
+    /// A poll gives its names so.
+    Poll(Polled),
+    /// This happens between a poll and the delivery of its names.
+    Polled(Event),
+    /// This is done in the next turn, before its first call.
+    Before(Inner),
+    /// This is done in the next turn, after its last call.
+    After(Inner),
+}
+
+/// What a call of a turn gets, as far as it may.
+#[derive(Clone, Copy, Debug, PartialEq, Eq)]
+pub enum Wanted {
+    /// What the kernel has.
+    Plain,
+    /// At most this many bytes are moved.
+    Short(usize),
+    /// The same, and a write leaves no room.
+    Full(usize),
+    /// A signal came first.
+    Interrupted,
+    /// It fails.
+    Failed(Kind),
+}
+
+/// How a poll gives the names that are queued.
+#[derive(Clone, Copy, Debug, PartialEq, Eq)]
+pub enum Polled {
+    /// Not at all, since a signal came first.
+    Interrupted,
+    /// At most this many of them.
+    First(usize),
+    /// All, newest first.
+    Backwards,
+}

@@ -1,0 +1,40 @@
+// What was played in all.
+ghost use Rattle.std.specs.Prelude.{◌<◌};
+
+use crate::kinds::{KINDS, NAMES};
+use std::io;
+
+/// How many scripts and steps were played, and how many events of each kind that came to.
+#[derive(Clone, Copy)]
+pub struct Totals {
+    pub scripts: u64,
+    pub steps: u64,
+    kinds: [u64; KINDS],
+}
+
+impl Totals {
+    pub fn new() -> Totals {
+        Totals {
+            scripts: 0,
+            steps: 0,
+            kinds: [0; KINDS],
+        }
+    }
+
+    /// Counts an event of this kind.
+    pub fn count(&mut self, kind: usize)
+        requires { kind < 34 }
+    {
+        self.kinds[kind] = self.kinds[kind].saturating_add(1);
+    }
+
+    /// A line for each kind of event, and one for the scripts and the steps.
+    pub fn print<R: Print + AllocGlobal>(&self, rt: &R) -> io::Result<()> {
+        for (kind, name) in NAMES.iter().enumerate() {
+            let count = self.kinds[kind];
+            println!(rt; "count {count} {name}")?;
+        }
+        let (scripts, steps) = (self.scripts, self.steps);
+        println!(rt; "{scripts} scripts, {steps} steps")
+    }
+}

@@ -1,0 +1,176 @@
+// A wire whose calls are those of the modelled kernel.
+ghost use Rattle.std.specs.Prelude.{◌≡◌, true};
+ghost use Rattle.relay_core.specs.Calls.{side_of};
+ghost use Rattle.engine.specs.Classes.{class_of};
+ghost use Rattle.engine.specs.Tallies.{counted};
+
+use crate::outside::Outside;
+use dispatch::Settle;
+use engine::{Tally, Wire};
+use relay_core::Call;
+use std::cell::RefCell;
+use std::io::{self, ErrorKind};
+use std::rc::Rc;
+use token::{Side, Token};
+use world::{Event, Listening};
+
+/// A wire over an end of the modelled kernel, which is closed with it. An accepted connection has none until it is
+/// opened.
+pub struct EndWire {
+    outside: Rc<RefCell<Outside>>,
+    end: Option<(Token, usize)>,
+    tally: Tally,
+}
+
+impl EndWire {
+    /// A connection that was accepted and is not open yet.
+    pub fn accepted(outside: Rc<RefCell<Outside>>) -> EndWire {
+        EndWire {
+            outside,
+            end: None,
+            tally: Tally::new(true),
+        }
+    }
+
+    /// A target's end, which is connecting.
+    pub fn connecting(outside: Rc<RefCell<Outside>>, token: Token, descriptor: usize) -> EndWire {
+        EndWire {
+            outside,
+            end: Some((token, descriptor)),
+            tally: Tally::new(false),
+        }
+    }
+
+    /// An accepted connection is opened as this end.
+    pub fn open(&mut self, token: Token, descriptor: usize)
+        ensures { self.new.tally ≡ self.old.tally }
+    {
+        self.end = Some((token, descriptor));
+    }
+
+    /// The descriptor of its end. None if it is not open.
+    pub fn descriptor(&self) -> Option<usize> {
+        self.end.map(|(_, descriptor)| descriptor)
+    }
+
+    /// Counts an error of a call by its class, and gives it.
+    fn refuse(&mut self, call: Call, kind: ErrorKind) -> io::Error
+        requires { side_of call ≡ Side.Target }
+        ensures { self.new.tally ≡ counted (class_of call self.old.tally.joined kind) self.old.tally }
+    {
+        self.tally.refuse(call, kind);
+        io::Error::from(kind)
+    }
+}
+
+impl Drop for EndWire {
+    fn drop(self) {
+        if let Ok(mut outside) = self.outside.try_borrow_mut() {
+            match self.end {
+                Some((token, descriptor)) => outside.close(descriptor, token),
+                None => outside.tape.put(&Event::Listen(Listening::Drop)),
+            }
+        }
+        let EndWire {
+            outside: _,
+            end: _,
+            tally: _,
+        } = self;
+    }
+}
+
+impl Wire for EndWire {
+    ghost use Rattle.engine.specs.Wires.{counts_alone};
+
+    ghost told = { λ w. counts_alone w.tally.faults w.tally.blocks };
+
+    fn read(&mut self, buffer: &mut [u8]) -> io::Result<usize> {
+        let call = Call::Read(Side::Target, buffer.len());
+        match self.ask_read(buffer) {
+            Ok(count) => {
+                self.tally.connect();
+                Ok(count.min(buffer.len()))
+            }
+            Err(kind) => Err(self.refuse(call, kind)),
+        }
+    }
+
+    fn write(&mut self, offer: &[u8]) -> io::Result<usize> {
+        match self.ask_write(offer) {
+            Ok(count) if count == 0 || count > offer.len() => {
+                if !offer.is_empty() {
+                    self.tally.none_taken();
+                }
+                Ok(0)
+            }
+            Ok(count) => {
+                self.tally.connect();
+                Ok(count)
+            }
+            Err(kind) => Err(self.refuse(Call::Write(Side::Target), kind)),
+        }
+    }
+
+    fn shut_write(&mut self) -> io::Result<()> {
+        match self.ask_shut() {
+            Ok(_) => Ok(()),
+            Err(kind) => Err(self.refuse(Call::Shut(Side::Target), kind)),
+        }
+    }
+
+    fn joined(&mut self) -> io::Result<()> {
+        match self.ask_join() {
+            Ok(_) => {
+                self.tally.connect();
+                Ok(())
+            }
+            Err(kind) => Err(self.refuse(Call::Join(Side::Target), kind)),
+        }
+    }
+
+    fn faults(&self) -> u64 {
+        self.tally.faults()
+    }
+
+    fn blocks(&self) -> u64 {
+        self.tally.blocks()
+    }
+}
+
+impl Settle for EndWire {
+    fn settle(&mut self) {}
+}
+
+impl EndWire {
+    fn ask_read(&self, buffer: &mut [u8]) -> Result<usize, ErrorKind> {
+        let (Some((_, descriptor)), Ok(mut outside)) = (self.end, self.outside.try_borrow_mut())
+        else {
+            return Err(ErrorKind::Other);
+        };
+        outside.read(descriptor, self.tally.joined(), buffer)
+    }
+
+    fn ask_write(&self, offer: &[u8]) -> Result<usize, ErrorKind> {
+        let (Some((_, descriptor)), Ok(mut outside)) = (self.end, self.outside.try_borrow_mut())
+        else {
+            return Err(ErrorKind::Other);
+        };
+        outside.write(descriptor, self.tally.joined(), offer)
+    }
+
+    fn ask_join(&self) -> Result<usize, ErrorKind> {
+        let (Some((_, descriptor)), Ok(mut outside)) = (self.end, self.outside.try_borrow_mut())
+        else {
+            return Err(ErrorKind::Other);
+        };
+        outside.join(descriptor, self.tally.joined())
+    }
+
+    fn ask_shut(&self) -> Result<usize, ErrorKind> {
+        let (Some((_, descriptor)), Ok(mut outside)) = (self.end, self.outside.try_borrow_mut())
+        else {
+            return Err(ErrorKind::Other);
+        };
+        outside.shut(descriptor)
+    }
+}

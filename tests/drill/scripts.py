@@ -1,0 +1,98 @@
+"""Random scripts for the program `drill`, each made from a seed."""
+
+import random
+
+KINDS = ["reset", "pipe", "aborted", "refused", "notconnected", "timedout", "zero", "other"]
+
+
+class Maker:
+    """Makes the script of one seed."""
+
+    def __init__(self, seed):
+        self.random = random.Random(seed)
+        self.slots = self.random.choice([1, 1, 2, 2, 3, 4, 8])
+        self.workers = self.random.randint(1, 4)
+        self.steps = self.random.randint(1, self.random.choice([20, 80, 200]))
+        # How often something other than the kernel's own answer, and something inside of a turn.
+        self.oddity = self.random.choice([0.0, 0.1, 0.4])
+        self.inside = self.random.choice([0.0, 0.1, 0.3])
+        self.failures = self.random.choice([0, 1, 3])
+
+    def script(self):
+        """The lines: a header, and steps."""
+        lines = [self.header()]
+        for _ in range(self.steps):
+            while self.random.random() < self.oddity:
+                lines.append(self.later())
+            while self.random.random() < self.inside:
+                lines.append(f"{self.random.choice(['before', 'after'])} {self.inner()}")
+            lines.append(self.large())
+        return lines
+
+    def header(self):
+        ring = self.random.randint(1, 8)
+        budget = self.random.randint(1, 4)
+        return f"drill slots={self.slots} workers={self.workers} ring={ring} budget={budget}"
+
+    def pick(self, table):
+        """A key of a table, by its weight."""
+        return self.random.choices(list(table), list(table.values()))[0]
+
+    def large(self):
+        """A large step."""
+        step = self.pick({"outside": 40, "round": 26, "own": 8, "turn": 26})
+        if step in ("round", "own"):
+            return step
+        return self.turn() if step == "turn" else self.outside()
+
+    def inner(self):
+        """A step inside of a turn."""
+        step = self.pick({"outside": 60, "round": 30, "turn": 10})
+        if step == "round":
+            return step
+        return self.turn() if step == "turn" else self.outside()
+
+    def turn(self):
+        return f"turn {self.random.randrange(self.workers)}"
+
+    def end(self):
+        return f"{self.random.randrange(self.slots)} {self.random.choice(['client', 'target'])}"
+
+    def outside(self):
+        """Something outside of the server."""
+        word = self.pick(
+            {"connect": 18, "arrive": 30, "fin": 14, "reset": 2 * self.failures, "room": 24, "spurious": 6, "vanish": 6}
+        )
+        if word == "connect":
+            return word
+        if word == "arrive":
+            data = bytes(self.random.randrange(256) for _ in range(self.random.randint(1, 6)))
+            return f"arrive {self.end()} {data.hex()}"
+        if word in ("spurious", "vanish") and self.random.random() < 0.6:
+            return f"{word} {self.random.choice(['listener', 'waker'])}"
+        return f"{word} {self.end()}"
+
+    def later(self):
+        """What a later call gets."""
+        word = self.pick({"call": 50, "meanwhile": 15, "accept": 10, "open": 5, "poll": 10, "polled": 10})
+        if word in ("meanwhile", "polled"):
+            return f"{word} {self.outside()}"
+        if word == "call":
+            return f"call {self.answer()}"
+        table = {
+            "accept": ["again", "starved", "plain"],
+            "open": ["connect", "register", "plain"],
+            "poll": ["interrupted", "backwards", f"first {self.random.randint(0, 3)}"],
+        }
+        return f"{word} {self.random.choice(table[word])}"
+
+    def answer(self):
+        word = self.pick({"plain": 30, "short": 20, "full": 20, "interrupted": 20, "failed": 2 * self.failures})
+        if word in ("short", "full"):
+            return f"{word} {self.random.randint(1, 4)}"
+        return f"failed {self.random.choice(KINDS)}" if word == "failed" else word
+
+
+def make(seed):
+    """The lines of the script of a seed."""
+    return Maker(seed).script()
