@@ -11,7 +11,7 @@ DESTDIR ?=
 PROGRAM = crates/relayd/out/relayd
 
 help:
-	@echo 'make build         proves and builds crates/relayd/out/relayd; takes ten to fifteen minutes the first time'
+	@echo 'make build         proves and builds crates/relayd/out/relayd; takes ten to thirty minutes the first time'
 	@echo 'make run           forwards connections as examples/relayd.toml says, or CONFIG=FILE'
 	@echo 'make sim           runs the script on standard input'
 	@echo 'make install       installs what make build has built under PREFIX=/usr/local, with DESTDIR in front'
