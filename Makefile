@@ -1,6 +1,6 @@
 # Thin targets over the toolchain's command `rt`. See README.md.
 
-.PHONY: help build run sim test test-program test-drill growths bench bench-turn install
+.PHONY: help build run sim test test-program test-drill growths bench bench-turn install dist
 
 # The settings file of `make run`.
 CONFIG ?= examples/relayd.toml
@@ -15,6 +15,7 @@ help:
 	@echo 'make run           forwards connections as examples/relayd.toml says, or CONFIG=FILE'
 	@echo 'make sim           runs the script on standard input'
 	@echo 'make install       installs what make build has built under PREFIX=/usr/local, with DESTDIR in front'
+	@echo 'make dist          makes an archive of what make install installs, build/relayd.tar.gz'
 	@echo 'make test          the gate: every proof and test from scratch, and the built program'
 	@echo 'make test-program  tests the built program as its users run it'
 	@echo 'make test-drill    plays the server beside the modelled machine'
@@ -67,11 +68,21 @@ bench-turn:
 $(PROGRAM):
 	@.ci/build relayd
 
-# The program, its manual pages, an example of its settings, and a unit file for systemd.
+# The program, its manual pages, examples and documents, and a unit file for systemd.
 install: $(PROGRAM)
 	install -D -m 755 $(PROGRAM) $(DESTDIR)$(PREFIX)/bin/relayd
-	install -D -m 644 man/relayd.1 $(DESTDIR)$(PREFIX)/share/man/man1/relayd.1
-	install -D -m 644 man/relayd.toml.5 $(DESTDIR)$(PREFIX)/share/man/man5/relayd.toml.5
-	install -D -m 644 examples/relayd.toml $(DESTDIR)$(PREFIX)/share/doc/relayd/relayd.toml
-	install -D -m 644 packaging/relayd.service $(DESTDIR)$(PREFIX)/lib/systemd/system/relayd.service
-	sed -i 's|/usr/local/|$(PREFIX)/|' $(DESTDIR)$(PREFIX)/lib/systemd/system/relayd.service
+	install -D -m 644 -t $(DESTDIR)$(PREFIX)/share/man/man1 man/relayd.1
+	install -D -m 644 -t $(DESTDIR)$(PREFIX)/share/man/man5 man/relayd.toml.5
+	install -D -m 644 -t $(DESTDIR)$(PREFIX)/share/doc/relayd docs/FORMATS.md docs/GLOSSARY.md docs/OPERATIONS.md
+	install -D -m 644 -t $(DESTDIR)$(PREFIX)/share/doc/relayd/examples examples/* packaging/*.yaml
+	install -D -m 644 -t $(DESTDIR)$(PREFIX)/lib/systemd/system packaging/relayd.service
+	sed -i 's|/usr/local/|$(PREFIX)/|g' $(DESTDIR)$(PREFIX)/lib/systemd/system/relayd.service
+
+# An archive of what `make install` installs, for machines without the toolchain: unpack it at the root, as with
+# `tar -C / -xzf build/relayd.tar.gz`. The same sources give the same archive.
+dist: $(PROGRAM)
+	rm -rf build/dist
+	$(MAKE) --no-print-directory install DESTDIR=build/dist
+	cd build/dist && find . -type f -print0 | sort -z \
+	  | tar --null -T - --owner=0 --group=0 --numeric-owner --mtime=@0 -cf - | gzip -n9 > ../relayd.tar.gz
+	@echo build/relayd.tar.gz
