@@ -1,5 +1,7 @@
 //! The settings file.
-ghost use Rattle.std.specs.Prelude.{◌≡◌, ◌<◌, ◌≤◌, Err, IfOk, IfErr, IfSome, length, vec_len};
+ghost use Rattle.std.specs.Prelude.{◌≡◌, ◌<◌, ◌≤◌, Ok, Err, None, IfOk, IfErr, IfSome, length, vec_len};
+ghost use Rattle.settings.specs.Names.{level_name};
+ghost use Rattle.settings.specs.Text.{IsSettingsOf};
 ghost use Rattle.relayd.specs.Files.{FileSets, HasFault};
 
 use crate::constants::MAX_CONFIG_BYTES;
@@ -7,7 +9,7 @@ use crate::faults::ProgramFault;
 use crate::streams::{Stream, log_error};
 use input::{InputFault, read_at_most};
 use log::Log;
-use settings::{OneLine, Settings, SettingsFault};
+use settings::{Key, LogLevel, OneLine, Settings, SettingsFault};
 use std::alloc::Global;
 use std::fmt;
 use std::fs::File;
@@ -61,6 +63,53 @@ pub fn read<F: Read, L: Log>(log: &L, alloc: Global, file: &mut F) -> Result<Set
             log_cause(log, alloc, text.as_slice(), &fault);
             Err(ProgramFault::from(fault))
         }
+    }
+}
+
+/// The settings of a text that the arguments of the command line gave, or its fault. The cause is logged, without a
+/// line's number, since the text is in no file.
+pub fn parse_arguments<L: Log>(
+    log: &L,
+    alloc: Global,
+    text: &[u8],
+) -> Result<Settings, ProgramFault>
+    ensures settings { IfOk result (λ s. IsSettingsOf text.now s) }
+{
+    match settings::parse(alloc, text) {
+        Ok(settings) => Ok(settings),
+        Err(fault) => {
+            if let Some(cause) = settings::cause(alloc, text, &fault) {
+                log_error(log, &"settings", &without_line(cause.as_str()));
+            }
+            Err(ProgramFault::from(fault))
+        }
+    }
+}
+
+/// A cause without the number of its line.
+fn without_line(cause: &str) -> &str {
+    match cause.split_once(": ") {
+        Some((place, rest)) if place.starts_with("line ") => rest,
+        _ => cause,
+    }
+}
+
+/// The settings with the level of this name, if one is named. Refuses as a settings file with that level would be.
+pub fn at_level(mut settings: Settings, name: Option<&str>) -> Result<Settings, ProgramFault>
+    ensures same { name.entry ≡ None → result ≡ Ok settings }
+    ensures rest { IfOk result (λ s. s ≡ record settings { log = s.log }) }
+    ensures level { IfSome name.entry (λ n. IfOk result (λ s. n.now ≡ level_name s.log)) }
+    ensures refused { IfErr result (λ fault. fault ≡ ProgramFault.Settings (SettingsFault.OutOfRange Key.Log)) }
+{
+    let Some(name) = name else {
+        return Ok(settings);
+    };
+    match LogLevel::named(name) {
+        Some(log) => {
+            settings.log = log;
+            Ok(settings)
+        }
+        None => Err(ProgramFault::from(SettingsFault::OutOfRange(Key::Log))),
     }
 }
 

@@ -11,6 +11,7 @@ mod command_line;
 mod config;
 mod constants;
 mod faults;
+mod forwarding;
 mod program;
 mod streams;
 #[cfg(test)]

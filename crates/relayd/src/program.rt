@@ -52,6 +52,7 @@ pub fn report_arguments_fault<E: Write>(errors: &mut E, fault: ArgumentsFault) -
 /// |---|---|
 /// | `sim`, or none | runs the script that `reader` has, and writes its report or its fault's line to `writer` |
 /// | `check --config FILE` | reads a settings file and writes each setting to `writer` |
+/// | `forward LISTEN TARGET` | does the same as `run` with the settings of the command line |
 /// | `run --config FILE` | reads a settings file, listens, writes `listening A.B.C.D:PORT` to `writer`, and serves; log lines go to the process's own standard error |
 ///
 /// Returns the exit status: 0 if the command was carried out, or help or the version printed; 1 for a fault, which is
@@ -128,8 +129,12 @@ where
             let settings = config::load(rt, log, path)?;
             print(rt.alloc(), &settings, writer)
         }
-        Command::Run(path) => {
+        Command::Run(path, level) => {
             let settings = config::load(rt, log, path)?;
+            run(rt, config::at_level(settings, level)?, writer, serve)
+        }
+        Command::Forward(text) => {
+            let settings = config::parse_arguments(log, rt.alloc(), text.as_bytes())?;
             run(rt, settings, writer, serve)
         }
     }

@@ -1,0 +1,142 @@
+//! The settings that the arguments of `relayd forward` give. They become the text of a settings file, so that they have
+//! the same ranges, defaults and faults.
+
+use clap::{Arg, ArgMatches};
+use std::alloc::{AllocError, Global};
+use std::fmt;
+
+/// A setting that the command line may give.
+#[derive(Clone, Copy)]
+struct SettingRow {
+    /// Its key in a settings file.
+    key: &'static str,
+    /// Its option. An argument without one is required, and is known by its place.
+    option: Option<&'static str>,
+    value_name: &'static str,
+    help: &'static str,
+}
+
+/// The settings, in the order of the help.
+const SETTINGS: [SettingRow; 8] = [
+    SettingRow {
+        key: "listen",
+        option: None,
+        value_name: "LISTEN",
+        help: "Where clients connect: an IPv4 address and a port",
+    },
+    SettingRow {
+        key: "target",
+        option: None,
+        value_name: "TARGET",
+        help: "Where each connection is forwarded to: an IPv4 address and a port",
+    },
+    SettingRow {
+        key: "ring",
+        option: Some("ring"),
+        value_name: "BYTES",
+        help: "Bytes buffered for each direction of a connection [default: 16384]",
+    },
+    SettingRow {
+        key: "budget",
+        option: Some("budget"),
+        value_name: "CALLS",
+        help: "The most calls for one connection before another gets its turn [default: 64]",
+    },
+    SettingRow {
+        key: "workers",
+        option: Some("workers"),
+        value_name: "THREADS",
+        help: "Worker threads [default: 4]",
+    },
+    SettingRow {
+        key: "slots",
+        option: Some("slots"),
+        value_name: "CONNECTIONS",
+        help: "The most connections at a time [default: 1024]",
+    },
+    SettingRow {
+        key: "stop_after",
+        option: Some("stop-after"),
+        value_name: "CONNECTIONS",
+        help: "End after this many connections; 0 for no limit [default: 0]",
+    },
+    SettingRow {
+        key: "log",
+        option: Some("log"),
+        value_name: "LEVEL",
+        help: "The least important messages that are logged [default: info]",
+    },
+];
+
+/// The command with an argument for each setting.
+pub fn add_settings<'a>(
+    alloc: Global,
+    mut command: clap::Command<'a>,
+) -> Result<clap::Command<'a>, AllocError> {
+    for row in SETTINGS {
+        command = command.arg(argument(alloc, row))?;
+    }
+    Ok(command)
+}
+
+/// The argument of a setting.
+fn argument<'a>(alloc: Global, row: SettingRow) -> Arg<'a> {
+    let argument = Arg::new(alloc, row.key)
+        .value_name(row.value_name)
+        .help(row.help);
+    match row.option {
+        Some(option) => argument.long(option),
+        None => argument.required(true),
+    }
+}
+
+/// The text of a settings file that says the same as the arguments.
+pub fn settings_text(alloc: Global, matches: &ArgMatches<'_>) -> Result<String, AllocError> {
+    let mut text = String::new(alloc);
+    for row in SETTINGS {
+        if let Some(value) = matches.get_str(row.key) {
+            let line = Assignment {
+                key: row.key,
+                value,
+            };
+            text = format!(in alloc; "{text}{line}\n")?;
+        }
+    }
+    Ok(text)
+}
+
+/// A key with a value as it was typed. A whole number stands for itself, and anything else for a text.
+#[derive(Clone, Copy)]
+struct Assignment<'a> {
+    key: &'static str,
+    value: &'a str,
+}
+
+impl fmt::Display for Assignment<'_> {
+    fn fmt<W: fmt::Write>(&self, f: &mut fmt::Formatter<W>) -> fmt::Result {
+        let key = self.key;
+        if let Ok(number) = self.value.parse::<i64>() {
+            return write!(f, "{key} = {number}");
+        }
+        let text = Escaped(self.value);
+        write!(f, "{key} = \"{text}\"")
+    }
+}
+
+/// A text within the quotes of TOML.
+#[derive(Clone, Copy)]
+struct Escaped<'a>(&'a str);
+
+impl fmt::Display for Escaped<'_> {
+    fn fmt<W: fmt::Write>(&self, f: &mut fmt::Formatter<W>) -> fmt::Result {
+        for character in self.0.chars() {
+            match character {
+                '"' => f.write_str("\\\"")?,
+                '\\' => f.write_str("\\\\")?,
+                _ if character.is_control() => write!(f, "\\u{:04X}", character as u32)?,
+                _ => f.write_char(character)?,
+            }
+        }
+        Ok(())
+    }
+}
