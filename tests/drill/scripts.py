@@ -3,6 +3,7 @@
 import random
 
 KINDS = ["reset", "pipe", "aborted", "refused", "notconnected", "timedout", "zero", "other"]
+LAST_GENERATION = 2**47 - 1
 
 
 class Maker:
@@ -17,6 +18,9 @@ class Maker:
         self.oddity = self.random.choice([0.0, 0.1, 0.4])
         self.inside = self.random.choice([0.0, 0.1, 0.3])
         self.failures = self.random.choice([0, 1, 3])
+        # How many connections each slot may still have; None for a server that begins at its first.
+        worn = random.Random(f"worn {seed}")
+        self.left = worn.randint(1, 4) if worn.random() < 0.2 else None
 
     def script(self):
         """The lines: a header, and steps."""
@@ -32,7 +36,8 @@ class Maker:
     def header(self):
         ring = self.random.randint(1, 8)
         budget = self.random.randint(1, 4)
-        return f"drill slots={self.slots} workers={self.workers} ring={ring} budget={budget}"
+        header = f"drill slots={self.slots} workers={self.workers} ring={ring} budget={budget}"
+        return header if self.left is None else f"{header} gen={LAST_GENERATION - self.left}"
 
     def pick(self, table):
         """A key of a table, by its weight."""

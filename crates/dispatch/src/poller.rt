@@ -1,5 +1,5 @@
 //! What the poller keeps between its rounds.
-ghost use Rattle.std.specs.Prelude.{◌≡◌, ◌+◌, ◌<◌, ◌≤◌, ◌↔◌, [], length, IfOk, IsTrue, OnSome, IfSome, replicate, slice_index, slice_set, true, false};
+ghost use Rattle.std.specs.Prelude.{◌≡◌, ◌+◌, ◌<◌, ◌≤◌, ◌↔◌, [], length, IfOk, OnOk, OnErr, IsTrue, OnSome, IfSome, replicate, slice_index, slice_set, true, false};
 ghost use Rattle.dispatch.specs.Polls.{AreGenerations, HasOpenedAll, counted_up};
 
 use crate::front::Front;
@@ -73,6 +73,19 @@ impl<F: Front> Poller<F> {
             lost: 0,
             over: false,
         })
+    }
+
+    /// From now on each slot counts as having had so many connections: the next one there has the next generation, and
+    /// there is none after the last, 2^47 - 1. A server starts at 0. `drill` starts near the last.
+    ///
+    /// Fails only if there is no memory for the table, which then stays.
+    pub fn start_at(&mut self, alloc: Global, generation: u64) -> Result<(), AllocError>
+        requires { generation ≤ 140737488355327 }
+        ensures started { OnOk result (self.new ≡ record self.old { table = replicate (length self.old.table) generation }) }
+        ensures unchanged { OnErr result (self.new ≡ self.old) }
+    {
+        self.table = vec![in alloc; generation; self.table.len()]?;
+        Ok(())
     }
 
     /// Whether `stop_after` connections have been opened, and all of them are closed. A round finds that out by the

@@ -80,7 +80,9 @@ fn poller_of(
     ensures { IfOk result (λ poller. length poller.table ≡ sizes.slots) }
 {
     let front = KernelFront::new(alloc, outside.clone()?)?;
-    Poller::new(alloc, front, sizes.slots, sizes.ring, 0)
+    let mut poller = Poller::new(alloc, front, sizes.slots, sizes.ring, 0)?;
+    poller.start_at(alloc, sizes.generation)?;
+    Ok(poller)
 }
 
 #[tactic(auto, using(claims::proofs::Seats::fresh_holds_nothing))]
