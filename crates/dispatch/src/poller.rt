@@ -103,7 +103,7 @@ impl<F: Front> Poller<F> {
         self.accepting
     }
 
-    /// Each slot's generation, 0 for a slot that was never opened.
+    /// Each slot's generation: how many connections it has had, or counts as having had.
     pub fn table(&self) -> &[u64]
         ensures table { result.now ≡ self.now.table }
         ensures generations { AreGenerations result.now }
