@@ -9,7 +9,7 @@ use Rattle.dispatch.specs.declared.shared.Own.{Own}
 use Rattle.dispatch.specs.Deliveries.{all_reported, at_slot, raised, IsSubsequence, Delivered}
 use Rattle.dispatch.specs.Hands.{HandState}
 use Rattle.dispatch.specs.Openings.{times, AreOpened, SlotsCounted, AcceptDone}
-use Rattle.dispatch.specs.Outgoing.{outgoing, tickets_out}
+use Rattle.dispatch.specs.Outgoing.{outgoing, tickets_out, TicketsPut}
 use Rattle.dispatch.specs.Polls.{PollerState, Counted}
 use Rattle.dispatch.specs.Rounds.{RoundDone}
 use Rattle.dispatch.specs.Turns.{Rose}
@@ -24,20 +24,13 @@ rose_after a b c posts wakes opened raise rose =
     let mints = rose.minted in
     record { posted = omega arith; minted = omega arith }
 
--- what the thread owns, once the tickets in hand were put
-pub record IsPut (old new : Own) : Type 0 where
-  pub tickets : tickets_out new ≡ tickets_out old
-  pub seat : new.seat ≡ old.seat
-  pub free : new.free ≡ old.free
-  pub slots : new.hand.slots ≡ old.hand.slots
-
 -- what the poller keeps, but for the reports and the flags
 pub record SameTable (old new : PollerState) : Type 0 where
   pub table : new.table ≡ old.table
   pub opened : new.opened ≡ old.opened
   pub lost : new.lost ≡ old.lost
 
-module _ (p q r t : PollerState) (a b c e : Own) (begun : SameTable p q) (put : IsPut a b)
+module _ (p q r t : PollerState) (a b c e : Own) (begun : SameTable p q) (put : TicketsPut a b)
     (delivered : Delivered q.table q.batch b.seat c.seat b.hand c.hand) (ready : c.ready ≡ b.ready) (free : c.free ≡ b.free)
     (flag : SamePoller q r) (accepted : AcceptDone r t c e) where
   table_is : r.table ≡ p.table
@@ -92,7 +85,7 @@ module _ (p q r t : PollerState) (a b c e : Own) (begun : SameTable p q) (put : 
   }
 
 -- nothing was reported, and nothing was accepted
-pub round_ended : (p q : PollerState) (a b : Own) → SameTable p q → q.batch ≡ [] → IsPut a b → RoundDone p q a b
+pub round_ended : (p q : PollerState) (a b : Own) → SameTable p q → q.batch ≡ [] → TicketsPut a b → RoundDone p q a b
 round_ended p q a b begun none put =
     let still : SamePoller q q = record { table = refl; opened = refl; lost = refl; batch = refl } in
     round_of p q q q a b b b begun put

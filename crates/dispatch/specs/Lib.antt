@@ -5,6 +5,7 @@ pub mod Fronts
 pub mod Hands
 pub mod Openings
 pub mod Outgoing
+pub mod Parts
 pub mod Polls
 pub mod Rounds
 pub mod Turns

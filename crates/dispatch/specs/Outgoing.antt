@@ -30,6 +30,13 @@ tickets_out own = outgoing own.ready.history own.hand.tickets
 abbrev pub slots_out : Own → List ℕ
 slots_out own = outgoing own.free.history own.hand.slots
 
+-- what a thread owns once the tickets in hand were put, each or until one was refused
+pub record TicketsPut (old new : Own) : Type 0 where
+  pub tickets : tickets_out new ≡ tickets_out old
+  pub seat : new.seat ≡ old.seat
+  pub free : new.free ≡ old.free
+  pub slots : new.hand.slots ≡ old.hand.slots
+
 -- the ticket is not lost: it is the last that this end of the queue has put, or the last in hand
 abbrev pub KeepsTicket : Ticket → History Ticket → HandState → Type 0
 KeepsTicket ticket history hand = PutLast ticket history ⊎ ((before : List Ticket) × (hand.tickets ≡ before ++ ticket ∷ []))

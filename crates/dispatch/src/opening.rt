@@ -61,10 +61,10 @@ pub(crate) fn open<F: Front, R: Net + Wait + Log>(
         return Ok(());
     };
     match connect(rt, alloc, poller, client, names) {
-        Ok(berth) => place(rt, alloc, shared, own, poller, berth),
+        Ok(berth) => place(rt, shared, own, poller, berth),
         Err(cause) => {
             own.hand.keep_slot(slot);
-            log_drop(rt, alloc, cause);
+            log_drop(rt, cause);
             Ok(())
         }
     }
@@ -118,7 +118,6 @@ pub(crate) fn connect<F: Front, N: Net + Log>(
 /// Places a prepared connection in its slot, which has it from then on.
 fn place<F: Front, R: Wait + Log>(
     rt: &R,
-    alloc: Global,
     shared: &Shared<F>,
     own: &mut Own,
     poller: &mut Poller<F>,
@@ -139,7 +138,7 @@ fn place<F: Front, R: Wait + Log>(
 {
     let (slot, generation) = (berth.pair.slot(), berth.pair.generation());
     if let Some(from) = F::peer(&berth.client) {
-        log_peer(rt, alloc, slot, generation, &from);
+        log_peer(rt, slot, generation, &from);
     }
     match shared.claims.adopt(&mut own.seat, slot) {
         Adopted::NotFree => poller.count_lost(),
@@ -147,7 +146,7 @@ fn place<F: Front, R: Wait + Log>(
             let ticket = Ticket { slot, generation };
             start(rt, shared, own, ticket, berth)?;
             poller.count_opened(ticket);
-            log_open(rt, alloc, slot, generation);
+            log_open(rt, slot, generation);
         }
     }
     Ok(())

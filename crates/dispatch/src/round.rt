@@ -1,5 +1,5 @@
 //! A round of the poller: it puts tickets, delivers reports, and accepts and opens connections.
-ghost use Rattle.std.specs.Prelude.{◌≡◌, ◌≢◌, ◌⊎◌, ◌+◌, ◌-◌, ◌<◌, ◌≤◌, ◌↔◌, [], length, Err, IsOk, OnOk, OnErr, IfErr, IfSome, IfOk, IsTrue, MatchResult, Contains, true, false};
+ghost use Rattle.std.specs.Prelude.{◌≡◌, ◌≢◌, ◌⊎◌, ◌+◌, ◌-◌, ◌<◌, ◌≤◌, ◌↔◌, [], length, Ok, Err, IsOk, OnOk, OnErr, IfErr, IfSome, IfOk, IsTrue, MatchResult, Contains, true, false};
 ghost use Rattle.std.specs.IoError.{error_kind};
 ghost use Rattle.std.specs.declared.io.ErrorKind.TheVariants.{Interrupted};
 ghost use Rattle.claims.specs.Seats.{HoldsNothing};
@@ -8,7 +8,7 @@ ghost use Rattle.dispatch.specs.Accepts.{accepted_of};
 ghost use Rattle.dispatch.specs.Deliveries.{Delivered};
 ghost use Rattle.dispatch.specs.Hands.{ticket_room};
 ghost use Rattle.dispatch.specs.Openings.{Between, OnlyTook, AcceptDone};
-ghost use Rattle.dispatch.specs.Outgoing.{PutAll};
+ghost use Rattle.dispatch.specs.Outgoing.{PutAll, TicketsPut};
 ghost use Rattle.dispatch.specs.Polls.{HasOpenedAll, flag_after};
 ghost use Rattle.dispatch.specs.Rounds.{RoundDone, AcceptEnded, EndedEarly, IsOver, NoSlot};
 
@@ -56,17 +56,38 @@ pub fn poller_round<F: Front, R: Net + Wait + Log>(
     ensures accepted { OnOk result (EndedEarly shared.now.claims.words own.new ⊎ AcceptEnded poller.new own.new) }
     ensures over { OnOk result (poller.new.over ≡ true → (poller.old.over ≡ true) ⊎ IsOver shared.now.claims.words poller.new own.new) }
 {
-    poller.forget_reports();
-    put_tickets(rt, &mut own.ready, &mut own.hand);
     let most = (MAX_BATCH + MAX_ACCEPTS).saturating_add(shared.claims.slots());
-    if own.hand.room() < most {
+    if !begin(rt, own, poller, most)? {
         return Ok(());
     }
-    poll(rt, own, poller)?;
     deliver_batch(shared, own, poller)?;
     accept_all(rt, alloc, shared, own, poller)?;
     take_back(rt, shared, own, poller);
     Ok(())
+}
+
+/// The start of a round: puts the tickets in hand, until one is refused, and then waits for reports. Answers false,
+/// without a wait, if the hand has no room for so many more tickets.
+fn begin<F: Front, R: Wait + Log>(
+    rt: &R,
+    own: &mut Own,
+    poller: &mut Poller<F>,
+    most: usize,
+) -> Result<bool, ServerFault>
+    ensures put { TicketsPut own.old own.new }
+    ensures poller { poller.new ≡ record poller.old { reported = poller.new.reported; batch = poller.new.batch } }
+    ensures waited { result ≡ Ok true → (most ≤ ticket_room own.new.hand) × (poller.new.batch ≡ poller.new.reported) }
+    ensures early { result ≡ Ok false → (ticket_room own.new.hand < most) × (poller.new.batch ≡ []) }
+    ensures failed { IfErr result (λ fault. (fault ≡ ServerFault.Poll) × (poller.new.batch ≡ []) × (poller.new.batch ≡ poller.new.reported)) }
+    ensures few { length poller.new.batch ≤ 256 }
+{
+    poller.forget_reports();
+    put_tickets(rt, &mut own.ready, &mut own.hand);
+    if own.hand.room() < most {
+        return Ok(false);
+    }
+    poll(rt, own, poller)?;
+    Ok(true)
 }
 
 /// Waits for reports. After a signal the batch is empty. No ticket is left in hand meanwhile, unless the queue of

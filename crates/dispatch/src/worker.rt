@@ -19,7 +19,6 @@ use log::Log;
 use ready::Ticket;
 use relay_core::{Pair, Verdict};
 use relay_log::{log_done, log_fail};
-use std::alloc::Global;
 use std::sync::Wait;
 use token::MAX_GENERATION;
 
@@ -51,7 +50,6 @@ pub enum Worked {
 /// The only refusal is `Worn`: the seat has posted 2^56 times. The slot is released then, too.
 pub fn worker_turn<F: Front, G: Gate, R: Wait + Log>(
     rt: &R,
-    alloc: Global,
     shared: &Shared<F>,
     own: &mut Own,
     gate: &G,
@@ -75,14 +73,13 @@ pub fn worker_turn<F: Front, G: Gate, R: Wait + Log>(
     }
     match shared.claims.claim(&mut own.seat, ticket.slot) {
         Claimed::Busy => Ok(Worked::Busy),
-        Claimed::Held => claimed(rt, alloc, shared, own, gate, ticket),
+        Claimed::Held => claimed(rt, shared, own, gate, ticket),
     }
 }
 
 /// The rest of a turn, once the slot is held.
 fn claimed<F: Front, G: Gate, R: Wait + Log>(
     rt: &R,
-    alloc: Global,
     shared: &Shared<F>,
     own: &mut Own,
     gate: &G,
@@ -94,7 +91,7 @@ fn claimed<F: Front, G: Gate, R: Wait + Log>(
 {
     match take_out(rt, shared, own, ticket) {
         Ok(visit) if visit.pair().generation() == ticket.generation => {
-            run(rt, alloc, shared, own, gate, visit)
+            run(rt, shared, own, gate, visit)
         }
         Ok(other) => {
             let back = put_in(rt, shared, own, other);
@@ -122,7 +119,6 @@ fn give_up<F: Front, R: Wait>(rt: &R, shared: &Shared<F>, own: &mut Own, ticket:
 /// Runs the connection of a slot that is held, and then ends it or puts it back.
 fn run<F: Front, G: Gate, R: Wait + Log>(
     rt: &R,
-    alloc: Global,
     shared: &Shared<F>,
     own: &mut Own,
     gate: &G,
@@ -134,7 +130,7 @@ fn run<F: Front, G: Gate, R: Wait + Log>(
 {
     match play(shared, &mut own.seat, gate, &mut visit) {
         Turn::Done | Turn::Failed => {
-            end(rt, alloc, shared, own, visit);
+            end(rt, shared, own, visit);
             Ok(Worked::Ended)
         }
         Turn::Again => again(rt, shared, own, visit),
@@ -225,20 +221,14 @@ fn leave<F: Front, R: Wait>(rt: &R, shared: &Shared<F>, own: &mut Own, ticket: T
 }
 
 /// Logs and closes a connection that is done or failed, gives its slot back, and wakes the poller.
-fn end<F: Front, R: Wait + Log>(
-    rt: &R,
-    alloc: Global,
-    shared: &Shared<F>,
-    own: &mut Own,
-    visit: Visit<F>,
-)
+fn end<F: Front, R: Wait + Log>(rt: &R, shared: &Shared<F>, own: &mut Own, visit: Visit<F>)
     requires work { AtWork shared.now.claims visit.ticket.slot own.old }
     requires over { (outcome_of visit.berth.pair ≡ Turn.Done) ⊎ (outcome_of visit.berth.pair ≡ Turn.Failed) }
     ensures done { TurnDone visit.ticket (Ok Worked.Ended) own.old own.new }
     ensures exchanges { own.new.seat.steps ≡ own.old.seat.steps + 1 }
 {
     let ticket = visit.ticket();
-    log_end(rt, alloc, visit.pair());
+    log_end(rt, visit.pair());
     let closed = visit.close();
     shared.claims.retire(&mut own.seat, ticket.slot);
     give_back(rt, own, ticket, closed);
@@ -254,13 +244,13 @@ fn wake_poller<F: Front>(shared: &Shared<F>, _own: &Own, _ended: Ticket)
 }
 
 /// Logs what became of a connection.
-fn log_end<R: Log>(rt: &R, alloc: Global, pair: &Pair) {
+fn log_end<R: Log>(rt: &R, pair: &Pair) {
     let (slot, generation) = (pair.slot(), pair.generation());
     match pair.verdict() {
-        Verdict::Failed(fault) => log_fail(rt, alloc, slot, generation, fault),
+        Verdict::Failed(fault) => log_fail(rt, slot, generation, fault),
         Verdict::Done => {
             let (up, down) = pair.counts();
-            log_done(rt, alloc, slot, generation, up, down);
+            log_done(rt, slot, generation, up, down);
         }
         // Only a connection that has ended is logged here.
         Verdict::Live => {}
@@ -271,7 +261,6 @@ fn log_end<R: Log>(rt: &R, alloc: Global, pair: &Pair) {
 /// With another number of tickets, or a hand without room, nothing changes.
 pub fn own_turn<F: Front, G: Gate, R: Wait + Log>(
     rt: &R,
-    alloc: Global,
     shared: &Shared<F>,
     own: &mut Own,
     gate: &G,
@@ -292,6 +281,6 @@ pub fn own_turn<F: Front, G: Gate, R: Wait + Log>(
         own.hand.keep_ticket(ticket);
         return Ok(());
     }
-    worker_turn(rt, alloc, shared, own, gate, ticket)?;
+    worker_turn(rt, shared, own, gate, ticket)?;
     Ok(())
 }

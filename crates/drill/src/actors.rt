@@ -35,14 +35,13 @@ impl Worker<'_> {
     pub fn turn<G: Gate, R: Wait + Log>(
         &mut self,
         rt: &R,
-        alloc: Global,
         gate: &G,
         ticket: Ticket,
     ) -> Option<Worked> {
         if !self.own.hand.has_room() {
             return None;
         }
-        worker_turn(rt, alloc, self.shared, &mut self.own, gate, ticket).ok()
+        worker_turn(rt, self.shared, &mut self.own, gate, ticket).ok()
     }
 }
 
@@ -71,12 +70,7 @@ impl Lead<'_> {
     }
 
     /// The turn after a round that left exactly one ticket.
-    pub fn turn<G: Gate, R: Wait + Log>(
-        &mut self,
-        rt: &R,
-        alloc: Global,
-        gate: &G,
-    ) -> Result<(), ServerFault> {
-        own_turn(rt, alloc, self.shared, &mut self.own, gate)
+    pub fn turn<G: Gate, R: Wait + Log>(&mut self, rt: &R, gate: &G) -> Result<(), ServerFault> {
+        own_turn(rt, self.shared, &mut self.own, gate)
     }
 }

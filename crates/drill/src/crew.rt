@@ -30,7 +30,6 @@ impl Crew<'_> {
             Inner::Round => self.round(rt, alloc),
             Inner::Turn(number) => self.turn(
                 rt,
-                alloc,
                 number,
                 &Nested {
                     outside: &self.outside,
@@ -48,7 +47,7 @@ impl Crew<'_> {
                     alloc,
                     crew: self,
                 };
-                self.turn(rt, alloc, number, &gate);
+                self.turn(rt, number, &gate);
             }
             step => self.make_inside(rt, alloc, step),
         }
@@ -72,7 +71,7 @@ impl Crew<'_> {
     }
 
     /// A worker takes a ticket, if there is one, and makes its turn.
-    fn turn<G: Gate, R: Wait + Log>(&self, rt: &R, alloc: Global, number: usize, gate: &G) {
+    fn turn<G: Gate, R: Wait + Log>(&self, rt: &R, number: usize, gate: &G) {
         let Some(cell) = self.workers.get(number) else {
             return;
         };
@@ -84,7 +83,7 @@ impl Crew<'_> {
         };
         let former = self.enter(number);
         self.act(Act::Pop);
-        let worked = worker.turn(rt, alloc, gate, ticket);
+        let worked = worker.turn(rt, gate, ticket);
         self.finish(worked);
         self.enter(former);
     }
@@ -109,7 +108,7 @@ impl Crew<'_> {
             alloc,
             crew: self,
         };
-        let _ = lead.turn(rt, alloc, &gate);
+        let _ = lead.turn(rt, &gate);
         self.finish(self.ending());
         self.enter(former);
     }

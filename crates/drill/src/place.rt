@@ -25,22 +25,22 @@ pub struct Standing<'k> {
     pub ring: usize,
 }
 
-/// The lines of a slot, whose generation in the poller's table this is. It is looked at by a claim, which is released
-/// again: that leaves the word as it was.
+/// The lines of a slot, with its generation in the poller's table. It is looked at by a claim, which is released again:
+/// that leaves the word as it was.
 pub fn slot_lines(
     rt: &impl Wait,
     alloc: Global,
     shared: &Shared<KernelFront>,
     own: &mut Own,
     standing: Standing<'_>,
-    slot: usize,
-    generation: u64,
+    named: Ticket,
 ) -> Result<String, AllocError>
     requires same { own.old.seat.table ≡ shared.now.claims }
     requires idle { HoldsNothing own.old.seat }
     ensures same { own.new.seat.table ≡ own.old.seat.table }
     ensures idle { HoldsNothing own.new.seat }
 {
+    let Ticket { slot, generation } = named;
     if slot >= shared.claims.slots() {
         return format!(in alloc; "slot {slot} missing\n");
     }

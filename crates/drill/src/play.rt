@@ -2,19 +2,19 @@
 ghost use Rattle.std.specs.Prelude.{◌≡◌, ◌≤◌, length, IfOk};
 ghost use Rattle.claims.specs.Seats.{fresh_seat, HoldsNothing};
 ghost use Rattle.drill.specs.Sizes.{IsServerSize};
-ghost use Rattle.drill.specs.Seats.{AreFresh};
+ghost use Rattle.dispatch.specs.Parts.{AreFresh};
 
 use crate::actors::{Lead, Worker};
 use crate::crew::Crew;
 use crate::diary::Diary;
 use crate::front::KernelFront;
 use crate::outside::Outside;
-use crate::parts::{Parts, next_own, parts_of};
+use crate::parts::parts_of;
 use crate::reading::read_step;
 use crate::report::report_of;
 use crate::step::Step;
 use crate::totals::Totals;
-use dispatch::{Own, Poller, Shared};
+use dispatch::{MAX_BATCH, Own, Parts, Poller, Shared};
 use log::{Level, Log, Logged};
 use std::alloc::{AllocError, Global};
 use std::cell::RefCell;
@@ -47,17 +47,18 @@ pub fn crew_of<'s>(
     requires sized { shared.now.claims.words ≡ sizes.slots }
     requires fresh { AreFresh shared.now.claims parts.old.seats.items }
 {
-    let Some(own) = next_own(alloc, shared, parts)? else {
+    let capacity = 2 * sizes.slots + 2 * MAX_BATCH;
+    let Some(own) = parts.next_own(alloc, shared, capacity)? else {
         return Ok(None);
     };
     let lead = lead_of(shared, own, poller_of(alloc, outside, sizes)?);
-    let Some(own) = next_own(alloc, shared, parts)? else {
+    let Some(own) = parts.next_own(alloc, shared, capacity)? else {
         return Ok(None);
     };
     let spare = worker_of(shared, own);
     let mut workers = Vec::with_capacity(alloc, sizes.workers)?;
     for _worker in 0..sizes.workers {
-        let Some(own) = next_own(alloc, shared, parts)? else {
+        let Some(own) = parts.next_own(alloc, shared, capacity)? else {
             return Ok(None);
         };
         workers.push(RefCell::new(worker_of(shared, own)))?;

@@ -139,8 +139,7 @@ fn slots_lines<R: Wait>(
             spare.shared,
             &mut spare.own,
             standing,
-            slot,
-            generation,
+            Ticket { slot, generation },
         )?;
         text.push_str(lines.as_str())?;
     }

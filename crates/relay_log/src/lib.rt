@@ -8,15 +8,17 @@
 //! | `fail s=3 g=1 side=target call=write kind=pipe` | warn | a call on one of its sockets failed |
 //! | `drop kind=memory` | warn | an accepted connection was closed at once: memory ran out, or `connect` or `register` failed |
 //!
-//! If there is no memory for a message, it is left out: the log is for people, and the relay carries on.
+//! A message is a value that prints itself, so passing one to a log takes no memory.
 #![tactic(auto)]
 
 mod calls;
 mod cause;
+mod messages;
 #[cfg(test)]
 mod tests;
 mod texts;
 
 pub use calls::{log_done, log_drop, log_fail, log_open, log_peer};
 pub use cause::Cause;
-pub use texts::{done_text, drop_text, fail_text, open_text, peer_text};
+pub use messages::{Done, Dropped, Failed, Opened, Peer};
+pub use texts::{done_text, drop_text, fail_text, open_text};

@@ -1,6 +1,6 @@
 use crate::{
     Cause, done_text, drop_text, fail_text, log_done, log_drop, log_fail, log_open, log_peer,
-    open_text, peer_text,
+    open_text,
 };
 use log::sink::{Lines, Memory};
 use log::{Level, Log, Logged};
@@ -21,8 +21,6 @@ const PIPE: Fault = Fault {
 fn texts(rt: HostRuntime) -> Result<(), Fail> {
     let alloc = rt.alloc();
     assert_eq!(rt; open_text(alloc, 3, 1)?.as_str(), "open s=3 g=1");
-    let peer = "peer s=3 g=1 from=192.0.2.7:50000";
-    assert_eq!(rt; peer_text(alloc, 3, 1, &"192.0.2.7:50000")?.as_str(), peer);
     assert_eq!(rt;
         done_text(alloc, 3, 1, 120, 400)?.as_str(),
         "done s=3 g=1 up=120 down=400"
@@ -43,13 +41,13 @@ fn texts(rt: HostRuntime) -> Result<(), Fail> {
 }
 
 /// Logs one message of each kind, and each of them twice.
-fn log_each_twice(log: &impl Log, alloc: Global) {
+fn log_each_twice(log: &impl Log) {
     for _ in 0..2 {
-        log_peer(log, alloc, 3, 1, &"192.0.2.7:50000");
-        log_open(log, alloc, 3, 1);
-        log_done(log, alloc, 3, 1, 120, 400);
-        log_fail(log, alloc, 3, 1, PIPE);
-        log_drop(log, alloc, Cause::Connect);
+        log_peer(log, 3, 1, &"192.0.2.7:50000");
+        log_open(log, 3, 1);
+        log_done(log, 3, 1, 120, 400);
+        log_fail(log, 3, 1, PIPE);
+        log_drop(log, Cause::Connect);
     }
 }
 
@@ -72,7 +70,7 @@ fn levels(rt: HostRuntime) {
         (Level::Error, 5),
     ] {
         let sink = Memory::new(rt.alloc());
-        log_each_twice(&Logged::new(&rt, level, &sink), rt.alloc());
+        log_each_twice(&Logged::new(&rt, level, &sink));
         let lines = sink.into_lines();
         let mut lines = lines.as_slice().iter().peekable();
         for _ in 0..2 {
@@ -126,28 +124,28 @@ const CAUSES: [(Cause, &str); 3] = [
 ];
 
 /// Logs each failure of a connection.
-fn log_each_failure(log: &impl Log, alloc: Global, slot: usize, generation: u64) {
+fn log_each_failure(log: &impl Log, slot: usize, generation: u64) {
     for (side, _) in SIDES {
         for (call, _) in CALLS {
             for (kind, _) in KINDS {
-                log_fail(log, alloc, slot, generation, Fault { side, call, kind });
+                log_fail(log, slot, generation, Fault { side, call, kind });
             }
         }
     }
 }
 
 /// Logs every message over the tables.
-fn log_all(log: &impl Log, alloc: Global) {
+fn log_all(log: &impl Log) {
     for (slot, generation) in NAMES {
-        log_peer(log, alloc, slot, generation, &"192.0.2.7:50000");
-        log_open(log, alloc, slot, generation);
+        log_peer(log, slot, generation, &"192.0.2.7:50000");
+        log_open(log, slot, generation);
         for (up, down) in COUNTS {
-            log_done(log, alloc, slot, generation, up, down);
+            log_done(log, slot, generation, up, down);
         }
-        log_each_failure(log, alloc, slot, generation);
+        log_each_failure(log, slot, generation);
     }
     for (cause, _) in CAUSES {
-        log_drop(log, alloc, cause);
+        log_drop(log, cause);
     }
 }
 
@@ -207,7 +205,7 @@ fn missing_of(lines: &Lines, wanted: &[String]) -> Option<usize> {
 #[test]
 fn hands_over_each_message(rt: HostRuntime) -> Result<(), Fail> {
     let sink = Memory::new(rt.alloc());
-    log_all(&Logged::new(&rt, Level::Trace, &sink), rt.alloc());
+    log_all(&Logged::new(&rt, Level::Trace, &sink));
     let lines = sink.into_lines();
     let wanted = lines_of_all(rt.alloc())?;
     let missing = missing_of(&lines, wanted.as_slice());
@@ -228,13 +226,12 @@ impl fmt::Display for Noting {
 
 // No text is made at a level that is off.
 #[test]
-fn prints_no_address_at_a_level_that_is_off(rt: HostRuntime) -> Result<(), Fail> {
+fn prints_no_address_at_a_level_that_is_off(rt: HostRuntime) {
     let from = Noting(Cell::new(false));
     let sink = Memory::new(rt.alloc());
     let logged = Logged::new(&rt, Level::Info, &sink);
-    log_peer(&logged, rt.alloc(), 3, 1, &from);
+    log_peer(&logged, 3, 1, &from);
     assert!(rt; !from.0.get());
-    peer_text(rt.alloc(), 3, 1, &from)?;
+    log_peer(&Logged::new(&rt, Level::Debug, &sink), 3, 1, &from);
     assert!(rt; from.0.get());
-    Ok(())
 }

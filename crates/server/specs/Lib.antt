@@ -1,5 +1,4 @@
 -- The crate's definitions. The first line of each file says whether the promises need it.
-pub mod Crews
 pub mod SocketsDelays
 pub mod SocketsFronts
 pub mod SocketsWires

@@ -1,18 +1,15 @@
-//! The threads of a server: what each of them owns, the loop of a worker, and the loop of the poller's thread.
-ghost use Rattle.std.specs.Prelude.{◌≡◌, IfOk, IfSome, length};
+//! The threads of a server: what each of them is handed, the loop of a worker, and the loop of the poller's thread.
+ghost use Rattle.std.specs.Prelude.{◌≡◌, length};
 ghost use Rattle.claims.specs.Seats.{fresh_seat, HoldsNothing};
-ghost use Rattle.dispatch.specs.Hands.{empty_hand};
-ghost use Rattle.server.specs.Crews.{AreFresh};
 
 use crate::fault_record::FaultRecord;
-use claims::ClaimSeat;
 use dispatch::{
-    Front, Gate, Hand, Own, Poller, ServerFault, Shared, give_slots, own_turn, poller_round,
-    put_tickets, worker_turn,
+    Front, Gate, Own, Poller, ServerFault, Shared, give_slots, own_turn, poller_round, put_tickets,
+    worker_turn,
 };
 use log::Log;
-use ready::{FreeQueue, ReadyQueue};
-use std::alloc::{AllocError, Global};
+use ready::ReadyQueue;
+use std::alloc::Global;
 use std::net::Net;
 use std::sync::Wait;
 use std::thread;
@@ -27,42 +24,6 @@ pub(crate) struct Crew<'a, F: Front, G: Gate, R> {
     pub(crate) shared: &'a Shared<F>,
     /// Whether the poller's thread runs turns, too.
     pub(crate) poller_works: bool,
-}
-
-/// What the threads of a server are made from: for each of them a seat, an end of the queue of tickets and an end of
-/// the queue of free slots.
-#[derive(Drop)]
-pub(crate) struct Parts {
-    pub(crate) seats: Vec<ClaimSeat>,
-    pub(crate) ready: Vec<ReadyQueue>,
-    pub(crate) free: Vec<FreeQueue>,
-}
-
-/// What the next thread owns, with a hand of this capacity. None if the parts are used up.
-pub(crate) fn next_own<F: Front>(
-    alloc: Global,
-    shared: &Shared<F>,
-    parts: &mut Parts,
-    capacity: usize,
-) -> Result<Option<Own>, AllocError>
-    requires { AreFresh shared.now.claims parts.old.seats.items }
-    ensures left { AreFresh shared.now.claims parts.new.seats.items }
-    ensures next { IfOk result (λ next. IfSome next (λ own. own.seat ≡ fresh_seat shared.now.claims)) }
-    ensures hand { IfOk result (λ next. IfSome next (λ own. own.hand ≡ empty_hand capacity)) }
-{
-    let hand = Hand::new(alloc, capacity)?;
-    let Some(seat) = parts.seats.pop() else {
-        return Ok(None);
-    };
-    let (Some(ready), Some(free)) = (parts.ready.pop(), parts.free.pop()) else {
-        return Ok(None);
-    };
-    Ok(Some(Own {
-        seat,
-        ready,
-        free,
-        hand,
-    }))
 }
 
 /// The loop of a worker: it takes tickets and runs their turns until the queue of tickets is closed and empty, or a
@@ -113,7 +74,7 @@ fn run_turns<F: Front, G: Gate, R: Wait + Log>(
         let Some(ticket) = own.ready.take(crew.rt) else {
             return Ok(());
         };
-        worker_turn(crew.rt, crew.alloc, crew.shared, own, crew.gate, ticket)?;
+        worker_turn(crew.rt, crew.shared, own, crew.gate, ticket)?;
     }
     Ok(())
 }
@@ -150,7 +111,7 @@ pub(crate) fn run_rounds<F: Front, G: Gate, R: Net + Wait + Log>(
         }
         poller_round(crew.rt, crew.alloc, crew.shared, own, poller)?;
         if crew.poller_works {
-            own_turn(crew.rt, crew.alloc, crew.shared, own, crew.gate)?;
+            own_turn(crew.rt, crew.shared, own, crew.gate)?;
         }
     }
     Ok(())

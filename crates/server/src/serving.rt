@@ -2,15 +2,15 @@
 ghost use Rattle.std.specs.Prelude.{◌≡◌, ◌+◌, ◌≤◌, ◌∷◌, [], length, replicate, true, false, IfOk, IfErr};
 ghost use Rattle.claims.specs.Seats.{fresh_seat};
 ghost use Rattle.ready.specs.Steps.{unused, opened as filled};
-ghost use Rattle.server.specs.Crews.{AreFresh};
+ghost use Rattle.dispatch.specs.Parts.{AreFresh};
 
-use crate::crew::{Crew, Parts, lead, next_own, work};
+use crate::crew::{Crew, lead, work};
 use crate::fault_record::FaultRecord;
 use crate::limits::WORKER_HAND;
 use crate::sockets::{Bound, Sockets};
 use berths::Berths;
 use claims::{ClaimSeat, Claims};
-use dispatch::{Front, Gate, MAX_BATCH, Own, Poller, ServerFault, Shared};
+use dispatch::{Front, Gate, MAX_BATCH, Own, Parts, Poller, ServerFault, Shared};
 use log::{Log, error};
 use mio::Waker;
 use ready::{FreeQueue, ReadyQueue};
@@ -135,7 +135,7 @@ where
     } = server;
     // The poller's hand has room for all that two rounds may put there.
     let capacity = 2 * shared.claims.slots() + 2 * MAX_BATCH;
-    let Some(own) = next_own(alloc, &shared, &mut parts, capacity)? else {
+    let Some(own) = parts.next_own(alloc, &shared, capacity)? else {
         return Err(ServerFault::NoMemory);
     };
     let faults = FaultRecord::new();
@@ -179,7 +179,7 @@ where
             requires { (workers ≤ 16) × AreFresh crew.now.shared.now.claims parts.seats.items × (own.seat ≡ fresh_seat crew.now.shared.now.claims) × (length poller.table ≡ crew.now.shared.now.claims.words) }
         {
             for number in 1..workers + 1 {
-                match next_own(crew.alloc, crew.shared, &mut parts, WORKER_HAND) {
+                match parts.next_own(crew.alloc, crew.shared, WORKER_HAND) {
                     Ok(Some(next)) => {
                         let worker = move || -> ()
                             requires { next.seat ≡ fresh_seat crew.now.shared.now.claims }

@@ -38,24 +38,18 @@ impl Stage {
     pub(crate) fn turn<G: Gate, R: Wait + Log>(
         &mut self,
         rt: &R,
-        alloc: Global,
         gate: &G,
         ticket: Ticket,
     ) -> Option<Worked> {
         if !self.own.hand.has_room() {
             return None;
         }
-        worker_turn(rt, alloc, &self.shared, &mut self.own, gate, ticket).ok()
+        worker_turn(rt, &self.shared, &mut self.own, gate, ticket).ok()
     }
 
     /// Whether the poller's own turn ended without a fault.
-    pub(crate) fn own_turn<G: Gate, R: Wait + Log>(
-        &mut self,
-        rt: &R,
-        alloc: Global,
-        gate: &G,
-    ) -> bool {
-        own_turn(rt, alloc, &self.shared, &mut self.own, gate).is_ok()
+    pub(crate) fn own_turn<G: Gate, R: Wait + Log>(&mut self, rt: &R, gate: &G) -> bool {
+        own_turn(rt, &self.shared, &mut self.own, gate).is_ok()
     }
 
     /// The word of each slot.

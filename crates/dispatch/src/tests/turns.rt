@@ -190,12 +190,12 @@ fn opened<R: Net + Wait>(rt: &R, alloc: Global, row: &Row) -> Result<Stage, Allo
 }
 
 /// Runs the turn for a ticket.
-fn play<R: Wait + Log>(rt: &R, alloc: Global, mut stage: Stage, ticket: Ticket) -> Outcome {
+fn play<R: Wait + Log>(rt: &R, mut stage: Stage, ticket: Ticket) -> Outcome {
     let gate = Counting {
         began: Cell::new(0),
         ended: Cell::new(0),
     };
-    let worked = stage.turn(rt, alloc, &gate, ticket);
+    let worked = stage.turn(rt, &gate, ticket);
     Outcome {
         worked,
         words: stage.words(),
@@ -213,7 +213,7 @@ fn run_row<R: Net + Wait>(rt: &R, alloc: Global, row: &Row) -> Result<(Outcome, 
     let sink = Memory::new(alloc);
     let log = Logged::new(rt, Level::Info, &sink);
     let (slot, generation) = row.ticket;
-    let done = play(&log, alloc, stage, Ticket { slot, generation });
+    let done = play(&log, stage, Ticket { slot, generation });
     Ok((done, has_line(&sink.into_lines(), row.line)))
 }
 
@@ -259,7 +259,7 @@ fn the_poller_runs_a_lone_ticket(rt: HostRuntime) -> Result<(), Fail> {
             generation: 1,
         });
     }
-    assert!(rt; stage.own_turn(&log, alloc, &OpenGate));
+    assert!(rt; stage.own_turn(&log, &OpenGate));
     assert_eq!(rt; stage.words(), (0, 3));
     assert_eq!(rt; stage.settled(&rt, 0), Some((1, 1)));
     Ok(())

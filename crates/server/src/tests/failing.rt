@@ -1,7 +1,7 @@
 // A server whose waits for reports fail, and which has no connection.
 ghost use Rattle.std.specs.Prelude.{◌≡◌, ◌≤◌, [], length, IfOk};
 ghost use Rattle.claims.specs.Seats.{fresh_seat};
-ghost use Rattle.server.specs.Crews.{AreFresh};
+ghost use Rattle.dispatch.specs.Parts.{AreFresh};
 
 use crate::crew::Parts;
 use crate::serving::Server;

@@ -3,7 +3,7 @@ ghost use Rattle.std.specs.Prelude.{◌≡◌, length};
 ghost use Rattle.claims.specs.Seats.{fresh_seat};
 
 use super::failing::{Failing, server_without_reports};
-use crate::crew::{Crew, end_work, next_own, run_rounds, work};
+use crate::crew::{Crew, end_work, run_rounds, work};
 use crate::fault_record::FaultRecord;
 use crate::serving::{Server, run_threads};
 use dispatch::{OpenGate, Own, Poller, ServerFault, Shared};
@@ -141,8 +141,8 @@ fn a_worker_goes_on_until_a_fault(rt: HostRuntime) -> Result<(), Fail> {
             ..
         } = server_without_reports(&rt, alloc, ErrorKind::Other)?;
         let (Some(first), Some(second)) = (
-            next_own(alloc, &shared, &mut parts, HAND)?,
-            next_own(alloc, &shared, &mut parts, HAND)?,
+            parts.next_own(alloc, &shared, HAND)?,
+            parts.next_own(alloc, &shared, HAND)?,
         ) else {
             panic!(rt; "there are not two threads")
         };
@@ -182,7 +182,7 @@ fn no_round_begins_after_a_fault(rt: HostRuntime) -> Result<(), Fail> {
         poller,
         ..
     } = server_without_reports(&rt, alloc, ErrorKind::Other)?;
-    let Some(own) = next_own(alloc, &shared, &mut parts, HAND)? else {
+    let Some(own) = parts.next_own(alloc, &shared, HAND)? else {
         panic!(rt; "there is no thread")
     };
     assert_eq!(rt; rounds_after(&log, alloc, &shared, own, poller), (true, 0));

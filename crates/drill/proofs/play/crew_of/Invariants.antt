@@ -1,4 +1,4 @@
-use Rattle.drill.specs.Seats.{AreFresh}
+use Rattle.dispatch.specs.Parts.{AreFresh}
 use Rattle.drill.proofs.play.crew_of.Given as goal
 
 abbrev pub invariant-loop-worker : goal.invariant-loop-worker

@@ -1,4 +1,4 @@
-use Rattle.server.specs.Crews.{AreFresh}
+use Rattle.dispatch.specs.Parts.{AreFresh}
 use Rattle.server.proofs.serving.fn.run_crew.scope.Given as goal
 
 abbrev pub invariant-loop-number : goal.invariant-loop-number

@@ -1,4 +1,4 @@
--- The seats of threads that have not begun. Only for proofs.
+-- The seats of threads that have not begun. Part of the promises: a thread begins with such a seat.
 use Rattle.std.specs.Prelude.{◌≡◌, List, length, replicate}
 use Rattle.claims.specs.Seats.{TableId, SeatState, fresh_seat}
 

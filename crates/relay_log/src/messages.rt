@@ -1,0 +1,102 @@
+// A message is a value that prints itself: whoever writes a line prints it there, and nothing is made before that.
+ghost use Rattle.std.specs.Prelude.{Some, []};
+ghost use Rattle.std.specs.Fmt.{◌++?◌};
+ghost use Rattle.relay_log.specs.Messages.{open_message, peer_message, done_message, fail_message, drop_message};
+
+use crate::Cause;
+use relay_core::Fault;
+use std::fmt::{self, Display};
+
+/// A connection was opened in a slot, which has now been opened `generation` times.
+#[derive(Clone, Copy, Debug, PartialEq, Eq)]
+pub struct Opened {
+    pub slot: usize,
+    pub generation: u64,
+}
+
+impl Display for Opened {
+    ghost output = { λ opened. Some (open_message opened.slot opened.generation) };
+
+    fn fmt<W: fmt::Write>(&self, f: &mut fmt::Formatter<W>) -> fmt::Result {
+        let Opened { slot, generation } = *self;
+        write!(f, "open s={slot} g={generation}")
+    }
+}
+
+/// Whose connection it is: the client's address, as it prints.
+#[derive(Clone, Copy, Debug)]
+pub struct Peer<'a, D> {
+    pub slot: usize,
+    pub generation: u64,
+    pub from: &'a D,
+}
+
+impl<'a, D: Display> Display for Peer<'a, D> {
+    ghost output = { λ peer. Some (peer_message peer.slot peer.generation []) ++? D.output peer.from.now };
+
+    fn fmt<W: fmt::Write>(&self, f: &mut fmt::Formatter<W>) -> fmt::Result {
+        let (slot, generation, from) = (self.slot, self.generation, self.from);
+        write!(f, "peer s={slot} g={generation} from={from}")
+    }
+}
+
+/// A connection is done: `up` bytes were sent to the target, and `down` bytes to the client.
+#[derive(Clone, Copy, Debug, PartialEq, Eq)]
+pub struct Done {
+    pub slot: usize,
+    pub generation: u64,
+    pub up: u64,
+    pub down: u64,
+}
+
+impl Display for Done {
+    ghost output = { λ done. Some (done_message done.slot done.generation done.up done.down) };
+
+    fn fmt<W: fmt::Write>(&self, f: &mut fmt::Formatter<W>) -> fmt::Result {
+        let Done {
+            slot,
+            generation,
+            up,
+            down,
+        } = *self;
+        write!(f, "done s={slot} g={generation} up={up} down={down}")
+    }
+}
+
+/// A connection failed.
+#[derive(Clone, Copy, Debug, PartialEq, Eq)]
+pub struct Failed {
+    pub slot: usize,
+    pub generation: u64,
+    pub fault: Fault,
+}
+
+impl Display for Failed {
+    ghost output = { λ failed. Some (fail_message failed.slot failed.generation failed.fault) };
+
+    fn fmt<W: fmt::Write>(&self, f: &mut fmt::Formatter<W>) -> fmt::Result {
+        let (slot, generation) = (self.slot, self.generation);
+        let side = self.fault.side.name();
+        let call = self.fault.call.name();
+        let kind = self.fault.kind.name();
+        write!(
+            f,
+            "fail s={slot} g={generation} side={side} call={call} kind={kind}"
+        )
+    }
+}
+
+/// An accepted connection was closed before it was opened.
+#[derive(Clone, Copy, Debug, PartialEq, Eq)]
+pub struct Dropped {
+    pub cause: Cause,
+}
+
+impl Display for Dropped {
+    ghost output = { λ dropped. Some (drop_message dropped.cause) };
+
+    fn fmt<W: fmt::Write>(&self, f: &mut fmt::Formatter<W>) -> fmt::Result {
+        let name = self.cause.name();
+        write!(f, "drop kind={name}")
+    }
+}
