@@ -254,10 +254,7 @@ fn a_poller_stops_after_its_last_connection(rt: HostRuntime) -> Result<(), Fail>
         slot: 0,
         generation: 1,
     };
-    assert_eq!(rt;
-        stage.turn(&log, alloc, &OpenGate, ticket),
-        Some(Worked::Ended)
-    );
+    assert_eq!(rt; stage.turn(&log, &OpenGate, ticket), Some(Worked::Ended));
     assert!(rt; stage.round(&log, alloc));
     assert_eq!(rt;
         (stage.poller.front.accepted, stage.poller.is_over()),

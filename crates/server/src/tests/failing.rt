@@ -3,12 +3,11 @@ ghost use Rattle.std.specs.Prelude.{◌≡◌, ◌≤◌, [], length, IfOk};
 ghost use Rattle.claims.specs.Seats.{fresh_seat};
 ghost use Rattle.dispatch.specs.Parts.{AreFresh};
 
-use crate::crew::Parts;
 use crate::serving::Server;
 use crate::sockets::SocketWire;
 use berths::Berths;
 use claims::Claims;
-use dispatch::{Front, Poller, Shared, Unopened};
+use dispatch::{Front, Parts, Poller, Shared, Unopened};
 use log::Log;
 use ready::{FreeQueue, ReadyQueue};
 use std::alloc::{AllocError, Global};
