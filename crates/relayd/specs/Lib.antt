@@ -1,3 +1,5 @@
 -- The crate's definitions. The first line of each file says whether the promises need it.
 pub mod Files
 pub mod Arguments
+pub mod Descriptors
+pub mod Meeting

@@ -6,6 +6,7 @@ ghost use Rattle.relayd.specs.Files.{FileSets, HasFault};
 
 use crate::constants::MAX_CONFIG_BYTES;
 use crate::faults::ProgramFault;
+use crate::forwarding::setting_text;
 use crate::streams::{Stream, log_error};
 use input::{InputFault, read_at_most};
 use log::Log;
@@ -78,11 +79,16 @@ pub fn parse_arguments<L: Log>(
     match settings::parse(alloc, text) {
         Ok(settings) => Ok(settings),
         Err(fault) => {
-            if let Some(cause) = settings::cause(alloc, text, &fault) {
-                log_error(log, &"settings", &without_line(cause.as_str()));
-            }
+            log_argument_cause(log, alloc, text, &fault);
             Err(ProgramFault::from(fault))
         }
+    }
+}
+
+/// Logs the cause of a fault in a text that the arguments gave.
+fn log_argument_cause(log: &impl Log, alloc: Global, text: &[u8], fault: &SettingsFault) {
+    if let Some(cause) = settings::cause(alloc, text, fault) {
+        log_error(log, &"settings", &without_line(cause.as_str()));
     }
 }
 
@@ -94,8 +100,13 @@ fn without_line(cause: &str) -> &str {
     }
 }
 
-/// The settings with the level of this name, if one is named. Refuses as a settings file with that level would be.
-pub fn at_level(mut settings: Settings, name: Option<&str>) -> Result<Settings, ProgramFault>
+/// The settings with the level of this name, if one is named. Refuses a name that no level has, and logs the cause.
+pub fn at_level<L: Log>(
+    log: &L,
+    alloc: Global,
+    mut settings: Settings,
+    name: Option<&str>,
+) -> Result<Settings, ProgramFault>
     ensures same { name.entry ≡ None → result ≡ Ok settings }
     ensures rest { IfOk result (λ s. s ≡ record settings { log = s.log }) }
     ensures level { IfSome name.entry (λ n. IfOk result (λ s. n.now ≡ level_name s.log)) }
@@ -105,11 +116,17 @@ pub fn at_level(mut settings: Settings, name: Option<&str>) -> Result<Settings, 
         return Ok(settings);
     };
     match LogLevel::named(name) {
-        Some(log) => {
-            settings.log = log;
+        Some(level) => {
+            settings.log = level;
             Ok(settings)
         }
-        None => Err(ProgramFault::from(SettingsFault::OutOfRange(Key::Log))),
+        None => {
+            let fault = SettingsFault::OutOfRange(Key::Log);
+            if let Ok(text) = setting_text(alloc, Key::Log.name(), name) {
+                log_argument_cause(log, alloc, text.as_bytes(), &fault);
+            }
+            Err(ProgramFault::from(fault))
+        }
     }
 }
 

@@ -105,6 +105,12 @@ pub fn settings_text(alloc: Global, matches: &ArgMatches<'_>) -> Result<String, 
     Ok(text)
 }
 
+/// One line of such a text.
+pub fn setting_text(alloc: Global, key: &'static str, value: &str) -> Result<String, AllocError> {
+    let line = Assignment { key, value };
+    format!(in alloc; "{line}")
+}
+
 /// A key with a value as it was typed. A whole number stands for itself, and anything else for a text.
 #[derive(Clone, Copy)]
 struct Assignment<'a> {

@@ -10,26 +10,40 @@ mod causes;
 mod command_line;
 mod config;
 mod constants;
+mod descriptors;
 mod faults;
 mod forwarding;
+mod logging;
+mod meeting;
 mod program;
+mod starting;
 mod streams;
 #[cfg(test)]
 mod tests;
 
 use log::Logged;
-use log::sink::Console;
+use log_queue::Queued;
+use logging::Errors;
 use server::{Bound, OpenGate, ServerFault};
 use settings::Settings;
+use std::cell::Cell;
 use std::process::ExitCode;
 
 fn main(rt: HostRuntime) -> ExitCode {
     let mut input = rt.stdin();
     let mut output = rt.stdout();
-    let mut errors = rt.stderr();
+    let is_stuck = Cell::new(false);
+    let mut errors = Errors {
+        inner: rt.stderr(),
+        is_stuck: &is_stuck,
+    };
     let serve = |settings: Settings, bound: Bound| -> Result<(), ServerFault> {
-        let logged = Logged::new(rt, program::level_filter(settings.log), Console(rt));
-        server::serve(&logged, rt.alloc(), &settings, &OpenGate, bound)
+        let queue = logging::start(rt)?;
+        let sink = Queued { rt, queue: &queue };
+        let logged = Logged::new(rt, program::level_filter(settings.log), sink);
+        let served = server::serve(&logged, rt.alloc(), &settings, &OpenGate, bound);
+        is_stuck.set(!logging::finish(&rt, &queue));
+        served
     };
     let status = match program::arguments(&rt) {
         Ok(arguments) => program::act(

@@ -11,6 +11,7 @@ use crate::command_line::{Command, read_command};
 use crate::config;
 use crate::constants::{DONE, FAULT, USAGE};
 use crate::faults::{ArgumentsFault, ProgramFault};
+use crate::starting::prepare;
 use crate::streams::Stream;
 use clap::error::ErrorKind;
 use log::sink::Console;
@@ -20,7 +21,7 @@ use server::{Bound, ServerFault};
 use settings::{LogLevel, Settings};
 use std::alloc::{AllocError, Global};
 use std::env::{self, Env};
-use std::io::{self, Eprint, Read, Write};
+use std::io::{Eprint, IsTerminal, Read, Write};
 use std::net::Net;
 use std::rt::Files;
 
@@ -60,7 +61,7 @@ pub fn report_arguments_fault<E: Write>(errors: &mut E, fault: ArgumentsFault) -
 /// written to `errors`. No clause says any of this: tests of the built program show it.
 ///
 /// `serve` is [`server::serve`] with the process's own handle: a thread can only be started with that one.
-pub fn act<R, S, I: Read, O: Write, E: Write>(
+pub fn act<R, S, I: Read + IsTerminal, O: Write, E: Write>(
     rt: &R,
     arguments: &[String],
     reader: &mut I,
@@ -83,12 +84,26 @@ where
         log: &log,
     };
     let outcome = match read_command(rt.alloc(), arguments.as_slice()) {
-        Ok(command) => carry_out(rt, &log, command, reader, &mut writer, serve),
+        Ok(command) => {
+            tell_if_typed(&command, reader, errors);
+            carry_out(rt, &log, command, reader, &mut writer, serve)
+        }
         Err(error) => return answer_usage(&error, &mut writer, errors),
     };
     match outcome {
         Ok(status) => status,
         Err(fault) => report_fault(errors, fault),
+    }
+}
+
+/// Tells somebody at a terminal that a script is waited for.
+fn tell_if_typed<I: IsTerminal, E: Write>(command: &Command<'_>, reader: &I, errors: &mut E) {
+    if matches!(command, Command::Simulate) && reader.is_terminal() {
+        // If this can't be written, the script is read all the same.
+        let _ = writeln!(
+            errors,
+            "relayd: waiting for a script; Ctrl-D ends it (see relayd --help)"
+        );
     }
 }
 
@@ -131,7 +146,8 @@ where
         }
         Command::Run(path, level) => {
             let settings = config::load(rt, log, path)?;
-            run(rt, config::at_level(settings, level)?, writer, serve)
+            let settings = config::at_level(log, rt.alloc(), settings, level)?;
+            run(rt, settings, writer, serve)
         }
         Command::Forward(text) => {
             let settings = config::parse_arguments(log, rt.alloc(), text.as_bytes())?;
@@ -165,7 +181,7 @@ fn print(alloc: Global, settings: &Settings, writer: &mut impl Write) -> Result<
     Ok(DONE)
 }
 
-/// Listens as the settings say, prints the address, and serves.
+/// Listens as the settings say, looks at what they need, prints the address, and serves.
 fn run<R, S, O: Write>(
     rt: &R,
     settings: Settings,
@@ -173,22 +189,18 @@ fn run<R, S, O: Write>(
     serve: &S,
 ) -> Result<u8, ProgramFault>
 where
-    R: AllocGlobal + Eprint + Net + Copy + Drop,
+    R: AllocGlobal + Files + Eprint + Net + Copy + Drop,
     S: Fn(Settings, Bound) -> Result<(), ServerFault>,
     requires { S.IsAlwaysCallable serve.now }
 {
-    let bound = bind(rt, &settings)?;
+    let log = Logged::new(*rt, level_filter(settings.log), Console(*rt));
+    let bound = server::bind(&log, &settings).map_err(ProgramFault::Server)?;
+    let settings = prepare(rt, &log, settings);
     announce(rt.alloc(), &bound, writer)?;
     match serve(settings, bound) {
         Ok(()) => Ok(DONE),
         Err(fault) => Err(ProgramFault::Server(fault)),
     }
-}
-
-/// Listens where the settings say.
-fn bind<R: Eprint + Net + Copy + Drop>(rt: &R, settings: &Settings) -> Result<Bound, ProgramFault> {
-    let logged = Logged::new(*rt, level_filter(settings.log), Console(*rt));
-    server::bind(&logged, settings).map_err(ProgramFault::Server)
 }
 
 /// Prints the address that clients can connect to.

@@ -1,7 +1,7 @@
 //! A reader and a writer over memory that fail where a test wants it.
 
 use std::alloc::{AllocError, Global};
-use std::io::{self, ErrorKind, Read, Write};
+use std::io::{self, ErrorKind, IsTerminal, Read, Write};
 
 /// A reader over bytes: it hands them over in pieces of at most so many. In one place it may fail, and
 /// goes on with the rest if it is read again.
@@ -65,6 +65,12 @@ impl Read for Source<'_> {
             self.fault = Some((before.saturating_sub(count), kind));
         }
         Ok(count)
+    }
+}
+
+impl IsTerminal for Source<'_> {
+    fn is_terminal(&self) -> bool {
+        false
     }
 }
 

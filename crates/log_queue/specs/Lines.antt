@@ -1,0 +1,37 @@
+-- The texts of lines. Part of the promises.
+use Rattle.std.specs.Prelude.{◌≡◌, ℕ, ◌<◌, ◌≤◌, Bool, true, false, List, [], ◌++◌, take, codes}
+use Rattle.std.specs.Fmt.{decimal}
+use Rattle.std.specs.Str.{IsCharBoundary}
+
+-- a line's text, and whether more was to follow that did not fit
+pub record LineState : Type 0 where
+  pub text : List ℕ
+  pub cut : Bool
+
+-- what ends a line: three dots, if it is cut
+abbrev pub ending : Bool → List ℕ
+ending true = codes "..."
+ending false = []
+
+-- a line as it is written
+abbrev pub shown : LineState → List ℕ
+shown line = line.text ++ ending line.cut
+
+-- the first characters of a text that take at most so many bytes, as many as there are
+pub record IsFirst (most : ℕ) (text part : List ℕ) : Type 0 where
+  pub end : ℕ
+  pub is : part ≡ take end text
+  pub few : end ≤ most
+  pub boundary : IsCharBoundary text end
+  pub nearest : (i : ℕ) → end < i → i ≤ most → ¬ (IsCharBoundary text i)
+
+-- as much of a text was added as fits, and the line is cut there
+pub record IsCut (room : ℕ) (text : List ℕ) (old new : LineState) : Type 0 where
+  pub part : List ℕ
+  pub first : IsFirst room text part
+  pub added : new.text ≡ old.text ++ part
+  pub cut : new.cut ≡ true
+
+-- how many lines were left out
+abbrev pub left_out_text : ℕ → List ℕ
+left_out_text count = codes "log: " ++ (decimal count ++ codes " lines left out")

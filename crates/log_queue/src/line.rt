@@ -1,0 +1,94 @@
+// The texts of lines.
+ghost use Rattle.std.specs.Prelude.{◌≡◌, ◌<◌, ◌≤◌, ◌++◌, ◌+◌, ◌-◌, Some, true, false, [], length};
+ghost use Rattle.log_queue.specs.Lines.{LineState, IsFirst, IsCut, shown, left_out_text, ending as ending_of};
+
+use crate::limits::MAX_LINE;
+use arrayvec::ArrayString;
+use std::fmt::{self, Display, Write};
+use std::marker::Model;
+
+/// The text of one line, without its line feed. A text of over [`MAX_LINE`] bytes is cut, between two characters, and
+/// ends in `...`.
+#[derive(Drop)]
+pub struct LogLine {
+    text: ArrayString<MAX_LINE>,
+    is_cut: bool,
+}
+
+impl Model for LogLine {
+    ghost Value = { LineState };
+
+    ghost view = { λ line. record { text = line.text.bytes; cut = line.is_cut } };
+}
+
+impl LogLine {
+    /// A line without text.
+    pub fn new() -> LogLine
+        ensures { result ≡ record { text = []; cut = false } }
+    {
+        LogLine {
+            text: ArrayString::new(),
+            is_cut: false,
+        }
+    }
+
+    /// Adds a text, or as many of its first characters as fit. Nothing is added to a line that is cut.
+    pub fn add(&mut self, text: &str)
+        ensures whole { self.old.cut ≡ false → length self.old.text + length text.now ≤ 240 → self.new ≡ record { text = self.old.text ++ text.now; cut = false } }
+        ensures part { self.old.cut ≡ false → 240 < length self.old.text + length text.now → IsCut (240 - length self.old.text) text.now self.old self.new }
+        ensures cut { self.old.cut ≡ true → self.new ≡ self.old }
+    {
+        if self.is_cut || self.text.try_push_str(text).is_ok() {
+            return;
+        }
+        self.text
+            .push_str(first_of(text, self.text.remaining_capacity()));
+        self.is_cut = true;
+    }
+}
+
+/// As many of a text's first characters as take at most so many bytes.
+fn first_of(text: &str, most: usize) -> &str
+    ensures { IsFirst most text.now result.now }
+{
+    &text[..text.floor_char_boundary(most)]
+}
+
+impl Write for LogLine {
+    fn write_str(&mut self, text: &str) -> fmt::Result {
+        self.add(text);
+        Ok(())
+    }
+}
+
+impl Display for LogLine {
+    ghost output = { λ line. Some (shown line) };
+
+    fn fmt<W: Write>(&self, f: &mut fmt::Formatter<W>) -> fmt::Result {
+        f.write_str(self.text.as_str())?;
+        f.write_str(ending(self.is_cut))
+    }
+}
+
+/// What ends a line.
+fn ending(is_cut: bool) -> &'static str
+    ensures { result.now ≡ ending_of is_cut }
+{
+    match is_cut {
+        true => "...",
+        false => "",
+    }
+}
+
+/// So many lines were left out.
+#[derive(Clone, Copy, Debug, PartialEq, Eq)]
+pub struct LeftOut(pub u64);
+
+impl Display for LeftOut {
+    ghost output = { λ left. Some (left_out_text left.0) };
+
+    fn fmt<W: Write>(&self, f: &mut fmt::Formatter<W>) -> fmt::Result {
+        let count = self.0;
+        write!(f, "log: {count} lines left out")
+    }
+}

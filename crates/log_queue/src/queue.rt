@@ -1,0 +1,81 @@
+// The lines that wait, and what the writer and the threads that log tell each other.
+use crate::limits::MAX_LINES;
+use crate::line::LogLine;
+use crossbeam_queue::ArrayQueue;
+use std::alloc::{AllocError, Global};
+use std::sync::Wait;
+use std::sync::atomic::{AtomicBool, AtomicU64, Ordering};
+use std::thread::Parker;
+use std::time::Duration;
+
+/// At most [`MAX_LINES`] finished lines, oldest first, between the threads that log and the one that writes.
+#[derive(Drop)]
+pub struct LogQueue {
+    lines: ArrayQueue<LogLine>,
+    /// Lines that found the queue full, and were not told yet.
+    left_out: AtomicU64,
+    is_closed: AtomicBool,
+    is_written: AtomicBool,
+    /// Where the writer waits.
+    writer: Parker,
+}
+
+impl LogQueue {
+    /// An empty queue. It takes memory for all its lines; no later call takes any.
+    pub fn new(alloc: Global) -> Result<LogQueue, AllocError> {
+        Ok(LogQueue {
+            lines: ArrayQueue::new(alloc, MAX_LINES)?,
+            left_out: AtomicU64::new(0),
+            is_closed: AtomicBool::new(false),
+            is_written: AtomicBool::new(false),
+            writer: Parker::new(),
+        })
+    }
+
+    /// Puts a line behind the others, or counts it if the queue is full. The writer is not woken: it looks by itself, so
+    /// a line costs no system call.
+    pub fn put(&self, rt: &impl Wait, line: LogLine) {
+        if self.lines.push(rt, line).is_err() {
+            self.left_out.fetch_add(1, Ordering::SeqCst);
+        }
+    }
+
+    /// The oldest line.
+    pub fn take(&self, rt: &impl Wait) -> Option<LogLine> {
+        self.lines.pop(rt)
+    }
+
+    /// How many lines were left out since the last call.
+    pub fn take_left_out(&self) -> u64 {
+        if self.left_out.load(Ordering::SeqCst) == 0 {
+            return 0;
+        }
+        self.left_out.swap(0, Ordering::SeqCst)
+    }
+
+    /// Lets the writer end once every line is written, and wakes it. What is put later may not be written.
+    pub fn close(&self) {
+        self.is_closed.store(true, Ordering::SeqCst);
+        self.writer.unpark();
+    }
+
+    /// Whether the queue was closed.
+    pub fn is_closed(&self) -> bool {
+        self.is_closed.load(Ordering::SeqCst)
+    }
+
+    /// Whether every line was written, and the writer has ended.
+    pub fn is_written(&self) -> bool {
+        self.is_written.load(Ordering::SeqCst)
+    }
+
+    /// The writer has ended.
+    pub(crate) fn end(&self) {
+        self.is_written.store(true, Ordering::SeqCst);
+    }
+
+    /// The writer waits so long, or until the queue is closed.
+    pub(crate) fn wait(&self, rt: &impl Wait, most: Duration) {
+        self.writer.park_timeout(rt, most);
+    }
+}

@@ -1,0 +1,46 @@
+// What no clause says of the queue: its order, and what it counts. What its writer writes, the built program shows.
+use crate::{LogLine, LogQueue, MAX_LINES};
+use std::fmt::Write;
+use std::test::Fail;
+
+#[test]
+fn a_long_line_is_cut_between_characters(rt: HostRuntime) -> Result<(), Fail> {
+    let mut line = LogLine::new();
+    for _byte in 0..239 {
+        line.add("x");
+    }
+    line.add("\u{e9}\u{e9}");
+    line.add("y");
+    let text = format!(in rt.alloc(); "{line}")?;
+    assert_eq!(rt; text.len(), 242);
+    assert!(rt; text.as_str().ends_with("x..."));
+    Ok(())
+}
+
+/// The line that says this number.
+fn numbered(number: usize) -> LogLine {
+    let mut line = LogLine::new();
+    let _ = write!(line, "{number}");
+    line
+}
+
+#[test]
+fn a_full_queue_counts_and_keeps_its_order(rt: HostRuntime) -> Result<(), Fail> {
+    let queue = LogQueue::new(rt.alloc())?;
+    for number in 0..MAX_LINES + 3 {
+        queue.put(&rt, numbered(number));
+    }
+    assert_eq!(rt; queue.take_left_out(), 3);
+    assert_eq!(rt; queue.take_left_out(), 0);
+    for number in 0..MAX_LINES {
+        let Some(line) = queue.take(&rt) else {
+            panic!(rt; "line {number} is missing")
+        };
+        assert_eq!(rt;
+            format!(in rt.alloc(); "{line}")?,
+            format!(in rt.alloc(); "{number}")?
+        );
+    }
+    assert!(rt; queue.take(&rt).is_none());
+    Ok(())
+}
