@@ -1,7 +1,6 @@
 //! What only a reader or a writer in memory can show: small pieces, failures, and memory that runs out. What the
 //! program prints for which input stands in the repository's `tests/program`, where the built program is run.
 
-mod claim_words;
 mod ends;
 mod growths;
 

@@ -1,5 +1,5 @@
 -- Each event moves the claim word of its slot by the steps of its kinds, and makes a ticket where one answers so.
-use Rattle.std.proofs.Common.{◌≡◌, ◌≢◌, ◌⊎◌, inl, inr, ◌∙◌, ℕ, ◌+◌, ◌-◌, ◌==◌, Bool, true, false, not, nat_lt, List, [], ◌∷◌, ◌++◌, length, slice_get, slice_set, drop, Option, Some, None, Result, Ok, Err, IfOk, refl, ap, arith, ne_eqb, eq-eqb, length-append, option_map, option_and_then, if◌then◌else◌}
+use Rattle.std.proofs.Common.{◌≡◌, ◌≢◌, ◌⊎◌, inl, inr, ◌∙◌, ℕ, zero, suc, ◌+◌, ◌-◌, ◌==◌, Bool, true, false, not, ◌||◌, nat_lt, List, [], ◌∷◌, ◌++◌, length, slice_get, slice_set, drop, Option, Some, None, Result, Ok, Err, IfOk, refl, ap, arith, ne_eqb, eq-eqb, lt-ltb, length-append, option_map, option_and_then, if◌then◌else◌}
 use Rattle.std.proofs.lemmas.Bool.{cases_eq}
 use Rattle.token.specs.declared.side.Side.TheVariants.{Client, Target}
 use Rattle.token.specs.declared.name.Name.{Name}
@@ -34,7 +34,9 @@ use Rattle.world.specs.Places.{Place, Actor, is_held}
 use Rattle.world.specs.States.{State}
 use Rattle.world.specs.Steps.{connection_at, over_kernel, watched_of, may_accept, after_accept, listen, with_note, wakes as wakes_place, with_ticket, posted, post_at, delivered_at, delivered, put_by_poller, batched, opened_place, opened_world, opening_of, token_of, polled, with_worker, with_place, doing, put_by_worker, popped, pop, claim, heard, take, Lodging, lodged_call, call, post, may_release, release, closed_world, close, retire, freed, free, acted, step}
 use Rattle.world.specs.Support.{one, total, of_slot, tried, worker_tickets, tickets}
-use Rattle.world.specs.Words.{number, word_of, StepKind, Post, Claim, Take, Release, Retire, Adopt, after_all, Wake, Quiet, is_wake, wakes, claims, at_slot, is_entry, delivery_steps, steps, WordMoves, WordsMove, WordsMoveInRuns}
+use Rattle.world.specs.Words.{word_at, after_all, is_wake, wakes, claims, at_slot, is_entry, delivery_steps, steps, WordMoves, WordsMove, WordsMoveInRuns}
+use Rattle.claims.specs.Words as words
+use Rattle.claims.specs.Words.{StepKind, some_wait}
 use Rattle.world.specs.CoreLaws.{CoreLaws}
 use Rattle.world.proofs.TurnsTotals.{total_push, get-set_same, get-set_other}
 use Rattle.world.proofs.TurnsKept.{Kept, kept_some, kept_none, kept_bind, kept_map, kept_when, kept_guard, kept_if, kept_then, kept_map_map, kept_at}
@@ -55,7 +57,7 @@ untouched st next e all none same s p there = record {
 }
 
 moves_at : (st next : State) (e : Event) (s i : ℕ) (p r old : Place) (kinds : List StepKind) → (s ≡ i) ⊎ (s ≢ i) → slice_get st.slots s ≡ Some p → next.slots ≡ slice_set st.slots s r → steps st e i ≡ at_slot i s kinds
-    → word_of r ≡ after_all kinds (word_of p) → tickets next s + claims kinds ≡ tickets st s + wakes kinds (word_of p) → (s ≢ i → tickets next i ≡ tickets st i)
+    → word_at r ≡ after_all kinds (word_at p) → tickets next s + claims kinds ≡ tickets st s + wakes kinds (word_at p) → (s ≢ i → tickets next i ≡ tickets st i)
     → slice_get st.slots i ≡ Some old → WordMoves st next e i old
 moves_at st next e s i p r old kinds (inl same) there all made word count others here =
     let was : p ≡ old = let at : slice_get st.slots s ≡ Some old = rw same here in (cc) in
@@ -63,7 +65,7 @@ moves_at st next e s i p r old kinds (inl same) there all made word count others
     record {
       place = r;
       there = rw (all, ← same) (get-set_same st.slots s p r there);
-      word = rw (steps_here, ← was) (ap number word);
+      word = rw (steps_here, ← was) (ap words.word_of word);
       tickets = rw (steps_here, ← was, ← same) count;
     }
 moves_at st next e s i p r old kinds (inr apart) there all made word count others here =
@@ -77,7 +79,7 @@ moves_at st next e s i p r old kinds (inr apart) there all made word count other
 
 -- an event that makes steps at one slot
 touched : (st next : State) (e : Event) (s : ℕ) (p r : Place) (kinds : List StepKind) → slice_get st.slots s ≡ Some p → next.slots ≡ slice_set st.slots s r → ((i : ℕ) → steps st e i ≡ at_slot i s kinds)
-    → word_of r ≡ after_all kinds (word_of p) → tickets next s + claims kinds ≡ tickets st s + wakes kinds (word_of p) → ((i : ℕ) → s ≢ i → tickets next i ≡ tickets st i) → WordsMove st e next
+    → word_at r ≡ after_all kinds (word_at p) → tickets next s + claims kinds ≡ tickets st s + wakes kinds (word_at p) → ((i : ℕ) → s ≢ i → tickets next i ≡ tickets st i) → WordsMove st e next
 touched st next e s p r kinds there all made word count others i old here = moves_at st next e s i p r old kinds (cases_eq s i) there all (made i) word count (others i) here
 
 neither : (b : Bool) (none : List StepKind) → none ≡ (if b then none else none)
@@ -120,22 +122,31 @@ put_words st (t ∷ rest) e none is = kept_some (untouched st (record st { hand 
     omega arith))
 
 -- a note more
-one_longer : (xs : List ℕ) (g : ℕ) → length (xs ++ g ∷ []) ≡ length xs + 1
-one_longer xs g = length-append xs (g ∷ [])
+one_longer : (xs : List ℕ) (g : ℕ) → length (xs ++ g ∷ []) ≡ suc (length xs)
+one_longer xs g = let more : length (xs ++ g ∷ []) ≡ length xs + 1 = length-append xs (g ∷ []) in omega arith
 
-noted_word : (p : Place) (g : ℕ) → word_of (with_note p g) ≡ after_all (Post ∷ []) (word_of p)
+noted_word : (p : Place) (g : ℕ) → word_at (with_note p g) ≡ after_all (words.post ∷ []) (word_at p)
 noted_word p g = rw (one_longer p.notes g) refl
 
 -- the one step that makes a ticket
-wake_once : (b : Bool) → one (is_wake (if b then Wake else Quiet)) ≡ one b
+wake_once : (b : Bool) → one (is_wake (if b then words.wake else words.quiet)) ≡ one b
 wake_once true = refl
 wake_once false = refl
 
-posted_words : (st : State) (e : Event) (s g : ℕ) (p : Place) → ((i : ℕ) → steps st e i ≡ at_slot i s (Post ∷ [])) → slice_get st.slots s ≡ Some p → WordsMove st e (posted st s g p)
+waits : (n : ℕ) → some_wait n ≡ nat_lt 0 n
+waits zero = refl
+waits (suc n) = rw (lt-ltb 0 (suc n) (omega arith)) refl
+
+wakes_so : (held : Bool) (n : ℕ) → (if held then false else (if some_wait n then false else true)) ≡ not (held || nat_lt 0 n)
+wakes_so true n = refl
+wakes_so false zero = refl
+wakes_so false (suc n) = rw (lt-ltb 0 (suc n) (omega arith)) refl
+
+posted_words : (st : State) (e : Event) (s g : ℕ) (p : Place) → ((i : ℕ) → steps st e i ≡ at_slot i s (words.post ∷ [])) → slice_get st.slots s ≡ Some p → WordsMove st e (posted st s g p)
 posted_words st e s g p made there =
     let more : total (of_slot s) (with_ticket (wakes_place p) s g st.hand) ≡ total (of_slot s) st.hand + one (wakes_place p) = hand_own (of_slot s) (wakes_place p) s g st.hand (one_same s) in
-    let woken : one (is_wake (if wakes_place p then Wake else Quiet)) ≡ one (wakes_place p) = wake_once (wakes_place p) in
-    touched st (posted st s g p) e s p (with_note p g) (Post ∷ []) there refl made (noted_word p g) (omega arith) (λ i apart.
+    let woken : one (is_wake (if words.wakes (word_at p) then words.wake else words.quiet)) ≡ one (wakes_place p) = rw (wakes_so (is_held p.holder) (length p.notes)) (wake_once (wakes_place p)) in
+    touched st (posted st s g p) e s p (with_note p g) (words.post ∷ []) there refl made (noted_word p g) (omega arith) (λ i apart.
     let same : total (of_slot i) (with_ticket (wakes_place p) s g st.hand) ≡ total (of_slot i) st.hand = hand_other (of_slot i) (wakes_place p) s g st.hand (one_other s i apart) in
     omega arith)
 
@@ -145,11 +156,11 @@ shorter_batch st q e moves s p there =
     let m : WordMoves st q e s p = moves s p there in
     record { place = m.place; there = m.there; word = m.word; tickets = m.tickets }
 
-delivered_at_words : (st : State) (e : Event) (n : EndName) (entry : Option ℕ) → ((i : ℕ) → steps st e i ≡ (if is_entry entry n.generation then at_slot i n.slot (Post ∷ []) else [])) → Kept (WordsMove st e) (delivered_at st n entry)
+delivered_at_words : (st : State) (e : Event) (n : EndName) (entry : Option ℕ) → ((i : ℕ) → steps st e i ≡ (if is_entry entry n.generation then at_slot i n.slot (words.post ∷ []) else [])) → Kept (WordsMove st e) (delivered_at st n entry)
 delivered_at_words st e n None made = kept_some (untouched st st e refl made (λ s. refl))
 delivered_at_words st e n (Some g) made = kept_if (g == n.generation) (post_at st n.slot g) (Some st)
-    (λ own. kept_map _ (slice_get st.slots n.slot) (λ p there. posted_words st e n.slot g p (λ i. let here : steps st e i ≡ (if g == n.generation then at_slot i n.slot (Post ∷ []) else []) = made i in rw own at here) there))
-    (λ other. kept_some (untouched st st e refl (λ i. let here : steps st e i ≡ (if g == n.generation then at_slot i n.slot (Post ∷ []) else []) = made i in rw other at here) (λ s. refl)))
+    (λ own. kept_map _ (slice_get st.slots n.slot) (λ p there. posted_words st e n.slot g p (λ i. let here : steps st e i ≡ (if g == n.generation then at_slot i n.slot (words.post ∷ []) else []) = made i in rw own at here) there))
+    (λ other. kept_some (untouched st st e refl (λ i. let here : steps st e i ≡ (if g == n.generation then at_slot i n.slot (words.post ∷ []) else []) = made i in rw other at here) (λ s. refl)))
 
 delivered_words : (st : State) (e : Event) (n : Name) → ((i : ℕ) → steps st e i ≡ delivery_steps st (Some n) i) → Kept (WordsMove st e) (delivered st n)
 delivered_words st e name.Listener made = kept_some (untouched st (record st { flag = true }) e refl made (λ s. refl))
@@ -160,13 +171,13 @@ deliver_words : (st : State) → Kept (WordsMove st (event.Poll polling.Deliver)
 deliver_words st = kept_bind _ (slice_get st.batch 0) (λ n is. kept_then (λ (q : State). record q { batch = drop 1 st.batch }) (delivered st n) (λ q moves. shorter_batch st q (event.Poll polling.Deliver) moves) (delivered_words st (event.Poll polling.Deliver) n (λ i. rw is refl)))
 
 -- a slot is opened
-opened_words : (st : State) (e : Event) (s g : ℕ) (p : Place) (t : Told Watcher Descriptors) → ((i : ℕ) → steps st e i ≡ at_slot i s (Adopt ∷ Take ∷ Post ∷ Release ∷ [])) → slice_get st.slots s ≡ Some p → slice_get st.free 0 ≡ Some s → Turns st → WordsMove st e (opened_world st s g t)
+opened_words : (st : State) (e : Event) (s g : ℕ) (p : Place) (t : Told Watcher Descriptors) → ((i : ℕ) → steps st e i ≡ at_slot i s (words.adopt ∷ words.take ∷ words.post ∷ words.release ∷ [])) → slice_get st.slots s ≡ Some p → slice_get st.free 0 ≡ Some s → Turns st → WordsMove st e (opened_world st s g t)
 opened_words st e s g p t made there first turns =
     let f : FirstFree st s p = first_free st s p there first turns in
     let more : total (of_slot s) (st.hand ++ record { slot = s; generation = g } ∷ []) ≡ total (of_slot s) st.hand + one (s == s) = total_push (of_slot s) st.hand _ in
     let this : one (s == s) ≡ 1 = one_same s in
-    let woken : wakes (Adopt ∷ Take ∷ Post ∷ Release ∷ []) (word_of p) ≡ 1 = rw (f.held, f.free) refl in
-    touched st (opened_world st s g t) e s p (opened_place s g st.limits.ring t.told) (Adopt ∷ Take ∷ Post ∷ Release ∷ []) there refl made refl (rw woken (omega arith)) (λ i apart.
+    let woken : wakes (words.adopt ∷ words.take ∷ words.post ∷ words.release ∷ []) (word_at p) ≡ 1 = rw (f.held, f.free) refl in
+    touched st (opened_world st s g t) e s p (opened_place s g st.limits.ring t.told) (words.adopt ∷ words.take ∷ words.post ∷ words.release ∷ []) there refl made refl (rw woken (omega arith)) (λ i apart.
     let other : one (s == i) ≡ 0 = one_other s i apart in
     let same : total (of_slot i) (st.hand ++ record { slot = s; generation = g } ∷ []) ≡ total (of_slot i) st.hand + one (s == i) = total_push (of_slot i) st.hand _ in
     omega arith)
@@ -251,7 +262,7 @@ claim_words st w k (Tries t) there does turns = kept_map _ (slice_get st.slots t
     let none : is_held p.holder ≡ false = rw wait.holder refl in
     let this : one (t.slot == t.slot) ≡ 1 = one_same t.slot in
     let m : total (worker_tickets t.slot) (slice_set st.workers w (record k { doing = Holds t.slot st.limits.budget })) + tried t.slot (Tries t) ≡ total (worker_tickets t.slot) st.workers + tried t.slot (Holds t.slot st.limits.budget) = tickets_on st w k (Tries t) (Holds t.slot st.limits.budget) t.slot there does in
-    rw none (touched st (doing (with_place st t.slot (record p { holder = By w })) w k (Holds t.slot st.limits.budget)) (event.Work w act.Claim) t.slot p (record p { holder = By w }) (Claim ∷ []) lies refl (λ i. rw (there, does) refl) (rw wait.holder refl) (rw wait.holder (omega arith)) (λ i apart.
+    rw none (touched st (doing (with_place st t.slot (record p { holder = By w })) w k (Holds t.slot st.limits.budget)) (event.Work w act.Claim) t.slot p (record p { holder = By w }) (words.claim ∷ []) lies refl (λ i. rw (there, does) refl) (rw wait.holder refl) (rw wait.holder (omega arith)) (λ i apart.
     let away : one (t.slot == i) ≡ 0 = one_other t.slot i apart in
     let n : total (worker_tickets i) (slice_set st.workers w (record k { doing = Holds t.slot st.limits.budget })) + tried i (Tries t) ≡ total (worker_tickets i) st.workers + tried i (Holds t.slot st.limits.budget) = tickets_on st w k (Tries t) (Holds t.slot st.limits.budget) i there does in
     omega arith)))
@@ -262,7 +273,7 @@ claim_words st w k (Retired s) there does turns = kept_none
 
 take_words : (st : State) (w : ℕ) (k : Actor) (d : Doing) → slice_get st.workers w ≡ Some k → k.doing ≡ d → Kept (WordsMove st (event.Work w act.Take)) (take st d)
 take_words st w k (Holds s left) there does = kept_bind _ (slice_get st.slots s) (λ p lies. kept_map_map (λ (q : Place). with_place st s q) (λ (c : Connection). record p { notes = []; connection = Some (heard c p.notes) }) p.connection (λ c is.
-    touched st (with_place st s (record p { notes = []; connection = Some (heard c p.notes) })) (event.Work w act.Take) s p (record p { notes = []; connection = Some (heard c p.notes) }) (Take ∷ []) lies refl (λ i. rw (there, does) refl) refl refl (λ i apart. refl)))
+    touched st (with_place st s (record p { notes = []; connection = Some (heard c p.notes) })) (event.Work w act.Take) s p (record p { notes = []; connection = Some (heard c p.notes) }) (words.take ∷ []) lies refl (λ i. rw (there, does) refl) refl refl (λ i apart. refl)))
 take_words st w k Idle there does = kept_none
 take_words st w k (Tries t) there does = kept_none
 take_words st w k (Closed s) there does = kept_none
@@ -271,7 +282,7 @@ take_words st w k (Retired s) there does = kept_none
 post_words : (st : State) (w : ℕ) (k : Actor) (d : Doing) → slice_get st.workers w ≡ Some k → k.doing ≡ d → Turns st → Kept (WordsMove st (event.Work w act.Post)) (post st d)
 post_words st w k (Holds s left) there does turns = kept_bind _ (slice_get st.slots s) (λ p lies. kept_bind _ p.connection (λ c is. kept_guard (is_live (verdict c.pair)) (with_place st s (with_note p c.pair.generation)) (λ live.
     let h : Held (facts st s p.generation) p true = held_by st w k s left p there does lies turns in
-    touched st (with_place st s (with_note p c.pair.generation)) (event.Work w act.Post) s p (with_note p c.pair.generation) (Post ∷ []) lies refl (λ i. rw (there, does) refl) (noted_word p c.pair.generation) (rw h.held refl) (λ i apart. refl))))
+    touched st (with_place st s (with_note p c.pair.generation)) (event.Work w act.Post) s p (with_note p c.pair.generation) (words.post ∷ []) lies refl (λ i. rw (there, does) refl) (noted_word p c.pair.generation) (rw h.held refl) (λ i apart. refl))))
 post_words st w k Idle there does turns = kept_none
 post_words st w k (Tries t) there does turns = kept_none
 post_words st w k (Closed s) there does turns = kept_none
@@ -284,8 +295,8 @@ released_words st w k s left p there does lies turns =
     let r : Replaced st w k (record { doing = Idle; hand = with_ticket (is_nonempty p.notes) s p.generation k.hand }) s 0 = replaced st w k (record { doing = Idle; hand = with_ticket (is_nonempty p.notes) s p.generation k.hand }) s 0 there in
     let did : tried s k.doing ≡ 0 = ap (tried s) does in
     let more : total (of_slot s) (with_ticket (is_nonempty p.notes) s p.generation k.hand) ≡ total (of_slot s) k.hand + one (is_nonempty p.notes) = hand_own (of_slot s) (is_nonempty p.notes) s p.generation k.hand (one_same s) in
-    let woken : one (is_wake (if is_nonempty p.notes then Wake else Quiet)) ≡ one (is_nonempty p.notes) = wake_once (is_nonempty p.notes) in
-    touched st (with_worker (with_place st s (record p { holder = Nobody })) w (record { doing = Idle; hand = with_ticket (is_nonempty p.notes) s p.generation k.hand })) (event.Work w act.Release) s p (record p { holder = Nobody }) (Release ∷ []) lies refl (λ i. rw (there, does) refl) (rw h.free refl) (omega arith) (λ i apart.
+    let woken : one (is_wake (if some_wait (length p.notes) then words.wake else words.quiet)) ≡ one (is_nonempty p.notes) = rw (waits (length p.notes)) (wake_once (is_nonempty p.notes)) in
+    touched st (with_worker (with_place st s (record p { holder = Nobody })) w (record { doing = Idle; hand = with_ticket (is_nonempty p.notes) s p.generation k.hand })) (event.Work w act.Release) s p (record p { holder = Nobody }) (words.release ∷ []) lies refl (λ i. rw (there, does) refl) (rw h.free refl) (omega arith) (λ i apart.
     let m : Replaced st w k (record { doing = Idle; hand = with_ticket (is_nonempty p.notes) s p.generation k.hand }) i 0 = replaced st w k (record { doing = Idle; hand = with_ticket (is_nonempty p.notes) s p.generation k.hand }) i 0 there in
     let a : tried i k.doing ≡ 0 = ap (tried i) does in
     let x : total (of_slot i) (with_ticket (is_nonempty p.notes) s p.generation k.hand) ≡ total (of_slot i) k.hand = hand_other (of_slot i) (is_nonempty p.notes) s p.generation k.hand (one_other s i apart) in
@@ -306,7 +317,7 @@ retire_words st w k (Closed s) there does turns = kept_map _ (slice_get st.slots
     let on : (i : ℕ) → tickets (doing (with_place st s (record p { holder = Free })) w k (Retired s)) i ≡ tickets st i = λ i.
     let m : total (worker_tickets i) (slice_set st.workers w (record k { doing = Retired s })) + tried i (Closed s) ≡ total (worker_tickets i) st.workers + tried i (Retired s) = tickets_on st w k (Closed s) (Retired s) i there does in
     omega arith in
-    touched st (doing (with_place st s (record p { holder = Free })) w k (Retired s)) (event.Work w act.Retire) s p (record p { holder = Free }) (Retire ∷ []) lies refl (λ i. rw (there, does) refl) (rw h.held refl) (let same : tickets (doing (with_place st s (record p { holder = Free })) w k (Retired s)) s ≡ tickets st s = on s in omega arith) (λ i apart. on i))
+    touched st (doing (with_place st s (record p { holder = Free })) w k (Retired s)) (event.Work w act.Retire) s p (record p { holder = Free }) (words.retire ∷ []) lies refl (λ i. rw (there, does) refl) (rw h.held refl) (let same : tickets (doing (with_place st s (record p { holder = Free })) w k (Retired s)) s ≡ tickets st s = on s in omega arith) (λ i apart. on i))
 retire_words st w k Idle there does turns = kept_none
 retire_words st w k (Tries t) there does turns = kept_none
 retire_words st w k (Holds s left) there does turns = kept_none

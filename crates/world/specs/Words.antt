@@ -1,6 +1,7 @@
--- The claim word of a slot. Part of the promises, for the clause `words` of `World::step` alone. It has what the word
--- says of the slot, what one step of each kind makes of it and answers, and which steps an event makes.
-use Rattle.std.specs.Prelude.{◌≡◌, ℕ, ◌+◌, ◌*◌, ◌==◌, Bool, true, false, not, ◌||◌, nat_lt, if◌then◌else◌, List, [], ◌∷◌, length, slice_get, Option, Some, None}
+-- The claim word of a slot. Part of the promises, for the clause `words` of `World::step` alone. It has the word of a
+-- place, and which steps an event makes. What a step makes of a word and answers is defined in `claims`.
+use Rattle.std.specs.Prelude.{◌≡◌, ℕ, ◌+◌, ◌==◌, Bool, true, false, if◌then◌else◌, List, [], ◌∷◌, length, slice_get, Option, Some, None}
+use Rattle.claims.specs.Words.{WordState, StepKind, post, claim, take, release, retire, adopt, Answer, wake, word_of, word_after, answer_of}
 use Rattle.token.specs.declared.name.Name.{Name}
 use Rattle.token.specs.declared.name.Name.TheVariants as name
 use Rattle.world.specs.declared.actors.Holder.{Holder}
@@ -18,78 +19,31 @@ use Rattle.world.specs.States.{State, opening}
 use Rattle.world.specs.Runs.{run}
 use Rattle.world.specs.Support.{one, tickets}
 
--- how many notes wait, whether the slot is free, and whether it is held: a free slot counts as held
-pub record Word : Type 0 where
-  pub pending : ℕ
-  pub free : Bool
-  pub held : Bool
-
--- the word as one number
-abbrev pub number : Word → ℕ
-number w = 4 * w.pending + (2 * one w.free + one w.held)
-
 abbrev pub is_free : Holder → Bool
 is_free Nobody = false
 is_free (By worker) = false
 is_free Free = true
 
-abbrev pub word_of : Place → Word
-word_of p = record { pending = length p.notes; free = is_free p.holder; held = is_held p.holder }
-
--- the kinds of step
-pub data StepKind : Type 0 where
-  Post : StepKind
-  Claim : StepKind
-  Take : StepKind
-  Release : StepKind
-  Retire : StepKind
-  Adopt : StepKind
-
--- what a step answers
-pub data Answer : Type 0 where
-  Wake : Answer
-  Quiet : Answer
-  Held : Answer
-  Busy : Answer
-  Count : ℕ → Answer
-  Nothing : Answer
-  Adopted : Answer
-  NotFree : Answer
-
--- the word after a step
-abbrev pub after : StepKind → Word → Word
-after Post w = record w { pending = w.pending + 1 }
-after Claim w = record w { held = true }
-after Take w = record w { pending = 0 }
-after Release w = record w { held = false }
-after Retire w = record w { free = true }
-after Adopt w = record w { free = false }
-
--- the answer, by the word that the step finds
-abbrev pub answer : StepKind → Word → Answer
-answer Post w = if not (w.held || nat_lt 0 w.pending) then Wake else Quiet
-answer Claim w = if w.held then Busy else Held
-answer Take w = Count w.pending
-answer Release w = if nat_lt 0 w.pending then Wake else Quiet
-answer Retire w = Nothing
-answer Adopt w = if w.free then Adopted else NotFree
+-- the claim word of a place: a free slot counts as held
+abbrev pub word_at : Place → WordState
+word_at p = record { pending = length p.notes; free = is_free p.holder; held = is_held p.holder }
 
 -- some steps, one after the other
-abbrev pub after_all : List StepKind → Word → Word
+abbrev pub after_all : List StepKind → WordState → WordState
 after_all [] w = w
-after_all (k ∷ ks) w = after_all ks (after k w)
+after_all (k ∷ ks) w = after_all ks (word_after k w)
 
 abbrev pub is_wake : Answer → Bool
-is_wake Wake = true
+is_wake wake = true
 is_wake a = false
 
 -- how many of them answer that a ticket is to be made
-abbrev pub wakes : List StepKind → Word → ℕ
+abbrev pub wakes : List StepKind → WordState → ℕ
 wakes [] w = 0
-wakes (k ∷ ks) w = one (is_wake (answer k w)) + wakes ks (after k w)
+wakes (k ∷ ks) w = one (is_wake (answer_of k w)) + wakes ks (word_after k w)
 
 abbrev pub is_claim : StepKind → Bool
-is_claim Claim = true
+is_claim claim = true
 is_claim k = false
 
 -- how many of them are claims, each of which uses up its ticket
@@ -106,7 +60,7 @@ at_slot s t steps = if t == s then steps else []
 -- released
 abbrev pub opening_steps : Option ℕ → ℕ → List StepKind
 opening_steps None s = []
-opening_steps (Some t) s = at_slot s t (Adopt ∷ Take ∷ Post ∷ Release ∷ [])
+opening_steps (Some t) s = at_slot s t (adopt ∷ take ∷ post ∷ release ∷ [])
 
 abbrev pub is_entry : Option ℕ → ℕ → Bool
 is_entry None g = false
@@ -117,14 +71,14 @@ abbrev pub delivery_steps : State → Option Name → ℕ → List StepKind
 delivery_steps st None s = []
 delivery_steps st (Some name.Listener) s = []
 delivery_steps st (Some name.Waker) s = []
-delivery_steps st (Some (name.End n)) s = if is_entry (slice_get st.table n.slot) n.generation then at_slot s n.slot (Post ∷ []) else []
+delivery_steps st (Some (name.End n)) s = if is_entry (slice_get st.table n.slot) n.generation then at_slot s n.slot (post ∷ []) else []
 
 abbrev pub act_steps : Act → Doing → ℕ → List StepKind
-act_steps act.Claim (Tries t) s = at_slot s t.slot (Claim ∷ [])
-act_steps act.Take (Holds t left) s = at_slot s t (Take ∷ [])
-act_steps act.Post (Holds t left) s = at_slot s t (Post ∷ [])
-act_steps act.Release (Holds t left) s = at_slot s t (Release ∷ [])
-act_steps act.Retire (Closed t) s = at_slot s t (Retire ∷ [])
+act_steps act.Claim (Tries t) s = at_slot s t.slot (claim ∷ [])
+act_steps act.Take (Holds t left) s = at_slot s t (take ∷ [])
+act_steps act.Post (Holds t left) s = at_slot s t (post ∷ [])
+act_steps act.Release (Holds t left) s = at_slot s t (release ∷ [])
+act_steps act.Retire (Closed t) s = at_slot s t (retire ∷ [])
 act_steps a d s = []
 
 abbrev pub worker_steps : Option Actor → Act → ℕ → List StepKind
@@ -142,8 +96,8 @@ steps st e s = []
 pub record WordMoves (st next : State) (e : Event) (s : ℕ) (p : Place) : Type 0 where
   pub place : Place
   pub there : slice_get next.slots s ≡ Some place
-  pub word : number (word_of place) ≡ number (after_all (steps st e s) (word_of p))
-  pub tickets : tickets next s + claims (steps st e s) ≡ tickets st s + wakes (steps st e s) (word_of p)
+  pub word : word_of (word_at place) ≡ word_of (after_all (steps st e s) (word_at p))
+  pub tickets : tickets next s + claims (steps st e s) ≡ tickets st s + wakes (steps st e s) (word_at p)
 
 -- in every slot
 abbrev pub WordsMove : State → Event → State → Type 0
