@@ -2,11 +2,13 @@
 // Every byte is checked where it arrives.
 //
 //   load serve THREADS
-//       Listens on 127.0.0.1 and prints the port. Ends when standard input ends, with status 1 where a
-//       connection broke the rules.
-//   load client KIND PORT CONNECTIONS SECONDS THREADS
+//       Listens on 127.0.0.1 and prints the port. THREADS are for requests, and as many for all else. Ends when
+//       standard input ends, with status 1 where a connection broke the rules.
+//   load client PORT SECONDS THREADS KIND CONNECTIONS [KIND CONNECTIONS]
 //       Opens its connections and prints "ready"; at a line on standard input it runs and prints a line of
-//       results, name=value; when standard input ends it ends, and its connections with it. KIND is
+//       results, name=value; when standard input ends it ends, and its connections with it. A second load runs
+//       beside the first from the same start to the same deadline, in threads of its own, and its names begin
+//       with "beside-". KIND is
 //         up       bytes one way, as fast as they go
 //         both     bytes both ways
 //         ask      requests and answers of 64 bytes, one at a time on each connection
@@ -79,13 +81,17 @@ struct connection {
 struct thread {
     pthread_t id;
     int number, epoll;
+    int load;                       // client: the load that it is of
+    enum kind kind;                 // client: of that load
     struct connection *connections; // client: its own
     int count;                      // client: of them
     int live;                       // client: those that the phase waits for
     uint32_t opened;                // client: connections so far, for their seeds
     uint64_t units;                 // client: bytes, answers or connections done
-    uint32_t *times;                // client: how long each that was done before the deadline took, in ns
-    size_t timely, room;            // client: of them, and for how many there is memory
+    uint64_t done;                  // client: when its run was over, in ns
+    uint32_t *times;                // client: how long each answer or connection took, in ns
+    size_t timed, room;             // client: of them, and for how many there is memory
+    size_t timely;                  // client: of them, those that came before the deadline
 };
 
 static unsigned char pattern[2][PERIOD + BLOCK]; // [1] is [0] inverted
@@ -252,7 +258,8 @@ static void start_threads(void *(*body)(void *))
         need((errno = pthread_create(&threads[i].id, NULL, body, &threads[i])) == 0, "pthread_create");
 }
 
-// The server.
+// The server. The second half of its threads is for requests, so that these wait for the forwarder and not for
+// the server's end of a load beside them.
 
 static int listener;
 static atomic_int faults;
@@ -285,6 +292,16 @@ static bool answer_hello(struct connection *c)
     return send(c->fd, &answer, sizeof answer, MSG_NOSIGNAL) == sizeof answer;
 }
 
+// Gives a connection whose kind is known to a thread for that kind, in turn. It is that thread's at once.
+static void hand_over(struct connection *c)
+{
+    static atomic_uint turns[2];
+    int half = thread_count / 2, asks = c->kind == ASK;
+    need(epoll_ctl(c->epoll, EPOLL_CTL_DEL, c->fd, NULL) == 0, "epoll_ctl");
+    c->epoll = threads[asks * half + turns[asks]++ % half].epoll;
+    watch(c);
+}
+
 static void server_event(struct connection *c, uint32_t ready)
 {
     bool was_greeted = is_greeted(c);
@@ -303,6 +320,10 @@ static void server_event(struct connection *c, uint32_t ready)
         close_server_side(c, NULL); // first, so that the client's port is soon free again
         return;
     }
+    if (!was_greeted) {
+        hand_over(c);
+        return;
+    }
     c->finish = c->ended;
     c->waits = c->kind == UP || c->in.at == 0;
     c->owed = c->in.at / c->size * c->size;
@@ -312,7 +333,7 @@ static void server_event(struct connection *c, uint32_t ready)
         close_server_side(c, NULL);
 }
 
-// Gives the connections that wait to the threads in turn.
+// Gives the connections that wait to the threads of the first half in turn, for their hello.
 static void accept_all(void)
 {
     static unsigned accepted;
@@ -321,7 +342,7 @@ static void accept_all(void)
         struct connection *c = calloc(1, sizeof *c);
         need(c != NULL, "memory");
         c->fd = fd;
-        c->epoll = threads[accepted++ % thread_count].epoll;
+        c->epoll = threads[accepted++ % (thread_count / 2)].epoll;
         watch(c);
     }
     need(passes(fd) || errno == ECONNABORTED, "accept");
@@ -359,18 +380,17 @@ static int serve(void)
 
 // The client.
 
-static enum kind kind;
-static int port, connections;
+static int port, load_count;
 static double seconds;
-static uint64_t deadline;
+static uint64_t began, deadline;
 static pthread_barrier_t phase; // where the threads and main meet between two phases
 
 static void open_connection(struct thread *t, struct connection *c)
 {
     struct sockaddr_in address = loopback(port);
     uint32_t seed = (t->opened++ * thread_count + t->number) * 1009;
-    *c = (struct connection){.epoll = t->epoll, .kind = kind == IDLE ? ASK : kind};
-    c->size = kind == IDLE ? IDLE_REQUEST : REQUEST;
+    *c = (struct connection){.epoll = t->epoll, .kind = t->kind == IDLE ? ASK : t->kind};
+    c->size = t->kind == IDLE ? IDLE_REQUEST : REQUEST;
     c->out.seed = seed;
     c->in.seed = seed + PERIOD / 2;
     c->fd = socket(AF_INET, SOCK_STREAM | SOCK_CLOEXEC, 0);
@@ -386,19 +406,19 @@ static void say_hello(struct connection *c)
 
 static void record(struct thread *t, uint64_t took)
 {
-    if (t->timely == t->room) {
+    if (t->timed == t->room) {
         t->room = t->room * 2 + 4096;
         t->times = realloc(t->times, t->room * sizeof *t->times);
         need(t->times != NULL, "memory");
     }
-    t->times[t->timely++] = least(took, UINT32_MAX);
+    t->times[t->timed++] = least(took, UINT32_MAX);
 }
 
 // Begins a request, or goes on with a bulk stream.
 static void begin(struct thread *t, struct connection *c)
 {
     c->since = now();
-    if (kind == CONNECT) {
+    if (t->kind == CONNECT) {
         open_connection(t, c);
         c->since = now();
         say_hello(c);
@@ -413,20 +433,22 @@ static void begin(struct thread *t, struct connection *c)
 }
 
 // A request has its answer, or a bulk connection is at its end: counts it, and begins the next one where
-// there is time. A connection of requests stays open until the client ends.
+// there is time. A connection of requests stays open until the client ends. An answer after the deadline is no
+// part of the rate, but its time counts: or the longest waits would be left out.
 static void complete(struct thread *t, struct connection *c)
 {
     uint64_t time = now();
     if (c->kind != ASK)
         close(c->fd);
     if (c->kind == UP || c->kind == BOTH) {
-        t->units += c->out.at + (kind == BOTH ? c->in.at : 0);
+        t->units += c->out.at + (c->kind == BOTH ? c->in.at : 0);
         t->live--;
         return;
     }
     t->units++;
+    record(t, time - c->since);
     if (time < deadline) {
-        record(t, time - c->since);
+        t->timely++;
         begin(t, c);
     } else {
         t->live--;
@@ -442,7 +464,7 @@ static void client_event(struct thread *t, struct connection *c, uint32_t ready)
     if (!was_greeted) {
         struct hello expected = make_hello("hello, c", c->kind, c->out.seed, c->size);
         need(memcmp(&c->hello, &expected, sizeof expected) == 0, "client: hello");
-        t->live -= kind != CONNECT;
+        t->live -= c->kind != CONNECT;
         return;
     }
     switch (c->kind) {
@@ -484,21 +506,21 @@ static void greet(struct thread *t)
 static void *client_thread(void *argument)
 {
     struct thread *t = argument;
-    t->count = connections / thread_count + (t->number < connections % thread_count);
     t->connections = calloc(t->count, sizeof *t->connections);
     need(t->connections != NULL, "memory");
-    for (int i = 0; i < t->count && kind != CONNECT; i++)
+    for (int i = 0; i < t->count && t->kind != CONNECT; i++)
         open_connection(t, &t->connections[i]);
-    if (kind != CONNECT && kind != IDLE)
+    if (t->kind != CONNECT && t->kind != IDLE)
         greet(t);
     pthread_barrier_wait(&phase);
     pthread_barrier_wait(&phase);
-    if (kind == IDLE)
+    if (t->kind == IDLE)
         greet(t);
     t->live = t->count;
     for (int i = 0; i < t->count; i++)
         begin(t, &t->connections[i]);
     run_phase(t);
+    t->done = now();
     return NULL;
 }
 
@@ -508,27 +530,32 @@ static int by_value(const void *left, const void *right)
     return (a > b) - (a < b);
 }
 
-static void print_results(double elapsed)
+static void print_results(int load, const char *prefix)
 {
-    uint64_t units = 0;
-    size_t timely = 0;
+    enum kind kind = KINDS;
+    uint64_t units = 0, done = 0;
+    size_t timed = 0, timely = 0;
     uint32_t *times = NULL;
     for (int i = 0; i < thread_count; i++) {
         struct thread *t = &threads[i];
+        if (t->load != load)
+            continue;
+        kind = t->kind;
         units += t->units;
-        times = realloc(times, (timely + t->timely + 1) * sizeof *times);
+        done = t->done > done ? t->done : done;
+        timely += t->timely;
+        times = realloc(times, (timed + t->timed + 1) * sizeof *times);
         need(times != NULL, "memory");
-        for (size_t j = 0; j < t->timely; j++)
-            times[timely++] = t->times[j];
+        for (size_t j = 0; j < t->timed; j++)
+            times[timed++] = t->times[j];
     }
+    double elapsed = (done - began) / 1e9;
     double rate = kind == UP || kind == BOTH ? units / elapsed : kind == IDLE ? 0 : timely / seconds;
-    printf("units=%llu rate=%.6g", (unsigned long long)units, rate);
-    if (timely > 0) {
-        qsort(times, timely, sizeof *times, by_value);
-        printf(" p99=%.1f", times[timely - 1 - timely / 100] / 1e3);
+    printf("%sunits=%llu %srate=%.6g ", prefix, (unsigned long long)units, prefix, rate);
+    if (timed > 0) {
+        qsort(times, timed, sizeof *times, by_value);
+        printf("%sp99=%.1f ", prefix, times[timed - 1 - timed / 100] / 1e3);
     }
-    printf("\n");
-    fflush(stdout);
     free(times);
 }
 
@@ -544,27 +571,45 @@ static int client(void)
     if (getchar() == EOF)
         return 1;
     alarm(seconds + PATIENCE);
-    uint64_t began = now();
+    began = now();
     deadline = began + seconds * 1e9;
     pthread_barrier_wait(&phase);
     for (int i = 0; i < thread_count; i++)
         pthread_join(threads[i].id, NULL);
-    print_results((now() - began) / 1e9);
+    for (int load = 0; load < load_count; load++)
+        print_results(load, load == 0 ? "" : "beside-");
+    printf("\n");
+    fflush(stdout);
     alarm(0);
     while (getchar() != EOF)
         ;
     return 0;
 }
 
-static bool parse_client(char **arguments)
+// Adds a load with threads of its own, which share its connections.
+static bool add_load(const char *name, int connections, int most_threads)
 {
-    while (kind < KINDS && strcmp(arguments[0], kind_names[kind]) != 0)
+    enum kind kind = UP;
+    while (kind < KINDS && strcmp(name, kind_names[kind]) != 0)
         kind++;
-    port = atoi(arguments[1]);
-    connections = atoi(arguments[2]);
-    seconds = atof(arguments[3]);
-    thread_count = least(atoi(arguments[4]), connections);
-    return kind < KINDS;
+    int count = most_threads < connections ? most_threads : connections;
+    if (kind == KINDS || count < 1 || count > MOST_THREADS - thread_count)
+        return false;
+    for (int i = 0; i < count; i++)
+        threads[thread_count++] = (struct thread){
+            .load = load_count, .kind = kind, .count = connections / count + (i < connections % count)};
+    load_count++;
+    return true;
+}
+
+static bool parse_client(int count, char **arguments)
+{
+    port = atoi(arguments[0]);
+    seconds = atof(arguments[1]);
+    bool good = true;
+    for (int i = 3; i < count; i += 2)
+        good = good && add_load(arguments[i], atoi(arguments[i + 1]), atoi(arguments[2]));
+    return good;
 }
 
 int main(int count, char **arguments)
@@ -575,12 +620,14 @@ int main(int count, char **arguments)
     setrlimit(RLIMIT_NOFILE, &files);
     fill_pattern();
     bool serves = count == 3 && strcmp(arguments[1], "serve") == 0;
-    bool asks = count == 7 && strcmp(arguments[1], "client") == 0 && parse_client(arguments + 2);
+    bool asks = (count == 7 || count == 9) && strcmp(arguments[1], "client") == 0 &&
+                parse_client(count - 2, arguments + 2);
     if (serves)
-        thread_count = atoi(arguments[2]);
+        thread_count = 2 * atoi(arguments[2]);
     if ((!serves && !asks) || thread_count < 1 || thread_count > MOST_THREADS) {
         fprintf(stderr, "usage: load serve THREADS\n"
-                        "       load client up|both|ask|connect|idle PORT CONNECTIONS SECONDS THREADS\n");
+                        "       load client PORT SECONDS THREADS KIND CONNECTIONS [KIND CONNECTIONS]\n"
+                        "KIND is up, both, ask, connect or idle.\n");
         return 2;
     }
     return serves ? serve() : client();

@@ -2,7 +2,8 @@
 
 import statistics
 
-FORWARDERS = ["direct", "relayd", "haproxy", "nginx", "socat"]
+BUILDS = ["relayd", "before"]  # of relayd; `before` is an older one
+FORWARDERS = ["direct", *BUILDS, "haproxy", "nginx", "socat"]
 
 # Name, kind of load, connections, what a reader is told; of how many units the processor's time is told.
 CASES = [
@@ -15,14 +16,26 @@ CASES = [
     ("ask-1000", "ask", 1000, "requests, 1,000 connections", 1e4),
     ("connect-1", "connect", 1, "new connections, one client", 1e4),
     ("connect-64", "connect", 64, "new connections, 64 clients", 1e4),
+    ("ask-8-bulk", "ask", 8, "requests, 8 connections beside bulk", 1e4),
+    ("ask-64-connect", "ask", 64, "requests, 64 connections beside new ones", 1e4),
 ]
+# What runs beside a case's own load: kind, connections, what a reader is told, and units as above.
+BESIDE = {
+    "ask-8-bulk": ("up", 8, "bulk one way, 8 connections beside requests", 1e9),
+    "ask-64-connect": ("connect", 64, "new connections, 64 clients beside requests", 1e4),
+}
 IDLE = ("idle", "idle", 1000, "memory of an idle connection", None)
 
-# Case, measure, what a reader is told. Of rates more is better, of all else less.
+# Case, measure, what a reader is told. Of rates more is better, of all else less. The processor's time is not told
+# where two loads share it.
+RATES = ("rate", "beside")
 MEASURES = (
     [(case, "rate", f"{label}: {'GB/s' if unit == 1e9 else 'a second'}") for case, _, _, label, unit in CASES]
+    + [(case, "beside", f"{label}: {'GB/s' if unit == 1e9 else 'a second'}")
+       for case, (_, _, label, unit) in BESIDE.items()]
     + [(case, "p99", f"{label}: 99th percentile, µs") for case, kind, _, label, _ in CASES if kind == "ask"]
-    + [(case, "cpu", f"{label}: CPU s {'a GB' if unit == 1e9 else 'per 10,000'}") for case, _, _, label, unit in CASES]
+    + [(case, "cpu", f"{label}: CPU s {'a GB' if unit == 1e9 else 'per 10,000'}")
+       for case, _, _, label, unit in CASES if case not in BESIDE]
     + [("idle", "untouched", f"{IDLE[3]}, untouched: KiB"), ("idle", "carried", f"{IDLE[3]}, used before: KiB")]
 )
 
