@@ -1,5 +1,5 @@
 -- The texts of lines. Part of the promises.
-use Rattle.std.specs.Prelude.{◌≡◌, ℕ, ◌<◌, ◌≤◌, Bool, true, false, List, [], ◌++◌, take, codes}
+use Rattle.std.specs.Prelude.{◌≡◌, ℕ, ◌+◌, ◌-◌, ◌<◌, ◌≤◌, Bool, true, false, List, [], ◌++◌, length, take, codes}
 use Rattle.std.specs.Fmt.{decimal}
 use Rattle.std.specs.Str.{IsCharBoundary}
 
@@ -31,6 +31,12 @@ pub record IsCut (room : ℕ) (text : List ℕ) (old new : LineState) : Type 0 w
   pub first : IsFirst room text part
   pub added : new.text ≡ old.text ++ part
   pub cut : new.cut ≡ true
+
+-- a text was added to a line, or as much of it as fits; nothing is added to a line that is cut
+pub record IsAdded (old : LineState) (text : List ℕ) (new : LineState) : Type 0 where
+  pub whole : old.cut ≡ false → length old.text + length text ≤ 240 → new ≡ record { text = old.text ++ text; cut = false }
+  pub part : old.cut ≡ false → 240 < length old.text + length text → IsCut (240 - length old.text) text old new
+  pub cut : old.cut ≡ true → new ≡ old
 
 -- how many lines were left out
 abbrev pub left_out_text : ℕ → List ℕ

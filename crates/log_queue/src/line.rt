@@ -1,6 +1,6 @@
 // The texts of lines.
-ghost use Rattle.std.specs.Prelude.{◌≡◌, ◌<◌, ◌≤◌, ◌++◌, ◌+◌, ◌-◌, Some, true, false, [], length};
-ghost use Rattle.log_queue.specs.Lines.{LineState, IsFirst, IsCut, shown, left_out_text, ending as ending_of};
+ghost use Rattle.std.specs.Prelude.{◌≡◌, ◌<◌, ◌≤◌, ◌++◌, ◌+◌, ◌-◌, Some, true, false, [], length, IsOk};
+ghost use Rattle.log_queue.specs.Lines.{LineState, IsFirst, IsCut, IsAdded, shown, left_out_text, ending as ending_of};
 
 use crate::limits::MAX_LINE;
 use arrayvec::ArrayString;
@@ -55,7 +55,13 @@ fn first_of(text: &str, most: usize) -> &str
 }
 
 impl Write for LogLine {
-    fn write_str(&mut self, text: &str) -> fmt::Result {
+    ghost write_str_gives = { IsAdded };
+
+    /// Adds the text as [`LogLine::add`] does. It never fails, so that what prints into a line goes on to its end.
+    fn write_str(&mut self, text: &str) -> fmt::Result
+        ensures ok { IsOk result }
+        ensures added { IsAdded self.old text.now self.new }
+    {
         self.add(text);
         Ok(())
     }

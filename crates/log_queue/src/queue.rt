@@ -1,4 +1,7 @@
 // The lines that wait, and what the writer and the threads that log tell each other.
+ghost use Rattle.std.specs.Prelude.{◌≡◌, IfOk};
+ghost use Rattle.crossbeam_queue.specs.Passes.{queue_capacity};
+
 use crate::limits::MAX_LINES;
 use crate::line::LogLine;
 use crossbeam_queue::ArrayQueue;
@@ -22,7 +25,9 @@ pub struct LogQueue {
 
 impl LogQueue {
     /// An empty queue. It takes memory for all its lines; no later call takes any.
-    pub fn new(alloc: Global) -> Result<LogQueue, AllocError> {
+    pub fn new(alloc: Global) -> Result<LogQueue, AllocError>
+        ensures room { IfOk result (λ queue. queue_capacity queue.lines ≡ 4096) }
+    {
         Ok(LogQueue {
             lines: ArrayQueue::new(alloc, MAX_LINES)?,
             left_out: AtomicU64::new(0),
