@@ -70,9 +70,6 @@ impl<C, T> Berths<C, T> {
         slot: usize,
         berth: Berth<C, T>,
     ) -> Result<(), Occupied<Berth<C, T>>>
-    where
-        C: Drop,
-        T: Drop,
         requires inside { slot < self.now }
         requires holder { Holds seat.now slot }
         ensures given_back { IfErr result (λ given. given.0 ≡ berth) }
@@ -103,8 +100,8 @@ impl<C, T> Berths<C, T> {
     }
 }
 
-// Puts a berth into a place, unless one is there.
-fn fill<C: Drop, T: Drop>(
+// Puts a berth into a place, unless one is there. Its wires need not be droppable, so it cannot be lost here.
+fn fill<C, T>(
     place: &mut Option<Berth<C, T>>,
     berth: Berth<C, T>,
 ) -> Result<(), Occupied<Berth<C, T>>>
@@ -116,6 +113,8 @@ fn fill<C: Drop, T: Drop>(
     if place.is_some() {
         return Err(Occupied(berth));
     }
-    *place = Some(berth);
-    Ok(())
+    match place.replace(berth) {
+        None => Ok(()),
+        Some(old) => Err(Occupied(old)),
+    }
 }
