@@ -24,5 +24,5 @@ pub use class::{Class, class_of, pending};
 pub use outcome::Turn;
 pub use scripted::{Bytes, Play, PlayList, ScriptWire};
 pub use tally::Tally;
-pub use turning::turn;
+pub use turning::{turn, turn_with};
 pub use wire::Wire;

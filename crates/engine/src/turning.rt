@@ -29,13 +29,29 @@ pub fn turn<A: Wire, B: Wire>(
     ensures outcome { result ≡ outcome_of pair.new }
     ensures run { IsTurn budget pair.old pair.new (IsServed A.told A.does client.old client.new) (IsServed B.told B.does target.old target.new) }
 {
+    turn_with(pair, client, target, budget, &mut [0; MAX_READ])
+}
+
+/// [`turn`] with an array that is lent to it, into which the wires read. What the array has before and after says
+/// nothing, so a thread that makes many turns keeps one for all of them, and need not clear it.
+pub fn turn_with<A: Wire, B: Wire>(
+    pair: &mut Pair,
+    client: &mut A,
+    target: &mut B,
+    budget: usize,
+    buffer: &mut [u8; MAX_READ],
+) -> Turn
+    requires least { 1 ≤ budget }
+    requires most { budget ≤ 1024 }
+    ensures outcome { result ≡ outcome_of pair.new }
+    ensures run { IsTurn budget pair.old pair.new (IsServed A.told A.does client.old client.new) (IsServed B.told B.does target.old target.new) }
+{
     rests_on_laws();
-    let mut buffer = [0; MAX_READ];
     for _calls in 0..budget {
         let Some(call) = pair.next() else {
             return outcome(pair);
         };
-        advance(pair, call, client, target, &mut buffer);
+        advance(pair, call, client, target, buffer);
     }
     outcome(pair)
 }

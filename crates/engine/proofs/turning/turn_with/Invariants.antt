@@ -1,6 +1,6 @@
 use Rattle.engine.specs.Turns.{IsServed}
 use Rattle.engine.proofs.Runs.{Runs}
-use Rattle.engine.proofs.turning.turn.Given as goal
+use Rattle.engine.proofs.turning.turn_with.Given as goal
 
 abbrev pub invariant-loop-calls : goal.invariant-loop-calls
 invariant-loop-calls g l =

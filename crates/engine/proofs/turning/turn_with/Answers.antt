@@ -1,7 +1,7 @@
 use Rattle.std.proofs.Common.{◌≡◌, None, arith}
 use Rattle.relay_core.specs.Order.{next_call}
 use Rattle.engine.proofs.Runs.{starts, goes_on, spent, stopped}
-use Rattle.engine.proofs.turning.turn.Goals as goal
+use Rattle.engine.proofs.turning.turn_with.Goals as goal
 
 pub loop-calls-init : goal.loop-calls-init
 loop-calls-init g c = starts _ _ _ _ _ _ _
