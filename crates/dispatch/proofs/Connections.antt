@@ -13,8 +13,9 @@ use Rattle.dispatch.specs.declared.shared.Own.{Own}
 use Rattle.ready.specs.Steps.{EndState}
 use Rattle.dispatch.specs.Hands.{HandState, ticket_room}
 use Rattle.dispatch.specs.Deliveries.{at_slot}
-use Rattle.dispatch.specs.Openings.{times, slots_in, AreOpened, SlotsCounted, OnlyTook, Connected, AcceptDone}
-use Rattle.dispatch.specs.Polls.{PollerState, Counted, counted_up}
+use Rattle.dispatch.specs.Openings.{times, slots_in, AreIn, AreOpened, SlotsCounted, OnlyTook, Connected, AcceptDone}
+use Rattle.dispatch.specs.Polls.{PollerState, Counted, counted_up, IsIn}
+use Rattle.dispatch.specs.declared.part.Part.{Part}
 use Rattle.dispatch.specs.Turns.{Rose}
 use Rattle.dispatch.proofs.Reports.{at_slot-append, one_at, none_at}
 
@@ -63,6 +64,17 @@ rose_both a b c m n k sum first second =
     let mints = second.minted in
     record { posted = omega arith; minted = omega arith }
 
+own_both : (p q : Part) (xs ys : List Ticket) → q ≡ p → AreIn p xs → AreIn q ys → AreIn p (xs ++ ys)
+own_both p q xs ys same one two slot out =
+    let first = one slot out in
+    let second = two slot (λ is. out (subst (λ (part : Part). IsIn part slot) same is)) in
+    let both = at_slot-append slot xs ys in
+    omega arith
+
+-- a connection in one of the poller's own slots
+pub own_one : (part : Part) (t : Ticket) → IsIn part t.slot → AreIn part (t ∷ [])
+own_one part t here slot out = none_at t slot (λ same. out (subst (λ (i : ℕ). IsIn part i) (sym same) here))
+
 slots_both : (a b c : Own) (xs ys : List Ticket) (ls ms : List ℕ) → SlotsCounted a b xs ls → SlotsCounted b c ys ms → SlotsCounted a c (xs ++ ys) (ls ++ ms)
 slots_both a b c xs ys ls ms one two slot =
     let first = one slot in
@@ -81,6 +93,8 @@ module _ {p q r : PollerState} {a b c : Own} where
     unused = subst (λ (n : ℕ). Counted p.lost n r.lost) (sym (length-append ls ms))
         (counted_both 18446744073709551615 p.lost q.lost r.lost (length ls) (length ms) one.unused two.unused);
     batch = two.batch ∙ one.batch;
+    part = two.part ∙ one.part;
+    own = own_both p.part q.part xs ys one.part one.own two.own;
     accounts = λ slot. rose_both (account_at a.seat slot) (account_at b.seat slot) (account_at c.seat slot)
         (at_slot slot xs) (at_slot slot ys) (at_slot slot (xs ++ ys)) (at_slot-append slot xs ys) (one.accounts slot) (two.accounts slot);
     tickets = two.tickets ∙ ap (λ (ts : List Ticket). ts ++ ys) one.tickets ∙ append_assoc a.hand.tickets xs ys;
@@ -102,6 +116,7 @@ pub record SamePoller (old new : PollerState) : Type 0 where
   pub opened : new.opened ≡ old.opened
   pub lost : new.lost ≡ old.lost
   pub batch : new.batch ≡ old.batch
+  pub part : new.part ≡ old.part
 
 counted_same : (old new : ℕ) → new ≡ old → Counted old 0 new
 counted_same old new same = subst (λ (n : ℕ). Counted old 0 n) (sym same) (counted_none old)
@@ -116,6 +131,8 @@ accept_took p q a b same took = record {
     counted = counted_same p.opened q.opened same.opened;
     unused = counted_same p.lost q.lost same.lost;
     batch = same.batch;
+    part = same.part;
+    own = λ slot out. refl;
     accounts = λ slot. rose_none (account_at a.seat slot) (account_at b.seat slot) (ap (λ (s : SeatState). account_at s slot) took.seat);
     tickets = took.tickets ∙ sym (append-nil a.hand.tickets);
     ready = took.ready;
@@ -165,7 +182,7 @@ module _ (p q : PollerState) (a : Own) (hand : HandState) (taken : hand ≡ reco
   opened_nowhere none =
       let same : hand ≡ a.hand = taken ∙ ap (λ (xs : List ℕ). record a.hand { slots = xs }) (none_first a.hand.slots none) in
       subst (λ (h : HandState). AcceptDone p p a (record a { hand = h })) (sym same)
-      (accept_took p p a a (record { table = refl; opened = refl; lost = refl; batch = refl }) (took_none a))
+      (accept_took p p a a (record { table = refl; opened = refl; lost = refl; batch = refl; part = refl }) (took_none a))
 
   at_is_times : (s : ℕ) (t : Ticket) (slot : ℕ) → t.slot ≡ slot → at_slot s (t ∷ []) ≡ times s (slot ∷ [])
   at_is_times s t slot here = ap (λ (i : ℕ). 0 + cond (i == s) 1 0) here
@@ -177,6 +194,8 @@ module _ (p q : PollerState) (a : Own) (hand : HandState) (taken : hand ≡ reco
     counted = one.counted;
     unused = one.unused;
     batch = one.batch;
+    part = one.part;
+    own = one.own;
     accounts = one.accounts;
     tickets = one.tickets ∙ ap (λ (h : HandState). h.tickets ++ ts) taken;
     ready = one.ready;
@@ -194,6 +213,8 @@ module _ (p q : PollerState) (a : Own) (hand : HandState) (taken : hand ≡ reco
         counted = counted_same p.opened q.opened (ap (λ (s : PollerState). s.opened) lost);
         unused = counted_one 18446744073709551615 p.lost q.lost (ap (λ (s : PollerState). s.lost) lost);
         batch = ap (λ (s : PollerState). s.batch) lost;
+        part = ap (λ (s : PollerState). s.part) lost;
+        own = λ s out. refl;
         accounts = λ s. rose_none (account_at a.seat s) (account_at a.seat s) refl;
         tickets = ap (λ (h : HandState). h.tickets) taken ∙ sym (append-nil a.hand.tickets);
         ready = refl;
@@ -207,7 +228,7 @@ module _ (p q : PollerState) (a : Own) (hand : HandState) (taken : hand ≡ reco
 
     -- its opening failed, and it is in hand again
     pub opened_not : (kept : HandState) → kept ≡ record hand { slots = hand.slots ++ slot ∷ [] } → q ≡ p → AcceptDone p q a (record a { hand = kept })
-    opened_not kept again still = subst (λ (s : PollerState). AcceptDone p s a (record a { hand = kept })) (sym still) (accept_took p p a (record a { hand = kept }) (record { table = refl; opened = refl; lost = refl; batch = refl }) (record {
+    opened_not kept again still = subst (λ (s : PollerState). AcceptDone p s a (record a { hand = kept })) (sym still) (accept_took p p a (record a { hand = kept }) (record { table = refl; opened = refl; lost = refl; batch = refl; part = refl }) (record {
       seat = refl;
       ready = refl;
       tickets = ap (λ (h : HandState). h.tickets) again ∙ ap (λ (h : HandState). h.tickets) taken;
@@ -274,13 +295,14 @@ same_two p a q tries accepting starved one two = record {
   opened = ap (λ (s : PollerState). s.opened) two ∙ ap (λ (s : PollerState). s.opened) one;
   lost = ap (λ (s : PollerState). s.lost) two ∙ ap (λ (s : PollerState). s.lost) one;
   batch = ap (λ (s : PollerState). s.batch) two ∙ ap (λ (s : PollerState). s.batch) one;
+  part = ap (λ (s : PollerState). s.part) two ∙ ap (λ (s : PollerState). s.part) one;
 }
 
 pub same_tries : (p q : PollerState) (tries : ℕ) → q ≡ record p { tries = tries } → SamePoller p q
 same_tries p q tries is = same_two p q q tries q.accepting q.starved is refl
 
 same_still : (p : PollerState) → SamePoller p p
-same_still p = record { table = refl; opened = refl; lost = refl; batch = refl }
+same_still p = record { table = refl; opened = refl; lost = refl; batch = refl; part = refl }
 
 -- a slot was taken for the next try
 pub accept_and_took : {p q : PollerState} {a b c : Own} → AcceptDone p q a b → OnlyTook b c → AcceptDone p q a c
@@ -290,9 +312,9 @@ accept_and_took {p} {q} {a} {b} {c} done took = accept_both done (accept_took q 
 pub accept_and_next : {p q r : PollerState} {a b c d : Own} → AcceptDone p q a b → OnlyTook b c → AcceptDone q r c d → AcceptDone p r a d
 accept_and_next {p} {q} {r} {a} {b} {c} {d} done took next = accept_both (accept_both done (accept_took q q b c (same_still q) took)) next
 
-room_same : (a b : Own) → OnlyTook a b → ticket_room b.hand ≡ ticket_room a.hand
+pub room_same : (a b : Own) → OnlyTook a b → ticket_room b.hand ≡ ticket_room a.hand
 room_same a b took = ap (λ (n : ℕ). n - length b.hand.tickets) took.capacity ∙ ap (λ (ts : List Ticket). a.hand.capacity - length ts) took.tickets
 
 -- a try took one ticket in hand at most
-pub room_left : (try : ℕ) (a b c : Own) → OnlyTook a b → ticket_room b.hand ≤ ticket_room c.hand + 1 → 256 ≤ try + ticket_room a.hand → 256 ≤ try + 1 + ticket_room c.hand
+pub room_left : (try : ℕ) (a b c : Own) → OnlyTook a b → ticket_room b.hand ≤ ticket_room c.hand + 1 → 4 ≤ try + ticket_room a.hand → 4 ≤ try + 1 + ticket_room c.hand
 room_left try a b c took one room = let same = room_same a b took in omega arith

@@ -1,4 +1,6 @@
 pub mod Connections
 pub mod Outgoing
+pub mod Polls
 pub mod Reports
+pub mod Shares
 pub mod WholeRounds

@@ -8,9 +8,10 @@ use Rattle.ready.specs.Steps.{EndState}
 use Rattle.dispatch.specs.declared.shared.Own.{Own}
 use Rattle.dispatch.specs.Deliveries.{all_reported, at_slot, raised, IsSubsequence, Delivered}
 use Rattle.dispatch.specs.Hands.{HandState}
-use Rattle.dispatch.specs.Openings.{times, AreOpened, SlotsCounted, AcceptDone}
+use Rattle.dispatch.specs.Openings.{times, slots_in, AreIn, AreOpened, SlotsCounted, OnlyTook, AcceptDone}
 use Rattle.dispatch.specs.Outgoing.{outgoing, tickets_out, TicketsPut}
 use Rattle.dispatch.specs.Polls.{PollerState, Counted}
+use Rattle.dispatch.specs.declared.part.Part.{Part}
 use Rattle.dispatch.specs.Rounds.{RoundDone}
 use Rattle.dispatch.specs.Turns.{Rose}
 use Rattle.dispatch.proofs.Connections.{SamePoller, accept_none}
@@ -29,10 +30,27 @@ pub record SameTable (old new : PollerState) : Type 0 where
   pub table : new.table ≡ old.table
   pub opened : new.opened ≡ old.opened
   pub lost : new.lost ≡ old.lost
+  pub part : new.part ≡ old.part
 
-module _ (p q r t : PollerState) (a b c e : Own) (begun : SameTable p q) (put : TicketsPut a b)
+pub begun_is : {p q : PollerState} → q ≡ record p { batch = [] } → SameTable p q
+begun_is same = record {
+  table = ap (λ (s : PollerState). s.table) same;
+  opened = ap (λ (s : PollerState). s.opened) same;
+  lost = ap (λ (s : PollerState). s.lost) same;
+  part = ap (λ (s : PollerState). s.part) same;
+}
+
+pub looked_is : {p q r : PollerState} → q ≡ record p { batch = [] } → r ≡ record q { reported = r.reported; batch = r.batch } → SameTable p r
+looked_is begun looked = record {
+  table = ap (λ (s : PollerState). s.table) looked ∙ ap (λ (s : PollerState). s.table) begun;
+  opened = ap (λ (s : PollerState). s.opened) looked ∙ ap (λ (s : PollerState). s.opened) begun;
+  lost = ap (λ (s : PollerState). s.lost) looked ∙ ap (λ (s : PollerState). s.lost) begun;
+  part = ap (λ (s : PollerState). s.part) looked ∙ ap (λ (s : PollerState). s.part) begun;
+}
+
+module _ (p q r t : PollerState) (a z b c e : Own) (begun : SameTable p q) (put : TicketsPut a z) (took : OnlyTook z b)
     (delivered : Delivered q.table q.batch b.seat c.seat b.hand c.hand) (ready : c.ready ≡ b.ready) (free : c.free ≡ b.free)
-    (flag : SamePoller q r) (accepted : AcceptDone r t c e) where
+    (own : AreIn q.part (all_reported q.table q.batch)) (flag : SamePoller q r) (accepted : AcceptDone r t c e) where
   table_is : r.table ≡ p.table
   table_is = flag.table ∙ begun.table
 
@@ -45,7 +63,7 @@ module _ (p q r t : PollerState) (a b c e : Own) (begun : SameTable p q) (put : 
   accounts_are : (slot : ℕ) → Rose (at_slot slot (all_reported p.table t.batch) + at_slot slot accepted.opened) (at_slot slot delivered.woke + at_slot slot accepted.opened) (account_at a.seat slot) (account_at e.seat slot)
   accounts_are slot =
       subst (λ (ts : List Ticket). Rose (at_slot slot ts + at_slot slot accepted.opened) (at_slot slot delivered.woke + at_slot slot accepted.opened) (account_at a.seat slot) (account_at e.seat slot)) (sym reported_is)
-      (subst (λ (s : SeatState). Rose (at_slot slot (all_reported q.table q.batch) + at_slot slot accepted.opened) (at_slot slot delivered.woke + at_slot slot accepted.opened) (account_at s slot) (account_at e.seat slot)) put.seat
+      (subst (λ (s : SeatState). Rose (at_slot slot (all_reported q.table q.batch) + at_slot slot accepted.opened) (at_slot slot delivered.woke + at_slot slot accepted.opened) (account_at s slot) (account_at e.seat slot)) (took.seat ∙ put.seat)
       (rose_after (account_at b.seat slot) (account_at c.seat slot) (account_at e.seat slot) (at_slot slot (all_reported q.table q.batch)) (at_slot slot delivered.woke) (at_slot slot accepted.opened) (delivered.accounts slot) (accepted.connected.accounts slot)))
 
   hand_is : e.hand.tickets ≡ b.hand.tickets ++ (delivered.woke ++ accepted.opened)
@@ -58,14 +76,18 @@ module _ (p q r t : PollerState) (a b c e : Own) (begun : SameTable p q) (put : 
       ap (λ (q : EndState Ticket). outgoing q.history e.hand.tickets) (accepted.connected.ready ∙ ready)
       ∙ ap (λ (ts : List Ticket). outgoing b.ready.history ts) hand_is
       ∙ sym (append_assoc (map (λ (put : ℕ × Ticket). put.1) b.ready.history.put) b.hand.tickets (delivered.woke ++ accepted.opened))
+      ∙ ap (λ (q : EndState Ticket). outgoing q.history b.hand.tickets ++ (delivered.woke ++ accepted.opened)) took.ready
+      ∙ ap (λ (ts : List Ticket). outgoing z.ready.history ts ++ (delivered.woke ++ accepted.opened)) took.tickets
       ∙ ap (λ (ts : List Ticket). ts ++ (delivered.woke ++ accepted.opened)) put.tickets
 
   slots_are : SlotsCounted a e accepted.opened accepted.lost
   slots_are slot =
-      let free_is : c.free ≡ a.free = free ∙ put.free in
-      let hand : c.hand.slots ≡ a.hand.slots = ap (λ (h : HandState). h.slots) delivered.hand ∙ put.slots in
-      let queue : times slot (map (λ (take : ℕ × ℕ). take.1) c.free.history.taken) ≡ times slot (map (λ (take : ℕ × ℕ). take.1) a.free.history.taken) = ap (λ (f : EndState ℕ). times slot (map (λ (take : ℕ × ℕ). take.1) f.history.taken)) free_is in
-      let in_hand : times slot c.hand.slots ≡ times slot a.hand.slots = ap (λ (xs : List ℕ). times slot xs) hand in
+      let hand : c.hand.slots ≡ b.hand.slots = ap (λ (h : HandState). h.slots) delivered.hand in
+      let queue : times slot (slots_in c) ≡ times slot (slots_in b) = ap (λ (f : EndState ℕ). times slot (map (λ (take : ℕ × ℕ). take.1) f.history.taken)) free in
+      let in_hand : times slot c.hand.slots ≡ times slot b.hand.slots = ap (λ (xs : List ℕ). times slot xs) hand in
+      let first_queue : times slot (slots_in z) ≡ times slot (slots_in a) = ap (λ (f : EndState ℕ). times slot (map (λ (take : ℕ × ℕ). take.1) f.history.taken)) put.free in
+      let first_hand : times slot z.hand.slots ≡ times slot a.hand.slots = ap (λ (xs : List ℕ). times slot xs) put.slots in
+      let taken = took.slots slot in
       let counted = accepted.slots slot in
       omega arith
 
@@ -76,18 +98,21 @@ module _ (p q r t : PollerState) (a b c e : Own) (begun : SameTable p q) (put : 
     lost = accepted.lost;
     in_order = subst (λ (ts : List Ticket). IsSubsequence delivered.woke ts) (sym reported_is) delivered.in_order;
     accounts = accounts_are;
+    part = accepted.connected.part ∙ flag.part ∙ begun.part;
+    own_reports = subst (λ (part : Part). AreIn part (all_reported p.table t.batch)) begun.part (subst (λ (ts : List Ticket). AreIn q.part ts) (sym reported_is) own);
+    own_openings = subst (λ (part : Part). AreIn part accepted.opened) (flag.part ∙ begun.part) accepted.connected.own;
     tickets = tickets_are;
     table = subst (λ (g : List ℕ). AreOpened g accepted.opened t.table) table_is accepted.connected.table;
     counted = subst (λ (n : ℕ). Counted n (length accepted.opened) t.opened) (flag.opened ∙ begun.opened) accepted.connected.counted;
     unused = subst (λ (n : ℕ). Counted n (length accepted.lost) t.lost) (flag.lost ∙ begun.lost) accepted.connected.unused;
-    gave = accepted.connected.gave ∙ ap (λ (f : EndState ℕ). f.history.put) (free ∙ put.free);
+    gave = accepted.connected.gave ∙ ap (λ (f : EndState ℕ). f.history.put) free ∙ took.gave ∙ ap (λ (f : EndState ℕ). f.history.put) put.free;
     slots = slots_are;
   }
 
 -- nothing was reported, and nothing was accepted
-pub round_ended : (p q : PollerState) (a b : Own) → SameTable p q → q.batch ≡ [] → TicketsPut a b → RoundDone p q a b
-round_ended p q a b begun none put =
-    let still : SamePoller q q = record { table = refl; opened = refl; lost = refl; batch = refl } in
-    round_of p q q q a b b b begun put
+pub round_ended : (p q : PollerState) (a z b : Own) → SameTable p q → q.batch ≡ [] → TicketsPut a z → OnlyTook z b → RoundDone p q a b
+round_ended p q a z b begun none put took =
+    let still : SamePoller q q = record { table = refl; opened = refl; lost = refl; batch = refl; part = refl } in
+    round_of p q q q a z b b b begun put took
     (subst (λ (bs : List ℕ). Delivered q.table bs b.seat b.seat b.hand b.hand) (sym none) (delivered_none q.table b.seat b.hand))
-    refl refl still (accept_none q q b still)
+    refl refl (λ slot out. ap (λ (bs : List ℕ). at_slot slot (all_reported q.table bs)) none) still (accept_none q q b still)

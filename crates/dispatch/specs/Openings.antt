@@ -6,7 +6,8 @@ use Rattle.ready.specs.declared.ticket.Ticket.{Ticket}
 use Rattle.dispatch.specs.declared.shared.Own.{Own}
 use Rattle.dispatch.specs.Deliveries.{at_slot}
 use Rattle.dispatch.specs.Hands.{HandState}
-use Rattle.dispatch.specs.Polls.{PollerState, Counted}
+use Rattle.dispatch.specs.Polls.{PollerState, Counted, IsIn}
+use Rattle.dispatch.specs.declared.part.Part.{Part}
 use Rattle.dispatch.specs.Turns.{Rose}
 
 -- Between two steps of a round the poller's thread holds no slot, its seat is one of these claim words, and its table has a
@@ -29,6 +30,10 @@ abbrev pub AreOpened : List ℕ → List Ticket → List ℕ → Type 0
 AreOpened old [] new = new ≡ old
 AreOpened old (t ∷ ts) new = (t.generation ≡ slice_index old t.slot + 1) × AreOpened (slice_set old t.slot t.generation) ts new
 
+-- all of these are for a poller's own slots: none is for any other
+abbrev pub AreIn : Part → List Ticket → Type 0
+AreIn part tickets = (slot : ℕ) → (IsIn part slot → ⊥) → at_slot slot tickets ≡ 0
+
 -- Of each slot, what was taken out of the queue or was in hand is in hand, or left it in one of these two ways
 abbrev pub SlotsCounted : Own → Own → List Ticket → List ℕ → Type 0
 SlotsCounted had has opened lost =
@@ -49,13 +54,15 @@ pub record Started (ticket : Ticket) (old new : SeatState) (had has : HandState)
   pub account : Rose 1 1 (account_at old ticket.slot) (account_at new ticket.slot)
   pub hand : has ≡ record had { tickets = had.tickets ++ ticket ∷ [] }
 
--- These connections were opened, each with the next generation of its slot, with one note and with one ticket, which is in hand
--- behind the others. And these slots are no longer used
+-- These connections were opened in the poller's own slots, each with the next generation of its slot, with one note and with one
+-- ticket, which is in hand behind the others. And these slots are no longer used
 pub record Connected (opened : List Ticket) (lost : List ℕ) (old new : PollerState) (had has : Own) : Type 0 where
   pub table : AreOpened old.table opened new.table
   pub counted : Counted old.opened (length opened) new.opened
   pub unused : Counted old.lost (length lost) new.lost
   pub batch : new.batch ≡ old.batch
+  pub part : new.part ≡ old.part
+  pub own : AreIn old.part opened
   pub accounts : (slot : ℕ) → Rose (at_slot slot opened) (at_slot slot opened) (account_at had.seat slot) (account_at has.seat slot)
   pub tickets : has.hand.tickets ≡ had.hand.tickets ++ opened
   pub ready : has.ready ≡ had.ready

@@ -1,9 +1,10 @@
 -- What a thread was to put into the queues so far: what its end of a queue has put, and behind it what is in hand for
 -- that queue. Part of the promises. Nothing that was to be put is lost, doubled or moved while this list stays the same.
-use Rattle.std.specs.Prelude.{◌≡◌, ◌⊎◌, ℕ, List, [], ◌∷◌, ◌++◌, map}
+use Rattle.std.specs.Prelude.{◌≡◌, ◌⊎◌, ℕ, List, [], ◌∷◌, ◌++◌, drop, map}
 use Rattle.ready.specs.declared.history.History.{History}
 use Rattle.ready.specs.declared.ticket.Ticket.{Ticket}
 use Rattle.ready.specs.Steps.{EndState, PutLast, HeldOnce}
+use Rattle.dispatch.specs.Deliveries.{at_slot}
 use Rattle.dispatch.specs.Hands.{HandState}
 use Rattle.dispatch.specs.declared.shared.Own.{Own}
 
@@ -33,6 +34,18 @@ slots_out own = outgoing own.free.history own.hand.slots
 -- what a thread owns once the tickets in hand were put, each or until one was refused
 pub record TicketsPut (old new : Own) : Type 0 where
   pub tickets : tickets_out new ≡ tickets_out old
+  pub seat : new.seat ≡ old.seat
+  pub free : new.free ≡ old.free
+  pub slots : new.hand.slots ≡ old.hand.slots
+
+-- the thread without the oldest ticket in its hand
+abbrev pub without_first : Own → Own
+without_first own = record own { hand = record own.hand { tickets = drop 1 own.hand.tickets } }
+
+-- Tickets moved from the hand to the queue or within the hand, and nothing else changed: of each slot there are as many that were to
+-- be put as before
+pub record KeepsOut (old new : Own) : Type 0 where
+  pub tickets : (slot : ℕ) → at_slot slot (tickets_out new) ≡ at_slot slot (tickets_out old)
   pub seat : new.seat ≡ old.seat
   pub free : new.free ≡ old.free
   pub slots : new.hand.slots ≡ old.hand.slots

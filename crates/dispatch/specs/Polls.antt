@@ -1,11 +1,18 @@
 -- What the poller keeps between its rounds. Part of the promises.
-use Rattle.std.specs.Prelude.{◌≡◌, ◌⊎◌, ℕ, ◌+◌, ◌<◌, ◌≤◌, min, Bool, false, List, All}
+use Rattle.std.specs.Prelude.{◌≡◌, ◌⊎◌, ℕ, ◌+◌, ◌<◌, ◌≤◌, min, Bool, false, List, All, slice_index}
 use Rattle.dispatch.specs.declared.accepting.Accepted.{Accepted}
+use Rattle.dispatch.specs.declared.part.Part.{Part}
 use Rattle.dispatch.specs.declared.accepting.Accepted.TheVariants.{Again, Blocked, Starved}
 
--- What the front reported at the last wait, each slot's generation, the reports that this round delivers, the accept flag (whether a connection may wait to be accepted), whether
--- accept(2) was starved at its last answer, how many tries of it the last round left, the bytes of a ring, after how many
--- connections it stops accepting (0 for never), how many it has opened, how many slots it no longer uses, and whether it is over
+-- this slot is one of a poller's
+pub record IsIn (part : Part) (slot : ℕ) : Type 0 where
+  pub least : part.first ≤ slot
+  pub most : slot < part.first + part.slots
+
+-- What the front reported at the last wait, each slot's generation, the reports that this round delivers, the accept flag (whether a
+-- connection may wait to be accepted), whether accept(2) was starved at its last answer, how many tries of it the last round left,
+-- the bytes of a ring, the slots in which it opens connections, how many it may open in all and how many it has opened, how many
+-- slots it no longer uses, and whether it is over
 pub record PollerState : Type 0 where
   pub reported : List ℕ
   pub table : List ℕ
@@ -14,7 +21,8 @@ pub record PollerState : Type 0 where
   pub starved : Bool
   pub tries : ℕ
   pub ring : ℕ
-  pub stop_after : ℕ
+  pub part : Part
+  pub most : ℕ
   pub opened : ℕ
   pub lost : ℕ
   pub over : Bool
@@ -23,16 +31,19 @@ pub record PollerState : Type 0 where
 abbrev pub AreGenerations : List ℕ → Type 0
 AreGenerations table = All (λ generation. generation ≤ 140737488355327) table
 
+-- a poller's table says of the slots of other pollers that they have had no connection
+abbrev pub IsOwnTable : Part → List ℕ → Type 0
+IsOwnTable part table = (slot : ℕ) → (IsIn part slot → ⊥) → slice_index table slot ≡ 0
+
 -- only the answer that none waits takes the accept flag down
 abbrev pub flag_after : Accepted → Bool → Bool
 flag_after Again flag = flag
 flag_after Blocked flag = false
 flag_after Starved flag = flag
 
--- all connections that are to be opened have been
-pub record HasOpenedAll (p : PollerState) : Type 0 where
-  pub limited : 0 < p.stop_after
-  pub opened : p.stop_after ≤ p.opened
+-- all connections that it may open have been
+abbrev pub HasOpenedAll : PollerState → Type 0
+HasOpenedAll p = p.most ≤ p.opened
 
 -- a count of 64 bits, so many later: it stays at its greatest value
 abbrev pub counted_up : ℕ → ℕ → ℕ

@@ -6,7 +6,7 @@ use Rattle.ready.specs.Steps.{HeldOnce}
 use Rattle.dispatch.specs.declared.shared.Own.{Own}
 use Rattle.dispatch.specs.Deliveries.{all_reported, at_slot, IsSubsequence}
 use Rattle.dispatch.specs.Hands.{ticket_room}
-use Rattle.dispatch.specs.Openings.{AreOpened, SlotsCounted}
+use Rattle.dispatch.specs.Openings.{AreIn, AreOpened, SlotsCounted}
 use Rattle.dispatch.specs.Outgoing.{tickets_out}
 use Rattle.dispatch.specs.Polls.{PollerState, HasOpenedAll, Counted}
 use Rattle.dispatch.specs.Turns.{Rose}
@@ -14,13 +14,16 @@ use Rattle.dispatch.specs.Turns.{Rose}
 -- The reports of the batch were delivered: each that is for a connection was posted at its slot, and those that woke made their
 -- tickets. Then connections were opened, each with one post and one ticket at its slot. All tickets that were to be put before, then
 -- those of the reports, then those of the openings are put or in hand, in this order. Each slot that was taken was opened, or is in
--- hand, or is no longer used
+-- hand, or is no longer used. Nothing was posted or opened at a slot of another poller
 pub record RoundDone (old new : PollerState) (had has : Own) : Type 0 where
   pub woke : List Ticket
   pub opened : List Ticket
   pub lost : List ℕ
   pub in_order : IsSubsequence woke (all_reported old.table new.batch)
   pub accounts : (slot : ℕ) → Rose (at_slot slot (all_reported old.table new.batch) + at_slot slot opened) (at_slot slot woke + at_slot slot opened) (account_at had.seat slot) (account_at has.seat slot)
+  pub part : new.part ≡ old.part
+  pub own_reports : AreIn old.part (all_reported old.table new.batch)
+  pub own_openings : AreIn old.part opened
   pub tickets : tickets_out has ≡ tickets_out had ++ (woke ++ opened)
   pub table : AreOpened old.table opened new.table
   pub counted : Counted old.opened (length opened) new.opened
@@ -33,16 +36,23 @@ pub record NoSlot (own : Own) : Type 0 where
   pub hand : own.hand.slots ≡ []
   pub queue : HeldOnce 0 own.free.history
 
--- why accepting ends: no connection may be waiting, or no slot is free, or all were opened, or the system lacked what accept(2)
--- needs, or it was tried 256 times
+-- why no connection is to be accepted now: none may be waiting, or no slot is free, or all were opened
+abbrev pub NoneToAccept : PollerState → Own → Type 0
+NoneToAccept p own = (p.accepting ≡ false) ⊎ (NoSlot own ⊎ HasOpenedAll p)
+
+-- the poller waits only if no connection is to be accepted now, or if the system lacked what accept(2) needs
+abbrev pub MayWait : PollerState → Own → Type 0
+MayWait p own = (p.starved ≡ true) ⊎ NoneToAccept p own
+
+-- why accepting ends: there is a reason to wait, or it was tried 4 times
 abbrev pub AcceptEnded : PollerState → Own → Type 0
-AcceptEnded p own = (p.accepting ≡ false) ⊎ (NoSlot own ⊎ (HasOpenedAll p ⊎ ((p.starved ≡ true) ⊎ (p.tries ≡ 0))))
+AcceptEnded p own = MayWait p own ⊎ (p.tries ≡ 0)
 
 -- a round ends early if its hand has not room for a ticket of each slot and 512 more
 abbrev pub EndedEarly : ℕ → Own → Type 0
 EndedEarly slots own = ticket_room own.hand < 512 + slots
 
--- the poller is over only once all connections were opened, and each slot is back in hand or no longer used
-pub record IsOver (slots : ℕ) (p : PollerState) (own : Own) : Type 0 where
+-- the poller is over only once all connections that it may open were opened, and each of its slots is back in hand or no longer used
+pub record IsOver (p : PollerState) (own : Own) : Type 0 where
   pub opened : HasOpenedAll p
-  pub back : slots ≤ length own.hand.slots + p.lost
+  pub back : p.part.slots ≤ length own.hand.slots + p.lost

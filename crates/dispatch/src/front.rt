@@ -5,7 +5,7 @@ use engine::Wire;
 use log::Log;
 use relay_log::Cause;
 use std::io;
-use std::net::{Net, SocketAddr};
+use std::net::SocketAddr;
 use thiserror::Error;
 use token::Token;
 
@@ -57,9 +57,9 @@ pub trait Front {
     /// What another thread uses to end a wait for reports.
     type Waker;
 
-    /// Waits at most 200 milliseconds for reports, and replaces the contents of the batch by the numbers of their
-    /// tokens, at most [`MAX_BATCH`] (epoll_wait(2)). After an error the batch is empty. It allocates no memory.
-    fn poll(&mut self, batch: &mut Vec<u64>) -> io::Result<()>
+    /// Waits at most 200 milliseconds for reports, or not at all, and replaces the contents of the batch by the numbers
+    /// of their tokens, at most [`MAX_BATCH`] (epoll_wait(2)). After an error the batch is empty. It allocates no memory.
+    fn poll(&mut self, batch: &mut Vec<u64>, wait: bool) -> io::Result<()>
         requires room { MAX_BATCH ≤ vec_capacity batch.old }
         ensures most { vec_len batch.new ≤ MAX_BATCH }
         ensures capacity { vec_capacity batch.new ≡ vec_capacity batch.old }
@@ -72,8 +72,8 @@ pub trait Front {
 
     /// Starts the connection to the target (connect(2)), and has both sockets reported for reading and writing, each
     /// under its token. After an error no target is left open, and the client may still be reported until it is closed.
-    /// It changes nothing that the client's wire specifies.
-    fn open<N: Net + Log>(
+    /// It changes nothing that the client's wire specifies. `rt` is for the log alone.
+    fn open<N: Log>(
         &mut self,
         rt: &N,
         client: &mut Self::Client,
@@ -83,8 +83,9 @@ pub trait Front {
         ensures same { Self.Client.told client.new ≡ Self.Client.told client.old }
         ensures reported { reported self.new ≡ reported self.old };
 
-    /// Ends the wait in progress, or else the next one, which then reports the waker's number, 1.
-    fn wake(waker: &Self::Waker);
+    /// Ends the wait in progress of the thread that opens this slot, or else its next one, which then reports the waker's
+    /// number, 1.
+    fn wake(waker: &Self::Waker, slot: usize);
 
     /// A client's address, if it is known. It is only for the log.
     fn peer(client: &Self::Client) -> Option<SocketAddr>;

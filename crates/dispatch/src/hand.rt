@@ -42,6 +42,13 @@ impl Hand {
         self.tickets.len() < self.tickets.capacity() && self.slots.len() < self.slots.capacity()
     }
 
+    /// Whether one more slot fits.
+    pub fn has_slot_room(&self) -> bool
+        ensures { IsTrue result ↔ (length self.now.slots < self.now.capacity) }
+    {
+        self.slots.len() < self.slots.capacity()
+    }
+
     /// How many more tickets fit.
     pub fn room(&self) -> usize
         ensures { result ≡ ticket_room self.now }

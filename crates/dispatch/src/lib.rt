@@ -4,8 +4,10 @@
 //! A report about a socket becomes a note at its slot ([`deliver`]). The first note at a slot that nobody holds makes a
 //! ticket, and the thread that takes the ticket runs one turn of the connection in that slot ([`worker_turn`]). A slot
 //! is held by one thread at a time, by the rule of the claim words (`claims`), so a connection's two sockets and its
-//! pair are never touched by two threads, and no note is lost between them. The poller's thread makes rounds
-//! ([`poller_round`]): it puts its tickets, waits for reports, delivers them, and accepts and opens connections.
+//! pair are never touched by two threads, and no note is lost between them. A poller's thread makes rounds
+//! ([`poller_round`]): it puts its tickets, waits for reports, delivers them, and accepts and opens connections. Most of
+//! the tickets of a round it runs itself ([`share_tickets`], [`own_turn`]). There may be several pollers, each with a
+//! [`Part`] of the slots.
 //!
 //! - [`Front`] is where connections and reports come from: the system's sockets, or an in-memory fake.
 //! - [`Shared`] is what all threads share, and [`Own`] what one thread owns: its seat at the claim words, its ends of
@@ -21,6 +23,8 @@ mod gate;
 mod hand;
 mod limits;
 mod opening;
+mod own_turns;
+mod part;
 mod parts;
 mod poller;
 mod putting;
@@ -36,10 +40,12 @@ pub use faults::ServerFault;
 pub use front::{Front, Settle, Unopened};
 pub use gate::{Gate, OpenGate};
 pub use hand::Hand;
-pub use limits::{LISTENER, MAX_ACCEPTS, MAX_BATCH, WAKER};
+pub use limits::{LISTENER, MAX_ACCEPTS, MAX_BATCH, MAX_OWN_TURNS, WAKER};
+pub use own_turns::{own_turn, share_tickets};
+pub use part::Part;
 pub use parts::Parts;
 pub use poller::Poller;
 pub use putting::{give_slots, put_tickets};
 pub use round::poller_round;
 pub use shared::{Own, Shared};
-pub use worker::{Worked, own_turn, worker_turn};
+pub use worker::{Worked, worker_turn};

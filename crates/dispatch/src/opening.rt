@@ -6,7 +6,7 @@ ghost use Rattle.relay_core.specs.Pairs.{fresh};
 ghost use Rattle.dispatch.specs.Turns.{HoldsOnly};
 ghost use Rattle.dispatch.specs.Hands.{ticket_room};
 ghost use Rattle.dispatch.specs.Openings.{Between, Started, Connected, AcceptDone};
-ghost use Rattle.dispatch.specs.Polls.{AreGenerations};
+ghost use Rattle.dispatch.specs.Polls.{AreGenerations, IsIn};
 
 use crate::faults::ServerFault;
 use crate::front::Front;
@@ -19,7 +19,6 @@ use ready::Ticket;
 use relay_core::Pair;
 use relay_log::{Cause, log_drop, log_open, log_peer};
 use std::alloc::Global;
-use std::net::Net;
 use std::sync::Wait;
 use token::{Side, Token, next_gen};
 
@@ -33,11 +32,11 @@ pub(crate) struct Names {
 /// Opens an accepted connection in the free slot in hand. It gets the slot's next generation, one note and one ticket,
 /// and is logged. If its opening fails, it is closed and logged, and its slot is as it was, and in hand.
 ///
-/// A slot outside the table, at its last generation or not free, none of which happens in any run, is no longer used,
+/// A slot of another poller, outside the table, at its last generation or not free, none of which happens in any run, is no longer used,
 /// and the connection is closed.
 ///
 /// The only refusal is `Worn`: the seat has posted 2^56 times.
-pub(crate) fn open<F: Front, R: Net + Wait + Log>(
+pub(crate) fn open<F: Front, R: Wait + Log>(
     rt: &R,
     alloc: Global,
     shared: &Shared<F>,
@@ -56,6 +55,10 @@ pub(crate) fn open<F: Front, R: Net + Wait + Log>(
     let Some(slot) = own.hand.take_slot() else {
         return Ok(());
     };
+    if !poller.part().has(slot) {
+        poller.count_lost();
+        return Ok(());
+    }
     let Some(names) = next_names(poller.table(), slot) else {
         poller.count_lost();
         return Ok(());
@@ -87,7 +90,7 @@ pub(crate) fn next_names(table: &[u64], slot: usize) -> Option<Names>
 
 /// Starts the connection to the target, and makes the pair. A refusal closes the client's connection, and the target's
 /// if it had been started.
-pub(crate) fn connect<F: Front, N: Net + Log>(
+pub(crate) fn connect<F: Front, N: Log>(
     rt: &N,
     alloc: Global,
     poller: &mut Poller<F>,
@@ -116,6 +119,7 @@ pub(crate) fn connect<F: Front, N: Net + Log>(
 }
 
 /// Places a prepared connection in its slot, which has it from then on.
+#[tactic(auto, using(crate::proofs::Connections::own_one))]
 fn place<F: Front, R: Wait + Log>(
     rt: &R,
     shared: &Shared<F>,
@@ -125,6 +129,7 @@ fn place<F: Front, R: Wait + Log>(
 ) -> Result<(), ServerFault>
     requires between { Between shared.now.claims own.old poller.old }
     requires inside { berth.pair.slot < length poller.old.table }
+    requires own { IsIn poller.old.part berth.pair.slot }
     requires next { berth.pair.generation ≡ slice_index poller.old.table berth.pair.slot + 1 }
     requires generation { berth.pair.generation ≤ 140737488355327 }
     requires room { 1 ≤ ticket_room own.old.hand }

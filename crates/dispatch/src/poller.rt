@@ -1,9 +1,10 @@
 //! What the poller keeps between its rounds.
 ghost use Rattle.std.specs.Prelude.{◌≡◌, ◌+◌, ◌<◌, ◌≤◌, ◌↔◌, [], length, IfOk, OnOk, OnErr, IsTrue, OnSome, IfSome, replicate, slice_index, slice_set, true, false};
-ghost use Rattle.dispatch.specs.Polls.{AreGenerations, HasOpenedAll, counted_up};
+ghost use Rattle.dispatch.specs.Polls.{AreGenerations, IsIn, IsOwnTable, HasOpenedAll, counted_up};
 
 use crate::front::Front;
-use crate::limits::{MAX_ACCEPTS, MAX_BATCH};
+use crate::limits::{HEAVY_TICKETS, MAX_ACCEPTS, MAX_BATCH};
+use crate::part::Part;
 use ready::Ticket;
 use std::alloc::{AllocError, Global};
 use std::marker::Model;
@@ -22,8 +23,12 @@ pub struct Poller<F: Front> {
     // How many tries of accept(2) the last round left.
     pub(crate) tries: usize,
     ring: usize,
-    // How many connections are opened in all; 0 for no limit.
-    stop_after: u32,
+    // The slots in which it opens connections.
+    part: Part,
+    // Of each slot's next tickets, how many are for the workers.
+    heavy: Vec<u8>,
+    // How many connections it may open in all.
+    most: u64,
     opened: u64,
     // How many slots are no longer used.
     lost: u64,
@@ -32,64 +37,65 @@ pub struct Poller<F: Front> {
 
 impl<F: Front> Model for Poller<F> {
     ghost use Rattle.std.specs.Prelude.{◌≤◌, length, vec_capacity};
-    ghost use Rattle.dispatch.specs.Polls.{PollerState, AreGenerations};
+    ghost use Rattle.dispatch.specs.Polls.{PollerState, AreGenerations, IsOwnTable};
 
     ghost Value = { PollerState };
 
-    ghost view = { λ p. record { reported = F.reported p.front; table = p.table.items; batch = p.batch.items; accepting = p.accepting; starved = p.starved; tries = p.tries; ring = p.ring; stop_after = p.stop_after; opened = p.opened; lost = p.lost; over = p.over } };
+    ghost view = { λ p. record { reported = F.reported p.front; table = p.table.items; batch = p.batch.items; accepting = p.accepting; starved = p.starved; tries = p.tries; ring = p.ring; part = p.part; most = p.most; opened = p.opened; lost = p.lost; over = p.over } };
 
-    ghost invariant = { λ p. AreGenerations p.table.items × (256 ≤ vec_capacity p.batch) × (length p.batch.items ≤ 256) × (1 ≤ p.ring) × (p.ring ≤ 65536) };
+    ghost invariant = { λ p. AreGenerations p.table.items × IsOwnTable p.part p.table.items × (256 ≤ vec_capacity p.batch) × (length p.batch.items ≤ 256) × (1 ≤ p.ring) × (p.ring ≤ 65536) };
 }
 
 impl<F: Front> Poller<F> {
-    /// The poller of a server that has opened no connection yet. A ring has `ring` bytes, and no connection is accepted
-    /// after `stop_after` were opened, unless that is 0.
+    /// A poller that has opened no connection yet. Its table is for `table` slots, and it opens connections in a part of
+    /// them, at most `most` in all. A ring has `ring` bytes.
     ///
-    /// Fails only if there is no memory for the table and the batch. A round allocates memory only for connections and
+    /// Fails only if there is no memory for what it keeps of each slot and for the batch. A round allocates memory only for connections and
     /// log lines.
     pub fn new(
         alloc: Global,
         front: F,
-        slots: usize,
+        table: usize,
+        part: Part,
         ring: usize,
-        stop_after: u32,
+        most: u64,
     ) -> Result<Poller<F>, AllocError>
     where
         F: Drop,
-        requires least { 1 ≤ ring }
-        requires most { ring ≤ 65536 }
-        ensures { IfOk result (λ poller. poller ≡ record { reported = F.reported front; table = replicate slots 0; batch = []; accepting = true; starved = false; tries = 0; ring = ring; stop_after = stop_after; opened = 0; lost = 0; over = false }) }
+        requires ring { (1 ≤ ring) × (ring ≤ 65536) }
+        ensures { IfOk result (λ poller. poller ≡ record { reported = F.reported front; table = replicate table 0; batch = []; accepting = true; starved = false; tries = 0; ring = ring; part = part; most = most; opened = 0; lost = 0; over = false }) }
     {
         Ok(Poller {
             front,
-            table: vec![in alloc; 0; slots]?,
+            table: vec![in alloc; 0; table]?,
             batch: Vec::with_capacity(alloc, MAX_BATCH)?,
             accepting: true,
             starved: false,
             tries: 0,
             ring,
-            stop_after,
+            part,
+            heavy: vec![in alloc; 0; table]?,
+            most,
             opened: 0,
             lost: 0,
             over: false,
         })
     }
 
-    /// From now on each slot counts as having had so many connections: the next one there has the next generation, and
+    /// From now on this slot counts as having had so many connections: the next one there has the next generation, and
     /// there is none after the last, 2^47 - 1. A server starts at 0. `drill` starts near the last.
-    ///
-    /// Fails only if there is no memory for the table, which then stays.
-    pub fn start_at(&mut self, alloc: Global, generation: u64) -> Result<(), AllocError>
-        requires { generation ≤ 140737488355327 }
-        ensures started { OnOk result (self.new ≡ record self.old { table = replicate (length self.old.table) generation }) }
-        ensures unchanged { OnErr result (self.new ≡ self.old) }
+    #[tactic(auto, using(crate::proofs::Polls::own_set))]
+    pub fn start_at(&mut self, slot: usize, generation: u64)
+        requires inside { slot < length self.old.table }
+        requires own { IsIn self.old.part slot }
+        requires generation { generation ≤ 140737488355327 }
+        ensures { self.new ≡ record self.old { table = slice_set self.old.table slot generation } }
     {
-        self.table = vec![in alloc; generation; self.table.len()]?;
-        Ok(())
+        self.table[slot] = generation;
     }
 
-    /// Whether `stop_after` connections have been opened, and all of them are closed. A round finds that out by the
-    /// slots that were given back.
+    /// Whether all connections that it may open have been opened, and all of them are closed. A round finds that out by
+    /// the slots that were given back.
     pub fn is_over(&self) -> bool
         ensures { result ≡ self.now.over }
     {
@@ -103,10 +109,18 @@ impl<F: Front> Poller<F> {
         self.accepting
     }
 
+    /// Whether the system lacked what accept(2) needs when it was last tried.
+    pub(crate) fn is_starved(&self) -> bool
+        ensures { result ≡ self.now.starved }
+    {
+        self.starved
+    }
+
     /// Each slot's generation: how many connections it has had, or counts as having had.
     pub fn table(&self) -> &[u64]
         ensures table { result.now ≡ self.now.table }
         ensures generations { AreGenerations result.now }
+        ensures own { IsOwnTable self.now.part result.now }
     {
         self.table.as_slice()
     }
@@ -134,11 +148,41 @@ impl<F: Front> Poller<F> {
         self.lost
     }
 
-    /// Whether `stop_after` connections have been opened.
+    /// The slots in which it opens connections.
+    pub fn part(&self) -> Part
+        ensures { result ≡ self.now.part }
+    {
+        self.part
+    }
+
+    /// Whether its thread runs the slot's next ticket itself. If not, one ticket less of the slot's is for the workers
+    /// from now on.
+    pub(crate) fn is_light(&mut self, slot: usize) -> bool
+        ensures { self.new ≡ self.old }
+    {
+        match self.heavy.get_mut(slot) {
+            Some(left) if *left > 0 => {
+                *left -= 1;
+                false
+            }
+            _ => true,
+        }
+    }
+
+    /// The slot's connection spent its thread's budget: its next tickets are for the workers.
+    pub(crate) fn mark_heavy(&mut self, slot: usize)
+        ensures { self.new ≡ self.old }
+    {
+        if let Some(left) = self.heavy.get_mut(slot) {
+            *left = HEAVY_TICKETS;
+        }
+    }
+
+    /// Whether it has opened all connections that it may open.
     pub(crate) fn has_opened_all(&self) -> bool
         ensures { IsTrue result ↔ HasOpenedAll self.now }
     {
-        self.stop_after > 0 && self.opened >= u64::from(self.stop_after)
+        self.opened >= self.most
     }
 
     /// No reports are left from the last wait.
@@ -150,14 +194,16 @@ impl<F: Front> Poller<F> {
 
     /// A round may try accept(2) so many times again.
     pub(crate) fn reset_tries(&mut self)
-        ensures { self.new ≡ record self.old { tries = 256 } }
+        ensures { self.new ≡ record self.old { tries = 4 } }
     {
         self.tries = MAX_ACCEPTS;
     }
 
     /// A connection was opened: its slot has the ticket's generation from now on.
+    #[tactic(auto, using(crate::proofs::Polls::own_set))]
     pub(crate) fn count_opened(&mut self, ticket: Ticket)
         requires inside { ticket.slot < length self.old.table }
+        requires own { IsIn self.old.part ticket.slot }
         requires generation { ticket.generation ≤ 140737488355327 }
         ensures { self.new ≡ record self.old { table = slice_set self.old.table ticket.slot ticket.generation; opened = counted_up self.old.opened 1 } }
     {

@@ -5,18 +5,18 @@ ghost use Rattle.std.specs.declared.io.ErrorKind.TheVariants.{Interrupted};
 ghost use Rattle.claims.specs.Seats.{HoldsNothing};
 ghost use Rattle.ready.specs.Steps.{HeldOnce};
 ghost use Rattle.dispatch.specs.Accepts.{accepted_of};
-ghost use Rattle.dispatch.specs.Deliveries.{Delivered};
+ghost use Rattle.dispatch.specs.Deliveries.{Delivered, all_reported};
 ghost use Rattle.dispatch.specs.Hands.{ticket_room};
-ghost use Rattle.dispatch.specs.Openings.{Between, OnlyTook, AcceptDone};
+ghost use Rattle.dispatch.specs.Openings.{AreIn, Between, OnlyTook, AcceptDone};
 ghost use Rattle.dispatch.specs.Outgoing.{PutAll, TicketsPut};
 ghost use Rattle.dispatch.specs.Polls.{HasOpenedAll, flag_after};
-ghost use Rattle.dispatch.specs.Rounds.{RoundDone, AcceptEnded, EndedEarly, IsOver, NoSlot};
+ghost use Rattle.dispatch.specs.Rounds.{RoundDone, AcceptEnded, EndedEarly, IsOver, MayWait, NoSlot, NoneToAccept};
 
 use crate::accepting::{Accepted, accepted_of};
 use crate::delivering::deliver;
 use crate::faults::ServerFault;
 use crate::front::Front;
-use crate::limits::{MAX_ACCEPTS, MAX_BATCH};
+use crate::limits::{MAX_ACCEPTS, ROUND_ROOM};
 use crate::opening::open;
 use crate::poller::Poller;
 use crate::putting::put_tickets;
@@ -24,21 +24,21 @@ use crate::shared::{Own, Shared};
 use log::{Log, error};
 use std::alloc::Global;
 use std::io;
-use std::net::Net;
 use std::sync::Wait;
 
 /// One round of the poller.
 ///
 /// The tickets in hand are put, until one is refused; if the hand has no room for a ticket of each slot and 512 more,
-/// the round ends there. Then it waits once for reports and delivers them ([`deliver`]). While connections may be
-/// waiting and a slot is free, it accepts and opens them, with at most 256 calls of accept(2).
+/// the round ends there. Then it asks once for reports and delivers them ([`deliver`]); it waits for them only if no
+/// connection can be accepted now. While connections may be waiting and a slot is free, it accepts and opens them, with
+/// at most 4 calls of accept(2).
 ///
 /// An opened connection has the slot's next generation, one note and one ticket, and is logged. A connection whose
 /// opening fails is closed and logged, and its slot is as it was, and in hand.
 ///
 /// Refusals: `Poll` if waiting for reports failed, and `Worn` if the seat has posted 2^56 times. Then, too, the seat
 /// holds nothing.
-pub fn poller_round<F: Front, R: Net + Wait + Log>(
+pub fn poller_round<F: Front, R: Wait + Log>(
     rt: &R,
     alloc: Global,
     shared: &Shared<F>,
@@ -54,53 +54,76 @@ pub fn poller_round<F: Front, R: Net + Wait + Log>(
     ensures round { result ≢ Err ServerFault.Worn → RoundDone poller.old poller.new own.old own.new }
     ensures batch { result ≢ Err ServerFault.Worn → EndedEarly shared.now.claims.words own.new ⊎ (poller.new.batch ≡ poller.new.reported) }
     ensures accepted { OnOk result (EndedEarly shared.now.claims.words own.new ⊎ AcceptEnded poller.new own.new) }
-    ensures over { OnOk result (poller.new.over ≡ true → (poller.old.over ≡ true) ⊎ IsOver shared.now.claims.words poller.new own.new) }
+    ensures over { OnOk result (poller.new.over ≡ true → (poller.old.over ≡ true) ⊎ IsOver poller.new own.new) }
 {
-    let most = (MAX_BATCH + MAX_ACCEPTS).saturating_add(shared.claims.slots());
-    if !begin(rt, own, poller, most)? {
+    let most = ROUND_ROOM.saturating_add(shared.claims.slots());
+    if !begin(rt, own, poller, most) {
         return Ok(());
     }
+    look(rt, own, poller)?;
     deliver_batch(shared, own, poller)?;
     accept_all(rt, alloc, shared, own, poller)?;
-    take_back(rt, shared, own, poller);
+    take_back(rt, own, poller);
     Ok(())
 }
 
-/// The start of a round: puts the tickets in hand, until one is refused, and then waits for reports. Answers false,
-/// without a wait, if the hand has no room for so many more tickets.
-fn begin<F: Front, R: Wait + Log>(
-    rt: &R,
-    own: &mut Own,
-    poller: &mut Poller<F>,
-    most: usize,
-) -> Result<bool, ServerFault>
+/// The start of a round: puts the tickets in hand, until one is refused. Answers false if the hand then has no room for
+/// so many more tickets.
+fn begin<F: Front, R: Wait>(rt: &R, own: &mut Own, poller: &mut Poller<F>, most: usize) -> bool
     ensures put { TicketsPut own.old own.new }
-    ensures poller { poller.new ≡ record poller.old { reported = poller.new.reported; batch = poller.new.batch } }
-    ensures waited { result ≡ Ok true → (most ≤ ticket_room own.new.hand) × (poller.new.batch ≡ poller.new.reported) }
-    ensures early { result ≡ Ok false → (ticket_room own.new.hand < most) × (poller.new.batch ≡ []) }
-    ensures failed { IfErr result (λ fault. (fault ≡ ServerFault.Poll) × (poller.new.batch ≡ []) × (poller.new.batch ≡ poller.new.reported)) }
-    ensures few { length poller.new.batch ≤ 256 }
+    ensures all { PutAll own.new.ready own.new.hand.tickets }
+    ensures poller { poller.new ≡ record poller.old { batch = [] } }
+    ensures room { IsTrue result ↔ (most ≤ ticket_room own.new.hand) }
 {
     poller.forget_reports();
     put_tickets(rt, &mut own.ready, &mut own.hand);
-    if own.hand.room() < most {
-        return Ok(false);
-    }
-    poll(rt, own, poller)?;
-    Ok(true)
+    own.hand.room() >= most
 }
 
-/// Waits for reports. After a signal the batch is empty. No ticket is left in hand meanwhile, unless the queue of
-/// tickets was full.
-fn poll<F: Front, R: Log>(rt: &R, _own: &Own, poller: &mut Poller<F>) -> Result<(), ServerFault>
+/// Takes the reports. It waits for them, unless a connection can be accepted now.
+fn look<F: Front, R: Wait + Log>(
+    rt: &R,
+    own: &mut Own,
+    poller: &mut Poller<F>,
+) -> Result<(), ServerFault>
+    requires put { PutAll own.old.ready own.old.hand.tickets }
+    requires room { 1 ≤ ticket_room own.old.hand }
+    ensures took { OnlyTook own.old own.new }
+    ensures poller { poller.new ≡ record poller.old { reported = poller.new.reported; batch = poller.new.batch } }
+    ensures batch { poller.new.batch ≡ poller.new.reported }
+    ensures failed { IfErr result (λ fault. (fault ≡ ServerFault.Poll) × (poller.new.batch ≡ [])) }
+    ensures few { length poller.new.batch ≤ 256 }
+{
+    let wait = may_wait(rt, own, poller);
+    poll(rt, own, poller, wait)
+}
+
+/// Whether the poller may wait for reports.
+fn may_wait<F: Front, R: Wait>(rt: &R, own: &mut Own, poller: &Poller<F>) -> bool
+    requires room { 1 ≤ ticket_room own.old.hand }
+    ensures took { OnlyTook own.old own.new }
+    ensures reason { result ≡ true → MayWait poller.now own.new }
+{
+    poller.is_starved() || !may_accept(rt, own, poller)
+}
+
+/// Asks for reports. After a signal the batch is empty. While it waits no ticket is left in hand, unless the queue of
+/// tickets was full, and no connection is to be accepted, unless the system lacked what accept(2) needs.
+fn poll<F: Front, R: Log>(
+    rt: &R,
+    _own: &Own,
+    poller: &mut Poller<F>,
+    wait: bool,
+) -> Result<(), ServerFault>
     requires put { PutAll _own.now.ready _own.now.hand.tickets }
+    requires wait { wait ≡ true → MayWait poller.old _own.now }
     ensures same { poller.new ≡ record poller.old { reported = poller.new.reported; batch = poller.new.batch } }
     ensures batch { poller.new.batch ≡ poller.new.reported }
     ensures failed { OnErr result (poller.new.batch ≡ []) }
     ensures fault { IfErr result (λ fault. fault ≡ ServerFault.Poll) }
     ensures few { length poller.new.batch ≤ 256 }
 {
-    let answer = poller.front.poll(&mut poller.batch);
+    let answer = poller.front.poll(&mut poller.batch, wait);
     polled(rt, answer)
 }
 
@@ -119,7 +142,8 @@ fn polled<R: Log>(rt: &R, answer: io::Result<()>) -> Result<(), ServerFault>
     }
 }
 
-/// Delivers the reports of the batch, and raises the accept flag if the listener was reported.
+/// Delivers the reports of the batch, and raises the accept flag if the listener was reported. None is for a slot of
+/// another poller, since the table has no connection there.
 fn deliver_batch<F: Front>(
     shared: &Shared<F>,
     own: &mut Own,
@@ -132,6 +156,7 @@ fn deliver_batch<F: Front>(
     ensures worn { IfErr result (λ fault. fault ≡ ServerFault.Worn) }
     ensures delivered { OnOk result (Delivered poller.old.table poller.old.batch own.old.seat own.new.seat own.old.hand own.new.hand) }
     ensures flag { OnOk result (IsTrue poller.new.accepting ↔ (IsTrue poller.old.accepting ⊎ Contains poller.old.batch 0)) }
+    ensures own { AreIn poller.old.part (all_reported poller.old.table poller.old.batch) }
     ensures ready { own.new.ready ≡ own.old.ready }
     ensures free { own.new.free ≡ own.old.free }
 {
@@ -149,7 +174,7 @@ fn deliver_batch<F: Front>(
 }
 
 /// Accepts and opens connections while one may be waiting and a slot is free.
-fn accept_all<F: Front, R: Net + Wait + Log>(
+fn accept_all<F: Front, R: Wait + Log>(
     rt: &R,
     alloc: Global,
     shared: &Shared<F>,
@@ -157,7 +182,7 @@ fn accept_all<F: Front, R: Net + Wait + Log>(
     poller: &mut Poller<F>,
 ) -> Result<(), ServerFault>
     requires between { Between shared.now.claims own.old poller.old }
-    requires room { 256 ≤ ticket_room own.old.hand }
+    requires room { 4 ≤ ticket_room own.old.hand }
     ensures between { Between shared.now.claims own.new poller.new }
     ensures worn { IfErr result (λ fault. fault ≡ ServerFault.Worn) }
     ensures done { OnOk result (AcceptDone poller.old poller.new own.old own.new) }
@@ -181,14 +206,14 @@ fn accept_all<F: Front, R: Net + Wait + Log>(
 fn may_accept<F: Front, R: Wait>(rt: &R, own: &mut Own, poller: &Poller<F>) -> bool
     requires room { 1 ≤ ticket_room own.old.hand }
     ensures took { OnlyTook own.old own.new }
-    ensures ended { result ≡ false → AcceptEnded poller.now own.new }
+    ensures ended { result ≡ false → NoneToAccept poller.now own.new }
 {
     poller.is_accepting() && !poller.has_opened_all() && has_slot(rt, own)
 }
 
 /// Tries accept(2), and opens the connection that it gives. Answers whether the next try is worth making: not if the
 /// system lacked what accept(2) needs.
-fn accept_next<F: Front, R: Net + Wait + Log>(
+fn accept_next<F: Front, R: Wait + Log>(
     rt: &R,
     alloc: Global,
     shared: &Shared<F>,
@@ -280,20 +305,21 @@ fn not_accepted<F: Front, R: Log>(rt: &R, poller: &mut Poller<F>, error: &io::Er
     class
 }
 
-/// Once `stop_after` connections have been opened, takes the free slots in hand and checks whether they are
-/// all there. A slot that is no longer used counts as free.
-fn take_back<F: Front, R: Wait>(rt: &R, shared: &Shared<F>, own: &mut Own, poller: &mut Poller<F>)
+/// Once all connections that it may open have been opened, takes the free slots in hand and checks whether they are all
+/// there. A slot that is no longer used counts as free.
+fn take_back<F: Front, R: Wait>(rt: &R, own: &mut Own, poller: &mut Poller<F>)
     ensures took { OnlyTook own.old own.new }
     ensures poller { poller.new ≡ record poller.old { over = poller.new.over } }
     ensures unlimited { (HasOpenedAll poller.old → ⊥) → (own.new ≡ own.old) × (poller.new ≡ poller.old) }
-    ensures over { poller.new.over ≡ true → (poller.old.over ≡ true) ⊎ IsOver shared.now.claims.words poller.new own.new }
+    ensures over { poller.new.over ≡ true → (poller.old.over ≡ true) ⊎ IsOver poller.new own.new }
 {
     if !poller.has_opened_all() {
         return;
     }
-    take_all(rt, own, shared.claims.slots());
+    let part = poller.part();
+    take_all(rt, own, part.slots);
     let slots = own.hand.slots() as u64;
-    poller.over = slots.saturating_add(poller.lost()) >= shared.claims.slots() as u64;
+    poller.over = slots.saturating_add(poller.lost()) >= part.slots as u64;
 }
 
 /// Takes free slots in hand, at most so many, until there is none or the hand is full.

@@ -5,6 +5,7 @@ use crate::hand::Hand;
 use berths::Berths;
 use claims::{ClaimSeat, Claims};
 use ready::{FreeQueue, ReadyQueue};
+use relay_core::MAX_READ;
 
 /// What all threads of a server share.
 #[derive(Drop)]
@@ -33,4 +34,6 @@ pub struct Own {
     pub free: FreeQueue,
     /// What a queue refused.
     pub hand: Hand,
+    /// What its turns read into.
+    pub buffer: Box<[u8; MAX_READ]>,
 }

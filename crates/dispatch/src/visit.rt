@@ -6,9 +6,9 @@ ghost use Rattle.dispatch.specs.Turns.{HoldsOnly, noted_by};
 use crate::front::{Front, Settle};
 use crate::shared::{Own, Shared};
 use berths::Berth;
-use engine::{Turn, turn};
+use engine::{Turn, turn_with};
 use ready::Ticket;
-use relay_core::Pair;
+use relay_core::{MAX_READ, Pair};
 use std::marker::Model;
 use std::sync::Wait;
 
@@ -105,9 +105,9 @@ impl<F: Front> Visit<F> {
         &self.berth.pair
     }
 
-    /// Gives the connection a report if notes waited, and makes at most `budget` of its calls on its two wires. It
-    /// allocates no memory and waits for no lock.
-    pub(crate) fn play(&mut self, notes: u64, budget: usize) -> Turn
+    /// Gives the connection a report if notes waited, and makes at most `budget` of its calls on its two wires, which
+    /// read into the buffer. It allocates no memory and waits for no lock.
+    pub(crate) fn play(&mut self, notes: u64, budget: usize, buffer: &mut [u8; MAX_READ]) -> Turn
         requires least { 1 ≤ budget }
         requires most { budget ≤ 1024 }
         ensures ticket { self.new.ticket ≡ self.old.ticket }
@@ -117,11 +117,12 @@ impl<F: Front> Visit<F> {
         if notes > 0 {
             self.berth.pair.note();
         }
-        turn(
+        turn_with(
             &mut self.berth.pair,
             &mut self.berth.client,
             &mut self.berth.target,
             budget,
+            buffer,
         )
     }
 

@@ -17,7 +17,7 @@ use claims::{ClaimSeat, Claimed, Posted, Released};
 use engine::Turn;
 use log::Log;
 use ready::Ticket;
-use relay_core::{Pair, Verdict};
+use relay_core::{MAX_READ, Pair, Verdict};
 use relay_log::{log_done, log_fail};
 use std::sync::Wait;
 use token::MAX_GENERATION;
@@ -68,12 +68,41 @@ pub fn worker_turn<F: Front, G: Gate, R: Wait + Log>(
 {
     put_tickets(rt, &mut own.ready, &mut own.hand);
     give_slots(rt, &mut own.free, &mut own.hand);
+    let worked = turn_of(rt, shared, own, gate, ticket, shared.budget)?;
+    if worked == Worked::Ended {
+        wake_poller(shared, own, ticket);
+    }
+    Ok(worked)
+}
+
+/// A turn without what comes before it and after it: nothing in hand is put first, and nobody is woken. It makes at most
+/// `budget` calls.
+pub(crate) fn turn_of<F: Front, G: Gate, R: Wait + Log>(
+    rt: &R,
+    shared: &Shared<F>,
+    own: &mut Own,
+    gate: &G,
+    ticket: Ticket,
+    budget: usize,
+) -> Result<Worked, ServerFault>
+    requires same { own.old.seat.table ≡ shared.now.claims }
+    requires idle { HoldsNothing own.old.seat }
+    requires room { HasRoom own.old.hand }
+    requires budget { (1 ≤ budget) × (budget ≤ 1024) }
+    ensures idle { HoldsNothing own.new.seat }
+    ensures only { OnlyAt ticket.slot own.old.seat own.new.seat }
+    ensures change { TurnChange (account_at own.old.seat ticket.slot) result (account_at own.new.seat ticket.slot) }
+    ensures exchanges { ticket.slot < shared.now.claims.words → own.new.seat.steps ≡ own.old.seat.steps + exchanges result }
+    ensures tickets { TicketsKept ticket own.old own.new }
+    ensures slots { SlotsKept ticket result own.old own.new }
+    ensures outside { shared.now.claims.words ≤ ticket.slot → (result ≡ Ok Worked.Gone) × (own.new.seat ≡ own.old.seat) }
+{
     if ticket.slot >= shared.claims.slots() {
         return Ok(Worked::Gone);
     }
     match shared.claims.claim(&mut own.seat, ticket.slot) {
         Claimed::Busy => Ok(Worked::Busy),
-        Claimed::Held => claimed(rt, shared, own, gate, ticket),
+        Claimed::Held => claimed(rt, shared, own, gate, ticket, budget),
     }
 }
 
@@ -84,14 +113,16 @@ fn claimed<F: Front, G: Gate, R: Wait + Log>(
     own: &mut Own,
     gate: &G,
     ticket: Ticket,
+    budget: usize,
 ) -> Result<Worked, ServerFault>
-    requires { AtWork shared.now.claims ticket.slot own.old }
+    requires work { AtWork shared.now.claims ticket.slot own.old }
+    requires budget { (1 ≤ budget) × (budget ≤ 1024) }
     ensures done { TurnDone ticket result own.old own.new }
     ensures exchanges { own.new.seat.steps ≡ own.old.seat.steps + exchanges_left result }
 {
     match take_out(rt, shared, own, ticket) {
         Ok(visit) if visit.pair().generation() == ticket.generation => {
-            run(rt, shared, own, gate, visit)
+            run(rt, shared, own, gate, visit, budget)
         }
         Ok(other) => {
             let back = put_in(rt, shared, own, other);
@@ -123,12 +154,21 @@ fn run<F: Front, G: Gate, R: Wait + Log>(
     own: &mut Own,
     gate: &G,
     mut visit: Visit<F>,
+    budget: usize,
 ) -> Result<Worked, ServerFault>
-    requires { AtWork shared.now.claims visit.ticket.slot own.old }
+    requires work { AtWork shared.now.claims visit.ticket.slot own.old }
+    requires budget { (1 ≤ budget) × (budget ≤ 1024) }
     ensures done { TurnDone visit.ticket result own.old own.new }
     ensures exchanges { own.new.seat.steps ≡ own.old.seat.steps + exchanges_left result }
 {
-    match play(shared, &mut own.seat, gate, &mut visit) {
+    match play(
+        shared,
+        &mut own.seat,
+        gate,
+        &mut visit,
+        budget,
+        &mut own.buffer,
+    ) {
         Turn::Done | Turn::Failed => {
             end(rt, shared, own, visit);
             Ok(Worked::Ended)
@@ -148,7 +188,10 @@ fn play<F: Front, G: Gate>(
     seat: &mut ClaimSeat,
     gate: &G,
     visit: &mut Visit<F>,
+    budget: usize,
+    buffer: &mut [u8; MAX_READ],
 ) -> Turn
+    requires budget { (1 ≤ budget) × (budget ≤ 1024) }
     requires same { seat.old.table ≡ shared.now.claims }
     requires inside { visit.old.ticket.slot < shared.now.claims.words }
     requires holder { HoldsOnly visit.old.ticket.slot seat.old }
@@ -158,12 +201,12 @@ fn play<F: Front, G: Gate>(
     ensures exchanges { seat.new.steps ≡ seat.old.steps + 1 }
     ensures ticket { visit.new.ticket ≡ visit.old.ticket }
     ensures outcome { result ≡ outcome_of visit.new.berth.pair }
-    ensures run { IsTurn shared.now.budget (noted_by ((account_at seat.new visit.old.ticket.slot).taken - (account_at seat.old visit.old.ticket.slot).taken) visit.old.berth.pair) visit.new.berth.pair (IsServed F.Client.told F.Client.does visit.old.berth.client visit.new.berth.client) (IsServed F.Target.told F.Target.does visit.old.berth.target visit.new.berth.target) }
+    ensures run { IsTurn budget (noted_by ((account_at seat.new visit.old.ticket.slot).taken - (account_at seat.old visit.old.ticket.slot).taken) visit.old.berth.pair) visit.new.berth.pair (IsServed F.Client.told F.Client.does visit.old.berth.client visit.new.berth.client) (IsServed F.Target.told F.Target.does visit.old.berth.target visit.new.berth.target) }
 {
     let slot = visit.ticket().slot;
     let notes = shared.claims.take(seat, slot);
     gate.before_turn(slot);
-    let outcome = visit.play(notes, shared.budget);
+    let outcome = visit.play(notes, budget, buffer);
     gate.after_turn(slot);
     outcome
 }
@@ -220,7 +263,7 @@ fn leave<F: Front, R: Wait>(rt: &R, shared: &Shared<F>, own: &mut Own, ticket: T
     back.spend();
 }
 
-/// Logs and closes a connection that is done or failed, gives its slot back, and wakes the poller.
+/// Logs and closes a connection that is done or failed, and gives its slot back.
 fn end<F: Front, R: Wait + Log>(rt: &R, shared: &Shared<F>, own: &mut Own, visit: Visit<F>)
     requires work { AtWork shared.now.claims visit.ticket.slot own.old }
     requires over { (outcome_of visit.berth.pair ≡ Turn.Done) ⊎ (outcome_of visit.berth.pair ≡ Turn.Failed) }
@@ -232,15 +275,14 @@ fn end<F: Front, R: Wait + Log>(rt: &R, shared: &Shared<F>, own: &mut Own, visit
     let closed = visit.close();
     shared.claims.retire(&mut own.seat, ticket.slot);
     give_back(rt, own, ticket, closed);
-    wake_poller(shared, own, ticket);
 }
 
 /// Wakes the poller, which may be waiting for the slot. If it were woken before the slot is given back, it could look
 /// and keep waiting.
-fn wake_poller<F: Front>(shared: &Shared<F>, _own: &Own, _ended: Ticket)
-    requires given { _ended.generation < MAX_GENERATION → KeepsSlot _ended.slot _own.now.free.history _own.now.hand }
+fn wake_poller<F: Front>(shared: &Shared<F>, _own: &Own, ended: Ticket)
+    requires given { ended.generation < MAX_GENERATION → KeepsSlot ended.slot _own.now.free.history _own.now.hand }
 {
-    F::wake(&shared.waker);
+    F::wake(&shared.waker, ended.slot);
 }
 
 /// Logs what became of a connection.
@@ -255,32 +297,4 @@ fn log_end<R: Log>(rt: &R, pair: &Pair) {
         // Only a connection that has ended is logged here.
         Verdict::Live => {}
     }
-}
-
-/// Runs a turn in the poller's thread if its round left exactly one ticket, so that no worker has to be woken for it.
-/// With another number of tickets, or a hand without room, nothing changes.
-pub fn own_turn<F: Front, G: Gate, R: Wait + Log>(
-    rt: &R,
-    shared: &Shared<F>,
-    own: &mut Own,
-    gate: &G,
-) -> Result<(), ServerFault>
-    requires same { own.old.seat.table ≡ shared.now.claims }
-    requires idle { HoldsNothing own.old.seat }
-    ensures same { own.new.seat.table ≡ own.old.seat.table }
-    ensures idle { HoldsNothing own.new.seat }
-    ensures one_alone { length own.old.hand.tickets ≢ 1 → own.new ≡ own.old }
-{
-    if own.hand.tickets() != 1 {
-        return Ok(());
-    }
-    let Some(ticket) = own.hand.take_ticket() else {
-        return Ok(());
-    };
-    if !own.hand.has_room() {
-        own.hand.keep_ticket(ticket);
-        return Ok(());
-    }
-    worker_turn(rt, shared, own, gate, ticket)?;
-    Ok(())
 }

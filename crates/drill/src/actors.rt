@@ -5,12 +5,12 @@ ghost use Rattle.claims.specs.Seats.{HoldsNothing};
 use crate::front::KernelFront;
 use crate::looking::{slots_of, tickets_of};
 use dispatch::{
-    Gate, Own, Poller, ServerFault, Shared, Worked, own_turn, poller_round, worker_turn,
+    Gate, Own, Poller, ServerFault, Shared, Worked, own_turn, poller_round, share_tickets,
+    worker_turn,
 };
 use log::Log;
 use ready::Ticket;
 use std::alloc::{AllocError, Global};
-use std::net::Net;
 use std::sync::Wait;
 
 /// One worker.
@@ -58,7 +58,7 @@ pub struct Lead<'s> {
 
 impl Lead<'_> {
     /// One round.
-    pub fn round<R: Net + Wait + Log>(&mut self, rt: &R, alloc: Global) -> Result<(), ServerFault> {
+    pub fn round<R: Wait + Log>(&mut self, rt: &R, alloc: Global) -> Result<(), ServerFault> {
         poller_round(rt, alloc, self.shared, &mut self.own, &mut self.poller)
     }
 
@@ -69,8 +69,18 @@ impl Lead<'_> {
         Ok(tickets.is_empty() && (self.own.hand.slots() == 0 || slots.is_empty()))
     }
 
-    /// The turn after a round that left exactly one ticket.
-    pub fn turn<G: Gate, R: Wait + Log>(&mut self, rt: &R, gate: &G) -> Result<(), ServerFault> {
-        own_turn(rt, self.shared, &mut self.own, gate)
+    /// Puts the tickets of a round that the poller's thread does not run itself. Answers whether one is left.
+    pub fn share(&mut self, rt: &impl Wait) -> bool {
+        share_tickets(rt, &mut self.own, &mut self.poller);
+        self.own.hand.tickets() > 0
+    }
+
+    /// The turn of the oldest ticket in hand.
+    pub fn turn<G: Gate, R: Wait + Log>(
+        &mut self,
+        rt: &R,
+        gate: &G,
+    ) -> Result<Option<Worked>, ServerFault> {
+        own_turn(rt, self.shared, &mut self.own, gate, &mut self.poller)
     }
 }

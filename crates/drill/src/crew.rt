@@ -7,7 +7,6 @@ use dispatch::{Gate, Worked};
 use log::Log;
 use std::alloc::Global;
 use std::cell::RefCell;
-use std::net::Net;
 use std::rc::Rc;
 use std::sync::Wait;
 use world::{Act, Event, Polling, Reported};
@@ -24,7 +23,7 @@ pub struct Crew<'s> {
 
 impl Crew<'_> {
     /// A step that may also be made inside a turn is made there.
-    pub fn make_inside<R: Net + Wait + Log>(&self, rt: &R, alloc: Global, step: Inner) {
+    pub fn make_inside<R: Wait + Log>(&self, rt: &R, alloc: Global, step: Inner) {
         match step {
             Inner::Outside(event) => self.happen(&event),
             Inner::Round => self.round(rt, alloc),
@@ -39,7 +38,7 @@ impl Crew<'_> {
     }
 
     /// The same step is made on its own.
-    pub fn make<R: Net + Wait + Log>(&self, rt: &R, alloc: Global, step: Inner) {
+    pub fn make<R: Wait + Log>(&self, rt: &R, alloc: Global, step: Inner) {
         match step {
             Inner::Turn(number) => {
                 let gate = Planned {
@@ -60,7 +59,7 @@ impl Crew<'_> {
     }
 
     /// One round of the poller, unless its thread is in a turn. It puts all tickets in hand first.
-    fn round<R: Net + Wait + Log>(&self, rt: &R, alloc: Global) {
+    fn round<R: Wait + Log>(&self, rt: &R, alloc: Global) {
         let Ok(mut lead) = self.lead.try_borrow_mut() else {
             return;
         };
@@ -85,23 +84,29 @@ impl Crew<'_> {
         self.act(Act::Pop);
         let worked = worker.turn(rt, gate, ticket);
         self.finish(worked);
+        if worked == Some(Worked::Ended) {
+            self.record(&Event::Spurious(Reported::Waker));
+        }
         self.enter(former);
     }
 
-    /// The turn of the poller's own thread, after a round that left exactly one ticket. In the world it is one of the
-    /// worker after the last.
+    /// The turn of the poller's own thread, after a round that left exactly one ticket, unless the ticket goes to the
+    /// workers. In the world it is one of the worker after the last.
     ///
     /// The world's queues are first in, first out. So the turn is left out while another ticket waits, which it would
     /// pass, and while a free slot is in the poller's hand and another in the queue, behind which it would put it.
-    pub fn turn_alone<R: Net + Wait + Log>(&self, rt: &R, alloc: Global) {
+    pub fn turn_alone<R: Wait + Log>(&self, rt: &R, alloc: Global) {
         let Ok(mut lead) = self.lead.try_borrow_mut() else {
             return;
         };
         if lead.own.hand.tickets() != 1 || lead.keeps_order(rt, alloc) != Ok(true) {
             return;
         }
-        let former = self.enter(self.workers.len());
         self.record(&Event::Poll(Polling::Put));
+        if !lead.share(rt) {
+            return;
+        }
+        let former = self.enter(self.workers.len());
         self.act(Act::Pop);
         let gate = Planned {
             rt,
@@ -129,7 +134,6 @@ impl Crew<'_> {
             Some(Worked::Ended) => {
                 self.act(Act::Retire);
                 self.act(Act::Free);
-                self.record(&Event::Spurious(Reported::Waker));
             }
             Some(Worked::Again) => {
                 self.act(Act::Post);

@@ -9,7 +9,7 @@ use log::Log;
 use std::alloc::{AllocError, Global};
 use std::cell::RefCell;
 use std::io::{self, ErrorKind};
-use std::net::{Net, SocketAddr};
+use std::net::SocketAddr;
 use std::rc::Rc;
 use token::{Name, Token};
 
@@ -90,7 +90,8 @@ impl Front for KernelFront {
 
     type Waker = Rc<RefCell<Outside>>;
 
-    fn poll(&mut self, batch: &mut Vec<u64>) -> io::Result<()> {
+    /// Nothing comes while it would wait, so it never does.
+    fn poll(&mut self, batch: &mut Vec<u64>, _wait: bool) -> io::Result<()> {
         batch.clear();
         self.reported.clear();
         let answer = take_reports(&self.outside, &mut self.reported);
@@ -111,7 +112,7 @@ impl Front for KernelFront {
         }
     }
 
-    fn open<N: Net + Log>(
+    fn open<N: Log>(
         &mut self,
         _rt: &N,
         client: &mut EndWire,
@@ -134,7 +135,7 @@ impl Front for KernelFront {
         Ok(EndWire::connecting(shared, target_token, target_end))
     }
 
-    fn wake(waker: &Rc<RefCell<Outside>>) {
+    fn wake(waker: &Rc<RefCell<Outside>>, _slot: usize) {
         if let Ok(mut outside) = waker.try_borrow_mut() {
             let _ = outside.kernel.spurious(Watched::Waker);
         }

@@ -6,7 +6,6 @@ use kernel_model::MAX_POLLED;
 use log::Log;
 use std::alloc::Global;
 use std::cell::RefCell;
-use std::net::Net;
 use std::sync::Wait;
 use world::Act;
 
@@ -32,7 +31,7 @@ pub struct Planned<'c, 's, R> {
     pub crew: &'c Crew<'s>,
 }
 
-impl<R: Net + Wait + Log> Gate for Planned<'_, '_, R> {
+impl<R: Wait + Log> Gate for Planned<'_, '_, R> {
     fn before_turn(&self, _slot: usize) {
         begin(&self.crew.outside);
         for _step in 0..MAX_POLLED {

@@ -15,13 +15,14 @@ use std::rc::Rc;
 use std::sync::Wait;
 use world::Limits;
 
-/// A server of these sizes before its first round: for its workers, its poller, and one seat to look at it from.
+/// A server of these sizes before its first round: for its workers, its poller, and one seat to look at it from, and an
+/// end of the queue of free slots for each of these.
 pub fn parts_of(
     rt: &impl Wait,
     alloc: Global,
     waker: Rc<RefCell<Outside>>,
     sizes: Limits,
-) -> Result<(Shared<KernelFront>, Parts), AllocError>
+) -> Result<(Shared<KernelFront>, Parts, Vec<FreeQueue>), AllocError>
     requires { IsServerSize sizes }
     ensures seats { IfOk result (λ made. AreFresh made.0.claims made.1.seats.items) }
     ensures sized { IfOk result (λ made. made.0.claims.words ≡ sizes.slots) }
@@ -39,7 +40,7 @@ pub fn parts_of(
     let parts = Parts {
         seats,
         ready: ReadyQueue::new(alloc, slots, threads)?,
-        free: FreeQueue::new(rt, alloc, slots, threads)?,
     };
-    Ok((shared, parts))
+    let free = FreeQueue::new(rt, alloc, 0, slots, threads)?;
+    Ok((shared, parts, free))
 }

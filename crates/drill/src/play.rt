@@ -1,5 +1,5 @@
 // One script: the server's steps, and the comparison after each of them.
-ghost use Rattle.std.specs.Prelude.{◌≡◌, ◌≤◌, length, IfOk};
+ghost use Rattle.std.specs.Prelude.{◌≡◌, ◌≤◌, length, IfOk, IfSome};
 ghost use Rattle.claims.specs.Seats.{fresh_seat, HoldsNothing};
 ghost use Rattle.drill.specs.Sizes.{IsServerSize};
 ghost use Rattle.dispatch.specs.Parts.{AreFresh};
@@ -14,12 +14,12 @@ use crate::reading::read_step;
 use crate::report::report_of;
 use crate::step::Step;
 use crate::totals::Totals;
-use dispatch::{MAX_BATCH, Own, Parts, Poller, Shared};
+use dispatch::{MAX_BATCH, Own, Part, Parts, Poller, Shared};
 use log::{Level, Log, Logged};
+use ready::FreeQueue;
 use std::alloc::{AllocError, Global};
 use std::cell::RefCell;
 use std::io::{self, ErrorKind};
-use std::net::Net;
 use std::rc::Rc;
 use std::sync::Wait;
 use world::Limits;
@@ -40,25 +40,25 @@ pub fn crew_of<'s>(
     alloc: Global,
     outside: &Rc<RefCell<Outside>>,
     shared: &'s Shared<KernelFront>,
-    parts: &mut Parts,
+    mut parts: Parts,
+    mut free: Vec<FreeQueue>,
     sizes: Limits,
 ) -> Result<Option<Crew<'s>>, AllocError>
     requires sizes { IsServerSize sizes }
     requires sized { shared.now.claims.words ≡ sizes.slots }
-    requires fresh { AreFresh shared.now.claims parts.old.seats.items }
+    requires fresh { AreFresh shared.now.claims parts.seats.items }
 {
-    let capacity = 2 * sizes.slots + 2 * MAX_BATCH;
-    let Some(own) = parts.next_own(alloc, shared, capacity)? else {
+    let Some(own) = next_own(alloc, shared, &mut parts, &mut free)? else {
         return Ok(None);
     };
     let lead = lead_of(shared, own, poller_of(alloc, outside, sizes)?);
-    let Some(own) = parts.next_own(alloc, shared, capacity)? else {
+    let Some(own) = next_own(alloc, shared, &mut parts, &mut free)? else {
         return Ok(None);
     };
     let spare = worker_of(shared, own);
     let mut workers = Vec::with_capacity(alloc, sizes.workers)?;
     for _worker in 0..sizes.workers {
-        let Some(own) = parts.next_own(alloc, shared, capacity)? else {
+        let Some(own) = next_own(alloc, shared, &mut parts, &mut free)? else {
             return Ok(None);
         };
         workers.push(RefCell::new(worker_of(shared, own)))?;
@@ -71,6 +71,25 @@ pub fn crew_of<'s>(
     }))
 }
 
+/// What the next thread owns.
+fn next_own(
+    alloc: Global,
+    shared: &Shared<KernelFront>,
+    parts: &mut Parts,
+    free: &mut Vec<FreeQueue>,
+) -> Result<Option<Own>, AllocError>
+    requires { AreFresh shared.now.claims parts.old.seats.items }
+    ensures left { AreFresh shared.now.claims parts.new.seats.items }
+    ensures next { IfOk result (λ next. IfSome next (λ own. own.seat ≡ fresh_seat shared.now.claims)) }
+{
+    let slots = shared.claims.slots();
+    let capacity = slots.saturating_mul(2).saturating_add(2 * MAX_BATCH);
+    let Some(free) = free.pop() else {
+        return Ok(None);
+    };
+    parts.next_own(alloc, shared, capacity, free)
+}
+
 /// The poller of a server that has opened no connection yet.
 fn poller_of(
     alloc: Global,
@@ -81,9 +100,26 @@ fn poller_of(
     ensures { IfOk result (λ poller. length poller.table ≡ sizes.slots) }
 {
     let front = KernelFront::new(alloc, outside.clone()?)?;
-    let mut poller = Poller::new(alloc, front, sizes.slots, sizes.ring, 0)?;
-    poller.start_at(alloc, sizes.generation)?;
+    let all = Part {
+        first: 0,
+        slots: sizes.slots,
+    };
+    let mut poller = Poller::new(alloc, front, sizes.slots, all, sizes.ring, u64::MAX)?;
+    start_all(&mut poller, sizes.generation);
     Ok(poller)
+}
+
+/// Each of the poller's slots counts as having had so many connections.
+fn start_all(poller: &mut Poller<KernelFront>, generation: u64)
+    requires { generation ≤ 140737488355327 }
+    ensures { length poller.new.table ≡ length poller.old.table }
+{
+    let part = poller.part();
+    for slot in 0..poller.table().len() {
+        if part.has(slot) {
+            poller.start_at(slot, generation);
+        }
+    }
 }
 
 #[tactic(auto, using(claims::proofs::Seats::fresh_holds_nothing))]
@@ -106,7 +142,7 @@ fn worker_of<'s>(shared: &'s Shared<KernelFront>, own: Own) -> Worker<'s>
 }
 
 /// Makes the step of a line, and compares the server with the world.
-pub fn play_line<R: Net + Wait + Log + Print>(
+pub fn play_line<R: Wait + Log + Print>(
     rt: &R,
     alloc: Global,
     crew: &Crew<'_>,

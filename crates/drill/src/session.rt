@@ -13,7 +13,6 @@ use log::{Level, Log, Logged};
 use std::alloc::Global;
 use std::cell::RefCell;
 use std::io::{self, BufRead, ErrorKind};
-use std::net::Net;
 use std::rc::Rc;
 use std::sync::Wait;
 use world::Limits;
@@ -30,10 +29,7 @@ enum Ending {
 }
 
 /// Plays all scripts, and prints what was played. Answers whether the server and the world agreed throughout.
-pub fn play_all<R: Net + Wait + AllocGlobal + Print, B: BufRead>(
-    rt: &R,
-    reader: B,
-) -> io::Result<bool>
+pub fn play_all<R: Wait + AllocGlobal + Print, B: BufRead>(rt: &R, reader: B) -> io::Result<bool>
 where
     B: Drop,
 {
@@ -61,7 +57,7 @@ where
 }
 
 /// Plays one script, whose header was read.
-fn play_script<R: Net + Wait + AllocGlobal + Print, B: BufRead>(
+fn play_script<R: Wait + AllocGlobal + Print, B: BufRead>(
     rt: &R,
     sizes: Limits,
     source: &mut Source<B>,
@@ -76,8 +72,8 @@ fn play_script<R: Net + Wait + AllocGlobal + Print, B: BufRead>(
         outside: outside.clone()?,
     };
     let log = Logged::new(rt, Level::Info, diary);
-    let (shared, mut parts) = parts_of(rt, alloc, outside.clone()?, sizes)?;
-    let Some(crew) = crew_of(alloc, &outside, &shared, &mut parts, sizes)? else {
+    let (shared, parts, free) = parts_of(rt, alloc, outside.clone()?, sizes)?;
+    let Some(crew) = crew_of(alloc, &outside, &shared, parts, free, sizes)? else {
         return Err(io::Error::from(ErrorKind::Other));
     };
     let ending = play_lines(&log, alloc, &crew, sizes.ring, source);
@@ -89,7 +85,7 @@ fn play_script<R: Net + Wait + AllocGlobal + Print, B: BufRead>(
 }
 
 /// Plays the lines up to the next header.
-fn play_lines<R: Net + Wait + Log + Print, B: BufRead>(
+fn play_lines<R: Wait + Log + Print, B: BufRead>(
     rt: &R,
     alloc: Global,
     crew: &Crew<'_>,

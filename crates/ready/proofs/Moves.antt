@@ -89,34 +89,34 @@ module _ {T : Type 0} where
           alone = none_alone views port (length line) v at rule.alone w blank refl refl (length line);
         }
 
-pub in_order-none : [] ≡ in_order 0
+pub in_order-none : (first : ℕ) → [] ≡ in_order first 0
 unfolding in_order
-in_order-none = refl
+in_order-none first = refl
 
-pub length-in_order : (n : ℕ) → length (in_order n) ≡ n
+pub length-in_order : (first n : ℕ) → length (in_order first n) ≡ n
 unfolding in_order
-length-in_order zero = refl
-length-in_order (suc n) = let l = length-append (in_order n) ((n, n) ∷ []) in let e = length-in_order n in omega arith
+length-in_order first zero = refl
+length-in_order first (suc n) = let l = length-append (in_order first n) ((n, first + n) ∷ []) in let e = length-in_order first n in omega arith
 
-in_order-next : (n : ℕ) → in_order n ++ (n, n) ∷ [] ≡ in_order (n + 1)
+in_order-next : (first n : ℕ) → in_order first n ++ (n, first + n) ∷ [] ≡ in_order first (n + 1)
 unfolding in_order
-in_order-next n = let e : suc n ≡ n + 1 = omega arith in ap in_order e
+in_order-next first n = let e : suc n ≡ n + 1 = omega arith in ap (in_order first) e
 
-abbrev filling : ℕ → History ℕ
-filling n = record opener { put = in_order n }
+abbrev filling : ℕ → ℕ → History ℕ
+filling first n = record opener { put = in_order first n }
 
 -- while an end is alone, its next place is the number of its puts
-pub next_slot : (n : ℕ) (old new : History ℕ) → old ≡ filling n → PutOne old n new → new ≡ filling (n + 1)
-next_slot n old new is step =
+pub next_slot : (first n : ℕ) (old new : History ℕ) → old ≡ filling first n → PutOne old (first + n) new → new ≡ filling first (n + 1)
+next_slot first n old new is step =
     let has = (step.before.alone step.end_number old step.mine (ap (λ (h : History ℕ). h.alone) is)).1 in
-    let place : length (step.before.gone ++ step.items) ≡ n = sym has ∙ ap (λ (h : History ℕ). length h.put) is ∙ length-in_order n in
-    step.put ∙ ap (λ k. after_put old k n) place ∙ ap (λ (h : History ℕ). after_put h n n) is ∙ ap (λ l. record opener { put = l }) (in_order-next n)
+    let place : length (step.before.gone ++ step.items) ≡ n = sym has ∙ ap (λ (h : History ℕ). length h.put) is ∙ length-in_order first n in
+    step.put ∙ ap (λ k. after_put old k (first + n)) place ∙ ap (λ (h : History ℕ). after_put h n (first + n)) is ∙ ap (λ l. record opener { put = l }) (in_order-next first n)
 
 -- and the queue is not full before as many puts as it can hold
-pub has_room : (capacity n : ℕ) (h : History ℕ) → h ≡ filling n → n < capacity → HeldOnce capacity h → ⊥
-has_room capacity n h is few full =
+pub has_room : (capacity first n : ℕ) (h : History ℕ) → h ≡ filling first n → n < capacity → HeldOnce capacity h → ⊥
+has_room capacity first n h is few full =
     let has = (full.saw.rule.alone full.saw.end_number h full.saw.mine (ap (λ (h : History ℕ). h.alone) is)).1 in
-    let puts = ap (λ (h : History ℕ). length h.put) is ∙ length-in_order n in
+    let puts = ap (λ (h : History ℕ). length h.put) is ∙ length-in_order first n in
     let count = length-append full.saw.rule.gone full.items in
     let held = full.held in omega arith
 

@@ -1,6 +1,6 @@
 -- What a call tells the end that made it. Part of the promises. The state is some state that meets the rule, since no
 -- clause can name what other threads do, but the end's own history stands in it.
-use Rattle.std.specs.Prelude.{◌≡◌, ℕ, zero, suc, true, false, List, [], ◌∷◌, ◌++◌, length, slice_set}
+use Rattle.std.specs.Prelude.{◌≡◌, ℕ, zero, suc, ◌+◌, true, false, List, [], ◌∷◌, ◌++◌, length, slice_set}
 use mathlib.Core.Option.{some}
 use lib.ListN.{get_elem?}
 use Rattle.ready.specs.declared.history.History.{History}
@@ -70,11 +70,11 @@ module _ {T : Type 0} where
     pub taken : new ≡ after_take old (length before.gone) item
     pub after : QueueRule items (slice_set views end_number new)
 
--- the slots below this one, in order, each at the place of its own number
-unfoldable pub in_order : ℕ → List (ℕ × ℕ)
-in_order zero = []
-in_order (suc n) = in_order n ++ (n, n) ∷ []
+-- so many slots from the first on, in order
+unfoldable pub in_order : ℕ → ℕ → List (ℕ × ℕ)
+in_order first zero = []
+in_order first (suc n) = in_order first n ++ (n, first + n) ∷ []
 
 -- the first end of a queue of free slots, which has put all of them
-abbrev pub opened : ℕ → EndState ℕ
-opened slots = record { capacity = slots; history = record blank { put = in_order slots } }
+abbrev pub opened : ℕ → ℕ → EndState ℕ
+opened first slots = record { capacity = slots; history = record blank { put = in_order first slots } }

@@ -1,5 +1,5 @@
 // The queue of free slots.
-ghost use Rattle.std.specs.Prelude.{◌≡◌, ◌∷◌, ◌-◌, ◌<◌, ◌≤◌, IfOk, OnOk, IfErr, OnErr, IfSome, IfNone, replicate};
+ghost use Rattle.std.specs.Prelude.{◌≡◌, ◌∷◌, ◌+◌, ◌-◌, ◌<◌, ◌≤◌, IfOk, OnOk, IfErr, OnErr, IfSome, IfNone, replicate};
 ghost use Rattle.std.specs.Arc.{arc_value};
 ghost use Rattle.crossbeam_queue.specs.Passes.{view, IsPassOf, IsSamePass, ruled_capacity};
 ghost use Rattle.ready.specs.Steps.{unused, opener, opened, in_order, HeldOnce, PutOne, TookOne};
@@ -33,31 +33,32 @@ impl Model for FreeQueue {
 }
 
 impl FreeQueue {
-    /// Makes a queue that holds the slots 0, 1, and so on, in order, and its ends. This allocates all the memory that
-    /// it ever uses.
+    /// Makes a queue that holds so many slots, from the first on, in order, and its ends. This allocates all the memory
+    /// that it ever uses.
     ///
-    /// The first end has put the slots, each at the place equal to its own number.
+    /// The first end has put the slots, the first one at place 0.
     ///
     /// Fails only if there is not enough memory; then no queue is made.
     pub fn new(
         rt: &impl Wait,
         alloc: Global,
+        first: usize,
         slots: usize,
         ends: usize,
     ) -> Result<Vec<FreeQueue>, AllocError>
-        requires slots { (1 ≤ slots) × (slots ≤ 32768) }
+        requires slots { (1 ≤ slots) × (first + slots ≤ 32768) }
         requires ends { (1 ≤ ends) × (ends ≤ 32) }
-        ensures { IfOk result (λ all. all.items ≡ opened slots ∷ replicate (ends - 1) (unused slots)) }
+        ensures { IfOk result (λ all. all.items ≡ opened first slots ∷ replicate (ends - 1) (unused slots)) }
     {
-        let (line, mut first) = Line::ruled(alloc, slots)?;
-        fill(rt, &line, &mut first, slots);
+        let (line, mut pass) = Line::ruled(alloc, slots)?;
+        fill(rt, &line, &mut pass, first, slots);
         // The further passes are made from one that has done nothing.
-        let mut next = another(&line, &mut first);
+        let mut next = another(&line, &mut pass);
         let line = Arc::new(alloc, line)?;
         let mut all = Vec::with_capacity(alloc, ends)?;
         all.push(FreeQueue {
             line: Arc::try_clone(&line)?,
-            pass: first,
+            pass,
         })?;
         for _end in 1..ends {
             let line = Arc::try_clone(&line)?;
@@ -92,15 +93,16 @@ impl FreeQueue {
 }
 
 // Puts the slots in order. No other pass exists yet, so the queue has room for all of them.
-fn fill<R: Wait>(rt: &R, line: &Line<usize>, first: &mut LinePass<usize>, slots: usize)
-    requires pass { IsPassOf line.now first.old }
+fn fill<R: Wait>(rt: &R, line: &Line<usize>, pass: &mut LinePass<usize>, first: usize, slots: usize)
+    requires few { first + slots ≤ 32768 }
+    requires pass { IsPassOf line.now pass.old }
     requires room { ruled_capacity line.now ≡ slots }
-    requires alone { view first.old ≡ opener }
-    ensures same { IsSamePass first.old first.new }
-    ensures filled { view first.new ≡ record opener { put = in_order slots } }
+    requires alone { view pass.old ≡ opener }
+    ensures same { IsSamePass pass.old pass.new }
+    ensures filled { view pass.new ≡ record opener { put = in_order first slots } }
 {
-    for slot in 0..slots {
-        match push(rt, line, first, slot) {
+    for index in 0..slots {
+        match push(rt, line, pass, first + index) {
             Ok(()) => {}
             Err(_) => unreachable!(),
         }

@@ -36,12 +36,12 @@ fn a_full_queue_gives_the_ticket_back(rt: HostRuntime) -> Result<(), Fail> {
 
 #[test]
 fn free_slots_come_in_order(rt: HostRuntime) -> Result<(), Fail> {
-    let mut ends = FreeQueue::new(&rt, rt.alloc(), 3, 1)?;
+    let mut ends = FreeQueue::new(&rt, rt.alloc(), 4, 3, 1)?;
     let Some(mut free) = ends.pop() else {
         panic!(rt; "there is no end")
     };
     assert_eq!(rt; free.give(&rt, 7), Err(Full(7)));
-    for slot in [Some(0), Some(1), Some(2), None] {
+    for slot in [Some(4), Some(5), Some(6), None] {
         assert_eq!(rt; free.try_take(&rt), slot);
     }
     assert_eq!(rt; free.give(&rt, 1), Ok(()));

@@ -6,8 +6,8 @@ ghost use Rattle.relayd.specs.Descriptors.{covered_slots};
 use std::fs;
 use std::rt::Files;
 
-/// What the relay will still open before its first connection: an epoll instance and its waker.
-const BEFORE_CONNECTIONS: u64 = 2;
+/// What each poller opens before its first connection: an epoll instance and its waker.
+const FOR_A_POLLER: u64 = 2;
 
 /// The descriptors of a process: how many it may have open, its soft limit, and how many are in use.
 #[derive(Clone, Copy, Debug, PartialEq, Eq)]
@@ -44,16 +44,18 @@ pub(crate) fn soft_limit(text: &str) -> Option<u64> {
     None
 }
 
-/// How many slots the descriptors are enough for, two for each connection: at most so many as are set, and at least one.
-pub(crate) fn covered(slots: usize, descriptors: Descriptors) -> usize
-    requires { (1 ≤ slots) × (slots ≤ 4096) }
-    ensures slots { result ≡ covered_slots slots descriptors.most descriptors.in_use }
+/// How many slots the descriptors are enough for beside so many pollers, two for each connection: at most so many as are
+/// set, and at least one.
+pub(crate) fn covered(slots: usize, pollers: usize, descriptors: Descriptors) -> usize
+    requires set { (1 ≤ slots) × (slots ≤ 4096) }
+    requires pollers { pollers ≤ 16 }
+    ensures slots { result ≡ covered_slots slots pollers descriptors.most descriptors.in_use }
     ensures range { (1 ≤ result) × (result ≤ slots) }
 {
     let left = descriptors
         .most
         .saturating_sub(descriptors.in_use)
-        .saturating_sub(BEFORE_CONNECTIONS);
+        .saturating_sub(FOR_A_POLLER * pollers as u64);
     let pairs = left / 2;
     if pairs >= slots as u64 {
         return slots;
@@ -61,10 +63,10 @@ pub(crate) fn covered(slots: usize, descriptors: Descriptors) -> usize
     if pairs == 0 { 1 } else { pairs as usize }
 }
 
-/// How many descriptors so many slots need, with those that are open.
-pub(crate) fn needed(slots: usize, in_use: u64) -> u64 {
+/// How many descriptors so many slots and pollers need, with those that are open.
+pub(crate) fn needed(slots: usize, pollers: usize, in_use: u64) -> u64 {
     (slots as u64)
         .saturating_mul(2)
-        .saturating_add(BEFORE_CONNECTIONS)
+        .saturating_add(FOR_A_POLLER.saturating_mul(pollers as u64))
         .saturating_add(in_use)
 }

@@ -1,5 +1,5 @@
-//! The relay over the system's sockets: it listens ([`bind`]), and serves with one thread that polls, accepts and
-//! opens, and with workers that run the turns ([`serve`]).
+//! The relay over the system's sockets: it listens ([`bind`]), and serves with threads that poll, accept, open and
+//! run most turns, and with workers that run the others ([`serve`]).
 //!
 //! What a thread does in a round and in a turn is the crate `dispatch`, over parts that are lent to it; this crate hands
 //! its calls on. Here are the sockets themselves ([`Sockets`], [`SocketWire`]), and the threads: what each of them is
@@ -7,16 +7,22 @@
 #![tactic(auto)]
 
 mod crew;
+mod dividing;
 mod fault_record;
+mod leading;
 mod limits;
+mod making;
 mod serving;
 mod sockets;
+mod split;
 #[cfg(test)]
 mod tests;
+mod working;
 
 pub use dispatch::{
-    Front, Gate, Hand, MAX_BATCH, OpenGate, Own, Poller, ServerFault, Settle, Shared, Unopened,
-    Worked, deliver, own_turn, poller_round, worker_turn,
+    Front, Gate, Hand, MAX_BATCH, OpenGate, Own, Part, Poller, ServerFault, Settle, Shared,
+    Unopened, Worked, deliver, own_turn, poller_round, share_tickets, worker_turn,
 };
 pub use serving::serve;
-pub use sockets::{Bound, SocketWire, Sockets, bind};
+pub use sockets::{Bound, Dial, SocketWire, Sockets, Wakers, bind, open_all};
+pub use split::Split;

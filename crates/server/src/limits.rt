@@ -10,3 +10,6 @@ pub(crate) const WORKER_HAND: usize = 2;
 /// After this many full offers in a row, the bytes count as bulk, which is sent in larger parts if the socket may wait
 /// for more.
 pub(crate) const BULK: u8 = 4;
+
+/// A part of the slots has at least so many, unless all have fewer.
+pub(crate) const LEAST_PART: usize = 64;

@@ -2,10 +2,12 @@
 //! sockets are edge-triggered, and nothing waits except [`Front::poll`](crate::Front::poll).
 mod bound;
 mod delay;
+mod dial;
 mod poll;
 mod stream;
 mod wire;
 
 pub use bound::{Bound, bind};
-pub use poll::Sockets;
+pub use dial::Dial;
+pub use poll::{Sockets, Wakers, open_all};
 pub use wire::SocketWire;

@@ -7,7 +7,7 @@ use crate::limits::MAX_BATCH;
 use log::Log;
 use std::alloc::{AllocError, Global};
 use std::io::{self, ErrorKind};
-use std::net::{Net, SocketAddr};
+use std::net::SocketAddr;
 use std::sync::atomic::AtomicU64;
 use std::sync::atomic::Ordering::SeqCst;
 use token::Token;
@@ -34,6 +34,8 @@ pub(crate) struct Fake {
     last: Vec<u64>,
     accepts: Vec<Option<ErrorKind>>,
     opens: Vec<Option<Unopened>>,
+    /// Whether the last poll would wait for reports.
+    pub(crate) waited: bool,
     /// How often accept was called.
     pub(crate) accepted: usize,
     opened: usize,
@@ -49,6 +51,7 @@ impl Fake {
             wires,
             batches: batches(alloc, script.batches)?,
             last: Vec::new(alloc),
+            waited: false,
             accepts: script.accepts.to_vec(alloc)?,
             opens: script.opens.to_vec(alloc)?,
             accepted: 0,
@@ -112,8 +115,9 @@ impl Front for Fake {
 
     type Waker = AtomicU64;
 
-    fn poll(&mut self, batch: &mut Vec<u64>) -> io::Result<()> {
+    fn poll(&mut self, batch: &mut Vec<u64>, wait: bool) -> io::Result<()> {
         batch.clear();
+        self.waited = wait;
         match self.batches.pop() {
             Some(numbers) if numbers.len() <= MAX_BATCH => self.last = numbers,
             _ => self.last.clear(),
@@ -132,7 +136,7 @@ impl Front for Fake {
         }
     }
 
-    fn open<N: Net + Log>(
+    fn open<N: Log>(
         &mut self,
         _rt: &N,
         _client: &mut Settling,
@@ -147,7 +151,7 @@ impl Front for Fake {
         }
     }
 
-    fn wake(waker: &AtomicU64) {
+    fn wake(waker: &AtomicU64, _slot: usize) {
         waker.fetch_add(1, SeqCst);
     }
 

@@ -10,26 +10,26 @@ use log::{Level, Log, Logged};
 use ready::Ticket;
 use std::alloc::{AllocError, Global};
 use std::io::ErrorKind;
-use std::net::Net;
 use std::sync::Wait;
 use std::test::Fail;
 
-/// After a round: the words of the slots, and how many calls of accept there were so far.
-type Seen = ((u64, u64), usize);
+/// After a round: the words of the slots, how many calls of accept there were so far, and whether it waited for reports.
+type Seen = ((u64, u64), usize, bool);
 
 /// Makes three rounds. Answers what was seen after each, and zeros after a fault.
-fn play_rounds<R: Net + Wait + Log>(rt: &R, alloc: Global, stage: &mut Stage) -> [Seen; 3] {
-    let mut after = [((0, 0), 0); 3];
+fn play_rounds<R: Wait + Log>(rt: &R, alloc: Global, stage: &mut Stage) -> [Seen; 3] {
+    let mut after = [((0, 0), 0, false); 3];
     for seen in after.iter_mut() {
         if stage.round(rt, alloc) {
-            *seen = (stage.words(), stage.poller.front.accepted);
+            let front = &stage.poller.front;
+            *seen = (stage.words(), front.accepted, front.waited);
         }
     }
     after
 }
 
 /// What three rounds over this script did, and what they logged.
-fn run_rounds<R: Net + Wait>(
+fn run_rounds<R: Wait>(
     rt: &R,
     alloc: Global,
     level: Level,
@@ -37,7 +37,7 @@ fn run_rounds<R: Net + Wait>(
 ) -> Result<([Seen; 3], Lines), AllocError> {
     let sink = Memory::new(alloc);
     let log = Logged::new(rt, level, &sink);
-    let mut stage = staged(rt, alloc, 64, 0, script)?;
+    let mut stage = staged(rt, alloc, 64, u64::MAX, script)?;
     let after = play_rounds(&log, alloc, &mut stage);
     Ok((after, sink.into_lines()))
 }
@@ -73,19 +73,24 @@ const NO_SLOT: (u64, u64) = (3, 3);
 const STARVED: &str = "[ERROR relayd] accept: other error";
 
 const ROWS: [Row; 10] = [
+    // While a connection may be accepted, no round waits.
     Row {
         batches: THIRD,
         accepts: &AGAIN,
         opens: &[],
         lines: &[],
-        after: [(NO_SLOT, 256), (NO_SLOT, 301), (NO_SLOT, 302)],
+        after: [
+            (NO_SLOT, 4, false),
+            (NO_SLOT, 8, false),
+            (NO_SLOT, 12, false),
+        ],
     },
     Row {
         batches: THIRD,
         accepts: &[Some(ErrorKind::ConnectionAborted)],
         opens: &[],
         lines: &[],
-        after: [(NO_SLOT, 2), (NO_SLOT, 2), (NO_SLOT, 3)],
+        after: [(NO_SLOT, 2, false), (NO_SLOT, 2, true), (NO_SLOT, 3, true)],
     },
     // Starved twice is logged once.
     Row {
@@ -93,7 +98,7 @@ const ROWS: [Row; 10] = [
         accepts: &[Some(ErrorKind::Other), Some(ErrorKind::Other)],
         opens: &[],
         lines: &[STARVED],
-        after: [(NO_SLOT, 1), (NO_SLOT, 2), (NO_SLOT, 3)],
+        after: [(NO_SLOT, 1, false), (NO_SLOT, 2, true), (NO_SLOT, 3, true)],
     },
     Row {
         batches: THIRD,
@@ -104,7 +109,7 @@ const ROWS: [Row; 10] = [
         ],
         opens: &[],
         lines: &[STARVED, STARVED],
-        after: [(NO_SLOT, 1), (NO_SLOT, 2), (NO_SLOT, 3)],
+        after: [(NO_SLOT, 1, false), (NO_SLOT, 2, true), (NO_SLOT, 3, true)],
     },
     // With descriptors again it accepts again, and the next time that there are none is logged again.
     Row {
@@ -112,7 +117,7 @@ const ROWS: [Row; 10] = [
         accepts: &[Some(ErrorKind::Other), None, Some(ErrorKind::Other)],
         opens: &[],
         lines: &[STARVED, "[INFO  relayd] open s=0 g=1", STARVED],
-        after: [(NO_SLOT, 1), ((4, 3), 3), ((4, 3), 4)],
+        after: [(NO_SLOT, 1, false), ((4, 3), 3, true), ((4, 3), 4, true)],
     },
     // Without a free slot it does not accept.
     Row {
@@ -120,7 +125,7 @@ const ROWS: [Row; 10] = [
         accepts: &[None, None],
         opens: &[],
         lines: &["[INFO  relayd] open s=0 g=1", "[INFO  relayd] open s=1 g=1"],
-        after: [((4, 4), 2), ((4, 4), 2), ((4, 4), 2)],
+        after: [((4, 4), 2, false), ((4, 4), 2, true), ((4, 4), 2, true)],
     },
     // A failed opening leaves its slot as it was.
     Row {
@@ -138,7 +143,7 @@ const ROWS: [Row; 10] = [
             "[WARN  relayd] drop kind=register",
             "[INFO  relayd] open s=0 g=1",
         ],
-        after: [(NO_SLOT, 2), (NO_SLOT, 4), ((4, 3), 6)],
+        after: [(NO_SLOT, 2, false), (NO_SLOT, 4, true), ((4, 3), 6, true)],
     },
     // Each report of an end of an open connection leaves a note: 0.1.client and 0.1.target. Those of 0.2.client,
     // 1.1.client, and a number that names nothing leave none.
@@ -147,7 +152,7 @@ const ROWS: [Row; 10] = [
         accepts: &[None],
         opens: &[],
         lines: &["[INFO  relayd] open s=0 g=1"],
-        after: [((4, 3), 2), ((12, 3), 2), ((16, 3), 2)],
+        after: [((4, 3), 2, false), ((12, 3), 2, true), ((16, 3), 2, true)],
     },
     // A busy round accepts, too.
     Row {
@@ -155,19 +160,19 @@ const ROWS: [Row; 10] = [
         accepts: &[None, Some(ErrorKind::WouldBlock), None],
         opens: &[],
         lines: &["[INFO  relayd] open s=0 g=1", "[INFO  relayd] open s=1 g=1"],
-        after: [((4, 3), 2), ((8, 4), 3), ((8, 4), 3)],
+        after: [((4, 3), 2, false), ((8, 4), 3, true), ((8, 4), 3, true)],
     },
     Row {
         batches: &[],
         accepts: &[],
         opens: &[],
         lines: &[],
-        after: [(NO_SLOT, 1), (NO_SLOT, 1), (NO_SLOT, 1)],
+        after: [(NO_SLOT, 1, false), (NO_SLOT, 1, true), (NO_SLOT, 1, true)],
     },
 ];
 
 /// Whether a row's rounds did what it says.
-fn is_as_wanted<R: Net + Wait>(rt: &R, alloc: Global, row: &Row) -> Result<bool, AllocError> {
+fn is_as_wanted<R: Wait>(rt: &R, alloc: Global, row: &Row) -> Result<bool, AllocError> {
     let script = Script {
         batches: row.batches,
         accepts: row.accepts,
@@ -191,7 +196,7 @@ fn each_round_does_what_it_says(rt: HostRuntime) -> Result<(), Fail> {
 
 /// Two connections, each at its own round. Answers what was seen last, and whether the log tells of an opening without
 /// memory.
-fn open_twice<R: Net + Wait>(rt: &R, alloc: Global) -> Result<(Seen, bool), AllocError> {
+fn open_twice<R: Wait>(rt: &R, alloc: Global) -> Result<(Seen, bool), AllocError> {
     let script = Script {
         batches: &[&[], &[0]],
         accepts: &[
@@ -214,13 +219,17 @@ fn open_twice<R: Net + Wait>(rt: &R, alloc: Global) -> Result<(Seen, bool), Allo
 fn an_opening_without_memory_leaves_its_slot(rt: HostRuntime) -> Result<(), Fail> {
     let alloc = rt.alloc();
     let (last, refused) = open_twice(&rt, alloc)?;
-    let wanted = if refused { ((4, 3), 4) } else { ((4, 4), 3) };
+    let wanted = if refused {
+        ((4, 3), 4, true)
+    } else {
+        ((4, 4), 3, true)
+    };
     assert_eq!(rt; last, wanted);
     Ok(())
 }
 
 /// A server that stops after one connection, and whose first opening fails, after a round.
-fn stopping<R: Net + Wait + Log>(rt: &R, alloc: Global) -> Result<Stage, AllocError> {
+fn stopping<R: Wait + Log>(rt: &R, alloc: Global) -> Result<Stage, AllocError> {
     let script = Script {
         batches: &[],
         accepts: &[None, None, None],

@@ -4,14 +4,15 @@ ghost use Rattle.claims.specs.Seats.{fresh_seat, HoldsNothing};
 
 use super::fake::{Fake, Script};
 use crate::{
-    Gate, Hand, MAX_BATCH, Own, Poller, Shared, Worked, own_turn, poller_round, worker_turn,
+    Gate, Hand, MAX_BATCH, Own, Part, Poller, Shared, Worked, own_turn, poller_round,
+    share_tickets, worker_turn,
 };
 use berths::Berths;
 use claims::{Claimed, Claims};
 use log::Log;
 use ready::{FreeQueue, ReadyQueue, Ticket};
+use relay_core::MAX_READ;
 use std::alloc::{AllocError, Global};
-use std::net::Net;
 use std::sync::Wait;
 use std::sync::atomic::AtomicU64;
 
@@ -30,7 +31,7 @@ pub(crate) struct Stage {
 
 impl Stage {
     /// Whether a round ended without a fault.
-    pub(crate) fn round<R: Net + Wait + Log>(&mut self, rt: &R, alloc: Global) -> bool {
+    pub(crate) fn round<R: Wait + Log>(&mut self, rt: &R, alloc: Global) -> bool {
         poller_round(rt, alloc, &self.shared, &mut self.own, &mut self.poller).is_ok()
     }
 
@@ -47,9 +48,18 @@ impl Stage {
         worker_turn(rt, &self.shared, &mut self.own, gate, ticket).ok()
     }
 
-    /// Whether the poller's own turn ended without a fault.
-    pub(crate) fn own_turn<G: Gate, R: Wait + Log>(&mut self, rt: &R, gate: &G) -> bool {
-        own_turn(rt, &self.shared, &mut self.own, gate).is_ok()
+    /// How many tickets stay in hand for the poller's own turns.
+    pub(crate) fn share(&mut self, rt: &impl Wait) -> usize {
+        share_tickets(rt, &mut self.own, &mut self.poller);
+        self.own.hand.tickets()
+    }
+
+    /// The poller's own turn. None where there was none, or the seat is worn.
+    pub(crate) fn own_turn<G: Gate, R: Wait + Log>(&mut self, rt: &R, gate: &G) -> Option<Worked> {
+        match own_turn(rt, &self.shared, &mut self.own, gate, &mut self.poller) {
+            Ok(worked) => worked,
+            Err(_) => None,
+        }
     }
 
     /// The word of each slot.
@@ -85,12 +95,12 @@ impl Stage {
     }
 }
 
-/// A server whose front plays this script. Rings have four bytes.
+/// A server whose front plays this script, and which opens at most so many connections. Rings have four bytes.
 pub(crate) fn staged(
     rt: &impl Wait,
     alloc: Global,
     budget: usize,
-    stop_after: u32,
+    most: u64,
     script: Script,
 ) -> Result<Stage, AllocError>
     requires budget { (1 ≤ budget) × (budget ≤ 1024) }
@@ -103,7 +113,11 @@ pub(crate) fn staged(
         budget,
     };
     let front = Fake::new(alloc, script)?;
-    let poller = Poller::new(alloc, front, SLOTS, 4, stop_after)?;
+    let all = Part {
+        first: 0,
+        slots: SLOTS,
+    };
+    let poller = Poller::new(alloc, front, SLOTS, all, 4, most)?;
     Ok(stage_of(shared, own, poller))
 }
 
@@ -116,7 +130,7 @@ fn opened(rt: &impl Wait, alloc: Global) -> Result<(Claims, Own), AllocError>
         return Err(AllocError);
     };
     let mut ready = ReadyQueue::new(alloc, SLOTS, 1)?;
-    let mut free = FreeQueue::new(rt, alloc, SLOTS, 1)?;
+    let mut free = FreeQueue::new(rt, alloc, 0, SLOTS, 1)?;
     let hand = Hand::new(alloc, 2 * SLOTS + 2 * MAX_BATCH)?;
     let Some(seat) = seats.pop() else {
         return Err(AllocError);
@@ -129,6 +143,7 @@ fn opened(rt: &impl Wait, alloc: Global) -> Result<(Claims, Own), AllocError>
         ready,
         free,
         hand,
+        buffer: Box::new(alloc, [0; MAX_READ])?,
     };
     Ok((claims, own))
 }

@@ -12,7 +12,6 @@ use ready::Ticket;
 use std::alloc::{AllocError, Global};
 use std::cell::Cell;
 use std::io::ErrorKind;
-use std::net::Net;
 use std::sync::Wait;
 use std::sync::atomic::Ordering::SeqCst;
 use std::test::Fail;
@@ -168,7 +167,7 @@ const ROWS: [Row; 8] = [
 ];
 
 /// A server whose connections are as a row has them. Their tickets are taken. Fails if one found no memory.
-fn opened<R: Net + Wait>(rt: &R, alloc: Global, row: &Row) -> Result<Stage, AllocError> {
+fn opened<R: Wait>(rt: &R, alloc: Global, row: &Row) -> Result<Stage, AllocError> {
     let script = Script {
         batches: &[],
         accepts: row.accepts,
@@ -177,7 +176,7 @@ fn opened<R: Net + Wait>(rt: &R, alloc: Global, row: &Row) -> Result<Stage, Allo
     };
     let sink = Memory::new(alloc);
     let log = Logged::new(rt, Level::Error, &sink);
-    let mut stage = staged(rt, alloc, row.budget.clamp(1, 1024), 0, script)?;
+    let mut stage = staged(rt, alloc, row.budget.clamp(1, 1024), u64::MAX, script)?;
     let _round = stage.round(&log, alloc);
     if stage.poller.opened() < stage.poller.front.asked.len() as u64 / 2 {
         return Err(AllocError);
@@ -208,7 +207,7 @@ fn play<R: Wait + Log>(rt: &R, mut stage: Stage, ticket: Ticket) -> Outcome {
 }
 
 /// Runs a row's turn. Answers what it did, and whether its line was logged, and no other.
-fn run_row<R: Net + Wait>(rt: &R, alloc: Global, row: &Row) -> Result<(Outcome, bool), AllocError> {
+fn run_row<R: Wait>(rt: &R, alloc: Global, row: &Row) -> Result<(Outcome, bool), AllocError> {
     let stage = opened(rt, alloc, row)?;
     let sink = Memory::new(alloc);
     let log = Logged::new(rt, Level::Info, &sink);
@@ -242,25 +241,59 @@ fn each_way_out_of_a_turn(rt: HostRuntime) -> Result<(), Fail> {
     Ok(())
 }
 
-// The poller's thread runs the turn of the one ticket in hand.
-#[test]
-fn the_poller_runs_a_lone_ticket(rt: HostRuntime) -> Result<(), Fail> {
-    let alloc = rt.alloc();
+/// A ticket of the first connection in the first slot.
+const FIRST: Ticket = Ticket {
+    slot: 0,
+    generation: 1,
+};
+
+/// A server of one connection, whose opening has put its ticket, with two tickets for it in hand instead.
+fn with_two_tickets<R: Wait + Log>(
+    rt: &R,
+    alloc: Global,
+    budget: usize,
+) -> Result<Stage, AllocError> {
     let row = Row {
         accepts: &[None, Some(ErrorKind::WouldBlock)],
+        budget,
         ..QUIET
     };
+    let mut stage = opened(rt, alloc, &row)?;
+    for _ticket in 0..2 {
+        if stage.own.hand.has_room() {
+            stage.own.hand.keep_ticket(FIRST);
+        }
+    }
+    Ok(stage)
+}
+
+// The poller's thread runs the turns of the tickets that a round left in hand.
+#[test]
+fn the_poller_runs_its_tickets(rt: HostRuntime) -> Result<(), Fail> {
+    let alloc = rt.alloc();
     let sink = Memory::new(alloc);
     let log = Logged::new(&rt, Level::Info, &sink);
-    let mut stage = opened(&rt, alloc, &row)?;
-    if stage.own.hand.has_room() {
-        stage.own.hand.keep_ticket(Ticket {
-            slot: 0,
-            generation: 1,
-        });
-    }
-    assert!(rt; stage.own_turn(&log, &OpenGate));
+    let mut stage = with_two_tickets(&log, alloc, 64)?;
+    assert_eq!(rt; stage.share(&rt), 2);
+    assert_eq!(rt; stage.own_turn(&log, &OpenGate), Some(Worked::Quiet));
+    assert_eq!(rt; stage.own_turn(&log, &OpenGate), Some(Worked::Quiet));
+    assert_eq!(rt; stage.own_turn(&log, &OpenGate), None);
     assert_eq!(rt; stage.words(), (0, 3));
-    assert_eq!(rt; stage.settled(&rt, 0), Some((1, 1)));
+    assert_eq!(rt; stage.settled(&rt, 0), Some((2, 2)));
+    Ok(())
+}
+
+// A turn that spends its budget makes the connection heavy: its next tickets are for the workers.
+#[test]
+fn a_heavy_connection_is_left_to_the_workers(rt: HostRuntime) -> Result<(), Fail> {
+    let alloc = rt.alloc();
+    let sink = Memory::new(alloc);
+    let log = Logged::new(&rt, Level::Info, &sink);
+    let mut stage = with_two_tickets(&log, alloc, 1)?;
+    assert_eq!(rt; stage.share(&rt), 2);
+    assert_eq!(rt; stage.own_turn(&log, &OpenGate), Some(Worked::Again));
+    assert_eq!(rt; stage.own.ready.try_take(&rt), Some(FIRST));
+    assert_eq!(rt; stage.share(&rt), 0);
+    assert_eq!(rt; stage.own.ready.try_take(&rt), Some(FIRST));
     Ok(())
 }

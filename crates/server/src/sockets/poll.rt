@@ -1,32 +1,38 @@
-ghost use Rattle.std.specs.Prelude.{◌≡◌, ◌⊎◌, ◌+◌, ◌≤◌, ◌++◌, [], length, true, false, Some, None, IfOk, OnOk, IfErr, OnErr, vec_len, vec_capacity};
+ghost use Rattle.std.specs.Prelude.{◌≡◌, ◌⊎◌, ◌+◌, ◌≤◌, ◌++◌, [], length, replicate, true, false, Some, None, IfOk, OnOk, IfErr, OnErr, vec_len, vec_capacity};
 ghost use Rattle.mio.specs.Events.{items};
 ghost use Rattle.server.specs.SocketsFronts.{numbers};
-ghost use Rattle.server.specs.SocketsWires.{SameButWatched, fresh_wire, promptly, under};
+ghost use Rattle.server.specs.Splits.{parts_of};
+ghost use Rattle.server.specs.SocketsWires.{SameButWatched, fresh_wire, under};
 
 use crate::limits::MAX_WAIT_MILLIS;
 use crate::sockets::bound::Bound;
+use crate::sockets::dial::Dial;
 use crate::sockets::wire::SocketWire;
+use crate::split::Split;
 use dispatch::{Front, LISTENER, MAX_BATCH, ServerFault, Settle, Unopened, WAKER};
 use log::{Log, debug, error};
-use mio::net::{TcpListener, TcpStream};
+use mio::net::TcpListener;
 use mio::{Events, Interest, Poll, Waker};
-use std::alloc::Global;
+use std::alloc::{AllocError, Global};
 use std::io;
 use std::marker::Model;
 use std::net::{Net, SocketAddr};
+use std::sync::Arc;
 use std::time::Duration;
 use token::Token;
 
-/// The front over the system's sockets: one listening socket, one target, and one epoll(7) instance for all of them.
+/// The front of one poller over the system's sockets: the listening socket, which all pollers have, one target, and an
+/// epoll(7) instance of its own.
 #[derive(Drop)]
-pub struct Sockets {
-    listener: TcpListener,
+pub struct Sockets<'r, R> {
+    rt: &'r R,
+    listener: Arc<TcpListener>,
     target: SocketAddr,
     poll: Poll,
     events: Events,
 }
 
-impl Model for Sockets {
+impl<'r, R> Model for Sockets<'r, R> {
     ghost use Rattle.std.specs.Prelude.{◌≡◌};
     ghost use Rattle.mio.specs.Events.{items, capacity as events_capacity};
     ghost use Rattle.server.specs.SocketsFronts.{Watched, numbers};
@@ -39,48 +45,90 @@ impl Model for Sockets {
     ghost invariant = { λ s. events_capacity s.events ≡ 256 };
 }
 
-impl Sockets {
-    /// A front on a bound socket, which connects each client to this target, and the waker for other threads.
-    ///
-    /// Refuses with `NoMemory` if there is none for the list of reports, and with `Poll` if the system cannot report on
-    /// sockets (epoll_create1(2), eventfd(2), epoll_ctl(2)). The cause was then logged, at level error. In both cases
-    /// the listening socket is closed.
-    pub fn new<R: Net + Log>(
-        rt: &R,
-        alloc: Global,
-        bound: Bound,
-        target: SocketAddr,
-    ) -> Result<(Sockets, Waker), ServerFault>
-        ensures opened { IfOk result (λ made. made.0 ≡ record { target = target; reported = [] }) }
-        ensures refused { IfErr result (λ fault. (fault ≡ ServerFault.Poll) ⊎ (fault ≡ ServerFault.NoMemory)) }
-    {
-        let events = Events::with_capacity(alloc, MAX_BATCH)?;
-        let mut listener = bound.listener;
-        match reports_on(rt, &mut listener) {
-            Ok((poll, waker)) => {
-                let sockets = Sockets {
-                    listener,
-                    target,
-                    poll,
-                    events,
-                };
-                Ok((sockets, waker))
-            }
-            Err(error) => {
-                error!(rt; target: "relayd", "poll: {error}");
-                Err(ServerFault::Poll)
-            }
+/// The wakers of all pollers, each for the slots of its own.
+#[derive(Drop)]
+pub struct Wakers {
+    split: Split,
+    each: Vec<Waker>,
+}
+
+/// A front for each part of the slots, all on one bound socket, which connect each client to this target, and the wakers
+/// for other threads. The listening socket is reported to each of them.
+///
+/// Refuses with `NoMemory` if there is not enough, and with `Poll` if the system cannot report on sockets
+/// (epoll_create1(2), eventfd(2), epoll_ctl(2)). The cause was then logged, at level error. In both cases the listening
+/// socket is closed.
+pub fn open_all<'r, R: Net + Log>(
+    rt: &'r R,
+    alloc: Global,
+    bound: Bound,
+    target: SocketAddr,
+    split: Split,
+) -> Result<(Vec<Sockets<'r, R>>, Wakers), ServerFault>
+    ensures opened { IfOk result (λ made. made.0.items ≡ replicate (parts_of split.slots split.size) (record { target = target; reported = [] })) }
+    ensures wakers { IfOk result (λ made. made.1.split ≡ split) }
+    ensures refused { IfErr result (λ fault. (fault ≡ ServerFault.Poll) ⊎ (fault ≡ ServerFault.NoMemory)) }
+{
+    let mut listener = bound.listener;
+    let mut polls = Vec::with_capacity(alloc, split.pollers())?;
+    let mut each = Vec::with_capacity(alloc, split.pollers())?;
+    for _poller in 0..split.pollers() {
+        let (poll, waker) = watched(rt, &mut listener)?;
+        polls.push(poll)?;
+        each.push(waker)?;
+    }
+    let fronts = fronts_of(rt, alloc, listener, polls, target)?;
+    Ok((fronts, Wakers { split, each }))
+}
+
+/// A front for each of these, all with one listening socket.
+fn fronts_of<'r, R>(
+    rt: &'r R,
+    alloc: Global,
+    listener: TcpListener,
+    mut polls: Vec<Poll>,
+    target: SocketAddr,
+) -> Result<Vec<Sockets<'r, R>>, AllocError>
+    ensures { IfOk result (λ fronts. fronts.items ≡ replicate (vec_len polls) (record { target = target; reported = [] })) }
+{
+    let listener = Arc::new(alloc, listener)?;
+    let mut fronts = Vec::with_capacity(alloc, polls.len())?;
+    polls.reverse();
+    for _front in 0..polls.len() {
+        match polls.pop() {
+            Some(poll) => fronts.push(Sockets {
+                rt,
+                listener: Arc::try_clone(&listener)?,
+                target,
+                poll,
+                events: Events::with_capacity(alloc, MAX_BATCH)?,
+            })?,
+            None => unreachable!(),
+        }
+    }
+    Ok(fronts)
+}
+
+/// What reports on the listening socket, and the waker. Why there is none was logged.
+fn watched<R: Net + Log>(rt: &R, listener: &mut TcpListener) -> Result<(Poll, Waker), ServerFault>
+    ensures { IfErr result (λ fault. fault ≡ ServerFault.Poll) }
+{
+    match reports_on(rt, listener) {
+        Ok(made) => Ok(made),
+        Err(error) => {
+            error!(rt; target: "relayd", "poll: {error}");
+            Err(ServerFault::Poll)
         }
     }
 }
 
-impl Sockets {
+impl<R: Dial> Sockets<'_, R> {
     /// Starts the connection to the target.
-    fn begin<N: Net + Log>(&self, rt: &N) -> Result<SocketWire, Unopened>
+    fn begin<N: Log>(&self, rt: &N) -> Result<SocketWire, Unopened>
         ensures begun { IfOk result (λ target. target.socket ≡ fresh_wire false None) }
         ensures refused { IfErr result (λ why. why ≡ Unopened.Connect) }
     {
-        match TcpStream::connect(rt, self.target) {
+        match self.rt.dial(self.target) {
             Ok(stream) => Ok(SocketWire::connecting(stream)),
             Err(error) => {
                 let target = self.target;
@@ -125,16 +173,16 @@ fn put_numbers(batch: &mut Vec<u64>, events: &Events)
     }
 }
 
-impl Front for Sockets {
+impl<R: Dial> Front for Sockets<'_, R> {
     ghost reported = { λ s. s.reported };
 
     type Client = SocketWire;
 
     type Target = SocketWire;
 
-    type Waker = Waker;
+    type Waker = Wakers;
 
-    fn poll(&mut self, batch: &mut Vec<u64>) -> io::Result<()>
+    fn poll(&mut self, batch: &mut Vec<u64>, wait: bool) -> io::Result<()>
         requires room { MAX_BATCH ≤ vec_capacity batch.old }
         ensures most { vec_len batch.new ≤ MAX_BATCH }
         ensures capacity { vec_capacity batch.new ≡ vec_capacity batch.old }
@@ -143,10 +191,9 @@ impl Front for Sockets {
         ensures same { self.new.target ≡ self.old.target }
     {
         batch.clear();
-        self.poll.poll(
-            &mut self.events,
-            Some(Duration::from_millis(MAX_WAIT_MILLIS)),
-        )?;
+        let most = if wait { MAX_WAIT_MILLIS } else { 0 };
+        self.poll
+            .poll(&mut self.events, Some(Duration::from_millis(most)))?;
         put_numbers(batch, &self.events);
         Ok(())
     }
@@ -160,15 +207,15 @@ impl Front for Sockets {
     }
 
     /// If it fails, the cause is logged at level debug.
-    fn open<N: Net + Log>(
+    fn open<N: Log>(
         &mut self,
         rt: &N,
         client: &mut SocketWire,
         client_token: Token,
         target_token: Token,
     ) -> Result<SocketWire, Unopened>
-        ensures opened { IfOk result (λ target. target.socket ≡ promptly (under target_token (fresh_wire false None))) }
-        ensures client { OnOk result (client.new.socket ≡ promptly (under client_token client.old.socket)) }
+        ensures opened { IfOk result (λ target. target.socket ≡ under target_token (fresh_wire false None)) }
+        ensures client { OnOk result (client.new.socket ≡ under client_token client.old.socket) }
         ensures unopened { OnErr result (SameButWatched client.old.socket client.new.socket) }
         ensures same { client.new.socket.tally ≡ client.old.socket.tally }
         ensures kept { self.new ≡ self.old }
@@ -176,13 +223,13 @@ impl Front for Sockets {
         let mut target = self.begin(rt)?;
         self.watch(rt, client, client_token)?;
         self.watch(rt, &mut target, target_token)?;
-        client.settle();
-        target.settle();
         Ok(target)
     }
 
-    fn wake(waker: &Waker) {
-        let _ = waker.wake();
+    fn wake(wakers: &Wakers, slot: usize) {
+        if let Some(waker) = wakers.each.get(wakers.split.poller_of(slot)) {
+            let _ = waker.wake();
+        }
     }
 
     fn peer(client: &SocketWire) -> Option<SocketAddr>

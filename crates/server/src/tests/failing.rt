@@ -3,16 +3,17 @@ ghost use Rattle.std.specs.Prelude.{◌≡◌, ◌≤◌, [], length, IfOk};
 ghost use Rattle.claims.specs.Seats.{fresh_seat};
 ghost use Rattle.dispatch.specs.Parts.{AreFresh};
 
-use crate::serving::Server;
+use crate::making::Server;
 use crate::sockets::SocketWire;
+use crate::split::Split;
 use berths::Berths;
 use claims::Claims;
-use dispatch::{Front, Parts, Poller, Shared, Unopened};
+use dispatch::{Front, Part, Parts, Poller, Shared, Unopened};
 use log::Log;
 use ready::{FreeQueue, ReadyQueue};
 use std::alloc::{AllocError, Global};
 use std::io::{self, ErrorKind};
-use std::net::{Net, SocketAddr};
+use std::net::SocketAddr;
 use std::sync::Wait;
 use std::sync::atomic::AtomicU64;
 use std::sync::atomic::Ordering::SeqCst;
@@ -36,7 +37,7 @@ impl Front for Failing {
 
     type Waker = AtomicU64;
 
-    fn poll(&mut self, batch: &mut Vec<u64>) -> io::Result<()> {
+    fn poll(&mut self, batch: &mut Vec<u64>, _wait: bool) -> io::Result<()> {
         batch.clear();
         self.polled = self.polled.saturating_add(1);
         Err(io::Error::from(self.kind))
@@ -46,7 +47,7 @@ impl Front for Failing {
         Err(io::Error::from(ErrorKind::WouldBlock))
     }
 
-    fn open<N: Net + Log>(
+    fn open<N: Log>(
         &mut self,
         _rt: &N,
         _client: &mut SocketWire,
@@ -56,7 +57,7 @@ impl Front for Failing {
         Err(Unopened::Connect)
     }
 
-    fn wake(waker: &AtomicU64) {
+    fn wake(waker: &AtomicU64, _slot: usize) {
         waker.fetch_add(1, SeqCst);
     }
 
@@ -83,14 +84,19 @@ pub(crate) fn server_without_reports(
     let parts = Parts {
         seats,
         ready: ReadyQueue::new(alloc, 2, 3)?,
-        free: FreeQueue::new(rt, alloc, 1, 3)?,
     };
-    let poller = Poller::new(alloc, Failing { kind, polled: 0 }, 1, 4, 0)?;
+    let mut free = Vec::with_capacity(alloc, 1)?;
+    free.push(FreeQueue::new(rt, alloc, 0, 1, 3)?)?;
+    let all = Part { first: 0, slots: 1 };
+    let mut pollers = Vec::with_capacity(alloc, 1)?;
+    pollers.push(Poller::new(alloc, Failing { kind, polled: 0 }, 1, all, 4, u64::MAX)?)?;
     Ok(Server {
         shared,
         parts,
-        poller,
+        free,
+        pollers,
+        split: Split::new(1, 2),
         workers: 2,
-        poller_works: true,
+        pollers_work: true,
     })
 }

@@ -1,42 +1,44 @@
 // What a fault of one thread does to the others, and which fault is answered.
-ghost use Rattle.std.specs.Prelude.{◌≡◌, length};
-ghost use Rattle.claims.specs.Seats.{fresh_seat};
 
 use super::failing::{Failing, server_without_reports};
-use crate::crew::{Crew, end_work, run_rounds, work};
+use crate::crew::Crew;
+use crate::dividing::{Cast, Rest, divide};
 use crate::fault_record::FaultRecord;
-use crate::serving::{Server, run_threads};
-use dispatch::{OpenGate, Own, Poller, ServerFault, Shared};
+use crate::making::Server;
+use crate::serving::run_threads;
+use crate::split::Split;
+use dispatch::{OpenGate, ServerFault, Shared};
 use log::sink::{Discard, Locked};
 use log::{Level, Log, Logged};
 use ready::Ticket;
 use std::alloc::{AllocError, Global};
 use std::io::ErrorKind;
-use std::net::Net;
-use std::sync::Wait;
+use std::sync::atomic::AtomicUsize;
 use std::sync::atomic::Ordering::SeqCst;
+use std::sync::{Arc, Mutex, Wait};
 use std::test::Fail;
 
-/// How much is kept in hand here: all that two rounds may put there.
-const HAND: usize = 514;
-
-/// What a thread of such a server is handed.
+/// What a thread of such a server is handed, if no other thread is to begin.
 fn crew_of<'a, R>(
     rt: &'a R,
     alloc: Global,
     faults: &'a FaultRecord,
-    shared: &'a Shared<Failing>,
-) -> Crew<'a, Failing, OpenGate, R>
-    ensures { result.shared.now ≡ shared.now }
-{
-    Crew {
+    shared: &Arc<Shared<Failing>>,
+) -> Result<Crew<'a, Failing, OpenGate, R>, AllocError> {
+    Ok(Crew {
         rt,
         alloc,
         gate: &OpenGate,
         faults,
-        shared,
-        poller_works: true,
-    }
+        shared: Arc::try_clone(shared)?,
+        split: Split::new(1, 2),
+        polling: AtomicUsize::new(1),
+        pollers_work: true,
+        cast: Mutex::new(Cast {
+            leads: Vec::new(alloc),
+            workers: Vec::new(alloc),
+        }),
+    })
 }
 
 /// Threads by number, the poller's first, and the fault of each, in the order in which they are noted.
@@ -88,10 +90,11 @@ fn a_worker_s_fault_is_told_to_all(rt: HostRuntime) -> Result<(), Fail> {
     let (Some(mut mine), Some(mut other)) = (parts.ready.pop(), parts.ready.pop()) else {
         panic!(rt; "there are not two ends")
     };
+    let shared = Arc::new(rt.alloc(), shared)?;
     for (later, kept) in [(3, ServerFault::Worn), (1, ServerFault::NoMemory)] {
         let faults = FaultRecord::new();
-        let crew = crew_of(&rt, rt.alloc(), &faults, &shared);
-        end_work(&crew, 2, &mut mine, Err(ServerFault::Worn));
+        let crew = crew_of(&rt, rt.alloc(), &faults, &shared)?;
+        crew.fail(2, &mut mine, ServerFault::Worn);
         faults.write(&rt, later, ServerFault::NoMemory);
         assert_eq!(rt; faults.into_fault(), Some(kept));
     }
@@ -105,13 +108,23 @@ fn a_worker_s_fault_is_told_to_all(rt: HostRuntime) -> Result<(), Fail> {
 fn takes<R: Wait + Log>(
     rt: &R,
     alloc: Global,
-    shared: &Shared<Failing>,
-    mut first: Own,
-    second: Own,
     fault: Option<ServerFault>,
-) -> (bool, bool)
-    requires { second.seat ≡ fresh_seat shared.now.claims }
-{
+) -> Result<(bool, bool), ServerFault> {
+    let Server {
+        shared,
+        mut parts,
+        free,
+        pollers,
+        ..
+    } = server_without_reports(rt, alloc, ErrorKind::Other)?;
+    let Some(mut first) = parts.ready.pop() else {
+        return Err(ServerFault::NoMemory);
+    };
+    let shared = Arc::new(alloc, shared)?;
+    let mut cast = divide(alloc, &shared, Rest { parts, free }, pollers, 1)?;
+    let Some(worker) = cast.workers.pop() else {
+        return Err(ServerFault::NoMemory);
+    };
     let faults = FaultRecord::new();
     if let Some(fault) = fault {
         faults.write(rt, 2, fault);
@@ -120,72 +133,49 @@ fn takes<R: Wait + Log>(
         slot: 0,
         generation: 1,
     };
-    let _ = first.ready.put(rt, ticket);
-    let _ = first.ready.put(rt, ticket);
-    first.ready.close();
-    work(&crew_of(rt, alloc, &faults, shared), 1, second);
-    let both = first.ready.try_take(rt).is_none();
-    let one = first.ready.try_take(rt).is_none();
-    (one, both)
+    let _ = first.put(rt, ticket);
+    let _ = first.put(rt, ticket);
+    first.close();
+    worker.work(&crew_of(rt, alloc, &faults, &shared)?);
+    let both = first.try_take(rt).is_none();
+    let one = first.try_take(rt).is_none();
+    Ok((one, both))
 }
 
 // Each of the turns finds the slot free, and is Busy. A worker goes on after it, but begins none after a fault.
 #[test]
 fn a_worker_goes_on_until_a_fault(rt: HostRuntime) -> Result<(), Fail> {
-    let alloc = rt.alloc();
     let log = Logged::new(&rt, Level::Error, Discard);
     for (fault, took) in [(None, true), (Some(ServerFault::Worn), false)] {
-        let Server {
-            shared,
-            mut parts,
-            ..
-        } = server_without_reports(&rt, alloc, ErrorKind::Other)?;
-        let (Some(first), Some(second)) = (
-            parts.next_own(alloc, &shared, HAND)?,
-            parts.next_own(alloc, &shared, HAND)?,
-        ) else {
-            panic!(rt; "there are not two threads")
-        };
-        assert_eq!(rt;
-            takes(&log, alloc, &shared, first, second, fault),
-            (took, took)
-        );
+        assert_eq!(rt; takes(&log, rt.alloc(), fault), Ok((took, took)));
     }
     Ok(())
 }
 
 /// Lets a poller make rounds after a fault was recorded. Answers whether it ended well, and how often it waited.
-fn rounds_after<R: Net + Wait + Log>(
-    rt: &R,
-    alloc: Global,
-    shared: &Shared<Failing>,
-    mut own: Own,
-    mut poller: Poller<Failing>,
-) -> (bool, usize)
-    requires unused { own.seat ≡ fresh_seat shared.now.claims }
-    requires sized { length poller.table ≡ shared.now.claims.words }
-{
+fn rounds_after<R: Wait + Log>(rt: &R, alloc: Global) -> Result<(bool, usize), ServerFault> {
+    let Server {
+        shared,
+        parts,
+        free,
+        pollers,
+        ..
+    } = server_without_reports(rt, alloc, ErrorKind::Other)?;
+    let shared = Arc::new(alloc, shared)?;
+    let mut cast = divide(alloc, &shared, Rest { parts, free }, pollers, 0)?;
+    let Some(mut lead) = cast.leads.pop() else {
+        return Err(ServerFault::NoMemory);
+    };
     let faults = FaultRecord::new();
     faults.write(rt, 2, ServerFault::Worn);
-    let crew = crew_of(rt, alloc, &faults, shared);
-    let ended = run_rounds(&crew, &mut own, &mut poller);
-    (ended.is_ok(), poller.front.polled)
+    let ended = lead.run_rounds(&crew_of(rt, alloc, &faults, &shared)?);
+    Ok((ended.is_ok(), lead.poller.front.polled))
 }
 
 #[test]
 fn no_round_begins_after_a_fault(rt: HostRuntime) -> Result<(), Fail> {
-    let alloc = rt.alloc();
     let log = Logged::new(&rt, Level::Error, Discard);
-    let Server {
-        shared,
-        mut parts,
-        poller,
-        ..
-    } = server_without_reports(&rt, alloc, ErrorKind::Other)?;
-    let Some(own) = parts.next_own(alloc, &shared, HAND)? else {
-        panic!(rt; "there is no thread")
-    };
-    assert_eq!(rt; rounds_after(&log, alloc, &shared, own, poller), (true, 0));
+    assert_eq!(rt; rounds_after(&log, rt.alloc()), Ok((true, 0)));
     Ok(())
 }
 

@@ -1,8 +1,10 @@
 // A server over real sockets on loopback, with its clients and its target in the same process.
 
 use super::holding::Holding;
-use crate::serving::{build, run_threads, serve};
-use crate::sockets::{Bound, Sockets, bind};
+use crate::making::build;
+use crate::serving::{run_threads, serve};
+use crate::sockets::{Bound, Dial, bind, open_all};
+use crate::split::Split;
 use dispatch::{OpenGate, ServerFault};
 use log::sink::{Discard, Locked};
 use log::{Level, Log, Logged};
@@ -148,16 +150,18 @@ fn echo_two(rt: &impl Threads, listener: &TcpListener) {
 }
 
 /// Serves like `serve`, but leaves all turns to the workers.
-fn serve_by_workers<R: Net + Wait + Threads + Log + Sync>(
+fn serve_by_workers<R: Net + Dial + Wait + Threads + Log + Sync>(
     rt: &R,
     alloc: Global,
     settings: &Settings,
     gate: &Holding,
     bound: Bound,
 ) -> Result<(), ServerFault> {
-    let (front, waker) = Sockets::new(rt, alloc, bound, SocketAddr::from(settings.target))?;
-    let mut server = build(rt, alloc, settings, front, waker)?;
-    server.poller_works = false;
+    let split = Split::new(settings.slots, settings.workers);
+    let target = SocketAddr::from(settings.target);
+    let (fronts, wakers) = open_all(rt, alloc, bound, target, split)?;
+    let mut server = build(rt, alloc, settings, split, fronts, wakers)?;
+    server.pollers_work = false;
     run_threads(rt, alloc, gate, server)
 }
 

@@ -1,8 +1,7 @@
 mod fronts;
 mod wires;
 
-use crate::{Front, MAX_BATCH, SocketWire, Sockets, bind};
-use mio::Waker;
+use crate::{Front, MAX_BATCH, SocketWire, Sockets, Split, Wakers, bind, open_all};
 use settings::{LogLevel, Settings};
 use std::alloc::Global;
 use std::io;
@@ -33,11 +32,15 @@ fn listener(rt: &HostRuntime) -> io::Result<TcpListener> {
 }
 
 /// A front on loopback, and its own address.
-fn front(rt: &HostRuntime, target: SocketAddr) -> Result<(Sockets, Waker, SocketAddr), Fail> {
+fn front(
+    rt: &HostRuntime,
+    target: SocketAddr,
+) -> Result<(Sockets<'_, HostRuntime>, Wakers, SocketAddr), Fail> {
     let bound = bind(rt, &settings(0))?;
     let address = bound.text();
-    let (front, waker) = Sockets::new(rt, rt.alloc(), bound, target)?;
-    Ok((front, waker, address))
+    let (mut fronts, wakers) = open_all(rt, rt.alloc(), bound, target, Split::new(1, 1))?;
+    let front = fronts.pop().ok_or("no front")?;
+    Ok((front, wakers, address))
 }
 
 /// Polls until each of these numbers was reported, many times at most.
@@ -45,7 +48,7 @@ fn reports<F: Front>(alloc: Global, front: &mut F, numbers: &[u64]) -> io::Resul
     let mut seen = Vec::new(alloc);
     let mut batch = Vec::with_capacity(alloc, MAX_BATCH)?;
     for _ in 0..100 {
-        front.poll(&mut batch)?;
+        front.poll(&mut batch, true)?;
         seen.extend_from_slice(batch.as_slice())?;
         if numbers.iter().all(|number| seen.contains(number)) {
             return Ok(());
@@ -71,7 +74,7 @@ struct Opened {
 fn accepted(
     rt: &HostRuntime,
     target: SocketAddr,
-) -> Result<(Sockets, Waker, TcpStream, SocketWire), Fail> {
+) -> Result<(Sockets<'_, HostRuntime>, Wakers, TcpStream, SocketWire), Fail> {
     let (mut front, waker, address) = front(rt, target)?;
     let peer = TcpStream::connect(rt, address)?;
     reports(rt.alloc(), &mut front, &[0])?;

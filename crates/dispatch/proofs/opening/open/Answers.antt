@@ -8,6 +8,10 @@ returns-in_default-clause-done g c =
 
 pub returns-in_default-next_names-clause-done : goal.returns-in_default-next_names-clause-done
 returns-in_default-next_names-clause-done g c =
+    opened_never c.args.poller.now c.count_lost-in_default-next_names.new.self c.args.own.now c.take_slot.new.self c.take_slot.ensures.left c.in-Some.slot (sym c.take_slot.ensures.value ∙ c.in-Some.is) c.count_lost-in_default-next_names.ensures
+
+pub returns-then-not-has-clause-done : goal.returns-then-not-has-clause-done
+returns-then-not-has-clause-done g c =
     opened_never c.args.poller.now c.count_lost.new.self c.args.own.now c.take_slot.new.self c.take_slot.ensures.left c.in-Some.slot (sym c.take_slot.ensures.value ∙ c.in-Some.is) c.count_lost.ensures
 
 pub returns-in-Err-clause-done : goal.returns-in-Err-clause-done

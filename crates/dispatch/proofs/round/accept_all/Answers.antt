@@ -12,7 +12,7 @@ loop-try-init g c = record {
   };
   room = omega arith;
   tries = ap (λ (s : PollerState). 0 + s.tries) c.reset_tries.ensures;
-  done = accept_none c.args.poller.now c.reset_tries.new.self c.args.own.now (same_tries c.args.poller.now c.reset_tries.new.self 256 c.reset_tries.ensures);
+  done = accept_none c.args.poller.now c.reset_tries.new.self c.args.own.now (same_tries c.args.poller.now c.reset_tries.new.self 4 c.reset_tries.ensures);
   over = ap (λ (s : PollerState). s.over) c.reset_tries.ensures;
   reported = ap (λ (s : PollerState). s.reported) c.reset_tries.ensures;
 }

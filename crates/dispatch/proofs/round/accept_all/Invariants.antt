@@ -7,8 +7,8 @@ use Rattle.dispatch.proofs.round.accept_all.Given as goal
 abbrev pub invariant-loop-try : goal.invariant-loop-try
 invariant-loop-try g l = record {
   between : Between l.shared.claims l.own l.poller;
-  room : 256 ≤ l._try + ticket_room l.own.hand;
-  tries : l._try + l.poller.tries ≡ 256;
+  room : 4 ≤ l._try + ticket_room l.own.hand;
+  tries : l._try + l.poller.tries ≡ 4;
   done : AcceptDone l.fn.poller l.poller l.fn.own l.own;
   over : l.poller.over ≡ l.fn.poller.over;
   reported : l.poller.reported ≡ l.fn.poller.reported;

@@ -1,7 +1,16 @@
-use Rattle.dispatch.proofs.Connections.{accept_none, same_two}
+use Rattle.std.proofs.Common.{refl, false, ◌-◌}
+use Rattle.dispatch.proofs.Connections.{accept_both, accept_none, same_two}
 use Rattle.dispatch.proofs.round.accept_next.Goals as goal
 
 pub returns-in-Err-clause-done : goal.returns-in-Err-clause-done
 returns-in-Err-clause-done g c =
     accept_none c.args.poller.now c.not_accepted.new.poller c.args.own.now
     (same_two c.args.poller.now c.accept.new.poller c.not_accepted.new.poller _ _ _ c.in-Err.ensures.refused c.not_accepted.ensures.flag)
+
+pub returns-in_ok-open-in-Ok-clause-done : goal.returns-in_ok-open-in-Ok-clause-done
+returns-in_ok-open-in-Ok-clause-done g c =
+    let old = c.args.poller.now in
+    accept_both
+    (accept_none old c.accept.new.poller c.args.own.now
+    (same_two old (record old { tries = old.tries - 1 }) c.accept.new.poller (old.tries - 1) old.accepting false refl c.in-Ok.ensures.accepted))
+    c.in_ok-open-in-Ok.ensures.done

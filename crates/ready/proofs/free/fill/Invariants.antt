@@ -4,5 +4,5 @@ use Rattle.ready.specs.Steps.{opener, in_order}
 use Rattle.ready.proofs.free.fill.Given as goal
 
 -- the slots so far were put
-abbrev pub invariant-loop-slot : goal.invariant-loop-slot
-invariant-loop-slot g l = IsSamePass l.initial.first l.first × (view l.first ≡ record opener { put = in_order l.slot })
+abbrev pub invariant-loop-index : goal.invariant-loop-index
+invariant-loop-index g l = IsSamePass l.initial.pass l.pass × (view l.pass ≡ record opener { put = in_order l.first l.index })

@@ -34,17 +34,33 @@ fn listens_once(rt: HostRuntime) -> Result<(), Fail> {
 }
 
 /// Whether nobody waits to be accepted.
-fn none_waits(front: &mut Sockets) -> bool {
+fn none_waits(front: &mut Sockets<'_, HostRuntime>) -> bool {
     let none = front.accept().map(drop).map_err(|error| error.kind());
     none == Err(ErrorKind::WouldBlock)
 }
 
 /// Whether a poll that has nothing to report waits as long as it may.
-fn waits(rt: &HostRuntime, front: &mut Sockets) -> Result<bool, Fail> {
+fn waits(rt: &HostRuntime, front: &mut Sockets<'_, HostRuntime>) -> Result<bool, Fail> {
     let mut batch = Vec::with_capacity(rt.alloc(), MAX_BATCH)?;
     let start = Instant::now(rt)?;
-    front.poll(&mut batch)?;
+    front.poll(&mut batch, true)?;
     Ok(batch.is_empty() && start.elapsed(rt)? >= Duration::from_millis(190))
+}
+
+// The listening socket is reported to each front, and a slot's waker to the front of its part alone.
+#[test]
+fn fronts_share_the_listener(rt: HostRuntime) -> Result<(), Fail> {
+    let bound = bind(&rt, &settings(0))?;
+    let address = bound.text();
+    let target = listener(&rt)?.local_addr()?;
+    let (fronts, wakers) = open_all(&rt, rt.alloc(), bound, target, Split::new(130, 4))?;
+    assert_eq!(rt; fronts.len(), 2);
+    let _peer = TcpStream::connect(&rt, address)?;
+    for (mut front, slot) in fronts.into_iter().zip([64, 65]) {
+        Sockets::<HostRuntime>::wake(&wakers, slot);
+        reports(rt.alloc(), &mut front, &[0, 1])?;
+    }
+    Ok(())
 }
 
 // The listener is reported as 0, and the waker once as 1.
@@ -77,7 +93,7 @@ fn reports_both_sockets(rt: HostRuntime) -> Result<(), Fail> {
 
 /// Wakes a front.
 fn wake<F: Front>(_front: &F, waker: &F::Waker) {
-    F::wake(waker);
+    F::wake(waker, 0);
 }
 
 /// Why a client that is registered already cannot be opened to this target, and the line that is logged at level debug.

@@ -147,12 +147,14 @@ fn in_bulk(wire: &mut SocketWire) -> [bool; 5] {
     at_once
 }
 
-/// Whether a wire's socket sends at once but for bulk, until the connection is quiet.
+/// Whether a wire's socket sends at once but for bulk, from one time that the connection is quiet until the next.
 fn waits_in_bulk(wire: &mut SocketWire) -> bool {
-    let before = sends_at_once(wire);
+    let opened = sends_at_once(wire);
+    wire.settle();
+    let quiet = sends_at_once(wire);
     let in_bulk = in_bulk(wire);
     wire.settle();
-    before && in_bulk == [true, true, true, false, false] && sends_at_once(wire)
+    !opened && quiet && in_bulk == [true, true, true, false, false] && sends_at_once(wire)
 }
 
 #[test]

@@ -9,4 +9,4 @@ abbrev pub invariant-loop-end : goal.invariant-loop-end
 invariant-loop-end g l =
     IsPassOf (arc_value l.line) l.next
     × (ruled_capacity (arc_value l.line) ≡ l.slots)
-    × (l.all.items ≡ opened l.slots ∷ replicate (l._end - 1) (unused l.slots))
+    × (l.all.items ≡ opened l.first l.slots ∷ replicate (l._end - 1) (unused l.slots))

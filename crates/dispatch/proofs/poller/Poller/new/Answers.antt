@@ -1,0 +1,8 @@
+use Rattle.std.proofs.Common.{◌≡◌, ◌≤◌, List, length, replicate, slice_index_or, rules, arith, subst, sym}
+use Rattle.dispatch.proofs.Polls.{own_none, are_none}
+use Rattle.dispatch.proofs.poller.Poller.new.Goals as goal
+
+pub invariant_of-result : goal.invariant_of-result
+invariant_of-result g c =
+    let table : c.in_ok-vec.field-0.items ≡ replicate c.args.table 0 = search rules in
+    (are_none c.args.table c.in_ok-vec.field-0.items table, own_none c.args.part c.args.table c.in_ok-vec.field-0.items table, search rules, search rules, search rules, search rules)

@@ -1,0 +1,92 @@
+//! The turns that the poller's thread runs by itself, so that no worker has to be woken for them.
+ghost use Rattle.std.specs.Prelude.{◌≡◌, ◌⊎◌, ◌<◌, [], length, slice_get, IfSome};
+ghost use Rattle.claims.specs.Seats.{HoldsNothing};
+ghost use Rattle.dispatch.specs.Outgoing.{tickets_out, without_first, Inserted, KeepsOut};
+ghost use Rattle.dispatch.specs.Turns.{TicketsKept};
+
+use crate::faults::ServerFault;
+use crate::front::Front;
+use crate::gate::Gate;
+use crate::limits::{MAX_OWN_TURNS, OWN_BUDGET};
+use crate::poller::Poller;
+use crate::putting::put_ticket;
+use crate::shared::{Own, Shared};
+use crate::worker::{Worked, turn_of};
+use log::Log;
+use ready::Ticket;
+use std::sync::Wait;
+
+/// Puts the tickets in hand that the poller's thread does not run by itself, so that the workers begin with them: those
+/// of connections that spent all of its budget a short while ago, and all behind the first 16 that are left. The others
+/// stay in hand, in order, and so do those that the queue refuses.
+pub fn share_tickets<F: Front, R: Wait>(rt: &R, own: &mut Own, poller: &mut Poller<F>)
+    requires idle { HoldsNothing own.old.seat }
+    ensures poller { poller.new ≡ poller.old }
+    ensures out { KeepsOut own.old own.new }
+{
+    let mut kept = 0;
+    for _ticket in 0..own.hand.tickets() {
+        let Some(ticket) = own.hand.take_ticket() else {
+            return;
+        };
+        let light = poller.is_light(ticket.slot);
+        let stays = light && kept < MAX_OWN_TURNS;
+        pass_on(rt, own, ticket, stays);
+        if stays {
+            kept += 1;
+        }
+    }
+}
+
+/// A ticket that was taken out of the hand goes back behind the others there, or into the queue.
+fn pass_on<R: Wait>(rt: &R, own: &mut Own, ticket: Ticket, stays: bool)
+    requires idle { HoldsNothing own.old.seat }
+    requires room { length own.old.hand.tickets < own.old.hand.capacity }
+    ensures tickets { Inserted ticket (tickets_out own.old) (tickets_out own.new) }
+    ensures seat { own.new.seat ≡ own.old.seat }
+    ensures free { own.new.free ≡ own.old.free }
+    ensures slots { own.new.hand.slots ≡ own.old.hand.slots }
+{
+    if stays {
+        own.hand.keep_ticket(ticket);
+    } else {
+        put_ticket(rt, own, ticket);
+    }
+}
+
+/// Runs the turn of the oldest ticket in hand, with at most 8 calls. A connection that spends them is the workers' for a
+/// while. None if there is no ticket, or no room in hand for a slot: then nothing changes.
+///
+/// Nothing else that is in hand is put. Where a connection ends, the round that follows looks for its slot before it
+/// waits, if a client may be waiting. If no more connections are to be opened, it does not wait, so that the poller's end
+/// is found at once.
+pub fn own_turn<F: Front, G: Gate, R: Wait + Log>(
+    rt: &R,
+    shared: &Shared<F>,
+    own: &mut Own,
+    gate: &G,
+    poller: &mut Poller<F>,
+) -> Result<Option<Worked>, ServerFault>
+    requires same { own.old.seat.table ≡ shared.now.claims }
+    requires idle { HoldsNothing own.old.seat }
+    ensures same { own.new.seat.table ≡ own.old.seat.table }
+    ensures idle { HoldsNothing own.new.seat }
+    ensures poller { poller.new ≡ poller.old }
+    ensures tickets { IfSome (slice_get own.old.hand.tickets 0) (λ ticket. (own.new ≡ own.old) ⊎ TicketsKept ticket (without_first own.old) own.new) }
+    ensures none { own.old.hand.tickets ≡ [] → own.new ≡ own.old }
+{
+    if !own.hand.has_slot_room() {
+        return Ok(None);
+    }
+    let Some(ticket) = own.hand.take_ticket() else {
+        return Ok(None);
+    };
+    let worked = turn_of(rt, shared, own, gate, ticket, shared.budget.min(OWN_BUDGET))?;
+    if worked == Worked::Again {
+        poller.mark_heavy(ticket.slot);
+    }
+    if worked == Worked::Ended && poller.has_opened_all() {
+        F::wake(&shared.waker, ticket.slot);
+    }
+    Ok(Some(worked))
+}

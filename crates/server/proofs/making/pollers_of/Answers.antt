@@ -1,0 +1,18 @@
+use Rattle.std.proofs.Common.{◌≡◌, ℕ, ◌+◌, ◌∷◌, [], map, ap, arith}
+use Rattle.std.proofs.lemmas.List.Elements.{All-append}
+use Rattle.server.proofs.Parts.{mapped_more, mapped_all, begun_one}
+use Rattle.server.proofs.making.pollers_of.Goals as goal
+
+pub loop-number-preserved : goal.loop-number-preserved
+loop-number-preserved g c = record {
+  left = omega (arith, c.loop-number.invariant.left, c.in-Some.ensures.len);
+  parts = mapped_more _ _ _ _ c.loop-number.number c.in_ok-push-in-Some.ensures.items (ap (λ poller. poller.part) c.in_ok-poller_of-in-Some.ensures) c.loop-number.invariant.parts;
+  begun = begun_one _ _ _ _ c.in_ok-push-in-Some.ensures.items c.in_ok-poller_of-in-Some.ensures c.loop-number.invariant.begun;
+  shares = mapped_more _ _ _ _ c.loop-number.number c.in_ok-push-in-Some.ensures.items (ap (λ poller. poller.most) c.in_ok-poller_of-in-Some.ensures) c.loop-number.invariant.shares;
+}
+
+pub returns-clause-parts : goal.returns-clause-parts
+returns-clause-parts g c = mapped_all _ _ _ c.loop-number.number _ (omega (arith, c.loop-number.invariant.left, c.pollers-number-end.ensures.parts)) c.loop-number.invariant.parts
+
+pub returns-clause-shares : goal.returns-clause-shares
+returns-clause-shares g c = mapped_all _ _ _ c.loop-number.number _ (omega (arith, c.loop-number.invariant.left, c.pollers-number-end.ensures.parts)) c.loop-number.invariant.shares

@@ -1,0 +1,82 @@
+//! The loop of a poller's thread.
+ghost use Rattle.std.specs.Prelude.{◌≡◌, length};
+ghost use Rattle.std.specs.Arc.{arc_value};
+ghost use Rattle.claims.specs.Seats.{HoldsNothing};
+
+use crate::crew::Crew;
+use dispatch::{
+    Front, Gate, MAX_OWN_TURNS, Own, Poller, ServerFault, Shared, own_turn, poller_round,
+    share_tickets,
+};
+use log::Log;
+use std::sync::{Arc, Wait};
+
+/// A poller, and what its thread owns.
+#[derive(Drop)]
+pub(crate) struct Lead<F: Front> {
+    pub(crate) shared: Arc<Shared<F>>,
+    /// The thread's number, by which its fault goes before those of later threads.
+    pub(crate) number: usize,
+    pub(crate) own: Own,
+    pub(crate) poller: Poller<F>,
+    pub ghost same: { own.seat.table ≡ (arc_value shared).claims },
+    pub ghost idle: { HoldsNothing own.seat },
+    pub ghost sized: { length poller.table ≡ (arc_value shared).claims.words },
+}
+
+impl<F: Front + Drop> Lead<F>
+where
+    F::Waker: Drop,
+{
+    /// Makes rounds until the poller is over, or a fault is recorded. A fault of its own is recorded, and ends all other
+    /// threads.
+    pub(crate) fn lead<G: Gate, R: Wait + Log>(mut self, crew: &Crew<'_, F, G, R>) {
+        if let Err(fault) = self.run_rounds(crew) {
+            crew.fail(self.number, &mut self.own.ready, fault);
+        }
+        crew.leave(&mut self.own.ready);
+    }
+
+    pub(crate) fn run_rounds<G: Gate, R: Wait + Log>(
+        &mut self,
+        crew: &Crew<'_, F, G, R>,
+    ) -> Result<(), ServerFault> {
+        for _round in crew.rt.forever() {
+            if crew.faults.is_written() || self.poller.is_over() {
+                return Ok(());
+            }
+            poller_round(
+                crew.rt,
+                crew.alloc,
+                &self.shared,
+                &mut self.own,
+                &mut self.poller,
+            )?;
+            if crew.pollers_work {
+                self.run_turns(crew)?;
+            }
+        }
+        Ok(())
+    }
+
+    /// Runs the turns that a round left to its own thread.
+    fn run_turns<G: Gate, R: Wait + Log>(
+        &mut self,
+        crew: &Crew<'_, F, G, R>,
+    ) -> Result<(), ServerFault> {
+        share_tickets(crew.rt, &mut self.own, &mut self.poller);
+        for _turn in 0..MAX_OWN_TURNS {
+            let run = own_turn(
+                crew.rt,
+                &self.shared,
+                &mut self.own,
+                crew.gate,
+                &mut self.poller,
+            )?;
+            if run.is_none() {
+                return Ok(());
+            }
+        }
+        Ok(())
+    }
+}

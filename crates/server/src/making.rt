@@ -1,0 +1,189 @@
+//! What a server is made of, before its threads run.
+ghost use Rattle.std.specs.Prelude.{◌≡◌, ◌+◌, ◌-◌, ◌<◌, ◌≤◌, ◌∷◌, [], length, replicate, map, All, true, false, IfOk, IfErr};
+ghost use Rattle.claims.specs.Seats.{fresh_seat};
+ghost use Rattle.ready.specs.Steps.{unused, opened as filled};
+ghost use Rattle.dispatch.specs.Parts.{AreFresh};
+ghost use Rattle.server.specs.Limits.{share_of, shares_of};
+ghost use Rattle.server.specs.Splits.{each_part, part_of, parts_of, HasBegun};
+
+use crate::split::Split;
+use berths::Berths;
+use claims::{ClaimSeat, Claims};
+use dispatch::{Front, Parts, Poller, ServerFault, Shared};
+use ready::{FreeQueue, ReadyQueue};
+use settings::Settings;
+use std::alloc::{AllocError, Global};
+use std::sync::Wait;
+
+/// A server before its threads run: what they share, what they are made from, and the pollers.
+#[derive(Drop)]
+pub(crate) struct Server<F: Front> {
+    pub(crate) shared: Shared<F>,
+    /// For each thread a seat and an end of the queue of tickets.
+    pub(crate) parts: Parts,
+    /// For each poller its ends of a queue of free slots: one for its own thread, and one for each worker.
+    pub(crate) free: Vec<Vec<FreeQueue>>,
+    /// The pollers, in the order of their parts.
+    pub(crate) pollers: Vec<Poller<F>>,
+    pub(crate) split: Split,
+    pub(crate) workers: usize,
+    /// Whether the pollers' threads run turns, too, or leave them all to the workers.
+    pub(crate) pollers_work: bool,
+    pub ghost seats: { AreFresh shared.claims parts.seats.items },
+}
+
+/// A server as the settings say, with a poller for each part of the slots.
+pub(crate) fn build<F: Front + Drop, R: Wait>(
+    rt: &R,
+    alloc: Global,
+    settings: &Settings,
+    split: Split,
+    fronts: Vec<F>,
+    waker: F::Waker,
+) -> Result<Server<F>, ServerFault>
+where
+    F::Waker: Drop,
+    requires slots { split.slots ≡ settings.now.slots }
+    requires fronts { length fronts.items ≡ parts_of split.slots split.size }
+    ensures slots { IfOk result (λ made. made.shared.claims.words ≡ settings.now.slots) }
+    ensures budget { IfOk result (λ made. made.shared.budget ≡ settings.now.budget) }
+    ensures seats { IfOk result (λ made. made.parts.seats.items ≡ replicate (parts_of split.slots split.size + settings.now.workers) (fresh_seat made.shared.claims)) }
+    ensures ready { IfOk result (λ made. made.parts.ready.items ≡ replicate (parts_of split.slots split.size + settings.now.workers) (unused settings.now.slots)) }
+    ensures free { IfOk result (λ made. map (λ ends. ends.items) made.free.items ≡ each_part split.slots split.size (λ part. filled part.first part.slots ∷ replicate settings.now.workers (unused part.slots))) }
+    ensures pollers { IfOk result (λ made. map (λ poller. poller.part) made.pollers.items ≡ each_part split.slots split.size (λ part. part)) }
+    ensures begun { IfOk result (λ made. All (λ poller. HasBegun settings.now.slots settings.now.ring poller) made.pollers.items) }
+    ensures shares { IfOk result (λ made. map (λ poller. poller.most) made.pollers.items ≡ shares_of settings.now.stop_after (parts_of split.slots split.size)) }
+    ensures workers { IfOk result (λ made. (made.workers ≡ settings.now.workers) × (made.pollers_work ≡ true)) }
+    ensures refused { IfErr result (λ fault. fault ≡ ServerFault.NoMemory) }
+{
+    let slots = settings.slots;
+    let threads = split.pollers() + settings.workers;
+    let (claims, seats) = open_claims(alloc, slots, threads)?;
+    let shared = Shared {
+        claims,
+        berths: Berths::new(alloc, slots)?,
+        waker,
+        budget: settings.budget as usize,
+    };
+    let parts = Parts {
+        seats,
+        ready: ReadyQueue::new(alloc, slots, threads)?,
+    };
+    Ok(Server {
+        shared,
+        parts,
+        free: frees_of(rt, alloc, split, settings.workers)?,
+        pollers: pollers_of(alloc, settings, split, fronts)?,
+        split,
+        workers: settings.workers,
+        pollers_work: true,
+    })
+}
+
+/// For each part of the slots, the ends of a queue that holds them: one for its poller, and one for each worker.
+#[tactic(auto, using(crate::proofs::Parts::one_more))]
+fn frees_of(
+    rt: &impl Wait,
+    alloc: Global,
+    split: Split,
+    workers: usize,
+) -> Result<Vec<Vec<FreeQueue>>, AllocError>
+    requires { workers ≤ 31 }
+    ensures { IfOk result (λ all. map (λ ends. ends.items) all.items ≡ each_part split.slots split.size (λ part. filled part.first part.slots ∷ replicate workers (unused part.slots))) }
+{
+    let mut frees = Vec::with_capacity(alloc, split.pollers())?;
+    for number in 0..split.pollers() {
+        frees.push(free_of(rt, alloc, split, number, workers)?)?;
+    }
+    Ok(frees)
+}
+
+/// A poller for each part of the slots, in order.
+#[tactic(auto, using(crate::proofs::Parts::one_more))]
+fn pollers_of<F: Front + Drop>(
+    alloc: Global,
+    settings: &Settings,
+    split: Split,
+    mut fronts: Vec<F>,
+) -> Result<Vec<Poller<F>>, AllocError>
+    requires { length fronts.items ≡ parts_of split.slots split.size }
+    ensures parts { IfOk result (λ all. map (λ poller. poller.part) all.items ≡ each_part split.slots split.size (λ part. part)) }
+    ensures begun { IfOk result (λ all. All (λ poller. HasBegun settings.now.slots settings.now.ring poller) all.items) }
+    ensures shares { IfOk result (λ all. map (λ poller. poller.most) all.items ≡ shares_of settings.now.stop_after (parts_of split.slots split.size)) }
+{
+    let mut pollers = Vec::with_capacity(alloc, fronts.len())?;
+    fronts.reverse();
+    for number in 0..split.pollers() {
+        match fronts.pop() {
+            Some(front) => pollers.push(poller_of(alloc, settings, split, number, front)?)?,
+            None => unreachable!(),
+        }
+    }
+    Ok(pollers)
+}
+
+/// The ends of a poller's queue of free slots, which holds its part of the slots.
+fn free_of(
+    rt: &impl Wait,
+    alloc: Global,
+    split: Split,
+    number: usize,
+    workers: usize,
+) -> Result<Vec<FreeQueue>, AllocError>
+    requires number { number < parts_of split.slots split.size }
+    requires workers { workers ≤ 31 }
+    ensures { IfOk result (λ all. all.items ≡ filled (part_of split.slots split.size number).first (part_of split.slots split.size number).slots ∷ replicate workers (unused (part_of split.slots split.size number).slots)) }
+{
+    let part = split.part(number);
+    FreeQueue::new(rt, alloc, part.first, part.slots, workers + 1)
+}
+
+/// The poller with this number, which opens connections in its part of the slots, and its share of the connections.
+fn poller_of<F: Front + Drop>(
+    alloc: Global,
+    settings: &Settings,
+    split: Split,
+    number: usize,
+    front: F,
+) -> Result<Poller<F>, AllocError>
+    requires number { number < parts_of split.slots split.size }
+    ensures { IfOk result (λ poller. poller ≡ record { reported = F.reported front; table = replicate settings.now.slots 0; batch = []; accepting = true; starved = false; tries = 0; ring = settings.now.ring; part = part_of split.slots split.size number; most = share_of settings.now.stop_after (parts_of split.slots split.size) number; opened = 0; lost = 0; over = false }) }
+{
+    let most = share_of(settings.stop_after, split.pollers(), number);
+    let part = split.part(number);
+    Poller::new(alloc, front, settings.slots, part, settings.ring, most)
+}
+
+/// How many connections the poller with this number may open, of all that the server may: of 0, which is no limit, as
+/// many as can be counted. The shares differ by one at most, and the first ones are the greater.
+fn share_of(stop_after: u32, pollers: usize, number: usize) -> u64
+    requires { 1 ≤ pollers }
+    ensures { result ≡ share_of stop_after pollers number }
+{
+    if stop_after == 0 {
+        return u64::MAX;
+    }
+    let (all, pollers) = (u64::from(stop_after), pollers as u64);
+    if (number as u64) < all % pollers {
+        all / pollers + 1
+    } else {
+        all / pollers
+    }
+}
+
+/// The claim words and their seats, one for each thread.
+fn open_claims(
+    alloc: Global,
+    slots: usize,
+    threads: usize,
+) -> Result<(Claims, Vec<ClaimSeat>), ServerFault>
+    requires slots { (1 ≤ slots) × (slots ≤ 4096) }
+    requires threads { (1 ≤ threads) × (threads ≤ 32) }
+    ensures made { IfOk result (λ made. (made.0.words ≡ slots) × (made.1.items ≡ replicate threads (fresh_seat made.0))) }
+    ensures refused { IfErr result (λ fault. fault ≡ ServerFault.NoMemory) }
+{
+    match Claims::open(alloc, slots, threads) {
+        Ok(made) => Ok(made),
+        Err(_) => Err(ServerFault::NoMemory),
+    }
+}

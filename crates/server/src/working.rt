@@ -1,0 +1,106 @@
+//! The loop of a worker's thread.
+ghost use Rattle.std.specs.Prelude.{◌≡◌, [], length};
+ghost use Rattle.std.specs.Arc.{arc_value};
+ghost use Rattle.claims.specs.Seats.{HoldsNothing};
+ghost use Rattle.dispatch.specs.Hands.{HasRoom};
+
+use crate::crew::Crew;
+use dispatch::{Front, Gate, Own, ServerFault, Shared, give_slots, put_tickets, worker_turn};
+use log::Log;
+use ready::{FreeQueue, Ticket};
+use std::sync::{Arc, Wait};
+use std::{mem, thread};
+
+/// A worker, and what its thread owns.
+#[derive(Drop)]
+pub(crate) struct Worker<F: Front> {
+    pub(crate) shared: Arc<Shared<F>>,
+    /// The thread's number, by which its fault goes before those of later threads.
+    pub(crate) number: usize,
+    /// Between two turns its end of a queue of free slots is the first poller's.
+    pub(crate) own: Own,
+    /// Its ends of the queues of free slots of the other pollers, in order.
+    pub(crate) others: Vec<FreeQueue>,
+    pub ghost same: { own.seat.table ≡ (arc_value shared).claims },
+    pub ghost idle: { HoldsNothing own.seat },
+}
+
+impl<F: Front + Drop> Worker<F>
+where
+    F::Waker: Drop,
+{
+    /// Takes tickets and runs their turns until the queue of tickets is closed and empty, or a fault is recorded. A fault
+    /// of its own is recorded, and ends all other threads.
+    pub(crate) fn work<G: Gate, R: Wait + Log>(mut self, crew: &Crew<'_, F, G, R>) {
+        if let Err(fault) = self.run_turns(crew) {
+            crew.fail(self.number, &mut self.own.ready, fault);
+        }
+    }
+
+    fn run_turns<G: Gate, R: Wait + Log>(
+        &mut self,
+        crew: &Crew<'_, F, G, R>,
+    ) -> Result<(), ServerFault> {
+        for _turn in crew.rt.forever() {
+            if crew.faults.is_written() {
+                return Ok(());
+            }
+            if !self.own.hand.has_room() {
+                put_tickets(crew.rt, &mut self.own.ready, &mut self.own.hand);
+                self.give_all(crew.rt);
+                thread::yield_now();
+                continue;
+            }
+            let Some(ticket) = self.own.ready.take(crew.rt) else {
+                return Ok(());
+            };
+            self.turn(crew, ticket)?;
+        }
+        Ok(())
+    }
+
+    /// Runs a turn. If its connection ends, its slot goes back to the poller that has it.
+    fn turn<G: Gate, R: Wait + Log>(
+        &mut self,
+        crew: &Crew<'_, F, G, R>,
+        ticket: Ticket,
+    ) -> Result<(), ServerFault>
+        requires { HasRoom self.old.own.hand }
+    {
+        let poller = crew.split.poller_of(ticket.slot);
+        self.change_queue(poller);
+        let worked = worker_turn(crew.rt, &self.shared, &mut self.own, crew.gate, ticket);
+        self.give_all(crew.rt);
+        self.change_queue(poller);
+        worked?;
+        Ok(())
+    }
+
+    /// Exchanges its end of the queue of the first poller and that of this one. Done again, each is in its place.
+    fn change_queue(&mut self, poller: usize)
+        ensures seat { self.new.own.seat ≡ self.old.own.seat }
+        ensures hand { self.new.own.hand ≡ self.old.own.hand }
+        ensures shared { self.new.shared ≡ self.old.shared }
+    {
+        if poller == 0 {
+            return;
+        }
+        if let Some(other) = self.others.get_mut(poller - 1) {
+            mem::swap(&mut self.own.free, other);
+        }
+    }
+
+    /// Gives back all slots in hand. A queue has room for each slot that can be in it, so this waits for nobody.
+    fn give_all(&mut self, rt: &impl Wait)
+        ensures seat { self.new.own.seat ≡ self.old.own.seat }
+        ensures given { self.new.own.hand.slots ≡ [] }
+        ensures shared { self.new.shared ≡ self.old.shared }
+    {
+        for _try in rt.forever() {
+            if self.own.hand.slots() == 0 {
+                return;
+            }
+            give_slots(rt, &mut self.own.free, &mut self.own.hand);
+        }
+    }
+}
