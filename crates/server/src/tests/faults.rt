@@ -10,7 +10,7 @@ use crate::split::Split;
 use dispatch::{OpenGate, ServerFault, Shared};
 use log::sink::{Discard, Locked};
 use log::{Level, Log, Logged};
-use ready::Ticket;
+use ready::{ReadyQueue, Ticket};
 use std::alloc::{AllocError, Global};
 use std::io::ErrorKind;
 use std::sync::atomic::AtomicUsize;
@@ -79,9 +79,27 @@ fn the_fault_of_the_first_thread_is_kept(rt: HostRuntime) -> Result<(), Fail> {
     Ok(())
 }
 
+/// A worker fails, and later another thread. Answers the fault that is kept.
+fn fails_first<R: Wait + Log>(
+    rt: &R,
+    alloc: Global,
+    shared: &Arc<Shared<Failing>>,
+    mine: &mut ReadyQueue,
+    later: usize,
+) -> Result<Option<ServerFault>, AllocError> {
+    let faults = FaultRecord::new();
+    {
+        let crew = crew_of(rt, alloc, &faults, shared)?;
+        crew.fail(2, mine, ServerFault::Worn);
+    }
+    faults.write(rt, later, ServerFault::NoMemory);
+    Ok(faults.into_fault())
+}
+
 // Another worker's fault comes later. The first worker's goes before, the third worker's does not.
 #[test]
 fn a_worker_s_fault_is_told_to_all(rt: HostRuntime) -> Result<(), Fail> {
+    let log = Logged::new(&rt, Level::Error, Discard);
     let Server {
         shared,
         mut parts,
@@ -92,11 +110,8 @@ fn a_worker_s_fault_is_told_to_all(rt: HostRuntime) -> Result<(), Fail> {
     };
     let shared = Arc::new(rt.alloc(), shared)?;
     for (later, kept) in [(3, ServerFault::Worn), (1, ServerFault::NoMemory)] {
-        let faults = FaultRecord::new();
-        let crew = crew_of(&rt, rt.alloc(), &faults, &shared)?;
-        crew.fail(2, &mut mine, ServerFault::Worn);
-        faults.write(&rt, later, ServerFault::NoMemory);
-        assert_eq!(rt; faults.into_fault(), Some(kept));
+        let fault = fails_first(&log, rt.alloc(), &shared, &mut mine, later)?;
+        assert_eq!(rt; fault, Some(kept));
     }
     assert_eq!(rt; other.take(&rt), None);
     assert_eq!(rt; shared.waker.load(SeqCst), 2);
