@@ -4,7 +4,7 @@ ghost use Rattle.std.specs.Prelude.{◌≡◌, ◌≤◌};
 use super::fake::Script;
 use super::scenes::{RESET, SILENT, STUCK, Scene, WHOLE};
 use super::stage::{Stage, staged};
-use crate::{Gate, OpenGate, Worked};
+use crate::{Gate, OpenGate, Own, Worked};
 use berths::Berths;
 use log::sink::{Lines, Memory};
 use log::{Level, Log, Logged};
@@ -259,12 +259,18 @@ fn with_two_tickets<R: Wait + Log>(
         ..QUIET
     };
     let mut stage = opened(rt, alloc, &row)?;
-    for _ticket in 0..2 {
-        if stage.own.hand.has_room() {
-            stage.own.hand.keep_ticket(FIRST);
-        }
-    }
+    keep(&mut stage.own, FIRST);
+    keep(&mut stage.own, FIRST);
     Ok(stage)
+}
+
+/// Has a ticket in hand, if there is room.
+fn keep(own: &mut Own, ticket: Ticket)
+    ensures { own.new.seat ≡ own.old.seat }
+{
+    if own.hand.has_room() {
+        own.hand.keep_ticket(ticket);
+    }
 }
 
 // The poller's thread runs the turns of the tickets that a round left in hand.
