@@ -1,0 +1,6 @@
+pub mod Late
+pub mod Kept
+pub mod Network
+pub mod Polls
+pub mod Asked
+pub mod Runs

@@ -1,0 +1,149 @@
+-- The same connection in the machine that knows no such wire (`kernel_model`). Part of the promises. While the wire does
+-- not read and was told of nothing, what comes to be read is late there: it comes when the wire is told.
+use Rattle.std.specs.Prelude.{◌≡◌, ◌≢◌, ◌⊎◌, Bool, true, false, not, ◌&&◌, ◌||◌, if◌then◌else◌, List, [], ◌∷◌, ◌++◌, map, Contains, Option, Some, option_map, option_and_then, unwrap_or}
+use Rattle.token.specs.declared.side.Side.{Side}
+use Rattle.kernel_model.specs.Outcome.{guard, Told}
+use Rattle.kernel_model.specs.Ends.{Endpoint, opened, is_readable, new_room}
+use Rattle.kernel_model.specs.declared.reply.Reply.{Reply}
+use Rattle.kernel_model.specs.declared.reply.Reply.TheVariants as reply
+use Rattle.readiness.specs.Machine.{Change, change_of, Call, Read, after_call, Way, Step, Comes, HasRoom, Spurious, Polled, Tells, Old, Handed, Looks, Calls, Unasked, opening, step, run, answers_of, changes_of}
+
+-- the end there, and whether its name is queued
+pub record Seen : Type 0 where
+  pub socket : Endpoint
+  pub queued : Bool
+
+-- What may happen to it: a change of the network (`arrive`, `fin`, `reset`), room for writes (`room`), a report without
+-- cause (`spurious`), a poll that hands its name over (`poll`), and a call with its reply
+pub data Event : Type 0 where
+  Came : Change → Event
+  GotRoom : Event
+  Stray : Event
+  Taken : Event
+  Called : Call → Reply → Event
+
+abbrev pub seen_changed : Seen → Option (Told Endpoint Bool) → Option Seen
+seen_changed s change = option_map (λ (t : Told Endpoint Bool). record { socket = t.value; queued = s.queued || t.told }) change
+
+abbrev pub event : Seen → Event → Option Seen
+event s (Came change) = seen_changed s (change_of s.socket change)
+event s GotRoom = seen_changed s (new_room s.socket)
+event s Stray = Some (record s { queued = true })
+event s Taken = guard s.queued (record s { queued = false })
+event s (Called call r) = option_map (λ (e : Endpoint). record s { socket = e }) (after_call s.socket call r)
+
+abbrev pub events : Seen → List Event → Option Seen
+events s [] = Some s
+events s (e ∷ more) = option_and_then (λ (t : Seen). events t more) (event s e)
+
+-- as a connection opens
+abbrev pub unseen : Side → Seen
+unseen side = record { socket = opened side; queued = false }
+
+-- what comes now is late there
+abbrev pub is_late : Way → Bool
+is_late w = not w.reads && not w.told
+
+-- what a report does there when it is told: what is late comes, if the report names reading, and its name is queued
+abbrev pub at_telling : List Bool → List Change → List Event
+at_telling [] late = []
+at_telling (true ∷ rest) late = map Came late ++ Stray ∷ []
+at_telling (false ∷ rest) late = Stray ∷ []
+
+-- an error that a call is given is not late
+abbrev pub at_call : List Change → Call → Reply → List Event
+at_call late call (reply.Failed kind) = map Came late ++ Called call (reply.Failed kind) ∷ []
+at_call late call r = Called call r ∷ []
+
+-- what happens there at a step
+abbrev pub meanwhile : Way → List Change → Step → List Event
+meanwhile w late (Comes change) = if is_late w then [] else Came change ∷ []
+meanwhile w late HasRoom = GotRoom ∷ []
+meanwhile w late Spurious = Stray ∷ []
+meanwhile w late (Polled names) = []
+meanwhile w late Tells = at_telling w.taken late
+meanwhile w late Old = map Came late
+meanwhile w late Handed = if w.owed then Taken ∷ [] else []
+meanwhile w late Looks = []
+meanwhile w late (Calls call r) = at_call late call r
+meanwhile w late (Unasked most) = Called (Read most) reply.Blocked ∷ []
+
+-- what is late after a step
+abbrev pub late_telling : List Bool → List Change → List Change
+late_telling (true ∷ rest) late = []
+late_telling taken late = late
+
+abbrev pub late_call : Reply → List Change → List Change
+late_call (reply.Failed kind) late = []
+late_call r late = late
+
+abbrev pub late_after : Way → List Change → Step → List Change
+late_after w late (Comes change) = if is_late w then late ++ change ∷ [] else late
+late_after w late Tells = late_telling w.taken late
+late_after w late Old = []
+late_after w late (Calls call r) = late_call r late
+late_after w late s = late
+
+-- what happens there at a list of steps, in order, and what is late behind it
+abbrev pub happened : Way → List Change → List Step → List Event
+happened w late [] = []
+happened w late (s ∷ steps) = meanwhile w late s ++ unwrap_or (option_map (λ (v : Way). happened v (late_after w late s) steps) (step w s)) []
+
+abbrev pub still_late : Way → List Change → List Step → List Change
+still_late w late [] = late
+still_late w late (s ∷ steps) = unwrap_or (option_map (λ (v : Way). still_late v (late_after w late s) steps) (step w s)) late
+
+-- the answers there, and what came, in order
+abbrev pub reply_in : Event → List (Call × Reply)
+reply_in (Called call r) = (call, r) ∷ []
+reply_in e = []
+
+abbrev pub replies_in : List Event → List (Call × Reply)
+replies_in [] = []
+replies_in (e ∷ more) = reply_in e ++ replies_in more
+
+abbrev pub came_at : Event → List Change
+came_at (Came change) = change ∷ []
+came_at e = []
+
+abbrev pub came_in : List Event → List Change
+came_in [] = []
+came_in (e ∷ more) = came_at e ++ came_in more
+
+-- a report is queued in the system, or was taken by a poll that has not handed it over
+abbrev pub IsOnItsWay : Way → Type 0
+IsOnItsWay w = (w.queued ≡ true) ⊎ ((w.taken ≢ []) ⊎ (w.owed ≡ true))
+
+-- a report that names reading is queued or taken, and will be told
+abbrev pub WillBeTold : Way → Type 0
+WillBeTold w = (w.queued ≡ true) ⊎ Contains w.taken true
+
+-- there is nothing to read, and the system reports what comes next
+pub record IsArmed (w : Way) : Type 0 where
+  pub empty : is_readable w.socket ≡ false
+  pub armed : w.socket.read_armed ≡ true
+
+-- Every run of the steps is a run of the machine: all that happens there may happen there. Its wire has the same answers,
+-- in order. The same comes to its end, in order, and what has not come yet are the last changes. Its name is queued only
+-- while a report is on its way
+pub record IsDelayed (from to : Way) (steps : List Step) (side : Side) : Type 0 where
+  pub seen : Seen
+  pub allowed : events (unseen side) (happened from [] steps) ≡ Some seen
+  pub answers : replies_in (happened from [] steps) ≡ answers_of steps
+  pub changes : came_in (happened from [] steps) ++ still_late from [] steps ≡ changes_of steps
+  pub queued : seen.queued ≡ true → IsOnItsWay to
+  pub late : still_late from [] steps ≢ [] → WillBeTold to
+  pub caught_up : still_late from [] steps ≡ [] → seen.socket ≡ to.socket
+
+-- A wire that answers by itself misses nothing: there is nothing to read, and the system will report what comes next, or a
+-- report of reading is on its way to it or was told
+abbrev pub MissesNothing : Way → Type 0
+MissesNothing w = w.reads ≡ false → IsArmed w ⊎ (WillBeTold w ⊎ (w.told ≡ true))
+
+-- for every run from the opening of a connection, whatever was told before
+
+abbrev pub WiresAreDelayed : Type 0
+WiresAreDelayed = (side : Side) (told : Bool) (steps : List Step) (w : Way) → run (opening side told) steps ≡ Some w → IsDelayed (opening side told) w steps side
+
+abbrev pub WiresMissNothing : Type 0
+WiresMissNothing = (side : Side) (told : Bool) (steps : List Step) (w : Way) → run (opening side told) steps ≡ Some w → MissesNothing w

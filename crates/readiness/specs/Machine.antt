@@ -1,0 +1,131 @@
+-- What is on its way from one socket to its wire. Part of the promises. A poller takes the socket's reports from the
+-- system (epoll(7), edge-triggered), and tells the wire of those that name reading, while any thread makes the wire's
+-- calls. The socket is an end of the modelled kernel.
+use Rattle.std.specs.Prelude.{ℕ, Bool, true, false, not, ◌&&◌, ◌||◌, List, [], ◌∷◌, ◌++◌, Option, Some, None, option_map, option_and_then}
+use Rattle.token.specs.declared.side.Side.{Side}
+use Rattle.kernel_model.specs.Outcome.{guard, Told}
+use Rattle.kernel_model.specs.Ends.{Endpoint, opened, is_readable, arrival, finish, failure, new_room}
+use Rattle.kernel_model.specs.Replies.{after_read, after_write, after_join, after_shut}
+use Rattle.kernel_model.specs.declared.reply.Reply.{Reply}
+use Rattle.kernel_model.specs.declared.reply.Reply.TheVariants as reply
+
+-- what the network does to a socket that concerns reading: bytes come, the end of input, or an error
+pub data Change : Type 0 where
+  Bytes : List ℕ → Change
+  Fin : Change
+  Error : Change
+
+abbrev pub change_of : Endpoint → Change → Option (Told Endpoint Bool)
+change_of e (Bytes bytes) = arrival e bytes
+change_of e Fin = finish e
+change_of e Error = failure e
+
+-- a call on a wire
+pub data Call : Type 0 where
+  Read : ℕ → Call
+  Write : List ℕ → Call
+  Join : Call
+  Shut : Call
+
+-- the end after a call that is given this reply, if it may be
+abbrev pub after_call : Endpoint → Call → Reply → Option Endpoint
+after_call e (Read most) r = after_read e most r
+after_call e (Write offer) r = after_write e offer r
+after_call e Join r = after_join e r
+after_call e Shut r = after_shut e r
+
+-- The socket; whether a report of it is queued; for each report that a poll has taken and that is not told yet, the oldest
+-- first, whether it names reading; whether one was told that the poll has not handed over yet; whether the wire was told of
+-- reading since it last looked; and whether the wire reads its socket, or answers "would block" by itself
+pub record Way : Type 0 where
+  pub socket : Endpoint
+  pub queued : Bool
+  pub taken : List Bool
+  pub owed : Bool
+  pub told : Bool
+  pub reads : Bool
+
+-- One step of the network (`Comes`, `HasRoom`), the system (`Spurious`, `Polled`), the poller (`Tells`, `Old`, `Handed`) or
+-- the wire (`Looks`, `Calls`, `Unasked`). `Old` tells of a report of an earlier connection under the same name. `Handed` is
+-- the end of a poll: what was told is handed over. `Unasked` is the answer "would block" that the wire gives to a read by itself
+pub data Step : Type 0 where
+  Comes : Change → Step
+  HasRoom : Step
+  Spurious : Step
+  Polled : Bool → Step
+  Tells : Step
+  Old : Step
+  Handed : Step
+  Looks : Step
+  Calls : Call → Reply → Step
+  Unasked : ℕ → Step
+
+-- A new connection: its wire reads. What was told of an earlier one may still stand
+abbrev pub opening : Side → Bool → Way
+opening side told = record { socket = opened side; queued = false; taken = []; owed = false; told = told; reads = true }
+
+-- a change of the network, and its report
+abbrev pub changed : Way → Option (Told Endpoint Bool) → Option Way
+changed w change = option_map (λ (t : Told Endpoint Bool). record w { socket = t.value; queued = w.queued || t.told }) change
+
+-- A poll takes the report out of the queue. It names reading if there is something to read by then, and may do so
+-- without (epoll_wait(2))
+abbrev pub polled : Way → Bool → Option Way
+polled w names = guard (w.queued && (not (is_readable w.socket) || names)) (record w { queued = false; taken = w.taken ++ names ∷ [] })
+
+-- the poller tells of the oldest report that was taken
+abbrev pub tells : Way → List Bool → Option Way
+tells w [] = None
+tells w (names ∷ rest) = Some (record w { taken = rest; owed = true; told = w.told || names })
+
+-- a read is asked of the socket only while the wire reads it
+abbrev pub may_call : Bool → Call → Bool
+may_call reads (Read most) = reads
+may_call reads call = true
+
+-- a read that would block ends that the wire reads, and an error of any call begins it
+abbrev pub reads_after : Bool → Call → Reply → Bool
+reads_after reads (Read most) reply.Blocked = false
+reads_after reads call (reply.Failed kind) = true
+reads_after reads call r = reads
+
+abbrev pub called : Way → Call → Reply → Option Way
+called w call r = option_and_then
+    (λ (e : Endpoint). guard (may_call w.reads call) (record w { socket = e; reads = reads_after w.reads call r }))
+    (after_call w.socket call r)
+
+abbrev pub step : Way → Step → Option Way
+step w (Comes change) = changed w (change_of w.socket change)
+step w HasRoom = changed w (new_room w.socket)
+step w Spurious = Some (record w { queued = true })
+step w (Polled names) = polled w names
+step w Tells = tells w w.taken
+step w Old = Some (record w { told = true })
+step w Handed = Some (record w { owed = false })
+step w Looks = Some (record w { reads = w.reads || w.told; told = false })
+step w (Calls call r) = called w call r
+step w (Unasked most) = guard (not w.reads && not w.told) w
+
+-- a list of steps, each of which can be made
+abbrev pub run : Way → List Step → Option Way
+run w [] = Some w
+run w (s ∷ steps) = option_and_then (λ (v : Way). run v steps) (step w s)
+
+-- the answers of the wire, in order
+abbrev pub answer_of : Step → List (Call × Reply)
+answer_of (Calls call r) = (call, r) ∷ []
+answer_of (Unasked most) = (Read most, reply.Blocked) ∷ []
+answer_of s = []
+
+abbrev pub answers_of : List Step → List (Call × Reply)
+answers_of [] = []
+answers_of (s ∷ steps) = answer_of s ++ answers_of steps
+
+-- what came to the socket that concerns reading, in order
+abbrev pub change_in : Step → List Change
+change_in (Comes change) = change ∷ []
+change_in s = []
+
+abbrev pub changes_of : List Step → List Change
+changes_of [] = []
+changes_of (s ∷ steps) = change_in s ++ changes_of steps
