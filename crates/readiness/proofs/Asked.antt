@@ -8,8 +8,9 @@ use Rattle.kernel_model.specs.declared.reply.Reply.{Reply}
 use Rattle.kernel_model.specs.declared.reply.Reply.TheVariants as reply
 use Rattle.readiness.specs.Machine.{Change, Call, Read, Write, Join, Shut, after_call, Way, Calls, may_call, reads_after, called, step}
 use Rattle.readiness.specs.Delays.{Seen, Came, Called, at_call, late_call}
+use Rattle.readiness.proofs.Flags.{is_down, false_left, false_right}
 use Rattle.readiness.proofs.Late.{settled, settle_sent, settle_shut, settle_arm, with_sent, with_shut, with_arm, IsBeside, is_beside, Caught, caught, replies_behind, changes_behind, events-append}
-use Rattle.readiness.proofs.Kept.{Rests, Waits, Prompt, Behind, Held, Goes, one_event, same_socket, false_left, false_right, on_its_way_still}
+use Rattle.readiness.proofs.Kept.{Rests, Waits, Prompt, Behind, Held, Goes, one_event, same_socket, on_its_way_still}
 
 -- the call was allowed
 record Asked (w v : Way) (call : Call) (r : Reply) : Type 0 where
@@ -89,10 +90,6 @@ read_now w v late s most r held a rests =
 still_reads : (w v : Way) (most : ℕ) (r : Reply) (e : Endpoint) → Asked w v (Read most) r → w.reads ≡ false → Rests e
 still_reads w v most r e a reads = absurd (let yes : w.reads ≡ true = a.may in cc)
 
-no : (a : Bool) → not a ≡ true → a ≡ false
-no true h = absurd (cc)
-no false h = refl
-
 passed : (b : Bool) (x f : Endpoint) → guard b x ≡ Some f → (b ≡ true) × (f ≡ x)
 passed true x f h = (refl, cc)
 passed false x f h = absurd (cc)
@@ -100,7 +97,7 @@ passed false x f h = absurd (cc)
 rests_now : (w v : Way) (most : ℕ) → (a : Asked w v (Read most) reply.Blocked) → Rests a.socket
 rests_now w v most a =
     let p : (not (is_readable w.socket) ≡ true) × (a.socket ≡ record (w.socket) { read_armed = true }) = passed _ _ a.socket a.allowed in
-    rw p.1 (record { empty = no (is_readable w.socket) p.0; armed = refl })
+    rw p.1 (record { empty = is_down (is_readable w.socket) p.0; armed = refl })
 
 reads : (w v : Way) (late : List Change) (s : Seen) (most : ℕ) (r : Reply) → Held w late s → Asked w v (Read most) r → Goes v s late (late_call r late) (at_call late (Read most) r) (Calls (Read most) r)
 reads w v late s most (reply.Bytes n) held a = read_now w v late s most (reply.Bytes n) held a (still_reads w v most (reply.Bytes n) a.socket a)
@@ -147,7 +144,7 @@ blocks : (w v : Way) (late : List Change) (s : Seen) (call : Call) (f : Endpoint
 blocks w v late s call f held allowed after there =
     let p : (not (is_writable w.socket) ≡ true) × (f ≡ with_arm w.socket) = passed _ _ f allowed in
     let b : IsBeside w.socket s.socket = is_beside late s.socket w.socket held.due in
-    let none : is_writable w.socket ≡ false = no (is_writable w.socket) p.0 in
+    let none : is_writable w.socket ≡ false = is_down (is_writable w.socket) p.0 in
     let full : w.socket.room ≡ false = false_left w.socket.room w.socket.err none in
     let sound : w.socket.err ≡ false = false_right w.socket.room w.socket.err none in
     let room : s.socket.room ≡ false = rw b.room full in

@@ -4,7 +4,8 @@ use Rattle.kernel_model.specs.Outcome.{Told}
 use Rattle.kernel_model.specs.Ends.{Endpoint, is_readable}
 use Rattle.readiness.specs.Machine.{Change, Way, Step, answer_of, change_in, changed}
 use Rattle.readiness.specs.Delays.{Seen, Event, event, events, replies_in, came_in, IsOnItsWay, WillBeTold}
-use Rattle.readiness.proofs.Late.{settled, Caught, or_left, or_right}
+use Rattle.readiness.proofs.Flags.{or_left, or_right, true_or}
+use Rattle.readiness.proofs.Late.{settled, Caught}
 
 -- there is nothing to read, and the system reports what comes next
 pub record Rests (e : Endpoint) : Type 0 where
@@ -45,18 +46,6 @@ one_event s t e h = rw h refl
 -- while nothing is late, the two sockets are one
 pub same_socket : (s : Seen) (w : Way) (late : List Change) → settled s.socket late ≡ Some w.socket → late ≡ [] → s.socket ≡ w.socket
 same_socket s w late due none = let now : settled s.socket [] ≡ Some w.socket = rw none at due in cc
-
-pub true_or : (a b : Bool) → (a || b) ≡ true → (a ≡ true) ⊎ (b ≡ true)
-true_or true b h = inl refl
-true_or false b h = inr h
-
-pub false_left : (a b : Bool) → (a || b) ≡ false → a ≡ false
-false_left true b h = h
-false_left false b h = refl
-
-pub false_right : (a b : Bool) → (a || b) ≡ false → b ≡ false
-false_right true b h = absurd (cc)
-false_right false b h = h
 
 -- reports on their way
 

@@ -1,9 +1,11 @@
 -- What is late, and the socket as it is once that has come.
 use Rattle.std.proofs.Common.{◌≡◌, ℕ, Bool, true, false, not, ◌&&◌, ◌||◌, List, [], ◌∷◌, ◌++◌, map, Option, Some, None, option_map, option_and_then, refl, ap}
+use Rattle.std.specs.Cmp.{second_so}
 use Rattle.kernel_model.specs.Outcome.{guard, Told}
 use Rattle.kernel_model.specs.Ends.{Endpoint, is_nonempty}
 use Rattle.readiness.specs.Machine.{Change, Bytes, Fin, Error, change_of}
 use Rattle.readiness.specs.Delays.{Seen, Event, Came, event, events, replies_in, came_in}
+use Rattle.readiness.proofs.Flags.{is_down, or_left}
 
 abbrev pub value_of : Option (Told Endpoint Bool) → Option Endpoint
 value_of o = option_map (λ (t : Told Endpoint Bool). t.value) o
@@ -136,18 +138,10 @@ settle_shut late e f due = settle_beside with_shut Any any_back shut_beside late
 abbrev IsSound : Endpoint → Type 0
 IsSound e = e.err ≡ false
 
-sound : (e : Bool) → not e ≡ true → e ≡ false
-sound true h = absurd (cc)
-sound false h = refl
-
-both_right : (a b : Bool) → (a && b) ≡ true → b ≡ true
-both_right true b h = h
-both_right false b h = absurd (cc)
-
 sound_back : GoesBack IsSound
-sound_back (Bytes bytes) e f h last = sound e.err (both_right (not e.fin) _ (both_right (is_nonempty bytes) _ (made_of _ _ f h).may))
-sound_back Fin e f h last = sound e.err (both_right (not e.fin) _ (made_of _ _ f h).may)
-sound_back Error e f h last = sound e.err (made_of _ _ f h).may
+sound_back (Bytes bytes) e f h last = is_down e.err (second_so (not e.fin) _ (second_so (is_nonempty bytes) _ (made_of _ _ f h).may))
+sound_back Fin e f h last = is_down e.err (second_so (not e.fin) _ (made_of _ _ f h).may)
+sound_back Error e f h last = is_down e.err (made_of _ _ f h).may
 
 abbrev pub with_arm : Endpoint → Endpoint
 with_arm e = record e { write_armed = true }
@@ -161,14 +155,6 @@ pub settle_arm : (late : List Change) (e f : Endpoint) → f.err ≡ false → s
 settle_arm late e f last due = settle_beside with_arm IsSound sound_back arm_beside late e f last due
 
 -- All that is late comes, in order
-
-pub or_left : (a b : Bool) → a ≡ true → (a || b) ≡ true
-or_left true b h = refl
-or_left false b h = absurd (cc)
-
-pub or_right : (a b : Bool) → b ≡ true → (a || b) ≡ true
-or_right true b h = refl
-or_right false b h = h
 
 pub record Caught (s : Seen) (late : List Change) (f : Endpoint) : Type 0 where
   pub seen : Seen

@@ -1,3 +1,4 @@
+pub mod Flags
 pub mod Late
 pub mod Kept
 pub mod Network

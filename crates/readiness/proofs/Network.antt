@@ -1,11 +1,13 @@
 -- What the network does: a change that concerns reading, which may be late, and room for writes.
 use Rattle.std.proofs.Common.{◌≡◌, ℕ, Bool, true, false, not, ◌&&◌, ◌||◌, List, [], ◌∷◌, ◌++◌, Some, refl, sym, append-nil, inl, length, ltb-true, lt-ltb, length-append, arith, ◌<◌, ◌+◌}
+use Rattle.std.specs.Cmp.{first_so, second_so}
 use Rattle.std.specs.Prelude.{if◌then◌else◌}
 use Rattle.kernel_model.specs.Outcome.{guard, Told}
 use Rattle.kernel_model.specs.Ends.{Endpoint, is_nonempty, is_readable, new_room}
 use Rattle.readiness.specs.Machine.{Change, Bytes, Fin, Error, change_of, Way, Comes, HasRoom, step}
 use Rattle.readiness.specs.Delays.{Seen, Came, GotRoom, is_late, late_after, meanwhile, WillBeTold}
-use Rattle.readiness.proofs.Late.{settle_more, settle_room, with_room, IsBeside, is_beside, or_left, or_right}
+use Rattle.readiness.proofs.Flags.{is_down, both_down, or_left, or_right}
+use Rattle.readiness.proofs.Late.{settle_more, settle_room, with_room, IsBeside, is_beside}
 use Rattle.readiness.proofs.Kept.{Rests, Asleep, Waits, Prompt, Behind, Held, Goes, one_event, same_socket, reported, still_coming, queued_too, Changed, changed_of}
 
 -- a change that was made
@@ -16,14 +18,6 @@ record Passed (b : Bool) (x t : Told Endpoint Bool) : Type 0 where
 passed : (b : Bool) (x t : Told Endpoint Bool) → guard b x ≡ Some t → Passed b x t
 passed true x t h = record { may = refl; is = cc }
 passed false x t h = absurd (cc)
-
-both_left : (a b : Bool) → (a && b) ≡ true → a ≡ true
-both_left true b h = refl
-both_left false b h = h
-
-both_right : (a b : Bool) → (a && b) ≡ true → b ≡ true
-both_right true b h = h
-both_right false b h = absurd (cc)
 
 -- after each change there is something to read, and it is reported if the last read would have blocked
 record Heard (e : Endpoint) (t : Told Endpoint Bool) : Type 0 where
@@ -40,7 +34,7 @@ heard : (c : Change) (e : Endpoint) (t : Told Endpoint Bool) → change_of e c �
 heard (Bytes bytes) e t h =
     let p : Passed (is_nonempty bytes && (not e.fin && not e.err)) (record { value = record e { arrived = e.arrived ++ bytes; unread = e.unread ++ bytes; read_armed = false }; told = e.read_armed }) t = passed _ _ t h in
     rw p.is (record {
-      readable = or_left (is_nonempty (e.unread ++ bytes)) (e.fin || e.err) (nonempty_more e.unread bytes (both_left (is_nonempty bytes) _ p.may));
+      readable = or_left (is_nonempty (e.unread ++ bytes)) (e.fin || e.err) (nonempty_more e.unread bytes (first_so (is_nonempty bytes) _ p.may));
       told = λ armed. armed;
     })
 heard Fin e t h =
@@ -54,11 +48,6 @@ heard Error e t h =
     })
 
 -- A change while the wire does not read and was not told is late
-
-unheard : (a b : Bool) → (not a && not b) ≡ true → (a ≡ false) × (b ≡ false)
-unheard true b h = absurd (cc)
-unheard false true h = absurd (cc)
-unheard false false h = (refl, refl)
 
 first_told : (w : Way) (late : List Change) (s : Seen) (t : Told Endpoint Bool) → Held w late s → Heard w.socket t → w.reads ≡ false → w.told ≡ false → Waits w late → WillBeTold (reported w t.value t.told)
 first_told w late s t held h reads told (Behind asleep) = still_coming w t.value t.told asleep.coming
@@ -119,7 +108,7 @@ came_now w late s c t none same is awake held =
 comes_either : (w : Way) (late : List Change) (s : Seen) (c : Change) (t : Told Endpoint Bool) → Held w late s → change_of w.socket c ≡ Some t → (b : Bool) → is_late w ≡ b →
     Goes (reported w t.value t.told) s late (if b then late ++ c ∷ [] else late) (if b then [] else Came c ∷ []) (Comes c)
 comes_either w late s c t held is true sleeps =
-    let none : (w.reads ≡ false) × (w.told ≡ false) = unheard w.reads w.told sleeps in
+    let none : (w.reads ≡ false) × (w.told ≡ false) = both_down w.reads w.told sleeps in
     comes_late w late s c t held is none.0 none.1
 comes_either w late s c t held is false awake =
     let none : late ≡ [] = nothing_late w late awake held.waits in
@@ -131,10 +120,6 @@ comes w v late s c held h =
     rw ch.after (comes_either w late s c ch.told held ch.is (is_late w) refl)
 
 -- Room for writes
-
-no : (a : Bool) → not a ≡ true → a ≡ false
-no true h = absurd (cc)
-no false h = refl
 
 waits_with_room : (w : Way) (late : List Change) (told : Bool) → Waits w late → Waits (reported w (with_room w.socket) told) late
 waits_with_room w late told (Prompt none) = Prompt none
@@ -173,4 +158,4 @@ pub has_room : (w v : Way) (late : List Change) (s : Seen) → Held w late s →
 has_room w v late s held h =
     let ch : Changed w v (new_room w.socket) = changed_of w v (new_room w.socket) h in
     let p : Passed (not w.socket.room && not w.socket.err) (record { value = with_room w.socket; told = w.socket.write_armed }) ch.told = passed _ _ ch.told ch.is in
-    rw (ch.after, p.is) (room_goes w late s held (no w.socket.room (both_left (not w.socket.room) _ p.may)) (no w.socket.err (both_right (not w.socket.room) _ p.may)))
+    rw (ch.after, p.is) (room_goes w late s held (is_down w.socket.room (first_so (not w.socket.room) _ p.may)) (is_down w.socket.err (second_so (not w.socket.room) _ p.may)))

@@ -1,14 +1,16 @@
 -- What the system, the poller and the wire do between two calls.
-use Rattle.std.proofs.Common.{◌≡◌, ◌⊎◌, ℕ, zero, suc, Bool, true, false, not, ◌&&◌, ◌||◌, List, [], ◌∷◌, ◌++◌, map, Contains, Some, refl, sym, ap, ◌∙◌, append-nil, inl, inr, arith}
+use Rattle.std.proofs.Common.{◌≡◌, ◌⊎◌, ℕ, zero, suc, Bool, true, false, not, ◌&&◌, ◌||◌, List, [], ◌∷◌, ◌++◌, map, Contains, Some, option_and_then, refl, sym, ap, ◌∙◌, append-nil, inl, inr, arith}
+use Rattle.std.specs.Cmp.{second_so}
 use Rattle.std.specs.Prelude.{if◌then◌else◌}
 use Rattle.std.proofs.lemmas.List.Elements.{Contains-push}
 use Rattle.kernel_model.specs.Outcome.{guard}
-use Rattle.kernel_model.specs.Ends.{Endpoint, is_readable}
+use Rattle.kernel_model.specs.Ends.{Endpoint, is_readable, is_writable}
 use Rattle.kernel_model.specs.declared.reply.Reply.TheVariants as reply
-use Rattle.readiness.specs.Machine.{Change, Read, Way, Spurious, Polled, Tells, Old, Handed, Looks, Unasked, polled, tells, step}
-use Rattle.readiness.specs.Delays.{Seen, Came, Stray, Taken, Called, event, came_in, at_telling, late_telling, IsOnItsWay, WillBeTold}
-use Rattle.readiness.proofs.Late.{Caught, caught, replies_behind, changes_behind, events-append, or_right}
-use Rattle.readiness.proofs.Kept.{Rests, Waits, Prompt, Behind, Held, Goes, one_event, false_left, false_right, on_its_way_still}
+use Rattle.readiness.specs.Machine.{Change, Read, is_quiet, Way, Spurious, Vanished, Polled, Tells, Old, Handed, Looks, Unasked, polled, tells, step}
+use Rattle.readiness.specs.Delays.{Seen, Came, Stray, Gone, Taken, Called, event, came_in, at_telling, late_telling, IsOnItsWay, WillBeTold}
+use Rattle.readiness.proofs.Flags.{both_down, or_right, false_left, false_right}
+use Rattle.readiness.proofs.Late.{Caught, caught, replies_behind, changes_behind, events-append}
+use Rattle.readiness.proofs.Kept.{Rests, Waits, Prompt, Behind, Held, Goes, one_event, same_socket, on_its_way_still}
 
 -- A report without cause
 
@@ -33,6 +35,57 @@ spurious w v late s held h =
       };
     })
 
+-- a step that was made
+passed : (b : Bool) (w v : Way) → guard b w ≡ Some v → (b ≡ true) × (v ≡ w)
+passed true w v h = (refl, cc)
+passed false w v h = absurd (cc)
+
+-- The system takes the report back, and nothing is late then
+
+quiet_unread : (e : Endpoint) → is_quiet e ≡ true → is_readable e ≡ false
+quiet_unread e quiet = (both_down (is_readable e) (is_writable e) quiet).0
+
+quiet_prompt : (w : Way) (late : List Change) → is_quiet w.socket ≡ true → Waits w late → late ≡ []
+quiet_prompt w late quiet (Prompt none) = none
+quiet_prompt w late quiet (Behind asleep) =
+    absurd (let no : is_readable w.socket ≡ false = quiet_unread w.socket quiet in let yes : is_readable w.socket ≡ true = asleep.readable in cc)
+
+then_gone : (b : Bool) (t : Seen) → b ≡ true → option_and_then (λ (u : Seen). Some u) (guard b t) ≡ Some t
+then_gone true t h = refl
+then_gone false t h = absurd (cc)
+
+vanishing : (w : Way) (late : List Change) (s : Seen) → Held w late s → is_quiet w.socket ≡ true → late ≡ [] → (b : Bool) → w.owed ≡ b →
+    Goes (record w { queued = false }) s late late (if b then [] else Stray ∷ Gone ∷ []) Vanished
+vanishing w late s held quiet none true owed = record {
+  next = s;
+  allowed = refl;
+  answers = refl;
+  changes = sym (append-nil late);
+  kept = record { due = held.due; waits = Prompt none; rests = held.rests; queued = λ q. inr (inr owed); owed = held.owed };
+}
+vanishing w late s held quiet none false owed =
+    let same : s.socket ≡ w.socket = same_socket s w late held.due none in
+    let there : is_quiet s.socket ≡ true = rw same quiet in
+    record {
+      next = record s { queued = false };
+      allowed = then_gone (is_quiet s.socket) (record s { queued = false }) there;
+      answers = refl;
+      changes = sym (append-nil late);
+      kept = record {
+        due = held.due;
+        waits = Prompt none;
+        rests = held.rests;
+        queued = λ q. absurd (let no : false ≡ true = q in cc);
+        owed = λ o. absurd (let no : w.owed ≡ true = o in cc);
+      };
+    }
+
+pub vanishes : (w v : Way) (late : List Change) (s : Seen) → Held w late s → step w Vanished ≡ Some v → Goes v s late late (if w.owed then [] else Stray ∷ Gone ∷ []) Vanished
+vanishes w v late s held h =
+    let p : ((w.queued && is_quiet w.socket) ≡ true) × (v ≡ record w { queued = false }) = passed _ (record w { queued = false }) v h in
+    let quiet : is_quiet w.socket ≡ true = second_so w.queued _ p.0 in
+    rw p.1 (vanishing w late s held quiet (quiet_prompt w late quiet held.waits) w.owed refl)
+
 -- A poll takes the report
 
 record IsPolled (w v : Way) (names : Bool) : Type 0 where
@@ -43,18 +96,10 @@ named : (readable names : Bool) → (not readable || names) ≡ true → readabl
 named true names h is = h
 named false names h is = absurd (cc)
 
-both_right : (a b : Bool) → (a && b) ≡ true → b ≡ true
-both_right true b h = h
-both_right false b h = absurd (cc)
-
-passed : (b : Bool) (w v : Way) → guard b w ≡ Some v → (b ≡ true) × (v ≡ w)
-passed true w v h = (refl, cc)
-passed false w v h = absurd (cc)
-
 polled_of : (w v : Way) (names : Bool) → polled w names ≡ Some v → IsPolled w v names
 polled_of w v names h =
     let p : ((w.queued && (not (is_readable w.socket) || names)) ≡ true) × (v ≡ record w { queued = false; taken = w.taken ++ names ∷ [] }) = passed _ (record w { queued = false; taken = w.taken ++ names ∷ [] }) v h in
-    record { naming = named (is_readable w.socket) names (both_right w.queued _ p.0); after = p.1 }
+    record { naming = named (is_readable w.socket) names (second_so w.queued _ p.0); after = p.1 }
 
 some_behind : (xs : List Bool) (b : Bool) → (xs ++ b ∷ []) ≡ [] → ⊥
 some_behind [] b none = cc
@@ -243,11 +288,6 @@ looks w v late s held h =
       };
     })
 
-unheard : (a b : Bool) → (not a && not b) ≡ true → (a ≡ false) × (b ≡ false)
-unheard true b h = absurd (cc)
-unheard false true h = absurd (cc)
-unheard false false h = (refl, refl)
-
 armed_again : (e : Endpoint) → e.read_armed ≡ true → record e { read_armed = true } ≡ e
 armed_again e armed = ap (λ (b : Bool). record e { read_armed = b }) (sym armed)
 
@@ -260,7 +300,7 @@ blocks_again s most r =
 pub unasked : (w v : Way) (late : List Change) (s : Seen) (most : ℕ) → Held w late s → step w (Unasked most) ≡ Some v → Goes v s late late (Called (Read most) reply.Blocked ∷ []) (Unasked most)
 unasked w v late s most held h =
     let p : ((not w.reads && not w.told) ≡ true) × (v ≡ w) = passed (not w.reads && not w.told) w v h in
-    let none : (w.reads ≡ false) × (w.told ≡ false) = unheard w.reads w.told p.0 in
+    let none : (w.reads ≡ false) × (w.told ≡ false) = both_down w.reads w.told p.0 in
     rw p.1 (record {
       next = s;
       allowed = one_event s s (Called (Read most) reply.Blocked) (blocks_again s most (held.rests none.0 none.1));

@@ -1,13 +1,13 @@
 -- What holds after any list of steps.
 use Rattle.std.proofs.Common.{◌≡◌, ◌≢◌, Bool, true, false, List, [], ◌∷◌, ◌++◌, Option, Some, None, option_and_then, refl, sym, ap, ◌∙◌, append-nil, append_assoc, inl, inr}
 use Rattle.token.specs.declared.side.Side.{Side}
-use Rattle.readiness.specs.Machine.{Change, Call, Way, Step, Comes, HasRoom, Spurious, Polled, Tells, Old, Handed, Looks, Calls, Unasked, opening, step, run, answers_of, change_in, changes_of}
+use Rattle.readiness.specs.Machine.{Change, Call, Way, Step, Comes, HasRoom, Spurious, Vanished, Polled, Tells, Old, Handed, Looks, Calls, Unasked, opening, step, run, answers_of, change_in, changes_of}
 use Rattle.kernel_model.specs.declared.reply.Reply.{Reply}
 use Rattle.readiness.specs.Delays.{Seen, Event, events, unseen, meanwhile, late_after, happened, still_late, reply_in, replies_in, came_at, came_in, WillBeTold, IsArmed, MissesNothing, WiresAreDelayed, WiresMissNothing}
 use Rattle.readiness.proofs.Late.{events-append}
 use Rattle.readiness.proofs.Kept.{Rests, Waits, Prompt, Behind, Held, Goes, same_socket}
 use Rattle.readiness.proofs.Network.{comes, has_room}
-use Rattle.readiness.proofs.Polls.{spurious, polls, told_of, old, handed, looks, unasked}
+use Rattle.readiness.proofs.Polls.{spurious, vanishes, polls, told_of, old, handed, looks, unasked}
 use Rattle.readiness.proofs.Asked.{calls}
 
 -- one step
@@ -15,6 +15,7 @@ goes : (w v : Way) (late : List Change) (s : Seen) (st : Step) → Held w late s
 goes w v late s (Comes change) held h = comes w v late s change held h
 goes w v late s HasRoom held h = has_room w v late s held h
 goes w v late s Spurious held h = spurious w v late s held h
+goes w v late s Vanished held h = vanishes w v late s held h
 goes w v late s (Polled names) held h = polls w v late s names held h
 goes w v late s Tells held h = told_of w v late s held h
 goes w v late s Old held h = old w v late s held h

@@ -6,7 +6,7 @@ use Rattle.kernel_model.specs.Outcome.{guard, Told}
 use Rattle.kernel_model.specs.Ends.{Endpoint, opened, is_readable, new_room}
 use Rattle.kernel_model.specs.declared.reply.Reply.{Reply}
 use Rattle.kernel_model.specs.declared.reply.Reply.TheVariants as reply
-use Rattle.readiness.specs.Machine.{Change, change_of, Call, Read, after_call, Way, Step, Comes, HasRoom, Spurious, Polled, Tells, Old, Handed, Looks, Calls, Unasked, opening, step, run, answers_of, changes_of}
+use Rattle.readiness.specs.Machine.{Change, change_of, Call, Read, after_call, is_quiet, Way, Step, Comes, HasRoom, Spurious, Vanished, Polled, Tells, Old, Handed, Looks, Calls, Unasked, opening, step, run, answers_of, changes_of}
 
 -- the end there, and whether its name is queued
 pub record Seen : Type 0 where
@@ -14,11 +14,12 @@ pub record Seen : Type 0 where
   pub queued : Bool
 
 -- What may happen to it: a change of the network (`arrive`, `fin`, `reset`), room for writes (`room`), a report without
--- cause (`spurious`), a poll that hands its name over (`poll`), and a call with its reply
+-- cause (`spurious`), one that is taken back (`vanish`), a poll that hands its name over (`poll`), and a call with its reply
 pub data Event : Type 0 where
   Came : Change → Event
   GotRoom : Event
   Stray : Event
+  Gone : Event
   Taken : Event
   Called : Call → Reply → Event
 
@@ -29,6 +30,7 @@ abbrev pub event : Seen → Event → Option Seen
 event s (Came change) = seen_changed s (change_of s.socket change)
 event s GotRoom = seen_changed s (new_room s.socket)
 event s Stray = Some (record s { queued = true })
+event s Gone = guard (s.queued && is_quiet s.socket) (record s { queued = false })
 event s Taken = guard s.queued (record s { queued = false })
 event s (Called call r) = option_map (λ (e : Endpoint). record s { socket = e }) (after_call s.socket call r)
 
@@ -55,11 +57,13 @@ abbrev pub at_call : List Change → Call → Reply → List Event
 at_call late call (reply.Failed kind) = map Came late ++ Called call (reply.Failed kind) ∷ []
 at_call late call r = Called call r ∷ []
 
--- what happens there at a step
+-- What happens there at a step. A report vanishes there, too, even if its name was not queued; but what is still owed stays
+-- queued
 abbrev pub meanwhile : Way → List Change → Step → List Event
 meanwhile w late (Comes change) = if is_late w then [] else Came change ∷ []
 meanwhile w late HasRoom = GotRoom ∷ []
 meanwhile w late Spurious = Stray ∷ []
+meanwhile w late Vanished = if w.owed then [] else Stray ∷ Gone ∷ []
 meanwhile w late (Polled names) = []
 meanwhile w late Tells = at_telling w.taken late
 meanwhile w late Old = map Came late

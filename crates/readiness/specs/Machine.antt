@@ -4,7 +4,7 @@
 use Rattle.std.specs.Prelude.{ℕ, Bool, true, false, not, ◌&&◌, ◌||◌, List, [], ◌∷◌, ◌++◌, Option, Some, None, option_map, option_and_then}
 use Rattle.token.specs.declared.side.Side.{Side}
 use Rattle.kernel_model.specs.Outcome.{guard, Told}
-use Rattle.kernel_model.specs.Ends.{Endpoint, opened, is_readable, arrival, finish, failure, new_room}
+use Rattle.kernel_model.specs.Ends.{Endpoint, opened, is_readable, is_writable, arrival, finish, failure, new_room}
 use Rattle.kernel_model.specs.Replies.{after_read, after_write, after_join, after_shut}
 use Rattle.kernel_model.specs.declared.reply.Reply.{Reply}
 use Rattle.kernel_model.specs.declared.reply.Reply.TheVariants as reply
@@ -45,13 +45,15 @@ pub record Way : Type 0 where
   pub told : Bool
   pub reads : Bool
 
--- One step of the network (`Comes`, `HasRoom`), the system (`Spurious`, `Polled`), the poller (`Tells`, `Old`, `Handed`) or
--- the wire (`Looks`, `Calls`, `Unasked`). `Old` tells of a report of an earlier connection under the same name. `Handed` is
--- the end of a poll: what was told is handed over. `Unasked` is the answer "would block" that the wire gives to a read by itself
+-- One step of the network (`Comes`, `HasRoom`), the system (`Spurious`, `Vanished`, `Polled`), the poller (`Tells`, `Old`,
+-- `Handed`) or the wire (`Looks`, `Calls`, `Unasked`). `Vanished` takes a queued report back. `Old` tells of a report of an
+-- earlier connection under the same name. `Handed` is the end of a poll: what was told is handed over. `Unasked` is the
+-- answer "would block" that the wire gives to a read by itself
 pub data Step : Type 0 where
   Comes : Change → Step
   HasRoom : Step
   Spurious : Step
+  Vanished : Step
   Polled : Bool → Step
   Tells : Step
   Old : Step
@@ -67,6 +69,10 @@ opening side told = record { socket = opened side; queued = false; taken = []; o
 -- a change of the network, and its report
 abbrev pub changed : Way → Option (Told Endpoint Bool) → Option Way
 changed w change = option_map (λ (t : Told Endpoint Bool). record w { socket = t.value; queued = w.queued || t.told }) change
+
+-- a read would block, and so would a write; a report can vanish only then
+abbrev pub is_quiet : Endpoint → Bool
+is_quiet e = not (is_readable e) && not (is_writable e)
 
 -- A poll takes the report out of the queue. It names reading if there is something to read by then, and may do so
 -- without (epoll_wait(2))
@@ -98,6 +104,7 @@ abbrev pub step : Way → Step → Option Way
 step w (Comes change) = changed w (change_of w.socket change)
 step w HasRoom = changed w (new_room w.socket)
 step w Spurious = Some (record w { queued = true })
+step w Vanished = guard (w.queued && is_quiet w.socket) (record w { queued = false })
 step w (Polled names) = polled w names
 step w Tells = tells w w.taken
 step w Old = Some (record w { told = true })
