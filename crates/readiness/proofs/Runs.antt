@@ -1,9 +1,10 @@
 -- What holds after any list of steps.
 use Rattle.std.proofs.Common.{◌≡◌, ◌≢◌, Bool, true, false, List, [], ◌∷◌, ◌++◌, Option, Some, None, option_and_then, refl, sym, ap, ◌∙◌, append-nil, append_assoc, inl, inr}
 use Rattle.token.specs.declared.side.Side.{Side}
+use Rattle.kernel_model.specs.Ends.{is_readable}
 use Rattle.readiness.specs.Machine.{Change, Call, Way, Step, Comes, HasRoom, Spurious, Vanished, Polled, Tells, Old, Handed, Looks, Calls, Unasked, opening, step, run, answers_of, change_in, changes_of}
 use Rattle.kernel_model.specs.declared.reply.Reply.{Reply}
-use Rattle.readiness.specs.Delays.{Seen, Event, events, unseen, meanwhile, late_after, happened, still_late, reply_in, replies_in, came_at, came_in, WillBeTold, IsArmed, MissesNothing, WiresAreDelayed, WiresMissNothing}
+use Rattle.readiness.specs.Delays.{Seen, Event, events, unseen, meanwhile, late_after, happened, still_late, reply_in, replies_in, came_at, came_in, WillBeTold, MissesNothing, WiresAreDelayed, WiresMissNothing}
 use Rattle.readiness.proofs.Late.{events-append}
 use Rattle.readiness.proofs.Kept.{Rests, Waits, Prompt, Behind, Held, Goes, same_socket}
 use Rattle.readiness.proofs.Network.{comes, has_room}
@@ -105,15 +106,17 @@ wires_are_delayed side told steps w h =
       caught_up = same_socket r.seen w late r.kept.due;
     }
 
-armed_here : (s : Seen) (w : Way) → s.socket ≡ w.socket → Rests s.socket → IsArmed w
-armed_here s w same r = record { empty = rw same at r.empty; armed = rw same at r.armed }
-
-misses_nothing : (w : Way) (late : List Change) (s : Seen) → Held w late s → Waits w late → (b : Bool) → w.told ≡ b → MissesNothing w
-misses_nothing w late s held waits true told reads = inr (inr told)
-misses_nothing w late s held (Prompt none) false told reads = inl (armed_here s w (same_socket s w late held.due none) (held.rests reads told))
-misses_nothing w late s held (Behind asleep) false told reads = inr (inl asleep.coming)
+misses_nothing : (w : Way) (late : List Change) (s : Seen) → Held w late s → Waits w late → MissesNothing w
+misses_nothing w late s held (Prompt none) reads told =
+    let r : Rests s.socket = held.rests reads told in
+    let same : s.socket ≡ w.socket = same_socket s w late held.due none in
+    let empty : is_readable w.socket ≡ false = rw same at r.empty in
+    record { armed = λ _. rw same at r.armed; coming = λ some. absurd (cc) }
+misses_nothing w late s held (Behind asleep) reads told =
+    let some : is_readable w.socket ≡ true = asleep.readable in
+    record { armed = λ empty. absurd (cc); coming = λ _. asleep.coming }
 
 pub wires_miss_nothing : WiresMissNothing
 wires_miss_nothing side told steps w h =
     let r : Went (opening side told) w [] (unseen side) steps = went steps (opening side told) w [] (unseen side) (at_first side told) h in
-    misses_nothing w (still_late (opening side told) [] steps) r.seen r.kept r.kept.waits w.told refl
+    misses_nothing w (still_late (opening side told) [] steps) r.seen r.kept r.kept.waits

@@ -122,11 +122,6 @@ IsOnItsWay w = (w.queued ≡ true) ⊎ ((w.taken ≢ []) ⊎ (w.owed ≡ true))
 abbrev pub WillBeTold : Way → Type 0
 WillBeTold w = (w.queued ≡ true) ⊎ Contains w.taken true
 
--- there is nothing to read, and the system reports what comes next
-pub record IsArmed (w : Way) : Type 0 where
-  pub empty : is_readable w.socket ≡ false
-  pub armed : w.socket.read_armed ≡ true
-
 -- Every run of the steps is a run of the machine: all that happens there may happen there. Its wire has the same answers,
 -- in order. The same comes to its end, in order, and what has not come yet are the last changes. Its name is queued only
 -- while a report is on its way
@@ -139,10 +134,15 @@ pub record IsDelayed (from to : Way) (steps : List Step) (side : Side) : Type 0 
   pub late : still_late from [] steps ≢ [] → WillBeTold to
   pub caught_up : still_late from [] steps ≡ [] → seen.socket ≡ to.socket
 
--- A wire that answers by itself misses nothing: there is nothing to read, and the system will report what comes next, or a
--- report of reading is on its way to it or was told
+-- nothing is missed: if there is nothing to read, the system reports what comes next, and if there is, its report is on its
+-- way to the wire
+pub record IsCovered (w : Way) : Type 0 where
+  pub armed : is_readable w.socket ≡ false → w.socket.read_armed ≡ true
+  pub coming : is_readable w.socket ≡ true → WillBeTold w
+
+-- a wire that answers by itself misses nothing
 abbrev pub MissesNothing : Way → Type 0
-MissesNothing w = w.reads ≡ false → IsArmed w ⊎ (WillBeTold w ⊎ (w.told ≡ true))
+MissesNothing w = w.reads ≡ false → w.told ≡ false → IsCovered w
 
 -- for every run from the opening of a connection, whatever was told before
 

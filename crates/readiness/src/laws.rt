@@ -10,8 +10,8 @@ pub fn wires_are_delayed()
     ensures { WiresAreDelayed }
 {}
 
-/// A wire that does not read misses nothing: there is nothing to read, and the system will report what comes next; or a
-/// report that names reading is queued or was taken by a poll; or it was told.
+/// A wire that does not read, and was told of nothing, misses nothing: if there is nothing to read, the system will report
+/// what comes next; if there is, a report that names reading is queued, or a poll has taken it and it will be told.
 pub fn wires_miss_nothing()
     ensures { WiresMissNothing }
 {}
