@@ -1,15 +1,19 @@
 -- Where a server listens, and what is reported. Part of the promises.
-use Rattle.std.specs.Prelude.{◌≡◌, ℕ, List, map}
+use Rattle.std.specs.Prelude.{◌≡◌, ℕ, Bool, ◌||◌, List, map}
 use Rattle.std.specs.declared.net.SocketAddr.{SocketAddr}
 use Rattle.std.specs.Net.Addr.{IsV4And, ipv4_octets}
 use Rattle.std.specs.Net.Socket.{socket_ip, IsPlainSocket}
 use Rattle.settings.specs.Addresses.{SocketAddress}
 use Rattle.mio.specs.declared.event.event.Event.{Event}
-use Rattle.mio.specs.Event.{event_token}
+use Rattle.mio.specs.Event.{event_token, is_readable, is_error, is_read_closed, is_write_closed}
 
 -- the numbers of what is reported, in the order of the reports
 abbrev pub numbers : List Event → List ℕ
 numbers events = map (λ (event : Event). (event_token event).0) events
+
+-- an event names reading: there is something to read, or the socket has failed, or the peer has closed it (epoll_ctl(2))
+abbrev pub names_reading : Event → Bool
+names_reading event = is_readable event || (is_error event || (is_read_closed event || is_write_closed event))
 
 -- where a front's connections go, and the numbers that its last poll was told
 pub record Watched : Type 0 where

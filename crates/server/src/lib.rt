@@ -24,5 +24,5 @@ pub use dispatch::{
     Unopened, Worked, deliver, own_turn, poller_round, share_tickets, worker_turn,
 };
 pub use serving::serve;
-pub use sockets::{Bound, Dial, SocketWire, Sockets, Wakers, bind, open_all};
+pub use sockets::{Bound, Dial, Socket, SocketWire, Sockets, Wakers, bind, open_all};
 pub use split::Split;

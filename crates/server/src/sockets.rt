@@ -4,10 +4,12 @@ mod bound;
 mod delay;
 mod dial;
 mod poll;
+mod socket;
 mod stream;
 mod wire;
 
 pub use bound::{Bound, bind};
 pub use dial::Dial;
 pub use poll::{Sockets, Wakers, open_all};
+pub use socket::Socket;
 pub use wire::SocketWire;

@@ -33,6 +33,13 @@ impl Split {
         }
     }
 
+    /// How many slots there are.
+    pub fn slots(&self) -> usize
+        ensures { result ≡ self.now.slots }
+    {
+        self.slots
+    }
+
     /// How many parts there are.
     pub fn pollers(&self) -> usize
         ensures parts { result ≡ parts_of self.now.slots self.now.size }

@@ -1,25 +1,29 @@
 ghost use Rattle.std.specs.Prelude.{◌≡◌, ◌⊎◌, ◌+◌, ◌≤◌, ◌++◌, [], length, replicate, true, false, Some, None, IfOk, OnOk, IfErr, OnErr, vec_len, vec_capacity};
+ghost use Rattle.mio.specs.Event.{event_token};
 ghost use Rattle.mio.specs.Events.{items};
-ghost use Rattle.server.specs.SocketsFronts.{numbers};
+ghost use Rattle.server.specs.SocketsFronts.{names_reading, numbers};
 ghost use Rattle.server.specs.Splits.{parts_of};
 ghost use Rattle.server.specs.SocketsWires.{SameButWatched, fresh_wire, under};
 
 use crate::limits::MAX_WAIT_MILLIS;
 use crate::sockets::bound::Bound;
 use crate::sockets::dial::Dial;
+use crate::sockets::socket::Socket;
 use crate::sockets::wire::SocketWire;
 use crate::split::Split;
 use dispatch::{Front, LISTENER, MAX_BATCH, ServerFault, Settle, Unopened, WAKER};
 use log::{Log, debug, error};
+use mio::event::Event;
 use mio::net::TcpListener;
 use mio::{Events, Interest, Poll, Waker};
+use readiness::{Reports, Told};
 use std::alloc::{AllocError, Global};
 use std::io;
 use std::marker::Model;
 use std::net::{Net, SocketAddr};
 use std::sync::Arc;
 use std::time::Duration;
-use token::Token;
+use token::{Name, Token, unpack};
 
 /// The front of one poller over the system's sockets: the listening socket, which all pollers have, one target, and an
 /// epoll(7) instance of its own.
@@ -28,6 +32,8 @@ pub struct Sockets<'r, R> {
     rt: &'r R,
     listener: Arc<TcpListener>,
     target: SocketAddr,
+    // What wires are told of their sockets' reports.
+    told: Arc<Reports>,
     poll: Poll,
     events: Events,
 }
@@ -77,7 +83,8 @@ pub fn open_all<'r, R: Net + Log>(
         polls.push(poll)?;
         each.push(waker)?;
     }
-    let fronts = fronts_of(rt, alloc, listener, polls, target)?;
+    let told = Arc::new(alloc, Reports::new(alloc, split.slots())?)?;
+    let fronts = fronts_of(rt, alloc, listener, &told, polls, target)?;
     Ok((fronts, Wakers { split, each }))
 }
 
@@ -86,6 +93,7 @@ fn fronts_of<'r, R>(
     rt: &'r R,
     alloc: Global,
     listener: TcpListener,
+    told: &Arc<Reports>,
     mut polls: Vec<Poll>,
     target: SocketAddr,
 ) -> Result<Vec<Sockets<'r, R>>, AllocError>
@@ -100,6 +108,7 @@ fn fronts_of<'r, R>(
                 rt,
                 listener: Arc::try_clone(&listener)?,
                 target,
+                told: Arc::try_clone(told)?,
                 poll,
                 events: Events::with_capacity(alloc, MAX_BATCH)?,
             })?,
@@ -129,7 +138,7 @@ impl<R: Dial> Sockets<'_, R> {
         ensures refused { IfErr result (λ why. why ≡ Unopened.Connect) }
     {
         match self.rt.dial(self.target) {
-            Ok(stream) => Ok(SocketWire::connecting(stream)),
+            Ok(stream) => Ok(SocketWire::connecting(Socket::new(stream))),
             Err(error) => {
                 let target = self.target;
                 debug!(rt; target: "relayd", "connect: {target}: {error}");
@@ -144,7 +153,9 @@ impl<R: Dial> Sockets<'_, R> {
         ensures unwatched { OnErr result (wire.new.socket ≡ wire.old.socket) }
         ensures refused { IfErr result (λ why. why ≡ Unopened.Register) }
     {
-        match wire.watch(self.poll.registry(), token) {
+        // A wire that could not be told of its reports always reads.
+        let told = Told::new(&self.told, token.slot(), token.side()).ok();
+        match wire.watch(self.poll.registry(), token, told) {
             Ok(()) => Ok(()),
             Err(error) => {
                 debug!(rt; target: "relayd", "register: {error}");
@@ -162,15 +173,45 @@ fn reports_on<R: Net>(rt: &R, listener: &mut TcpListener) -> io::Result<(Poll, W
     Ok((poll, waker))
 }
 
-/// Appends the numbers of the events' tokens to the batch.
-fn put_numbers(batch: &mut Vec<u64>, events: &Events)
+/// Tells of the events that name reading, and appends the numbers of their tokens to the batch.
+fn put_numbers(batch: &mut Vec<u64>, events: &Events, told: &Reports)
     requires { vec_len batch.old + length (items events.now) ≤ vec_capacity batch.old }
     ensures numbers { batch.new.items ≡ batch.old.items ++ numbers (items events.now) }
     ensures capacity { vec_capacity batch.new ≡ vec_capacity batch.old }
 {
     for event in events.iter().as_slice() {
-        batch.push_reserved(event.token().0 as u64);
+        batch.push_reserved(tell(told, event));
     }
+}
+
+/// Tells of an event if it names reading. Its number is given only then, so that a wire is told before the report becomes
+/// a note.
+fn tell(told: &Reports, event: &Event) -> u64
+    ensures { result ≡ (event_token event.now).0 }
+{
+    let number = event.token().0 as u64;
+    if names_reading(event) {
+        if let Some(end) = end_of(number) {
+            told.tell(end.slot(), end.side());
+        }
+    }
+    number
+}
+
+/// The end of a connection that a number names, if it names one.
+fn end_of(number: u64) -> Option<Token> {
+    match unpack(number)? {
+        Name::End(end) => Some(end),
+        Name::Listener | Name::Waker => None,
+    }
+}
+
+/// Whether an event names reading: there is something to read, or the socket has failed, or the peer has closed it, which
+/// a read finds out.
+fn names_reading(event: &Event) -> bool
+    ensures { result ≡ names_reading event.now }
+{
+    event.is_readable() || event.is_error() || event.is_read_closed() || event.is_write_closed()
 }
 
 impl<R: Dial> Front for Sockets<'_, R> {
@@ -194,7 +235,7 @@ impl<R: Dial> Front for Sockets<'_, R> {
         let most = if wait { MAX_WAIT_MILLIS } else { 0 };
         self.poll
             .poll(&mut self.events, Some(Duration::from_millis(most)))?;
-        put_numbers(batch, &self.events);
+        put_numbers(batch, &self.events, &self.told);
         Ok(())
     }
 
@@ -203,7 +244,7 @@ impl<R: Dial> Front for Sockets<'_, R> {
         ensures same { self.new ≡ self.old }
     {
         let (stream, peer) = self.listener.accept()?;
-        Ok(SocketWire::accepted(stream, peer))
+        Ok(SocketWire::accepted(Socket::new(stream), peer))
     }
 
     /// If it fails, the cause is logged at level debug.

@@ -2,14 +2,15 @@ ghost use Rattle.std.specs.Prelude.{◌≡◌, length, OnOk};
 ghost use Rattle.std.specs.Io.{WritesAtMost};
 ghost use Rattle.engine.specs.Asked as ask;
 ghost use Rattle.engine.specs.Wires.{read_gave, write_gave, call_gave};
-ghost use Rattle.server.specs.SocketsWires.{Made, Called, Pending, Named, SentAtOnce, Registered};
+ghost use Rattle.server.specs.SocketsWires.{Made, Called, Pending, Named, SentAtOnce, Registered, Looked};
 
-use mio::net::TcpStream;
-use mio::{Interest, Registry};
+use mio::Registry;
+use readiness::Told;
 use std::io;
-use std::net::{Shutdown, SocketAddr};
+use std::net::SocketAddr;
 
-/// A stream socket of the system, as a wire uses it. Each method is one system call, which never waits.
+/// A stream socket of the system, and what is told of its reports, as a wire uses them. Each method but `is_told` is one
+/// system call, which never waits.
 ///
 /// Only the system knows what a call does, so the trait leaves that open. What is proved of a wire over any such socket
 /// therefore says which calls it makes, with all that it was asked for, and that it gives their answers unchanged.
@@ -44,40 +45,12 @@ pub trait Stream {
     fn send_at_once(&mut self, at_once: bool)
         ensures { did (SentAtOnce at_once) self.old self.new };
 
-    /// Has the socket reported for reading and writing, edge-triggered, under a number (epoll_ctl(2)).
-    fn register(&mut self, registry: &Registry, number: u64) -> io::Result<()>
+    /// Has the socket reported for reading and writing, edge-triggered, under a number (epoll_ctl(2)). Those of its reports
+    /// that name reading are told by `told`. Without it, each look finds that one was told.
+    fn register(&mut self, registry: &Registry, number: u64, told: Option<Told>) -> io::Result<()>
         ensures { OnOk result (did (Registered number) self.old self.new) };
-}
 
-impl Stream for TcpStream {
-    ghost did = { λ _ _ _. Unit {0} };
-
-    fn read(&mut self, buffer: &mut [u8]) -> io::Result<usize> {
-        io::Read::read(self, buffer)
-    }
-
-    fn write(&mut self, offer: &[u8]) -> io::Result<usize> {
-        io::Write::write(self, offer)
-    }
-
-    fn shut_write(&mut self) -> io::Result<()> {
-        self.shutdown(Shutdown::Write)
-    }
-
-    fn pending(&mut self) -> io::Result<Option<io::Error>> {
-        self.take_error()
-    }
-
-    fn peer(&self) -> io::Result<SocketAddr> {
-        self.peer_addr()
-    }
-
-    fn send_at_once(&mut self, at_once: bool) {
-        let _ = self.set_nodelay(at_once);
-    }
-
-    fn register(&mut self, registry: &Registry, number: u64) -> io::Result<()> {
-        let both = Interest::READABLE | Interest::WRITABLE;
-        registry.register(self, mio::Token(number as usize), both)
-    }
+    /// Whether a report that names reading was told since the last look, which this is. It is no system call.
+    fn is_told(&mut self) -> bool
+        ensures { did (Looked result) self.old self.new };
 }

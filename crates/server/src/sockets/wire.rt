@@ -7,29 +7,33 @@ ghost use Rattle.engine.specs.Classes.{class_of, pending_kind};
 ghost use Rattle.engine.specs.Tallies.{counted};
 ghost use Rattle.engine.specs.Wires.{call_gave};
 ghost use Rattle.server.specs.SocketsDelays.{IsOffered};
-ghost use Rattle.server.specs.SocketsWires.{Registered, Switches, Makes, fresh_wire, promptly, took, under};
+ghost use Rattle.server.specs.SocketsWires.{Registered, Switches, Joins, fresh_wire, promptly, took, under, goes_on, goes_on_after, Looked};
 
 use crate::sockets::delay::Delay;
+use crate::sockets::socket::Socket;
 use crate::sockets::stream::Stream;
 use dispatch::Settle;
-use engine::{Tally, Wire};
+use engine::{Class, Tally, Wire, class_of};
 use mio::Registry;
-use mio::net::TcpStream;
+use readiness::{Attention, Told};
 use relay_core::{Call, Side};
 use std::io;
 use std::marker::Model;
 use std::net::SocketAddr;
 use token::Token;
 
-/// The wire over one system socket. A read or a write is one system call, which never waits.
+/// The wire over one system socket. A write is one system call, which never waits, and so is a read, unless the wire knows
+/// its answer: after a read that would block, it answers "would block" by itself until it is told of a report that names
+/// reading, or a call fails.
 ///
 /// It counts its answers by [`class_of`](engine::class_of). It specifies the system calls that it makes, and gives their
 /// answers unchanged. It does not specify its bytes, since only the system knows which bytes come.
 #[derive(Drop)]
-pub struct SocketWire<S = TcpStream> {
+pub struct SocketWire<S = Socket> {
     pub(crate) stream: S,
     tally: Tally,
     delay: Delay,
+    attention: Attention,
     peer: Option<SocketAddr>,
     watched: Option<Token>,
 }
@@ -39,7 +43,7 @@ impl<S> Model for SocketWire<S> {
 
     ghost Value = { Wired S };
 
-    ghost view = { λ w. record { stream = w.stream; socket = record { tally = w.tally; sending = w.delay; peer = w.peer; watched = w.watched } } };
+    ghost view = { λ w. record { stream = w.stream; socket = record { tally = w.tally; sending = w.delay; reads = w.attention; peer = w.peer; watched = w.watched } } };
 }
 
 impl<S: Stream> SocketWire<S> {
@@ -51,6 +55,7 @@ impl<S: Stream> SocketWire<S> {
             stream,
             tally: Tally::new(true),
             delay: Delay::new(),
+            attention: Attention::new(),
             peer: Some(peer),
             watched: None,
         }
@@ -64,6 +69,7 @@ impl<S: Stream> SocketWire<S> {
             stream,
             tally: Tally::new(false),
             delay: Delay::new(),
+            attention: Attention::new(),
             peer: None,
             watched: None,
         }
@@ -76,36 +82,77 @@ impl<S: Stream> SocketWire<S> {
         self.peer
     }
 
-    /// Has the socket reported for reading and writing, edge-triggered, under a token's number.
-    pub(crate) fn watch(&mut self, registry: &Registry, token: Token) -> io::Result<()>
+    /// Has the socket reported for reading and writing, edge-triggered, under a token's number. Its reports that name
+    /// reading are told by `told`; without it the wire always reads.
+    pub(crate) fn watch(
+        &mut self,
+        registry: &Registry,
+        token: Token,
+        told: Option<Told>,
+    ) -> io::Result<()>
         ensures registered { OnOk result (S.did (Registered (end_number token)) self.old.stream self.new.stream) }
         ensures watched { OnOk result (self.new.socket ≡ under token self.old.socket) }
         ensures unwatched { OnErr result (self.new.socket ≡ self.old.socket) }
     {
-        self.stream.register(registry, token.value())?;
+        self.stream.register(registry, token.value(), told)?;
         self.watched = Some(token);
         Ok(())
     }
 
-    /// Counts an error of a call by its class, and gives it.
+    /// Whether the wire reads its socket. If it does not, it looks, and reads from now on if it was told of something to
+    /// read.
+    fn looks(&mut self) -> bool
+        ensures kept { self.old.socket.reads ≡ true → (result ≡ true) × (self.new.stream ≡ self.old.stream) }
+        ensures look { self.old.socket.reads ≡ false → S.did (Looked result) self.old.stream self.new.stream }
+        ensures reads { self.new.socket ≡ record self.old.socket { reads = result } }
+    {
+        if self.attention.reads() {
+            return true;
+        }
+        let told = self.stream.is_told();
+        self.attention.look(told);
+        told
+    }
+
+    /// Counts an error of a call by its class, and gives it. After a read that would block the wire does not read, and
+    /// after a failure it does.
     fn refuse(&mut self, call: Call, error: io::Error) -> io::Error
         requires { side_of call ≡ Side.Target }
         ensures same { result ≡ error }
-        ensures counted { self.new.socket ≡ record self.old.socket { tally = counted (class_of call self.old.socket.tally.joined (error_kind error)) self.old.socket.tally } }
+        ensures counted { self.new.socket.tally ≡ counted (class_of call self.old.socket.tally.joined (error_kind error)) self.old.socket.tally }
+        ensures reads { self.new.socket.reads ≡ goes_on call (class_of call self.old.socket.tally.joined (error_kind error)) self.old.socket.reads }
+        ensures rest { self.new.socket ≡ record self.old.socket { tally = self.new.socket.tally; reads = self.new.socket.reads } }
         ensures stream { self.new.stream ≡ self.old.stream }
     {
+        let class = class_of(&call, error.kind(), self.tally.joined());
+        self.heed(call, class);
         self.tally.refuse(call, error.kind());
         error
     }
 
+    /// Whether the wire reads its socket after an error of this class.
+    fn heed(&mut self, call: Call, class: Class)
+        ensures { self.new ≡ record self.old { socket = record self.old.socket { reads = goes_on call class self.old.socket.reads } } }
+    {
+        match class {
+            Class::Interrupted => {}
+            Class::Failed(_) => self.attention.wake(),
+            Class::Blocked => match call {
+                Call::Read(..) => self.attention.rest(),
+                Call::Write(_) | Call::Join(_) | Call::Shut(_) => {}
+            },
+        }
+    }
+
     /// A write took `count` of the bytes that were offered.
     fn took(&mut self, count: usize, offered: usize)
-        ensures counted { self.new.socket ≡ record self.old.socket { tally = took count offered self.old.socket.tally } }
+        ensures counted { self.new.socket ≡ record self.old.socket { tally = took count offered self.old.socket.tally; reads = goes_on_after count offered self.old.socket.reads } }
         ensures stream { self.new.stream ≡ self.old.stream }
     {
         if count > 0 {
             self.tally.connect();
         } else if offered > 0 {
+            self.attention.wake();
             self.tally.none_taken();
         }
     }
@@ -124,7 +171,7 @@ impl<S: Stream> SocketWire<S> {
 
 /// Whether a socket is connected: its pending error, or that it has no peer yet.
 fn stand<S: Stream>(stream: &mut S) -> io::Result<()>
-    ensures { Makes S.did ask.Join (call_gave result) true true stream.old stream.new }
+    ensures { Joins S.did (call_gave result) stream.old stream.new }
 {
     if let Some(error) = stream.pending()? {
         return Err(failure(error));
@@ -149,6 +196,10 @@ impl<S: Stream> Wire for SocketWire<S> {
     ghost does = { IsDone S.did };
 
     fn read(&mut self, buffer: &mut [u8]) -> io::Result<usize> {
+        if !self.looks() {
+            let blocked = io::Error::from(io::ErrorKind::WouldBlock);
+            return Err(self.refuse(Call::Read(Side::Target, buffer.len()), blocked));
+        }
         match self.stream.read(buffer) {
             Ok(count) => {
                 self.tally.connect();

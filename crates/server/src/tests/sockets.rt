@@ -1,7 +1,7 @@
 mod fronts;
 mod wires;
 
-use crate::{Front, MAX_BATCH, SocketWire, Sockets, Split, Wakers, bind, open_all};
+use crate::{Front, MAX_BATCH, Socket, SocketWire, Sockets, Split, Wakers, bind, open_all};
 use settings::{LogLevel, Settings};
 use std::alloc::Global;
 use std::io;
@@ -31,14 +31,14 @@ fn listener(rt: &HostRuntime) -> io::Result<TcpListener> {
     TcpListener::bind(rt, "127.0.0.1:0")
 }
 
-/// A front on loopback, and its own address.
+/// A front on loopback for four slots, and its own address.
 fn front(
     rt: &HostRuntime,
     target: SocketAddr,
 ) -> Result<(Sockets<'_, HostRuntime>, Wakers, SocketAddr), Fail> {
     let bound = bind(rt, &settings(0))?;
     let address = bound.text();
-    let (mut fronts, wakers) = open_all(rt, rt.alloc(), bound, target, Split::new(1, 1))?;
+    let (mut fronts, wakers) = open_all(rt, rt.alloc(), bound, target, Split::new(4, 1))?;
     let front = fronts.pop().ok_or("no front")?;
     Ok((front, wakers, address))
 }

@@ -74,7 +74,6 @@ fn client(rt: HostRuntime) -> Result<(), Fail> {
         target: _,
     } = connected(&rt, target.local_addr()?)?;
     let first = [
-        (Ask::Read(4), Err(ErrorKind::WouldBlock)),
         (Ask::Join, Ok(0)),
         (Ask::Write(b"xyz"), Ok(3)),
         (Ask::Shut, Ok(0)),
@@ -89,7 +88,35 @@ fn client(rt: HostRuntime) -> Result<(), Fail> {
         (Ask::Write(b"a"), Err(ErrorKind::BrokenPipe)),
     ];
     assert!(rt; answers(&mut client, &last));
-    assert!(rt; counted(&client, 1, 1));
+    assert!(rt; counted(&client, 1, 0));
+    Ok(())
+}
+
+/// Whether a read would block, once and again.
+fn blocks(wire: &mut SocketWire) -> bool {
+    let blocked = (Ask::Read(4), Err(ErrorKind::WouldBlock));
+    answers(wire, &[blocked, blocked])
+}
+
+// After a read that would block, a wire reads its socket again only once its front has reported something to read: bytes,
+// or the end of input.
+#[test]
+fn reads_what_is_reported(rt: HostRuntime) -> Result<(), Fail> {
+    let target = listener(&rt)?;
+    let (mut front, _waker, mut peer, mut client) = accepted(&rt, target.local_addr()?)?;
+    let near = token(Side::Client)?;
+    let _target = front.open(&rt, &mut client, near, token(Side::Target)?)?;
+    assert!(rt; blocks(&mut client));
+    peer.write_all(b"abcd")?;
+    assert!(rt; blocks(&mut client));
+    reports(rt.alloc(), &mut front, &[near.value()])?;
+    assert!(rt; brings(&mut client, *b"abcd"));
+    assert!(rt; blocks(&mut client));
+    drop(peer);
+    assert!(rt; blocks(&mut client));
+    reports(rt.alloc(), &mut front, &[near.value()])?;
+    assert!(rt; answers(&mut client, &[(Ask::Read(4), Ok(0))]));
+    assert!(rt; counted(&client, 0, 8));
     Ok(())
 }
 
@@ -134,7 +161,7 @@ fn refused(rt: HostRuntime) -> Result<(), Fail> {
 
 /// Whether a wire's socket sends at once.
 fn sends_at_once(wire: &SocketWire) -> bool {
-    wire.stream.nodelay().is_ok_and(|at_once| at_once)
+    wire.stream.stream.nodelay().is_ok_and(|at_once| at_once)
 }
 
 /// After which of five full offers in a row a wire's socket sends at once.
@@ -180,7 +207,7 @@ fn connecting(
         let stream = mio::net::TcpStream::connect(rt, listener.local_addr()?)?;
         let peer = stream.peer_addr().map_err(|error| error.kind());
         if peer == Err(ErrorKind::NotConnected) {
-            return Ok(SocketWire::connecting(stream));
+            return Ok(SocketWire::connecting(Socket::new(stream)));
         }
         crowd.push(stream)?;
     }
