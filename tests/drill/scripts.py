@@ -21,6 +21,9 @@ class Maker:
         # How many connections each slot may still have; None for a server that begins at its first.
         worn = random.Random(f"worn {seed}")
         self.left = worn.randint(1, 4) if worn.random() < 0.2 else None
+        # Two pollers in about one script of three. A choice of its own leaves the others of the script as they are.
+        self.shared = random.Random(f"dealt {seed}")
+        self.pollers = 2 if self.slots > 1 and self.shared.random() < 0.5 else 1
 
     def script(self):
         """The lines: a header, and steps."""
@@ -37,7 +40,14 @@ class Maker:
         ring = self.random.randint(1, 8)
         budget = self.random.randint(1, 4)
         header = f"drill slots={self.slots} workers={self.workers} ring={ring} budget={budget}"
-        return header if self.left is None else f"{header} gen={LAST_GENERATION - self.left}"
+        if self.left is not None:
+            header += f" gen={LAST_GENERATION - self.left}"
+        return header if self.pollers == 1 else f"{header} pollers={self.pollers}"
+
+    def word(self, word):
+        """A word, and behind it the number of a poller if that is not the first."""
+        poller = self.shared.randrange(self.pollers)
+        return f"{word} {poller}" if poller > 0 else word
 
     def pick(self, table):
         """A key of a table, by its weight."""
@@ -47,14 +57,14 @@ class Maker:
         """A large step."""
         step = self.pick({"outside": 40, "round": 26, "own": 8, "turn": 26})
         if step in ("round", "own"):
-            return step
+            return self.word(step)
         return self.turn() if step == "turn" else self.outside()
 
     def inner(self):
         """A step inside of a turn."""
         step = self.pick({"outside": 60, "round": 30, "turn": 10})
         if step == "round":
-            return step
+            return self.word(step)
         return self.turn() if step == "turn" else self.outside()
 
     def turn(self):
@@ -74,14 +84,16 @@ class Maker:
             data = bytes(self.random.randrange(256) for _ in range(self.random.randint(1, 6)))
             return f"arrive {self.end()} {data.hex()}"
         if word in ("spurious", "vanish") and self.random.random() < 0.6:
-            return f"{word} {self.random.choice(['listener', 'waker'])}"
+            return self.word(f"{word} {self.random.choice(['listener', 'waker'])}")
         return f"{word} {self.end()}"
 
     def later(self):
         """What a later call gets."""
         word = self.pick({"call": 50, "meanwhile": 15, "accept": 10, "open": 5, "poll": 10, "polled": 10})
-        if word in ("meanwhile", "polled"):
+        if word == "meanwhile":
             return f"{word} {self.outside()}"
+        if word == "polled":
+            return f"{self.word(word)} {self.outside()}"
         if word == "call":
             return f"call {self.answer()}"
         table = {
@@ -89,13 +101,18 @@ class Maker:
             "open": ["connect", "register", "plain"],
             "poll": ["interrupted", "backwards", f"first {self.random.randint(0, 3)}"],
         }
-        return f"{word} {self.random.choice(table[word])}"
+        return f"{self.word(word)} {self.random.choice(table[word])}"
 
     def answer(self):
         word = self.pick({"plain": 30, "short": 20, "full": 20, "interrupted": 20, "failed": 2 * self.failures})
         if word in ("short", "full"):
             return f"{word} {self.random.randint(1, 4)}"
         return f"failed {self.random.choice(KINDS)}" if word == "failed" else word
+
+
+def pollers(seed):
+    """How many pollers the script of a seed has."""
+    return Maker(seed).pollers
 
 
 def make(seed):

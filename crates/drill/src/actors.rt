@@ -5,19 +5,23 @@ ghost use Rattle.claims.specs.Seats.{HoldsNothing};
 use crate::front::KernelFront;
 use crate::looking::{slots_of, tickets_of};
 use dispatch::{
-    Gate, Own, Poller, ServerFault, Shared, Worked, own_turn, poller_round, share_tickets,
-    worker_turn,
+    Gate, Own, Poller, ServerFault, Shared, Worked, give_slots, own_turn, poller_round,
+    share_tickets, worker_turn,
 };
 use log::Log;
-use ready::Ticket;
+use ready::{FreeQueue, Ticket};
 use std::alloc::{AllocError, Global};
+use std::mem;
 use std::sync::Wait;
 
 /// One worker.
 #[derive(Drop)]
 pub struct Worker<'s> {
     pub shared: &'s Shared<KernelFront>,
+    /// Between two turns its end of a queue of free slots is the first poller's.
     pub own: Own,
+    /// Its end of the second poller's queue of free slots, if there is one.
+    pub other: Option<FreeQueue>,
     pub ghost same: { own.seat.table ≡ shared.now.claims },
     pub ghost idle: { HoldsNothing own.seat },
 }
@@ -31,8 +35,23 @@ impl Worker<'_> {
         self.own.ready.try_take(rt)
     }
 
-    /// A turn for a ticket. None where the hand has no room, or the seat is worn.
+    /// A turn for a ticket of this poller's slots, to which the slot goes back if its connection ends. None where the hand
+    /// has no room, or the seat is worn.
     pub fn turn<G: Gate, R: Wait + Log>(
+        &mut self,
+        rt: &R,
+        gate: &G,
+        ticket: Ticket,
+        poller: usize,
+    ) -> Option<Worked> {
+        self.change_queue(poller);
+        let worked = self.turn_here(rt, gate, ticket);
+        give_slots(rt, &mut self.own.free, &mut self.own.hand);
+        self.change_queue(poller);
+        worked
+    }
+
+    fn turn_here<G: Gate, R: Wait + Log>(
         &mut self,
         rt: &R,
         gate: &G,
@@ -43,9 +62,32 @@ impl Worker<'_> {
         }
         worker_turn(rt, self.shared, &mut self.own, gate, ticket).ok()
     }
+
+    /// Exchanges its end of the first poller's queue and that of this one. Done again, each is in its place.
+    fn change_queue(&mut self, poller: usize) {
+        if poller == 0 {
+            return;
+        }
+        if let Some(other) = &mut self.other {
+            mem::swap(&mut self.own.free, other);
+        }
+    }
+
+    /// The free slots in this poller's queue, in order.
+    pub fn free_slots(
+        &mut self,
+        rt: &impl Wait,
+        alloc: Global,
+        poller: usize,
+    ) -> Result<Vec<usize>, AllocError> {
+        self.change_queue(poller);
+        let slots = slots_of(rt, alloc, &mut self.own.free);
+        self.change_queue(poller);
+        slots
+    }
 }
 
-/// The poller's thread.
+/// A poller's thread.
 #[derive(Drop)]
 pub struct Lead<'s> {
     pub shared: &'s Shared<KernelFront>,
@@ -62,11 +104,20 @@ impl Lead<'_> {
         poller_round(rt, alloc, self.shared, &mut self.own, &mut self.poller)
     }
 
-    /// Whether a turn now passes no ticket in the ready queue, and puts no free slot behind another.
+    /// Whether the poller could try accept(2): its flag is up, and a slot is free.
+    pub fn could_accept(&mut self, rt: &impl Wait, alloc: Global) -> Result<bool, AllocError> {
+        let slots = slots_of(rt, alloc, &mut self.own.free)?;
+        let has_slot = self.own.hand.slots() > 0 || !slots.is_empty();
+        Ok(self.poller.is_accepting() && has_slot)
+    }
+
+    /// Whether a turn now passes no ticket of its slots in the ready queue, and puts no free slot behind another.
     pub fn keeps_order(&mut self, rt: &impl Wait, alloc: Global) -> Result<bool, AllocError> {
+        let part = self.poller.part();
         let tickets = tickets_of(rt, alloc, &mut self.own.ready)?;
         let slots = slots_of(rt, alloc, &mut self.own.free)?;
-        Ok(tickets.is_empty() && (self.own.hand.slots() == 0 || slots.is_empty()))
+        let passes = tickets.iter().any(|ticket| part.has(ticket.slot));
+        Ok(!passes && (self.own.hand.slots() == 0 || slots.is_empty()))
     }
 
     /// Puts the tickets of a round that the poller's thread does not run itself. Answers whether one is left.

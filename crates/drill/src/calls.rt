@@ -1,5 +1,5 @@
 // The calls of a turn on the modelled kernel.
-use crate::outside::Outside;
+use crate::outside::{Outside, Socket};
 use crate::step::Wanted;
 use kernel_model::{End, MAX_POLLED, Reply};
 use std::io::ErrorKind;
@@ -10,74 +10,107 @@ impl Outside {
     /// What happens before the next call of a turn, and then what that call gets.
     fn next_wanted(&mut self) -> Wanted {
         for _event in 0..MAX_POLLED {
-            let Some(event) = self.plan.next_meanwhile() else {
+            let Some(outer) = self.plan.next_meanwhile() else {
                 break;
             };
-            self.happen(&event);
+            self.happen(outer);
         }
         self.plan.next_call()
+    }
+
+    /// The call that was made got this reply.
+    fn give(&mut self, reply: Reply, wanted: Wanted) -> Result<usize, ErrorKind> {
+        self.act(Act::Call(reply));
+        given(reply, wanted)
     }
 
     /// A read into a buffer: how many bytes it gave. `joined` says whether the socket is known to be connected.
     pub fn read(
         &mut self,
-        descriptor: usize,
+        socket: Socket,
         joined: bool,
         buffer: &mut [u8],
     ) -> Result<usize, ErrorKind> {
         let wanted = self.next_wanted();
-        let Some(open) = self.kernel.end(descriptor) else {
+        let Some(reply) = self.read_from(socket, joined, wanted, buffer) else {
             return Err(ErrorKind::Other);
         };
-        let own = read_of(&open.socket, buffer.len(), wanted);
+        self.give(reply, wanted)
+    }
+
+    fn read_from(
+        &mut self,
+        socket: Socket,
+        joined: bool,
+        wanted: Wanted,
+        buffer: &mut [u8],
+    ) -> Option<Reply> {
+        let kernel = &mut self.station_mut(socket.poller)?.kernel;
+        let end = &kernel.end(socket.descriptor)?.socket;
+        let own = read_of(end, buffer.len(), wanted);
         let reply = reply_of(wanted, own, joined, false);
         if let Reply::Bytes(count) = reply {
-            if let Some(bytes) = open.socket.bytes_read(buffer.len(), count) {
+            if let Some(bytes) = end.bytes_read(buffer.len(), count) {
                 fill(buffer, bytes);
             }
         }
-        let _ = self.kernel.read(descriptor, buffer.len(), reply);
-        self.act(Act::Call(reply));
-        given(reply, wanted)
+        let _ = kernel.read(socket.descriptor, buffer.len(), reply);
+        Some(reply)
     }
 
     /// A write of an offer: how many bytes it took.
     pub fn write(
         &mut self,
-        descriptor: usize,
+        socket: Socket,
         joined: bool,
         offer: &[u8],
     ) -> Result<usize, ErrorKind> {
         let wanted = self.next_wanted();
-        let Some(open) = self.kernel.end(descriptor) else {
+        let Some(reply) = self.write_to(socket, joined, wanted, offer) else {
             return Err(ErrorKind::Other);
         };
-        let own = write_of(&open.socket, offer.len(), wanted);
+        self.give(reply, wanted)
+    }
+
+    fn write_to(
+        &mut self,
+        socket: Socket,
+        joined: bool,
+        wanted: Wanted,
+        offer: &[u8],
+    ) -> Option<Reply> {
+        let kernel = &mut self.station_mut(socket.poller)?.kernel;
+        let own = write_of(&kernel.end(socket.descriptor)?.socket, offer.len(), wanted);
         let reply = reply_of(wanted, own, joined, true);
-        let _ = self.kernel.write(descriptor, offer, reply);
-        self.act(Act::Call(reply));
-        given(reply, wanted)
+        let _ = kernel.write(socket.descriptor, offer, reply);
+        Some(reply)
     }
 
     /// Whether a connect has completed.
-    pub fn join(&mut self, descriptor: usize, joined: bool) -> Result<usize, ErrorKind> {
+    pub fn join(&mut self, socket: Socket, joined: bool) -> Result<usize, ErrorKind> {
         let wanted = self.next_wanted();
-        let Some(open) = self.kernel.end(descriptor) else {
+        let Some(reply) = self.join_to(socket, joined, wanted) else {
             return Err(ErrorKind::Other);
         };
-        let reply = reply_of(wanted, join_of(&open.socket), joined, false);
-        let _ = self.kernel.join(descriptor, reply);
-        self.act(Act::Call(reply));
-        given(reply, wanted)
+        self.give(reply, wanted)
+    }
+
+    fn join_to(&mut self, socket: Socket, joined: bool, wanted: Wanted) -> Option<Reply> {
+        let kernel = &mut self.station_mut(socket.poller)?.kernel;
+        let own = join_of(&kernel.end(socket.descriptor)?.socket);
+        let reply = reply_of(wanted, own, joined, false);
+        let _ = kernel.join(socket.descriptor, reply);
+        Some(reply)
     }
 
     /// A shutdown of sending.
-    pub fn shut(&mut self, descriptor: usize) -> Result<usize, ErrorKind> {
+    pub fn shut(&mut self, socket: Socket) -> Result<usize, ErrorKind> {
         let wanted = self.next_wanted();
         let reply = reply_of(wanted, Reply::Shut, true, false);
-        let _ = self.kernel.shut(descriptor, reply);
-        self.act(Act::Call(reply));
-        given(reply, wanted)
+        if let Some(station) = self.station_mut(socket.poller) {
+            let _ = station.kernel.shut(socket.descriptor, reply);
+        }
+        self.give(reply, wanted)
     }
 }
 

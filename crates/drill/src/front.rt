@@ -4,7 +4,7 @@ ghost use Rattle.std.specs.Prelude.{◌≡◌, ◌≤◌, [], OnErr, length, vec
 use crate::outside::Outside;
 use crate::wire::EndWire;
 use dispatch::{Front, MAX_BATCH, Unopened};
-use kernel_model::{Accepting, Watched};
+use kernel_model::Accepting;
 use log::Log;
 use std::alloc::{AllocError, Global};
 use std::cell::RefCell;
@@ -13,10 +13,11 @@ use std::net::SocketAddr;
 use std::rc::Rc;
 use token::{Name, Token};
 
-/// A front whose connections and reports are the modelled kernel's.
+/// A poller's front, whose connections and reports are those of its modelled kernel.
 #[derive(Drop)]
 pub struct KernelFront {
-    pub outside: Rc<RefCell<Outside>>,
+    outside: Rc<RefCell<Outside>>,
+    poller: usize,
     /// The numbers that the last poll gave.
     reported: Vec<u64>,
     pub ghost few: { vec_len reported ≤ 256 },
@@ -25,9 +26,14 @@ pub struct KernelFront {
 
 impl KernelFront {
     /// A front that has reported nothing.
-    pub fn new(alloc: Global, outside: Rc<RefCell<Outside>>) -> Result<KernelFront, AllocError> {
+    pub fn new(
+        alloc: Global,
+        outside: Rc<RefCell<Outside>>,
+        poller: usize,
+    ) -> Result<KernelFront, AllocError> {
         Ok(KernelFront {
             outside,
+            poller,
             reported: Vec::with_capacity(alloc, MAX_BATCH)?,
         })
     }
@@ -47,8 +53,12 @@ fn fill(numbers: &mut Vec<u64>, names: &[Name])
     }
 }
 
-/// The numbers of the reports that the kernel gives now, in an empty list.
-fn take_reports(outside: &Rc<RefCell<Outside>>, numbers: &mut Vec<u64>) -> io::Result<()>
+/// The numbers of the reports that a poller's kernel gives now, in an empty list.
+fn take_reports(
+    outside: &Rc<RefCell<Outside>>,
+    poller: usize,
+    numbers: &mut Vec<u64>,
+) -> io::Result<()>
     requires empty { vec_len numbers.old ≡ 0 }
     requires room { MAX_BATCH ≤ vec_capacity numbers.old }
     ensures most { vec_len numbers.new ≤ MAX_BATCH }
@@ -58,7 +68,7 @@ fn take_reports(outside: &Rc<RefCell<Outside>>, numbers: &mut Vec<u64>) -> io::R
     let Ok(mut outside) = outside.try_borrow_mut() else {
         return Err(io::Error::from(ErrorKind::Other));
     };
-    match outside.poll() {
+    match outside.poll(poller) {
         Ok(Some(names)) => {
             fill(numbers, names.as_slice());
             Ok(())
@@ -94,7 +104,7 @@ impl Front for KernelFront {
     fn poll(&mut self, batch: &mut Vec<u64>, _wait: bool) -> io::Result<()> {
         batch.clear();
         self.reported.clear();
-        let answer = take_reports(&self.outside, &mut self.reported);
+        let answer = take_reports(&self.outside, self.poller, &mut self.reported);
         copy(batch, self.reported.as_slice());
         answer
     }
@@ -104,8 +114,8 @@ impl Front for KernelFront {
         let Ok(mut outside) = self.outside.try_borrow_mut() else {
             return Err(io::Error::from(ErrorKind::Other));
         };
-        match outside.accept() {
-            Accepting::Accepted => Ok(EndWire::accepted(shared)),
+        match outside.accept(self.poller) {
+            Accepting::Accepted => Ok(EndWire::accepted(shared, self.poller)),
             Accepting::Blocked => Err(io::Error::from(ErrorKind::WouldBlock)),
             Accepting::Again => Err(io::Error::from(ErrorKind::ConnectionAborted)),
             Accepting::Starved => Err(io::Error::from(ErrorKind::Other)),
@@ -125,19 +135,14 @@ impl Front for KernelFront {
         let Ok(mut outside) = self.outside.try_borrow_mut() else {
             return Err(Unopened::Connect);
         };
-        if let Some(unopened) = outside.plan.next_open() {
-            return Err(unopened);
-        }
-        let Some((client_end, target_end)) = outside.open(client_token, target_token) else {
-            return Err(Unopened::Connect);
-        };
+        let (client_end, target_end) = outside.open(self.poller, client_token, target_token)?;
         client.open(client_token, client_end);
         Ok(EndWire::connecting(shared, target_token, target_end))
     }
 
-    fn wake(waker: &Rc<RefCell<Outside>>, _slot: usize) {
+    fn wake(waker: &Rc<RefCell<Outside>>, slot: usize) {
         if let Ok(mut outside) = waker.try_borrow_mut() {
-            let _ = outside.kernel.spurious(Watched::Waker);
+            outside.wake(slot);
         }
     }
 

@@ -1,17 +1,19 @@
 //! Compares the server with the machine of `world`.
 //!
-//! The program owns a server in memory: its claim words, places, queues, workers and poller, over the modelled kernel.
-//! It reads scripts of large steps from standard input, makes each step by the server's own call, and writes down the
-//! events of a world to which the step amounts. A world makes the same events. After every step the report of the
-//! server's own state has to be the world's report, byte for byte.
+//! The program owns a server in memory: its claim words, places, queues, workers and one poller or two, each over a
+//! modelled kernel of its own. It reads scripts of large steps from standard input, makes each step by the server's own
+//! call, and writes down the events of a world to which the step amounts: for each poller a world, which has the poller's
+//! slots alone. The worlds make the same events. After every step the report of the server's own state at a poller's
+//! slots has to be its world's report, byte for byte.
 //!
-//! `session.rt` plays the scripts, `crew.rt` makes the steps, `outside.rt` and `calls.rt` are what the server's calls
-//! get, `tape.rt` keeps the events and the world, and `report.rt` is the server's report. `tests/drill` makes random
-//! scripts.
+//! `session.rt` plays the scripts, `crew.rt` makes the steps, `outside.rt`, `station.rt` and `calls.rt` are what the
+//! server's calls get, `tape.rt` keeps the events and the world, and `report.rt` is the server's report. `tests/drill`
+//! makes random scripts.
 #![tactic(auto)]
 
 mod actors;
 mod calls;
+mod casting;
 mod crew;
 mod diary;
 mod front;
@@ -19,6 +21,7 @@ mod gate;
 mod header;
 mod kinds;
 mod lines;
+mod local;
 mod looking;
 mod outside;
 mod parts;
@@ -29,7 +32,9 @@ mod play;
 mod reading;
 mod report;
 mod session;
+mod sizes;
 mod source;
+mod station;
 mod step;
 mod tape;
 mod totals;

@@ -1,119 +1,188 @@
-// What is outside of the server: the modelled kernel, what its next calls get, and the events that it all amounts to.
+// What is outside of the server: for each poller a station, the clients that none of them has accepted yet, and what the
+// next calls get.
 ghost use Rattle.drill.specs.Sizes.{IsServerSize};
 
-use crate::past::Past;
 use crate::plan::Plan;
-use crate::step::Polled;
-use crate::tape::Tape;
+use crate::sizes::{MAX_POLLERS, Sizes};
+use crate::station::Station;
+use crate::step::{Later, Outer, Polled};
 use crate::totals::Totals;
-use kernel_model::{Accepting, Kernel, MAX_POLLED, Refusal, Watched};
+use dispatch::{Unopened, Worked};
+use kernel_model::{Accepting, MAX_BACKLOG, MAX_POLLED, Watched};
 use std::alloc::{AllocError, Global};
-use token::{Name, Side, Token};
-use world::{Act, Change, Event, Limits, Listening, Polling, Reported};
+use token::{Name, Token};
+use world::{Act, Event, Listening, Polling, Reported};
+
+/// Whose turn it is.
+#[derive(Clone, Copy, Debug, PartialEq, Eq)]
+pub struct Actor {
+    /// The poller that has the turn's slot.
+    pub poller: usize,
+    /// The worker, by its number in that poller's world.
+    pub worker: usize,
+}
+
+/// An open end.
+#[derive(Clone, Copy, Debug, PartialEq, Eq)]
+pub struct Socket {
+    /// The poller that opened it.
+    pub poller: usize,
+    /// Its descriptor in that poller's kernel.
+    pub descriptor: usize,
+}
 
 /// What is outside of the server.
 #[derive(Drop)]
 pub struct Outside {
-    alloc: Global,
-    pub kernel: Kernel,
+    sizes: Sizes,
+    stations: Vec<Station>,
     pub plan: Plan,
-    pub tape: Tape,
-    pub past: Past,
-    /// The worker whose turn it is.
-    pub actor: usize,
+    /// How many clients wait outside of all kernels. With one poller a client waits at its listener.
+    pub waiting: usize,
+    pub actor: Actor,
+    /// A poller whose round ended too early.
+    pub idle: Option<usize>,
     /// The last log message about a connection's end.
     pub message: String,
-    /// How many descriptors there may be.
-    most: usize,
+    pub totals: Totals,
 }
 
 impl Outside {
-    pub fn new(alloc: Global, sizes: Limits, totals: Totals) -> Result<Outside, AllocError>
+    pub fn new(alloc: Global, sizes: Sizes, totals: Totals) -> Result<Outside, AllocError>
         requires { IsServerSize sizes }
     {
         Ok(Outside {
-            alloc,
-            kernel: Kernel::new(alloc),
+            sizes,
+            stations: stations_of(alloc, sizes)?,
             plan: Plan::new(alloc),
-            tape: Tape::new(alloc, sizes, totals)?,
-            past: Past::new(alloc),
-            actor: 0,
+            waiting: 0,
+            actor: Actor {
+                poller: 0,
+                worker: 0,
+            },
+            idle: None,
             message: String::new(alloc),
-            most: 2 * sizes.slots,
+            totals,
         })
+    }
+
+    /// What is a poller's.
+    pub fn station(&self, poller: usize) -> Option<&Station> {
+        self.stations.get(poller)
+    }
+
+    pub fn station_mut(&mut self, poller: usize) -> Option<&mut Station> {
+        self.stations.get_mut(poller)
+    }
+
+    /// Adds what a later call gets.
+    pub fn add(&mut self, later: Later) -> Result<(), AllocError> {
+        match later {
+            Later::Turn(turned) => self.plan.add(turned),
+            Later::Round(poller, fronted) => match self.station_mut(poller) {
+                Some(station) => station.plan.add(fronted),
+                None => Ok(()),
+            },
+        }
+    }
+
+    /// An event has happened in the world of this poller.
+    pub fn record(&mut self, poller: usize, event: Event) {
+        if let Some(station) = self.station_mut(poller) {
+            station.tape.put(event);
+        }
     }
 
     /// The worker whose turn it is has done this.
     pub fn act(&mut self, act: Act) {
-        self.tape.put(&Event::Work(self.actor, act));
+        let Actor { poller, worker } = self.actor;
+        self.record(poller, Event::Work(worker, act));
     }
 
-    /// Something happens outside. Where the kernel refuses it, nothing does.
-    pub fn happen(&mut self, event: &Event) {
-        let happened = match event {
-            Event::Listen(Listening::Connect) => self.kernel.connect_in(),
-            Event::Spurious(who) => match self.watched(*who) {
-                Some(watched) => self.kernel.spurious(watched),
-                None => Err(Refusal::NotAllowed),
-            },
-            Event::Vanish(who) => match self.watched(*who) {
-                Some(watched) => self.kernel.vanish(watched),
-                None => Err(Refusal::NotAllowed),
-            },
-            Event::Network(slot, side, change) => match self.descriptor(*slot, *side) {
-                Some(descriptor) => self.change(descriptor, change),
-                None => Err(Refusal::NotAllowed),
-            },
-            _ => Err(Refusal::NotAllowed),
+    /// Whether the worker whose turn it is has a ticket to put, in the world.
+    pub fn has_ticket(&self) -> bool {
+        match self.station(self.actor.poller) {
+            Some(station) => station.tape.has_ticket(self.actor.worker),
+            None => false,
+        }
+    }
+
+    /// How the turn in progress has to end, by the world.
+    pub fn ending(&self) -> Option<Worked> {
+        let station = self.station(self.actor.poller)?;
+        station.tape.ending(self.actor.worker)
+    }
+
+    /// Something happens outside. Where the kernel refuses it, nothing does. While a client waits, no report of the
+    /// listener vanishes.
+    pub fn happen(&mut self, outer: Outer) {
+        let Outer { poller, event } = outer;
+        let poller = match &event {
+            Event::Listen(Listening::Connect) => return self.connect(),
+            Event::Vanish(Reported::Listener) if self.waiting > 0 => return,
+            Event::Network(slot, _, _)
+            | Event::Spurious(Reported::End(slot, _))
+            | Event::Vanish(Reported::End(slot, _)) => self.sizes.poller_of(*slot),
+            _ => poller,
         };
-        if happened.is_ok() {
-            self.tape.put(event);
+        if let Some(station) = self.station_mut(poller) {
+            station.happen(event);
         }
     }
 
-    fn change(&mut self, descriptor: usize, change: &Change) -> Result<(), Refusal> {
-        match change {
-            Change::Arrive(bytes) => self.kernel.arrive(descriptor, bytes.as_slice()),
-            Change::Fin => self.kernel.fin(descriptor),
-            Change::Reset => self.kernel.reset(descriptor),
-            Change::Room => self.kernel.room(descriptor),
+    /// A client connects. If there are several pollers, it waits outside of their kernels, and is reported to each that
+    /// was told at its last try that nobody waits. The others are going to try again in any case.
+    fn connect(&mut self) {
+        if self.stations.len() == 1 {
+            return self.tell(0, Event::Listen(Listening::Connect));
         }
-    }
-
-    fn watched(&self, who: Reported) -> Option<Watched> {
-        match who {
-            Reported::Listener => Some(Watched::Listener),
-            Reported::Waker => Some(Watched::Waker),
-            Reported::End(slot, side) => Some(Watched::End(self.descriptor(slot, side)?)),
+        if self.waiting >= MAX_BACKLOG {
+            return;
         }
-    }
-
-    /// The descriptor of the open end of this slot and side.
-    fn descriptor(&self, slot: usize, side: Side) -> Option<usize> {
-        for descriptor in 0..self.most {
-            if let Some(open) = self.kernel.end(descriptor) {
-                if open.token.slot() == slot && open.token.side() == side {
-                    return Some(descriptor);
-                }
+        self.waiting += 1;
+        for poller in 0..self.stations.len() {
+            if self.is_armed(poller) {
+                self.tell(poller, Event::Spurious(Reported::Listener));
             }
         }
-        None
     }
 
-    /// A poll: the names that it gives. None where a signal came first.
-    pub fn poll(&mut self) -> Result<Option<Vec<Name>>, AllocError> {
-        let polled = self.plan.next_poll();
-        let names = self.chosen(polled)?;
-        let _ = self.kernel.poll(names.as_slice());
-        self.tape.put(&Event::Poll(Polling::Poll(names.as_slice().to_vec(self.alloc)?)));
+    fn is_armed(&self, poller: usize) -> bool {
+        match self.station(poller) {
+            Some(station) => station.kernel.is_armed(),
+            None => false,
+        }
+    }
+
+    fn tell(&mut self, poller: usize, event: Event) {
+        if let Some(station) = self.station_mut(poller) {
+            station.happen(event);
+        }
+    }
+
+    /// Whether no client waits for any of several pollers, or else this one's next poll tells of the listener.
+    pub fn hears(&self, poller: usize) -> bool {
+        match self.station(poller) {
+            Some(station) => self.waiting == 0 || station.kernel.is_queued(&Name::Listener),
+            None => false,
+        }
+    }
+
+    /// A poller's poll: the names that it gives. None where a signal came first.
+    pub fn poll(&mut self, poller: usize) -> Result<Option<Vec<Name>>, AllocError> {
+        let Some(station) = self.station_mut(poller) else {
+            return Ok(None);
+        };
+        let polled = station.plan.next_poll();
+        let names = station.poll(polled)?;
         for _event in 0..MAX_POLLED {
-            let Some(event) = self.plan.next_polled() else {
+            let Some(outer) = self.next_polled(poller) else {
                 break;
             };
-            self.happen(&event);
+            self.happen(outer);
         }
         for _name in &names {
-            self.tape.put(&Event::Poll(Polling::Deliver));
+            self.record(poller, Event::Poll(Polling::Deliver));
         }
         if polled == Some(Polled::Interrupted) {
             return Ok(None);
@@ -121,54 +190,97 @@ impl Outside {
         Ok(Some(names))
     }
 
-    /// The names that a poll gives.
-    fn chosen(&self, polled: Option<Polled>) -> Result<Vec<Name>, AllocError> {
-        let mut names = Vec::new(self.alloc);
-        let most = match polled {
-            Some(Polled::Interrupted) => 0,
-            Some(Polled::First(most)) => most.min(MAX_POLLED),
-            Some(Polled::Backwards) | None => MAX_POLLED,
-        };
-        for name in self.kernel.queue().iter().take(most) {
-            names.push(*name)?;
-        }
-        if polled == Some(Polled::Backwards) {
-            names.reverse();
-        }
-        Ok(names)
+    fn next_polled(&mut self, poller: usize) -> Option<Outer> {
+        self.station_mut(poller)?.plan.next_polled()
     }
 
-    /// What accept(2) is answered.
-    pub fn accept(&mut self) -> Accepting {
-        let own = if self.kernel.backlog() > 0 {
-            Accepting::Accepted
+    /// A poller's round has ended although its accept flag is up and a slot is free.
+    pub fn expect_rest(&mut self, poller: usize) {
+        if let Some(station) = self.station(poller) {
+            if !station.may_rest() {
+                self.idle = Some(poller);
+            }
+        }
+    }
+
+    /// What a poller's accept(2) is answered.
+    pub fn accept(&mut self, poller: usize) -> Accepting {
+        let waiting = self.waiting;
+        let Some(station) = self.station_mut(poller) else {
+            return Accepting::Starved;
+        };
+        let is_in = station.kernel.backlog() > 0;
+        let reply = station.accept(is_in || waiting > 0);
+        if reply == Accepting::Accepted && !is_in {
+            station.let_in();
+            self.waiting = waiting.saturating_sub(1);
         } else {
-            Accepting::Blocked
-        };
-        let reply = match self.plan.next_accept() {
-            Some(Accepting::Again) => Accepting::Again,
-            Some(Accepting::Starved) => Accepting::Starved,
-            _ => own,
-        };
-        let _ = self.kernel.accept(reply);
-        self.tape.put(&Event::Listen(Listening::Accept(reply)));
+            station.answer(reply);
+        }
         reply
     }
 
-    /// Both ends of an accepted connection are opened: their descriptors. None where memory runs out.
-    pub fn open(&mut self, client: Token, target: Token) -> Option<(usize, usize)> {
-        let ends = self.kernel.open_both(client, target).ok()?;
-        self.tape.put(&Event::Poll(Polling::Open));
-        Some((ends.client, ends.target))
+    /// Both ends of a connection that a poller accepted are opened, the client's first, or that fails as it is planned.
+    pub fn open(
+        &mut self,
+        poller: usize,
+        client: Token,
+        target: Token,
+    ) -> Result<(Socket, Socket), Unopened> {
+        let Some(station) = self.station_mut(poller) else {
+            return Err(Unopened::Connect);
+        };
+        let ends = station.open(client, target)?;
+        let (client, target) = (ends.client, ends.target);
+        Ok((
+            Socket {
+                poller,
+                descriptor: client,
+            },
+            Socket {
+                poller,
+                descriptor: target,
+            },
+        ))
     }
 
     /// An end is closed.
-    pub fn close(&mut self, descriptor: usize, token: Token) {
-        let Ok(end) = self.kernel.close(descriptor) else {
+    pub fn close(&mut self, socket: Socket, token: Token) {
+        let Some(station) = self.stations.get_mut(socket.poller) else {
             return;
         };
-        if self.past.close(token, end, self.message.as_str()) == Ok(true) {
+        if station.close(socket.descriptor, token, self.message.as_str()) {
             self.act(Act::Close);
         }
     }
+
+    /// The poller that has this slot is woken.
+    pub fn wake(&mut self, slot: usize) {
+        let poller = self.sizes.poller_of(slot);
+        if let Some(station) = self.station_mut(poller) {
+            let _ = station.kernel.spurious(Watched::Waker);
+        }
+    }
+
+    /// Nothing that happens from now on is recorded. Answers what was played in all.
+    pub fn end(&mut self) -> Totals {
+        for station in self.stations.iter_mut() {
+            station.tape.end();
+            self.totals.add(&station.tape.totals);
+        }
+        self.totals
+    }
+}
+
+/// A station for each poller of a server of these sizes.
+fn stations_of(alloc: Global, sizes: Sizes) -> Result<Vec<Station>, AllocError>
+    requires { IsServerSize sizes }
+{
+    let mut stations = Vec::with_capacity(alloc, MAX_POLLERS)?;
+    for poller in 0..MAX_POLLERS {
+        if let Some(part) = sizes.part(poller) {
+            stations.push(Station::new(alloc, sizes, part)?)?;
+        }
+    }
+    Ok(stations)
 }

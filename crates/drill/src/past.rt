@@ -1,5 +1,7 @@
 // The connections that were closed, as the server's log and the kernel tell of them.
 use crate::lines::shown;
+use crate::local::local_slot;
+use dispatch::Part;
 use kernel_model::End;
 use std::alloc::{AllocError, Global};
 use token::{Side, Token};
@@ -8,15 +10,17 @@ use token::{Side, Token};
 #[derive(Drop)]
 pub struct Past {
     alloc: Global,
+    part: Part,
     lines: String,
     /// The client's end of a connection whose target is still open.
     half: Option<End>,
 }
 
 impl Past {
-    pub fn new(alloc: Global) -> Past {
+    pub fn new(alloc: Global, part: Part) -> Past {
         Past {
             alloc,
+            part,
             lines: String::new(alloc),
             half: None,
         }
@@ -35,18 +39,18 @@ impl Past {
         let Some(client) = self.half.take() else {
             return Ok(false);
         };
-        let line = past_line(self.alloc, token, &client, &end, message)?;
+        let line = past_line(self.alloc, self.part, token, (&client, &end), message)?;
         self.lines.push_str(line.as_str())?;
         Ok(true)
     }
 }
 
-/// The line of a closed connection. What became of it is what the server logged.
+/// The line of a closed connection with these ends, the client's first. What became of it is what the server logged.
 fn past_line(
     alloc: Global,
+    part: Part,
     token: Token,
-    client: &End,
-    target: &End,
+    (client, target): (&End, &End),
     message: &str,
 ) -> Result<String, AllocError> {
     let (slot, generation) = (token.slot(), token.generation());
@@ -55,6 +59,7 @@ fn past_line(
     let (sent_up, sent_down) = (target.taken().len(), client.taken().len());
     let done = format!(in alloc; "done s={slot} g={generation} up={sent_up} down={sent_down}")?;
     let fail = format!(in alloc; "fail s={slot} g={generation} ")?;
+    let slot = local_slot(part, slot);
     if message == done.as_str() {
         return format!(in alloc; "past {slot}.{generation} done up={up} down={down}\n");
     }

@@ -1,13 +1,11 @@
 // The line of a slot, by its word and by the connection in its place.
-ghost use Rattle.std.specs.Prelude.{◌≡◌, ◌<◌, ◌≤◌};
-ghost use Rattle.claims.specs.Seats.{HoldsNothing};
-
-use crate::front::KernelFront;
+use crate::actors::Worker;
 use crate::lines::shown;
+use crate::local::local_slot;
 use crate::wire::EndWire;
 use berths::Berth;
 use claims::Claimed;
-use dispatch::{Own, Shared};
+use dispatch::Part;
 use kernel_model::{End, Kernel};
 use ready::Ticket;
 use relay_core::{Pair, Verdict};
@@ -19,48 +17,46 @@ use token::{Direction, Name, Side};
 #[derive(Clone, Copy)]
 pub struct Standing<'k> {
     pub kernel: &'k Kernel,
-    /// All tickets, in queues and in hands.
+    /// All tickets of its poller's slots, in queues and in hands.
     pub tickets: &'k [Ticket],
     /// The most bytes of a ring.
     pub ring: usize,
+    /// The slots of its poller.
+    pub part: Part,
 }
 
-/// The lines of a slot, with its generation in the poller's table. It is looked at by a claim, which is released again:
-/// that leaves the word as it was.
+/// The lines of a slot, with its generation in the poller's table. It is looked at by a claim of this worker, which is
+/// released again: that leaves the word as it was.
 pub fn slot_lines(
     rt: &impl Wait,
     alloc: Global,
-    shared: &Shared<KernelFront>,
-    own: &mut Own,
+    spare: &mut Worker<'_>,
     standing: Standing<'_>,
     named: Ticket,
-) -> Result<String, AllocError>
-    requires same { own.old.seat.table ≡ shared.now.claims }
-    requires idle { HoldsNothing own.old.seat }
-    ensures same { own.new.seat.table ≡ own.old.seat.table }
-    ensures idle { HoldsNothing own.new.seat }
-{
+) -> Result<String, AllocError> {
+    let (shared, seat) = (spare.shared, &mut spare.own.seat);
     let Ticket { slot, generation } = named;
+    let local = local_slot(standing.part, slot);
     if slot >= shared.claims.slots() {
-        return format!(in alloc; "slot {slot} missing\n");
+        return format!(in alloc; "slot {local} missing\n");
     }
     let word = shared.claims.peek(slot);
     let notes = word / 4;
     if word % 4 == 3 {
-        return format!(in alloc; "slot {slot} free gen={generation} notes={notes}\n");
+        return format!(in alloc; "slot {local} free gen={generation} notes={notes}\n");
     }
-    match shared.claims.claim(&mut own.seat, slot) {
-        Claimed::Busy => format!(in alloc; "slot {slot} held notes={notes}\n"),
+    match shared.claims.claim(seat, slot) {
+        Claimed::Busy => format!(in alloc; "slot {local} held notes={notes}\n"),
         Claimed::Held => {
-            let berth = shared.berths.take_out(rt, &own.seat, slot);
+            let berth = shared.berths.take_out(rt, seat, slot);
             let text = match &berth {
-                Some(berth) => connection_lines(alloc, standing, berth, slot, generation, notes),
-                None => format!(in alloc; "slot {slot} empty notes={notes}\n"),
+                Some(berth) => connection_lines(alloc, standing, berth, named, notes),
+                None => format!(in alloc; "slot {local} empty notes={notes}\n"),
             };
             if let Some(berth) = berth {
-                let _ = shared.berths.put_in(rt, &own.seat, slot, berth);
+                let _ = shared.berths.put_in(rt, seat, slot, berth);
             }
-            shared.claims.release(&mut own.seat, slot);
+            shared.claims.release(seat, slot);
             text
         }
     }
@@ -71,10 +67,11 @@ fn connection_lines(
     alloc: Global,
     standing: Standing<'_>,
     berth: &Berth<EndWire, EndWire>,
-    slot: usize,
-    generation: u64,
+    named: Ticket,
     notes: u64,
 ) -> Result<String, AllocError> {
+    let Ticket { slot, generation } = named;
+    let local = local_slot(standing.part, slot);
     let verdict = match berth.pair.verdict() {
         Verdict::Live => "live",
         Verdict::Done => "done",
@@ -82,16 +79,17 @@ fn connection_lines(
     };
     let own = berth.pair.generation();
     if own != generation || berth.pair.slot() != slot {
-        return format!(in alloc; "slot {slot} gen={own} in the table gen={generation}\n");
+        return format!(in alloc; "slot {local} gen={own} in the table gen={generation}\n");
     }
-    let (Some(client), Some(target)) = (berth.client.descriptor(), berth.target.descriptor()) else {
-        return format!(in alloc; "slot {slot} not open\n");
+    let (Some(client), Some(target)) = (berth.client.socket(), berth.target.socket()) else {
+        return format!(in alloc; "slot {local} not open\n");
     };
+    let (client, target) = (client.descriptor, target.descriptor);
     let (Some(client_end), Some(target_end)) = (
         standing.kernel.end(client),
         standing.kernel.end(target),
     ) else {
-        return format!(in alloc; "slot {slot} closed ends\n");
+        return format!(in alloc; "slot {local} closed ends\n");
     };
     let (client_end, target_end) = (&client_end.socket, &target_end.socket);
     let due = yes_or_no(is_due(standing, slot, own));
@@ -99,7 +97,7 @@ fn connection_lines(
     let up = way_line(alloc, &berth.pair, Direction::Up, client_end, target_end)?;
     let down = way_line(alloc, &berth.pair, Direction::Down, target_end, client_end)?;
     format!(in alloc;
-        "slot {slot} {verdict} gen={own} fds={client},{target} notes={notes} holder=none due={due} movable={movable}\n{slot} up {up}{slot} down {down}"
+        "slot {local} {verdict} gen={own} fds={client},{target} notes={notes} holder=none due={due} movable={movable}\n{local} up {up}{local} down {down}"
     )
 }
 

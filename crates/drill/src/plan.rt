@@ -1,28 +1,32 @@
 // What the next calls get.
-use crate::step::{Inner, Later, Polled, Wanted};
+use crate::step::{Fronted, Inner, Outer, Polled, Turned, Wanted};
 use dispatch::Unopened;
 use kernel_model::Accepting;
 use std::alloc::{AllocError, Global};
 use std::collections::VecDeque;
-use world::Event;
 
 /// A call's answer, or what happens before the call.
 #[derive(Drop)]
 enum Between {
     Answer(Wanted),
-    Event(Event),
+    Event(Outer),
 }
 
-/// What the next calls get: a list for each kind of call, first in, first out.
+/// What the calls of the next turns get: a list for each kind, first in, first out.
 #[derive(Drop)]
 pub struct Plan {
     calls: VecDeque<Between>,
+    before: VecDeque<Inner>,
+    after: VecDeque<Inner>,
+}
+
+/// What the calls of a poller's next rounds get: a list for each kind of call, first in, first out.
+#[derive(Drop)]
+pub struct RoundPlan {
     accepts: VecDeque<Accepting>,
     opens: VecDeque<Option<Unopened>>,
     polls: VecDeque<Polled>,
-    polled: VecDeque<Event>,
-    before: VecDeque<Inner>,
-    after: VecDeque<Inner>,
+    polled: VecDeque<Outer>,
 }
 
 impl Plan {
@@ -30,34 +34,26 @@ impl Plan {
     pub fn new(alloc: Global) -> Plan {
         Plan {
             calls: VecDeque::new(alloc),
-            accepts: VecDeque::new(alloc),
-            opens: VecDeque::new(alloc),
-            polls: VecDeque::new(alloc),
-            polled: VecDeque::new(alloc),
             before: VecDeque::new(alloc),
             after: VecDeque::new(alloc),
         }
     }
 
-    /// Adds what a later call gets.
-    pub fn add(&mut self, later: Later) -> Result<(), AllocError> {
-        match later {
-            Later::Call(wanted) => self.calls.push_back(Between::Answer(wanted))?,
-            Later::Meanwhile(event) => self.calls.push_back(Between::Event(event))?,
-            Later::Accept(accepting) => self.accepts.push_back(accepting)?,
-            Later::Open(unopened) => self.opens.push_back(unopened)?,
-            Later::Poll(polled) => self.polls.push_back(polled)?,
-            Later::Polled(event) => self.polled.push_back(event)?,
-            Later::Before(inner) => self.before.push_back(inner)?,
-            Later::After(inner) => self.after.push_back(inner)?,
+    /// Adds what a later call of a turn gets.
+    pub fn add(&mut self, turned: Turned) -> Result<(), AllocError> {
+        match turned {
+            Turned::Call(wanted) => self.calls.push_back(Between::Answer(wanted))?,
+            Turned::Meanwhile(outer) => self.calls.push_back(Between::Event(outer))?,
+            Turned::Before(inner) => self.before.push_back(inner)?,
+            Turned::After(inner) => self.after.push_back(inner)?,
         }
         Ok(())
     }
 
     /// What happens before the next call of a turn, if that is not its answer's turn yet.
-    pub fn next_meanwhile(&mut self) -> Option<Event> {
+    pub fn next_meanwhile(&mut self) -> Option<Outer> {
         match self.calls.pop_front()? {
-            Between::Event(event) => Some(event),
+            Between::Event(outer) => Some(outer),
             answer => {
                 let _ = self.calls.push_front(answer);
                 None
@@ -71,6 +67,39 @@ impl Plan {
             Some(Between::Answer(wanted)) => wanted,
             _ => Wanted::Plain,
         }
+    }
+
+    /// What is done next before a turn's first call.
+    pub fn next_before(&mut self) -> Option<Inner> {
+        self.before.pop_front()
+    }
+
+    /// What is done next after a turn's last call.
+    pub fn next_after(&mut self) -> Option<Inner> {
+        self.after.pop_front()
+    }
+}
+
+impl RoundPlan {
+    /// Each call gets what the kernel has for it.
+    pub fn new(alloc: Global) -> RoundPlan {
+        RoundPlan {
+            accepts: VecDeque::new(alloc),
+            opens: VecDeque::new(alloc),
+            polls: VecDeque::new(alloc),
+            polled: VecDeque::new(alloc),
+        }
+    }
+
+    /// Adds what a later call gets.
+    pub fn add(&mut self, fronted: Fronted) -> Result<(), AllocError> {
+        match fronted {
+            Fronted::Accept(accepting) => self.accepts.push_back(accepting)?,
+            Fronted::Open(unopened) => self.opens.push_back(unopened)?,
+            Fronted::Poll(polled) => self.polls.push_back(polled)?,
+            Fronted::Polled(outer) => self.polled.push_back(outer)?,
+        }
+        Ok(())
     }
 
     /// What the next accept(2) gets, if not what the kernel has.
@@ -89,17 +118,7 @@ impl Plan {
     }
 
     /// What happens next between a poll and its delivery.
-    pub fn next_polled(&mut self) -> Option<Event> {
+    pub fn next_polled(&mut self) -> Option<Outer> {
         self.polled.pop_front()
-    }
-
-    /// What is done next before a turn's first call.
-    pub fn next_before(&mut self) -> Option<Inner> {
-        self.before.pop_front()
-    }
-
-    /// What is done next after a turn's last call.
-    pub fn next_after(&mut self) -> Option<Inner> {
-        self.after.pop_front()
     }
 }

@@ -1,5 +1,5 @@
 // The steps of a script, from its lines.
-use crate::step::{Inner, Later, Polled, Step, Wanted};
+use crate::step::{Fronted, Inner, Later, Outer, Polled, Step, Turned, Wanted};
 use dispatch::Unopened;
 use kernel_model::Accepting;
 use std::alloc::{AllocError, Global};
@@ -14,30 +14,54 @@ fn cut(text: &str) -> (&str, &str) {
     text.split_once(' ').unwrap_or((text, ""))
 }
 
+/// The number of a poller in front of a text, 0 if there is none, and the rest of the text.
+fn cut_poller(text: &str) -> (usize, &str) {
+    let (word, rest) = cut(text);
+    match number(word) {
+        Some(poller) => (poller, rest),
+        None => (0, text),
+    }
+}
+
+/// The number of a poller and nothing behind it. None for another text, 0 for none.
+fn lone_poller(text: &str) -> Option<usize> {
+    let (poller, rest) = cut_poller(text);
+    if rest.is_empty() { Some(poller) } else { None }
+}
+
 /// The step that a line stands for, if any.
 pub fn read_step(alloc: Global, line: &str) -> Result<Option<Step>, AllocError> {
     let (word, rest) = cut(line);
-    let later = match word {
-        "own" => return Ok(Some(Step::Own)),
+    let turned = match word {
+        "own" => return Ok(lone_poller(rest).map(Step::Own)),
         "show" => return Ok(Some(Step::Show)),
-        "call" => wanted(rest).map(Later::Call),
-        "accept" => accepting(rest).map(Later::Accept),
-        "open" => unopened(rest).map(Later::Open),
-        "poll" => polled(rest).map(Later::Poll),
-        "meanwhile" => outside(alloc, rest)?.map(Later::Meanwhile),
-        "polled" => outside(alloc, rest)?.map(Later::Polled),
-        "before" => inner(alloc, rest)?.map(Later::Before),
-        "after" => inner(alloc, rest)?.map(Later::After),
+        "accept" | "open" | "poll" | "polled" => return round_later(alloc, word, rest),
+        "call" => wanted(rest).map(Turned::Call),
+        "meanwhile" => outside(alloc, rest)?.map(Turned::Meanwhile),
+        "before" => inner(alloc, rest)?.map(Turned::Before),
+        "after" => inner(alloc, rest)?.map(Turned::After),
         _ => return Ok(inner(alloc, line)?.map(Step::Now)),
     };
-    Ok(later.map(Step::Later))
+    Ok(turned.map(|turned| Step::Later(Later::Turn(turned))))
+}
+
+/// What a call of a poller's round gets later.
+fn round_later(alloc: Global, word: &str, rest: &str) -> Result<Option<Step>, AllocError> {
+    let (poller, rest) = cut_poller(rest);
+    let fronted = match word {
+        "accept" => accepting(rest).map(Fronted::Accept),
+        "open" => unopened(rest).map(Fronted::Open),
+        "poll" => polled(rest).map(Fronted::Poll),
+        _ => outside(alloc, rest)?.map(Fronted::Polled),
+    };
+    Ok(fronted.map(|fronted| Step::Later(Later::Round(poller, fronted))))
 }
 
 /// A step that may be made inside a turn.
 fn inner(alloc: Global, text: &str) -> Result<Option<Inner>, AllocError> {
     let (word, rest) = cut(text);
     match word {
-        "round" => Ok(Some(Inner::Round)),
+        "round" => Ok(lone_poller(rest).map(Inner::Round)),
         "turn" => Ok(number(rest).map(Inner::Turn)),
         _ => Ok(outside(alloc, text)?.map(Inner::Outside)),
     }
@@ -48,13 +72,22 @@ fn number(word: &str) -> Option<usize> {
 }
 
 /// What happens outside of the server.
-fn outside(alloc: Global, text: &str) -> Result<Option<Event>, AllocError> {
+fn outside(alloc: Global, text: &str) -> Result<Option<Outer>, AllocError> {
     let (word, rest) = cut(text);
     match word {
-        "connect" => Ok(Some(Event::Listen(Listening::Connect))),
-        "spurious" => Ok(reported(rest).map(Event::Spurious)),
-        "vanish" => Ok(reported(rest).map(Event::Vanish)),
-        _ => network(alloc, word, rest),
+        "connect" => Ok(Some(Outer {
+            poller: 0,
+            event: Event::Listen(Listening::Connect),
+        })),
+        "spurious" => Ok(reported(rest).map(|(poller, who)| Outer {
+            poller,
+            event: Event::Spurious(who),
+        })),
+        "vanish" => Ok(reported(rest).map(|(poller, who)| Outer {
+            poller,
+            event: Event::Vanish(who),
+        })),
+        _ => Ok(network(alloc, word, rest)?.map(|event| Outer { poller: 0, event })),
     }
 }
 
@@ -84,14 +117,13 @@ fn bytes(alloc: Global, text: &str) -> Result<Option<Vec<u8>>, AllocError> {
     }
 }
 
-fn reported(text: &str) -> Option<Reported> {
-    match text {
-        "listener" => Some(Reported::Listener),
-        "waker" => Some(Reported::Waker),
-        _ => {
-            let (slot, rest) = cut(text);
-            Some(Reported::End(number(slot)?, side(rest)?))
-        }
+/// What a report is about. The listener and the waker are those of a poller, whose number comes first.
+fn reported(text: &str) -> Option<(usize, Reported)> {
+    let (word, rest) = cut(text);
+    match word {
+        "listener" => Some((lone_poller(rest)?, Reported::Listener)),
+        "waker" => Some((lone_poller(rest)?, Reported::Waker)),
+        _ => Some((0, Reported::End(number(word)?, side(rest)?))),
     }
 }
 

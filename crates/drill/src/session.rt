@@ -1,12 +1,14 @@
 // The scripts of the input, one after the other.
 ghost use Rattle.drill.specs.Sizes.{IsServerSize};
 
+use crate::casting::crew_of;
 use crate::crew::Crew;
 use crate::diary::Diary;
 use crate::header::read_header;
 use crate::outside::Outside;
 use crate::parts::parts_of;
-use crate::play::{Played, crew_of, play_line};
+use crate::play::{Played, play_line};
+use crate::sizes::Sizes;
 use crate::source::Source;
 use crate::totals::Totals;
 use log::{Level, Log, Logged};
@@ -15,7 +17,6 @@ use std::cell::RefCell;
 use std::io::{self, BufRead, ErrorKind};
 use std::rc::Rc;
 use std::sync::Wait;
-use world::Limits;
 
 /// How a script ended.
 #[derive(Drop)]
@@ -59,7 +60,7 @@ where
 /// Plays one script, whose header was read.
 fn play_script<R: Wait + AllocGlobal + Print, B: BufRead>(
     rt: &R,
-    sizes: Limits,
+    sizes: Sizes,
     source: &mut Source<B>,
     totals: &mut Totals,
 ) -> io::Result<Ending>
@@ -72,14 +73,13 @@ fn play_script<R: Wait + AllocGlobal + Print, B: BufRead>(
         outside: outside.clone()?,
     };
     let log = Logged::new(rt, Level::Info, diary);
-    let (shared, parts, free) = parts_of(rt, alloc, outside.clone()?, sizes)?;
-    let Some(crew) = crew_of(alloc, &outside, &shared, parts, free, sizes)? else {
+    let (shared, rest) = parts_of(rt, alloc, outside.clone()?, sizes)?;
+    let Some(crew) = crew_of(alloc, &outside, &shared, rest, sizes)? else {
         return Err(io::Error::from(ErrorKind::Other));
     };
-    let ending = play_lines(&log, alloc, &crew, sizes.ring, source);
+    let ending = play_lines(&log, alloc, &crew, source);
     if let Ok(mut outside) = outside.try_borrow_mut() {
-        outside.tape.end();
-        *totals = outside.tape.totals;
+        *totals = outside.end();
     }
     ending
 }
@@ -89,7 +89,6 @@ fn play_lines<R: Wait + Log + Print, B: BufRead>(
     rt: &R,
     alloc: Global,
     crew: &Crew<'_>,
-    ring: usize,
     source: &mut Source<B>,
 ) -> io::Result<Ending> {
     for _line in 0..u64::MAX {
@@ -100,7 +99,7 @@ fn play_lines<R: Wait + Log + Print, B: BufRead>(
             return Ok(Ending::Header(line));
         }
         let number = source.number;
-        match play_line(rt, alloc, crew, ring, line.as_str())? {
+        match play_line(rt, alloc, crew, line.as_str())? {
             Played::Agreed => {}
             Played::Differs => {
                 println!(rt; "line {number}: they differ after: {line}")?;

@@ -9,8 +9,8 @@ use world::Event;
 pub enum Step {
     /// A step that is made at once.
     Now(Inner),
-    /// The poller's own turn, after a round that left exactly one ticket.
-    Own,
+    /// The own turn of this poller's thread, after a round that left exactly one ticket.
+    Own(usize),
     /// What one of the next calls gets, or what happens between two of them.
     Later(Later),
     /// The world's script and the report are printed.
@@ -20,22 +20,48 @@ pub enum Step {
 /// A step that may also be made inside a turn.
 #[derive(Drop)]
 pub enum Inner {
-    /// Something happens outside of the server: at the network, or to a report.
-    Outside(Event),
-    /// One round of the poller.
-    Round,
+    /// Something happens outside of the server.
+    Outside(Outer),
+    /// One round of this poller.
+    Round(usize),
     /// A turn of the worker with this number, if there is a ticket.
     Turn(usize),
+}
+
+/// An event outside of the server: at the network, or to a report. It happens to the poller that has the event's slot,
+/// and if it has none, to the one that it is told.
+#[derive(Drop)]
+pub struct Outer {
+    pub poller: usize,
+    pub event: Event,
 }
 
 /// What the next calls get. Each kind of call takes those that are meant for it in order, and without one it gets what
 /// the kernel has for it.
 #[derive(Drop)]
 pub enum Later {
-    /// A call of a turn gets this.
+    /// In a turn.
+    Turn(Turned),
+    /// In this poller's round.
+    Round(usize, Fronted),
+}
+
+/// What the calls of a turn get, and what happens around them.
+#[derive(Drop)]
+pub enum Turned {
+    /// A call gets this.
     Call(Wanted),
-    /// This happens just before the next call of a turn.
-    Meanwhile(Event),
+    /// This happens just before the next call.
+    Meanwhile(Outer),
+    /// This is done before the first call.
+    Before(Inner),
+    /// This is done after the last call.
+    After(Inner),
+}
+
+/// What the calls of a round get.
+#[derive(Drop)]
+pub enum Fronted {
     /// accept(2) gets this; `Accepted` and `Blocked` stand for what the kernel has.
     Accept(Accepting),
     /// An opening fails so, if at all.
@@ -43,11 +69,7 @@ pub enum Later {
     /// A poll gives its names so.
     Poll(Polled),
     /// This happens between a poll and the delivery of its names.
-    Polled(Event),
-    /// This is done in the next turn, before its first call.
-    Before(Inner),
-    /// This is done in the next turn, after its last call.
-    After(Inner),
+    Polled(Outer),
 }
 
 /// What a call of a turn gets, as far as it may.

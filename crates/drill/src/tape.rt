@@ -1,10 +1,12 @@
-// The events that the server's steps amount to, and the world that they lead to.
-ghost use Rattle.drill.specs.Sizes.{IsServerSize};
+// The events to which the server's steps amount at the slots of one poller, and the world that they lead to.
+ghost use Rattle.drill.specs.Sizes.{IsServerPart, IsServerSize};
 
 use crate::kinds::kind_of;
 use crate::lines::line_of;
+use crate::local::local_event;
+use crate::sizes::Sizes;
 use crate::totals::Totals;
-use dispatch::Worked;
+use dispatch::{Part, Worked};
 use std::alloc::{AllocError, Global};
 use world::{Doing, Event, Limits, World};
 
@@ -12,6 +14,7 @@ use world::{Doing, Event, Limits, World};
 #[derive(Drop)]
 pub struct Tape {
     alloc: Global,
+    part: Part,
     world: World,
     script: String,
     /// The first event that the world refused.
@@ -22,44 +25,48 @@ pub struct Tape {
 }
 
 impl Tape {
-    /// The opening world of a server of these sizes: it has one worker more, for the turns of the poller's thread.
-    pub fn new(alloc: Global, sizes: Limits, totals: Totals) -> Result<Tape, AllocError>
-        requires { IsServerSize sizes }
+    /// The opening world of a poller with these slots, in a server of these sizes: it has one worker more, for the turns
+    /// of the poller's thread.
+    pub fn new(alloc: Global, sizes: Sizes, part: Part) -> Result<Tape, AllocError>
+        requires sizes { IsServerSize sizes }
+        requires part { IsServerPart part }
     {
-        let workers = sizes.workers + 1;
+        let workers = sizes.limits.workers + 1;
+        let slots = part.slots;
         let Limits {
-            slots,
             ring,
             budget,
             generation,
             ..
-        } = sizes;
+        } = sizes.limits;
         Ok(Tape {
             alloc,
-            world: World::new(alloc, Limits { workers, ..sizes })?,
+            part,
+            world: World::new(alloc, Limits { slots, workers, ..sizes.limits })?,
             script: format!(in alloc;
                 "world slots={slots} workers={workers} ring={ring} budget={budget} gen={generation}\n"
             )?,
             refused: None,
             over: false,
-            totals,
+            totals: Totals::new(),
         })
     }
 
     /// An event has happened. Memory that runs out for it ends the tape.
-    pub fn put(&mut self, event: &Event) {
+    pub fn put(&mut self, event: Event) {
         if self.over || self.try_put(event).is_ok() {
             return;
         }
         self.over = true;
     }
 
-    fn try_put(&mut self, event: &Event) -> Result<(), AllocError> {
-        self.totals.count(kind_of(event));
-        let line = line_of(self.alloc, event)?;
+    fn try_put(&mut self, event: Event) -> Result<(), AllocError> {
+        let event = local_event(self.alloc, self.part, event)?;
+        self.totals.count(kind_of(&event));
+        let line = line_of(self.alloc, &event)?;
         self.script.push_str(line.as_str())?;
         self.script.push_str("\n")?;
-        if self.world.step(event).is_err() && self.refused.is_none() {
+        if self.world.step(&event).is_err() && self.refused.is_none() {
             self.refused = Some(line);
         }
         Ok(())

@@ -28,6 +28,15 @@ impl Totals {
         self.kinds[kind] = self.kinds[kind].saturating_add(1);
     }
 
+    /// Adds what was played elsewhere.
+    pub fn add(&mut self, other: &Totals) {
+        self.scripts = self.scripts.saturating_add(other.scripts);
+        self.steps = self.steps.saturating_add(other.steps);
+        for kind in 0..KINDS {
+            self.kinds[kind] = self.kinds[kind].saturating_add(other.kinds[kind]);
+        }
+    }
+
     /// A line for each kind of event, and one for the scripts and the steps.
     pub fn print<R: Print + AllocGlobal>(&self, rt: &R) -> io::Result<()> {
         for (kind, name) in NAMES.iter().enumerate() {

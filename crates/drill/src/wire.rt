@@ -4,7 +4,7 @@ ghost use Rattle.relay_core.specs.Calls.{side_of};
 ghost use Rattle.engine.specs.Classes.{class_of};
 ghost use Rattle.engine.specs.Tallies.{counted};
 
-use crate::outside::Outside;
+use crate::outside::{Outside, Socket};
 use dispatch::Settle;
 use engine::{Tally, Wire};
 use relay_core::Call;
@@ -18,39 +18,43 @@ use world::{Event, Listening};
 /// opened.
 pub struct EndWire {
     outside: Rc<RefCell<Outside>>,
-    end: Option<(Token, usize)>,
+    /// The poller that accepted or opened it.
+    poller: usize,
+    end: Option<(Token, Socket)>,
     tally: Tally,
 }
 
 impl EndWire {
-    /// A connection that was accepted and is not open yet.
-    pub fn accepted(outside: Rc<RefCell<Outside>>) -> EndWire {
+    /// A connection that this poller accepted and that is not open yet.
+    pub fn accepted(outside: Rc<RefCell<Outside>>, poller: usize) -> EndWire {
         EndWire {
             outside,
+            poller,
             end: None,
             tally: Tally::new(true),
         }
     }
 
     /// A target's end, which is connecting.
-    pub fn connecting(outside: Rc<RefCell<Outside>>, token: Token, descriptor: usize) -> EndWire {
+    pub fn connecting(outside: Rc<RefCell<Outside>>, token: Token, socket: Socket) -> EndWire {
         EndWire {
             outside,
-            end: Some((token, descriptor)),
+            poller: socket.poller,
+            end: Some((token, socket)),
             tally: Tally::new(false),
         }
     }
 
     /// An accepted connection is opened as this end.
-    pub fn open(&mut self, token: Token, descriptor: usize)
+    pub fn open(&mut self, token: Token, socket: Socket)
         ensures { self.new.tally ≡ self.old.tally }
     {
-        self.end = Some((token, descriptor));
+        self.end = Some((token, socket));
     }
 
-    /// The descriptor of its end. None if it is not open.
-    pub fn descriptor(&self) -> Option<usize> {
-        self.end.map(|(_, descriptor)| descriptor)
+    /// Its end. None if it is not open.
+    pub fn socket(&self) -> Option<Socket> {
+        self.end.map(|(_, socket)| socket)
     }
 
     /// Counts an error of a call by its class, and gives it.
@@ -67,12 +71,13 @@ impl Drop for EndWire {
     fn drop(self) {
         if let Ok(mut outside) = self.outside.try_borrow_mut() {
             match self.end {
-                Some((token, descriptor)) => outside.close(descriptor, token),
-                None => outside.tape.put(&Event::Listen(Listening::Drop)),
+                Some((token, socket)) => outside.close(socket, token),
+                None => outside.record(self.poller, Event::Listen(Listening::Drop)),
             }
         }
         let EndWire {
             outside: _,
+            poller: _,
             end: _,
             tally: _,
         } = self;
@@ -143,34 +148,30 @@ impl Settle for EndWire {
 
 impl EndWire {
     fn ask_read(&self, buffer: &mut [u8]) -> Result<usize, ErrorKind> {
-        let (Some((_, descriptor)), Ok(mut outside)) = (self.end, self.outside.try_borrow_mut())
-        else {
+        let (Some((_, socket)), Ok(mut outside)) = (self.end, self.outside.try_borrow_mut()) else {
             return Err(ErrorKind::Other);
         };
-        outside.read(descriptor, self.tally.joined(), buffer)
+        outside.read(socket, self.tally.joined(), buffer)
     }
 
     fn ask_write(&self, offer: &[u8]) -> Result<usize, ErrorKind> {
-        let (Some((_, descriptor)), Ok(mut outside)) = (self.end, self.outside.try_borrow_mut())
-        else {
+        let (Some((_, socket)), Ok(mut outside)) = (self.end, self.outside.try_borrow_mut()) else {
             return Err(ErrorKind::Other);
         };
-        outside.write(descriptor, self.tally.joined(), offer)
+        outside.write(socket, self.tally.joined(), offer)
     }
 
     fn ask_join(&self) -> Result<usize, ErrorKind> {
-        let (Some((_, descriptor)), Ok(mut outside)) = (self.end, self.outside.try_borrow_mut())
-        else {
+        let (Some((_, socket)), Ok(mut outside)) = (self.end, self.outside.try_borrow_mut()) else {
             return Err(ErrorKind::Other);
         };
-        outside.join(descriptor, self.tally.joined())
+        outside.join(socket, self.tally.joined())
     }
 
     fn ask_shut(&self) -> Result<usize, ErrorKind> {
-        let (Some((_, descriptor)), Ok(mut outside)) = (self.end, self.outside.try_borrow_mut())
-        else {
+        let (Some((_, socket)), Ok(mut outside)) = (self.end, self.outside.try_borrow_mut()) else {
             return Err(ErrorKind::Other);
         };
-        outside.shut(descriptor)
+        outside.shut(socket)
     }
 }

@@ -1,0 +1,150 @@
+// The threads of the server, made from its parts.
+ghost use Rattle.std.specs.Prelude.{◌≡◌, ◌≤◌, length, IfOk, IfSome};
+ghost use Rattle.claims.specs.Seats.{fresh_seat};
+ghost use Rattle.drill.specs.Sizes.{IsServerPart, IsServerSize};
+ghost use Rattle.dispatch.specs.Parts.{AreFresh};
+
+use crate::actors::{Lead, Worker};
+use crate::crew::Crew;
+use crate::front::KernelFront;
+use crate::outside::Outside;
+use crate::parts::Rest;
+use crate::sizes::{MAX_POLLERS, Sizes};
+use dispatch::{Own, Part, Poller, Shared};
+use ready::FreeQueue;
+use std::alloc::{AllocError, Global};
+use std::cell::RefCell;
+use std::rc::Rc;
+
+/// A server with its threads over this cell. None if the parts are used up.
+pub fn crew_of<'s>(
+    alloc: Global,
+    outside: &Rc<RefCell<Outside>>,
+    shared: &'s Shared<KernelFront>,
+    mut rest: Rest,
+    sizes: Sizes,
+) -> Result<Option<Crew<'s>>, AllocError>
+    requires sizes { IsServerSize sizes }
+    requires sized { shared.now.claims.words ≡ sizes.limits.slots }
+    requires fresh { AreFresh shared.now.claims rest.parts.seats.items }
+{
+    let Some(leads) = leads_of(alloc, outside, shared, &mut rest, sizes)? else {
+        return Ok(None);
+    };
+    let Some(spare) = next_worker(alloc, shared, &mut rest)? else {
+        return Ok(None);
+    };
+    let mut workers = Vec::with_capacity(alloc, sizes.limits.workers)?;
+    for _worker in 0..sizes.limits.workers {
+        let Some(worker) = next_worker(alloc, shared, &mut rest)? else {
+            return Ok(None);
+        };
+        workers.push(RefCell::new(worker))?;
+    }
+    Ok(Some(Crew {
+        sizes,
+        outside: outside.clone()?,
+        leads,
+        workers,
+        spare: RefCell::new(spare),
+    }))
+}
+
+/// The threads of the pollers.
+fn leads_of<'s>(
+    alloc: Global,
+    outside: &Rc<RefCell<Outside>>,
+    shared: &'s Shared<KernelFront>,
+    rest: &mut Rest,
+    sizes: Sizes,
+) -> Result<Option<Vec<RefCell<Lead<'s>>>>, AllocError>
+    requires sizes { IsServerSize sizes }
+    requires sized { shared.now.claims.words ≡ sizes.limits.slots }
+    requires fresh { AreFresh shared.now.claims rest.old.parts.seats.items }
+    ensures { AreFresh shared.now.claims rest.new.parts.seats.items }
+{
+    let mut leads = Vec::with_capacity(alloc, MAX_POLLERS)?;
+    for number in 0..MAX_POLLERS {
+        if let Some(part) = sizes.part(number) {
+            let Some(own) = rest.next_own(alloc, shared, number)? else {
+                return Ok(None);
+            };
+            let front = KernelFront::new(alloc, outside.clone()?, number)?;
+            let poller = poller_of(alloc, front, part, sizes)?;
+            leads.push(RefCell::new(lead_of(shared, own, poller)))?;
+        }
+    }
+    Ok(Some(leads))
+}
+
+/// The poller of this part of a server that has opened no connection yet.
+fn poller_of(
+    alloc: Global,
+    front: KernelFront,
+    part: Part,
+    sizes: Sizes,
+) -> Result<Poller<KernelFront>, AllocError>
+    requires { IsServerSize sizes }
+    ensures { IfOk result (λ poller. length poller.table ≡ sizes.limits.slots) }
+{
+    let (slots, ring) = (sizes.limits.slots, sizes.limits.ring);
+    let mut poller = Poller::new(alloc, front, slots, part, ring, u64::MAX)?;
+    start_all(&mut poller, sizes.limits.generation);
+    Ok(poller)
+}
+
+/// Each of the poller's slots counts as having had so many connections.
+fn start_all(poller: &mut Poller<KernelFront>, generation: u64)
+    requires { generation ≤ 140737488355327 }
+    ensures { length poller.new.table ≡ length poller.old.table }
+{
+    let part = poller.part();
+    for slot in 0..poller.table().len() {
+        if part.has(slot) {
+            poller.start_at(slot, generation);
+        }
+    }
+}
+
+#[tactic(auto, using(claims::proofs::Seats::fresh_holds_nothing))]
+fn lead_of<'s>(shared: &'s Shared<KernelFront>, own: Own, poller: Poller<KernelFront>) -> Lead<'s>
+    requires seat { own.seat ≡ fresh_seat shared.now.claims }
+    requires sized { length poller.table ≡ shared.now.claims.words }
+{
+    Lead {
+        shared,
+        own,
+        poller,
+    }
+}
+
+/// A worker, with an end of each poller's queue of free slots.
+fn next_worker<'s>(
+    alloc: Global,
+    shared: &'s Shared<KernelFront>,
+    rest: &mut Rest,
+) -> Result<Option<Worker<'s>>, AllocError>
+    requires { AreFresh shared.now.claims rest.old.parts.seats.items }
+    ensures { AreFresh shared.now.claims rest.new.parts.seats.items }
+{
+    let Some(own) = rest.next_own(alloc, shared, 0)? else {
+        return Ok(None);
+    };
+    let other = rest.next_end(1);
+    Ok(Some(worker_of(shared, own, other)))
+}
+
+#[tactic(auto, using(claims::proofs::Seats::fresh_holds_nothing))]
+fn worker_of<'s>(
+    shared: &'s Shared<KernelFront>,
+    own: Own,
+    other: Option<FreeQueue>,
+) -> Worker<'s>
+    requires seat { own.seat ≡ fresh_seat shared.now.claims }
+{
+    Worker {
+        shared,
+        own,
+        other,
+    }
+}

@@ -1,0 +1,57 @@
+// The numbers that the slots of a poller have in its world, which has no others.
+use dispatch::Part;
+use std::alloc::{AllocError, Global};
+use token::{Name, Token};
+use world::{Event, Polling, Reported};
+
+/// More slots than a world has.
+const ELSEWHERE: usize = 64;
+
+/// The number of a slot in the world of the poller that has this part. A slot of another poller, which never occurs,
+/// gets one that no world has.
+pub fn local_slot(part: Part, slot: usize) -> usize {
+    if part.has(slot) {
+        slot.saturating_sub(part.first)
+    } else {
+        slot.saturating_add(ELSEWHERE)
+    }
+}
+
+/// The names with the slots' numbers in the world.
+pub fn local_names(alloc: Global, part: Part, names: &[Name]) -> Result<Vec<Name>, AllocError> {
+    let mut local = Vec::with_capacity(alloc, names.len())?;
+    for name in names {
+        local.push(local_name(part, *name))?;
+    }
+    Ok(local)
+}
+
+fn local_name(part: Part, name: Name) -> Name {
+    let Name::End(token) = name else {
+        return name;
+    };
+    match Token::pack(local_slot(part, token.slot()), token.side(), token.generation()) {
+        Ok(token) => Name::End(token),
+        Err(_) => name,
+    }
+}
+
+/// The event with the slots' numbers in the world.
+pub fn local_event(alloc: Global, part: Part, event: Event) -> Result<Event, AllocError> {
+    Ok(match event {
+        Event::Network(slot, side, change) => Event::Network(local_slot(part, slot), side, change),
+        Event::Spurious(who) => Event::Spurious(local_end(part, who)),
+        Event::Vanish(who) => Event::Vanish(local_end(part, who)),
+        Event::Poll(Polling::Poll(names)) => {
+            Event::Poll(Polling::Poll(local_names(alloc, part, names.as_slice())?))
+        }
+        event => event,
+    })
+}
+
+fn local_end(part: Part, who: Reported) -> Reported {
+    match who {
+        Reported::End(slot, side) => Reported::End(local_slot(part, slot), side),
+        Reported::Listener | Reported::Waker => who,
+    }
+}

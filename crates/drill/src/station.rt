@@ -1,0 +1,183 @@
+// One poller's share of what is outside: the kernel as its epoll instance shows it, and the world beside it.
+ghost use Rattle.drill.specs.Sizes.{IsServerPart, IsServerSize};
+
+use crate::past::Past;
+use crate::plan::RoundPlan;
+use crate::sizes::Sizes;
+use crate::step::Polled;
+use crate::tape::Tape;
+use dispatch::{MAX_ACCEPTS, Part, Unopened};
+use kernel_model::{Accepting, Descriptors, Kernel, MAX_POLLED, Refusal, Watched};
+use std::alloc::{AllocError, Global};
+use token::{Name, Side, Token};
+use world::{Change, Event, Listening, Polling, Reported};
+
+/// The most descriptors that a kernel has: two for each slot.
+const MOST: usize = 128;
+
+/// One poller's share of what is outside of the server.
+#[derive(Drop)]
+pub struct Station {
+    alloc: Global,
+    /// The ends of this poller's connections, and its reports.
+    pub kernel: Kernel,
+    pub plan: RoundPlan,
+    pub tape: Tape,
+    pub past: Past,
+    /// How often accept(2) was called since the last poll.
+    tries: usize,
+    /// Whether accept(2) was starved when it was last called.
+    starved: bool,
+}
+
+impl Station {
+    pub fn new(alloc: Global, sizes: Sizes, part: Part) -> Result<Station, AllocError>
+        requires sizes { IsServerSize sizes }
+        requires part { IsServerPart part }
+    {
+        Ok(Station {
+            alloc,
+            kernel: Kernel::new(alloc),
+            plan: RoundPlan::new(alloc),
+            tape: Tape::new(alloc, sizes, part)?,
+            past: Past::new(alloc, part),
+            tries: 0,
+            starved: false,
+        })
+    }
+
+    /// Something happens outside. Where the kernel refuses it, nothing does.
+    pub fn happen(&mut self, event: Event) {
+        let happened = match &event {
+            Event::Listen(Listening::Connect) => self.kernel.connect_in(),
+            Event::Spurious(who) => match self.watched(*who) {
+                Some(watched) => self.kernel.spurious(watched),
+                None => Err(Refusal::NotAllowed),
+            },
+            Event::Vanish(who) => match self.watched(*who) {
+                Some(watched) => self.kernel.vanish(watched),
+                None => Err(Refusal::NotAllowed),
+            },
+            Event::Network(slot, side, change) => match self.descriptor(*slot, *side) {
+                Some(descriptor) => self.change(descriptor, change),
+                None => Err(Refusal::NotAllowed),
+            },
+            _ => Err(Refusal::NotAllowed),
+        };
+        if happened.is_ok() {
+            self.tape.put(event);
+        }
+    }
+
+    fn change(&mut self, descriptor: usize, change: &Change) -> Result<(), Refusal> {
+        match change {
+            Change::Arrive(bytes) => self.kernel.arrive(descriptor, bytes.as_slice()),
+            Change::Fin => self.kernel.fin(descriptor),
+            Change::Reset => self.kernel.reset(descriptor),
+            Change::Room => self.kernel.room(descriptor),
+        }
+    }
+
+    fn watched(&self, who: Reported) -> Option<Watched> {
+        match who {
+            Reported::Listener => Some(Watched::Listener),
+            Reported::Waker => Some(Watched::Waker),
+            Reported::End(slot, side) => Some(Watched::End(self.descriptor(slot, side)?)),
+        }
+    }
+
+    /// The descriptor of the open end of this slot and side.
+    fn descriptor(&self, slot: usize, side: Side) -> Option<usize> {
+        for descriptor in 0..MOST {
+            if let Some(open) = self.kernel.end(descriptor) {
+                if open.token.slot() == slot && open.token.side() == side {
+                    return Some(descriptor);
+                }
+            }
+        }
+        None
+    }
+
+    /// A poll takes these names.
+    pub fn poll(&mut self, polled: Option<Polled>) -> Result<Vec<Name>, AllocError> {
+        let names = self.chosen(polled)?;
+        self.tries = 0;
+        let _ = self.kernel.poll(names.as_slice());
+        self.tape.put(Event::Poll(Polling::Poll(names.as_slice().to_vec(self.alloc)?)));
+        Ok(names)
+    }
+
+    /// The names that a poll gives.
+    fn chosen(&self, polled: Option<Polled>) -> Result<Vec<Name>, AllocError> {
+        let mut names = Vec::new(self.alloc);
+        let most = match polled {
+            Some(Polled::Interrupted) => 0,
+            Some(Polled::First(most)) => most.min(MAX_POLLED),
+            Some(Polled::Backwards) | None => MAX_POLLED,
+        };
+        for name in self.kernel.queue().iter().take(most) {
+            names.push(*name)?;
+        }
+        if polled == Some(Polled::Backwards) {
+            names.reverse();
+        }
+        Ok(names)
+    }
+
+    /// What accept(2) is answered, where a client waits or not.
+    pub fn accept(&mut self, waits: bool) -> Accepting {
+        match self.plan.next_accept() {
+            Some(Accepting::Again) => Accepting::Again,
+            Some(Accepting::Starved) => Accepting::Starved,
+            _ if waits => Accepting::Accepted,
+            _ => Accepting::Blocked,
+        }
+    }
+
+    /// accept(2) was answered so.
+    pub fn answer(&mut self, reply: Accepting) {
+        self.tries = self.tries.saturating_add(1);
+        self.starved = reply == Accepting::Starved;
+        let _ = self.kernel.accept(reply);
+        self.tape.put(Event::Listen(Listening::Accept(reply)));
+    }
+
+    /// A client that waited outside of the kernel comes in and is accepted at once. If it is reported on the way, the
+    /// report is withdrawn: this poller was told of it when it came, or did not have to be.
+    pub fn let_in(&mut self) {
+        let was_queued = self.kernel.is_queued(&Name::Listener);
+        self.happen(Event::Listen(Listening::Connect));
+        self.answer(Accepting::Accepted);
+        if !was_queued {
+            self.happen(Event::Vanish(Reported::Listener));
+        }
+    }
+
+    /// Whether a round may end here although a client may wait and a slot is free: it has tried accept(2) as often as a
+    /// round does, or the system lacked what that needs.
+    pub fn may_rest(&self) -> bool {
+        self.starved || self.tries >= MAX_ACCEPTS
+    }
+
+    /// Both ends of an accepted connection are opened, or that fails: as it is planned, or for want of memory.
+    pub fn open(&mut self, client: Token, target: Token) -> Result<Descriptors, Unopened> {
+        if let Some(unopened) = self.plan.next_open() {
+            return Err(unopened);
+        }
+        match self.kernel.open_both(client, target) {
+            Ok(ends) => {
+                self.tape.put(Event::Poll(Polling::Open));
+                Ok(ends)
+            }
+            Err(_) => Err(Unopened::Connect),
+        }
+    }
+
+    /// An end is closed, after this log message. Answers whether that was the second of its connection.
+    pub fn close(&mut self, descriptor: usize, token: Token, message: &str) -> bool {
+        match self.kernel.close(descriptor) {
+            Ok(end) => self.past.close(token, end, message) == Ok(true),
+            Err(_) => false,
+        }
+    }
+}
