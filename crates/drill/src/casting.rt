@@ -1,7 +1,7 @@
 // The threads of the server, made from its parts.
-ghost use Rattle.std.specs.Prelude.{◌≡◌, ◌≤◌, length, IfOk, IfSome};
+ghost use Rattle.std.specs.Prelude.{◌≡◌, ◌≤◌, length, IfOk};
 ghost use Rattle.claims.specs.Seats.{fresh_seat};
-ghost use Rattle.drill.specs.Sizes.{IsServerPart, IsServerSize};
+ghost use Rattle.drill.specs.Sizes.{IsServerSize};
 ghost use Rattle.dispatch.specs.Parts.{AreFresh};
 
 use crate::actors::{Lead, Worker};
@@ -135,16 +135,8 @@ fn next_worker<'s>(
 }
 
 #[tactic(auto, using(claims::proofs::Seats::fresh_holds_nothing))]
-fn worker_of<'s>(
-    shared: &'s Shared<KernelFront>,
-    own: Own,
-    other: Option<FreeQueue>,
-) -> Worker<'s>
+fn worker_of<'s>(shared: &'s Shared<KernelFront>, own: Own, other: Option<FreeQueue>) -> Worker<'s>
     requires seat { own.seat ≡ fresh_seat shared.now.claims }
 {
-    Worker {
-        shared,
-        own,
-        other,
-    }
+    Worker { shared, own, other }
 }

@@ -30,7 +30,11 @@ fn local_name(part: Part, name: Name) -> Name {
     let Name::End(token) = name else {
         return name;
     };
-    match Token::pack(local_slot(part, token.slot()), token.side(), token.generation()) {
+    match Token::pack(
+        local_slot(part, token.slot()),
+        token.side(),
+        token.generation(),
+    ) {
         Ok(token) => Name::End(token),
         Err(_) => name,
     }

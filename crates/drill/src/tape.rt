@@ -42,7 +42,14 @@ impl Tape {
         Ok(Tape {
             alloc,
             part,
-            world: World::new(alloc, Limits { slots, workers, ..sizes.limits })?,
+            world: World::new(
+                alloc,
+                Limits {
+                    slots,
+                    workers,
+                    ..sizes.limits
+                },
+            )?,
             script: format!(in alloc;
                 "world slots={slots} workers={workers} ring={ring} budget={budget} gen={generation}\n"
             )?,
