@@ -11,6 +11,13 @@ use std::sync::atomic::{AtomicBool, AtomicU64, Ordering};
 use std::thread::Parker;
 use std::time::Duration;
 
+/// A look at the queue before its lines are taken. Where it shows that the queue was closed, every line that was put before
+/// the close is found behind it.
+#[derive(Drop)]
+pub(crate) struct Look {
+    pub(crate) is_closed: bool,
+}
+
 /// At most [`MAX_LINES`] finished lines, oldest first, between the threads that log and the one that writes.
 #[derive(Drop)]
 pub struct LogQueue {
@@ -64,9 +71,11 @@ impl LogQueue {
         self.writer.unpark();
     }
 
-    /// Whether the queue was closed.
-    pub fn is_closed(&self) -> bool {
-        self.is_closed.load(Ordering::SeqCst)
+    /// Looks whether the queue was closed.
+    pub(crate) fn look(&self) -> Look {
+        Look {
+            is_closed: self.is_closed.load(Ordering::SeqCst),
+        }
     }
 
     /// Whether every line was written, and the writer has ended.
