@@ -24,6 +24,9 @@ class Maker:
         # Two pollers in about one script of three. A choice of its own leaves the others of the script as they are.
         self.shared = random.Random(f"dealt {seed}")
         self.pollers = 2 if self.slots > 1 and self.shared.random() < 0.5 else 1
+        # An idle limit in about one script of three, and what the clock does, which is a choice of its own, too.
+        self.time = random.Random(f"day {seed}")
+        self.idle = self.time.randint(1, 4) if self.time.random() < 1 / 3 else None
 
     def script(self):
         """The lines: a header, and steps."""
@@ -34,6 +37,8 @@ class Maker:
             while self.random.random() < self.inside:
                 lines.append(f"{self.random.choice(['before', 'after'])} {self.inner()}")
             lines.append(self.large())
+            if self.idle is not None:
+                lines += self.ticks()
         return lines
 
     def header(self):
@@ -42,7 +47,17 @@ class Maker:
         header = f"drill slots={self.slots} workers={self.workers} ring={ring} budget={budget}"
         if self.left is not None:
             header += f" gen={LAST_GENERATION - self.left}"
+        if self.idle is not None:
+            header += f" idle={self.idle}"
         return header if self.pollers == 1 else f"{header} pollers={self.pollers}"
+
+    def ticks(self):
+        """What the clock does between two large steps: mostly nothing, or a few seconds at once."""
+        if self.time.random() < 0.6:
+            return []
+        seconds = self.time.choices([1, 2, 3, 4, 1000, 2**32 - 1], [40, 25, 15, 10, 5, 1])[0]
+        where = self.time.choices(["", "polled ", "polled 1 ", "after ", "before ", "meanwhile "], [80, 6, 3, 5, 1, 1])[0]
+        return [f"{where}tick {seconds}"]
 
     def word(self, word):
         """A word, and behind it the number of a poller if that is not the first."""

@@ -1,12 +1,11 @@
 -- Tickets that move from the hand to the queue, or to the end of the hand.
-use Rattle.std.proofs.Common.{◌≡◌, ℕ, ◌+◌, List, [], ◌∷◌, ◌++◌, drop, slice_get, ap, sym, ◌∙◌, arith}
+use Rattle.std.proofs.Common.{◌≡◌, ℕ, ◌+◌, List, [], ◌∷◌, ◌++◌, drop, slice_get, ap, arith}
 use Rattle.std.specs.Prelude.{Some, map}
 use Rattle.std.proofs.lemmas.Option.{none-some, same_Some}
 use Rattle.ready.specs.declared.history.History.{History}
 use Rattle.ready.specs.declared.ticket.Ticket.{Ticket}
 use Rattle.dispatch.specs.Deliveries.{at_slot}
 use Rattle.dispatch.specs.Outgoing.{outgoing, Inserted}
-use Rattle.dispatch.proofs.Outgoing.{kept_inserts}
 use Rattle.dispatch.proofs.Reports.{at_slot-append}
 
 -- a ticket more counts at its slot

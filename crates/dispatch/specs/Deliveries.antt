@@ -40,12 +40,16 @@ IsSubsequence some (x ∷ xs) = IsSubsequence some xs ⊎ ((rest : List Ticket) 
 abbrev pub raised : ℕ → ℕ → Account → Account
 raised posts wakes a = record a { posted = a.posted + posts; minted = a.minted + wakes }
 
--- Each report for a connection was posted at its slot, by one exchange, and those of them that woke left their tickets in hand, in
--- order. Nothing else of the seat or of the hand changed
-pub record Delivered (generations batch : List ℕ) (old new : SeatState) (had has : HandState) : Type 0 where
+-- Each of these connections was posted at its slot, by one exchange, and those of them that woke left their tickets in hand, in order.
+-- Nothing else of the seat or of the hand changed
+pub record ArePosted (tickets : List Ticket) (old new : SeatState) (had has : HandState) : Type 0 where
   pub woke : List Ticket
-  pub in_order : IsSubsequence woke (all_reported generations batch)
+  pub in_order : IsSubsequence woke tickets
   pub table : new.table ≡ old.table
-  pub accounts : (slot : ℕ) → account_at new slot ≡ raised (at_slot slot (all_reported generations batch)) (at_slot slot woke) (account_at old slot)
-  pub exchanges : new.steps ≡ old.steps + length (all_reported generations batch)
+  pub accounts : (slot : ℕ) → account_at new slot ≡ raised (at_slot slot tickets) (at_slot slot woke) (account_at old slot)
+  pub exchanges : new.steps ≡ old.steps + length tickets
   pub hand : has ≡ record had { tickets = had.tickets ++ woke }
+
+-- each report for a connection was posted
+abbrev pub Delivered : List ℕ → List ℕ → SeatState → SeatState → HandState → HandState → Type 0
+Delivered generations batch old new had has = ArePosted (all_reported generations batch) old new had has

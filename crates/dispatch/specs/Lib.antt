@@ -8,4 +8,5 @@ pub mod Outgoing
 pub mod Parts
 pub mod Polls
 pub mod Rounds
+pub mod Sweeps
 pub mod Turns

@@ -12,7 +12,8 @@ pub record IsIn (part : Part) (slot : ℕ) : Type 0 where
 -- What the front reported at the last wait, each slot's generation, the reports that this round delivers, the accept flag (whether a
 -- connection may wait to be accepted), whether accept(2) was starved at its last answer, how many tries of it the last round left,
 -- the bytes of a ring, the slots in which it opens connections, how many it may open in all and how many it has opened, how many
--- slots it no longer uses, and whether it is over
+-- slots it no longer uses, the second of the last round, that of the last sweep (at first, that at which it began), and whether it is
+-- over
 pub record PollerState : Type 0 where
   pub reported : List ℕ
   pub table : List ℕ
@@ -25,6 +26,8 @@ pub record PollerState : Type 0 where
   pub most : ℕ
   pub opened : ℕ
   pub lost : ℕ
+  pub second : ℕ
+  pub swept : ℕ
   pub over : Bool
 
 -- every entry is a generation

@@ -9,22 +9,27 @@ use Rattle.dispatch.specs.Hands.{ticket_room}
 use Rattle.dispatch.specs.Openings.{AreIn, AreOpened, SlotsCounted}
 use Rattle.dispatch.specs.Outgoing.{tickets_out}
 use Rattle.dispatch.specs.Polls.{PollerState, HasOpenedAll, Counted}
+use Rattle.dispatch.specs.Sweeps.{sweep_of}
 use Rattle.dispatch.specs.Turns.{Rose}
 
 -- The reports of the batch were delivered: each that is for a connection was posted at its slot, and those that woke made their
--- tickets. Then connections were opened, each with one post and one ticket at its slot. All tickets that were to be put before, then
--- those of the reports, then those of the openings are put or in hand, in this order. Each slot that was taken was opened, or is in
--- hand, or is no longer used. Nothing was posted or opened at a slot of another poller
+-- tickets. Then came the posts of a sweep, if one was made, and those that woke made theirs. Then connections were opened, each with
+-- one post and one ticket at its slot. All tickets that were to be put before, then those of the reports, of the sweep and of the
+-- openings are put or in hand, in this order. Each slot that was taken was opened, or is in hand, or is no longer used. Nothing was
+-- posted or opened at a slot of another poller
 pub record RoundDone (old new : PollerState) (had has : Own) : Type 0 where
   pub woke : List Ticket
+  pub roused : List Ticket
   pub opened : List Ticket
   pub lost : List ℕ
   pub in_order : IsSubsequence woke (all_reported old.table new.batch)
-  pub accounts : (slot : ℕ) → Rose (at_slot slot (all_reported old.table new.batch) + at_slot slot opened) (at_slot slot woke + at_slot slot opened) (account_at had.seat slot) (account_at has.seat slot)
+  pub roused_in_order : IsSubsequence roused (sweep_of old new)
+  pub accounts : (slot : ℕ) → Rose (at_slot slot (all_reported old.table new.batch) + (at_slot slot (sweep_of old new) + at_slot slot opened)) (at_slot slot woke + (at_slot slot roused + at_slot slot opened)) (account_at had.seat slot) (account_at has.seat slot)
   pub part : new.part ≡ old.part
   pub own_reports : AreIn old.part (all_reported old.table new.batch)
+  pub own_sweep : AreIn old.part (sweep_of old new)
   pub own_openings : AreIn old.part opened
-  pub tickets : tickets_out has ≡ tickets_out had ++ (woke ++ opened)
+  pub tickets : tickets_out has ≡ tickets_out had ++ (woke ++ (roused ++ opened))
   pub table : AreOpened old.table opened new.table
   pub counted : Counted old.opened (length opened) new.opened
   pub unused : Counted old.lost (length lost) new.lost

@@ -3,7 +3,7 @@ ghost use Rattle.std.specs.Prelude.{◌≡◌, ℕ, ◌-◌, ◌^◌, ◌<◌, �
 ghost use Rattle.claims.specs.Views.{posted_of};
 ghost use Rattle.claims.specs.Seats.{HoldsNothing};
 ghost use Rattle.dispatch.specs.Hands.{ticket_room};
-ghost use Rattle.dispatch.specs.Deliveries.{connection, reported, Delivered};
+ghost use Rattle.dispatch.specs.Deliveries.{connection, reported, ArePosted, Delivered};
 
 use crate::faults::ServerFault;
 use crate::hand::Hand;
@@ -64,6 +64,25 @@ fn report(
     let Some(ticket) = connection(table, number) else {
         return Ok(());
     };
+    post_note(claims, seat, ticket, hand)
+}
+
+/// Posts a note at a connection's slot, and adds its ticket to the hand if the post answers Wake. `Worn` changes nothing.
+pub(crate) fn post_note(
+    claims: &Claims,
+    seat: &mut ClaimSeat,
+    ticket: Ticket,
+    hand: &mut Hand,
+) -> Result<(), ServerFault>
+    requires same { seat.old.table ≡ claims.now }
+    requires idle { HoldsNothing seat.old }
+    requires inside { ticket.slot < claims.now.words }
+    requires room { length hand.old.tickets < hand.old.capacity }
+    ensures posted { OnOk result (ArePosted (ticket ∷ []) seat.old seat.new hand.old hand.new) }
+    ensures seat { OnErr result (seat.new ≡ seat.old) }
+    ensures hand { OnErr result (hand.new ≡ hand.old) }
+    ensures worn { IfErr result (λ fault. (fault ≡ ServerFault.Worn) × (sum_by posted_of seat.new.accounts ≡ 2 ^ 56)) }
+{
     match claims.post(seat, ticket.slot) {
         Posted::Wake => hand.keep_ticket(ticket),
         Posted::Quiet => {}

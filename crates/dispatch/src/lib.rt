@@ -13,9 +13,12 @@
 //! - [`Shared`] is what all threads share, and [`Own`] what one thread owns: its seat at the claim words, its ends of
 //!   the two queues, and a [`Hand`] for what a queue refused.
 //! - [`Gate`] lets a test hold a turn back.
+//! - [`Clock`] tells the second, for the idle limit ([`Timing`]). A connection whose sockets report nothing is looked at
+//!   again by a round's sweep.
 #![tactic(auto)]
 
 mod accepting;
+mod clock;
 mod delivering;
 mod faults;
 mod front;
@@ -30,11 +33,14 @@ mod poller;
 mod putting;
 mod round;
 mod shared;
+mod sweeping;
+mod terms;
 #[cfg(test)]
 mod tests;
 mod visit;
 mod worker;
 
+pub use clock::{Clock, Timing};
 pub use delivering::deliver;
 pub use faults::ServerFault;
 pub use front::{Front, Settle, Unopened};

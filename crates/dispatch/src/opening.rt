@@ -88,7 +88,7 @@ pub(crate) fn next_names(table: &[u64], slot: usize) -> Option<Names>
     Some(Names { client, target })
 }
 
-/// Starts the connection to the target, and makes the pair. A refusal closes the client's connection, and the target's
+/// Starts the connection to the target, and makes the pair, at the second of the round. A refusal closes the client's connection, and the target's
 /// if it had been started.
 pub(crate) fn connect<F: Front, N: Log>(
     rt: &N,
@@ -97,7 +97,7 @@ pub(crate) fn connect<F: Front, N: Log>(
     mut client: F::Client,
     names: Names,
 ) -> Result<Berth<F::Client, F::Target>, Cause>
-    ensures pair { IfOk result (λ berth. berth.pair ≡ fresh names.client.slot names.client.generation poller.old.ring) }
+    ensures pair { IfOk result (λ berth. berth.pair ≡ fresh names.client.slot names.client.generation poller.old.ring poller.old.second) }
     ensures same { poller.new ≡ poller.old }
 {
     let target = poller
@@ -108,6 +108,7 @@ pub(crate) fn connect<F: Front, N: Log>(
         names.client.slot(),
         names.client.generation(),
         poller.ring(),
+        poller.second(),
     ) {
         Ok(pair) => Ok(Berth {
             pair,

@@ -4,6 +4,7 @@ ghost use Rattle.claims.specs.Seats.{HoldsNothing};
 ghost use Rattle.dispatch.specs.Outgoing.{tickets_out, without_first, Inserted, KeepsOut};
 ghost use Rattle.dispatch.specs.Turns.{TicketsKept};
 
+use crate::clock::{Clock, Timing};
 use crate::faults::ServerFault;
 use crate::front::Front;
 use crate::gate::Gate;
@@ -11,6 +12,7 @@ use crate::limits::{MAX_OWN_TURNS, OWN_BUDGET};
 use crate::poller::Poller;
 use crate::putting::put_ticket;
 use crate::shared::{Own, Shared};
+use crate::terms::Terms;
 use crate::worker::{Worked, turn_of};
 use log::Log;
 use ready::Ticket;
@@ -60,12 +62,13 @@ fn pass_on<R: Wait>(rt: &R, own: &mut Own, ticket: Ticket, stays: bool)
 /// Nothing else that is in hand is put. Where a connection ends, the round that follows looks for its slot before it
 /// waits, if a client may be waiting. If no more connections are to be opened, it does not wait, so that the poller's end
 /// is found at once.
-pub fn own_turn<F: Front, G: Gate, R: Wait + Log>(
+pub fn own_turn<F: Front, G: Gate, C: Clock, R: Wait + Log>(
     rt: &R,
     shared: &Shared<F>,
     own: &mut Own,
     gate: &G,
     poller: &mut Poller<F>,
+    timing: &Timing<'_, C>,
 ) -> Result<Option<Worked>, ServerFault>
     requires same { own.old.seat.table ≡ shared.now.claims }
     requires idle { HoldsNothing own.old.seat }
@@ -81,7 +84,11 @@ pub fn own_turn<F: Front, G: Gate, R: Wait + Log>(
     let Some(ticket) = own.hand.take_ticket() else {
         return Ok(None);
     };
-    let worked = turn_of(rt, shared, own, gate, ticket, shared.budget.min(OWN_BUDGET))?;
+    let terms = Terms {
+        budget: shared.budget.min(OWN_BUDGET),
+        moment: timing.moment(),
+    };
+    let worked = turn_of(rt, shared, own, gate, ticket, terms)?;
     if worked == Worked::Again {
         poller.mark_heavy(ticket.slot);
     }

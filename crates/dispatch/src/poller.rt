@@ -32,6 +32,9 @@ pub struct Poller<F: Front> {
     opened: u64,
     // How many slots are no longer used.
     lost: u64,
+    // The second of the last round, and that of the last sweep.
+    pub(crate) second: u64,
+    pub(crate) swept: u64,
     pub(crate) over: bool,
 }
 
@@ -41,7 +44,7 @@ impl<F: Front> Model for Poller<F> {
 
     ghost Value = { PollerState };
 
-    ghost view = { λ p. record { reported = F.reported p.front; table = p.table.items; batch = p.batch.items; accepting = p.accepting; starved = p.starved; tries = p.tries; ring = p.ring; part = p.part; most = p.most; opened = p.opened; lost = p.lost; over = p.over } };
+    ghost view = { λ p. record { reported = F.reported p.front; table = p.table.items; batch = p.batch.items; accepting = p.accepting; starved = p.starved; tries = p.tries; ring = p.ring; part = p.part; most = p.most; opened = p.opened; lost = p.lost; second = p.second; swept = p.swept; over = p.over } };
 
     ghost invariant = { λ p. AreGenerations p.table.items × IsOwnTable p.part p.table.items × (256 ≤ vec_capacity p.batch) × (length p.batch.items ≤ 256) × (1 ≤ p.ring) × (p.ring ≤ 65536) };
 }
@@ -63,7 +66,7 @@ impl<F: Front> Poller<F> {
     where
         F: Drop,
         requires ring { (1 ≤ ring) × (ring ≤ 65536) }
-        ensures { IfOk result (λ poller. poller ≡ record { reported = F.reported front; table = replicate table 0; batch = []; accepting = true; starved = false; tries = 0; ring = ring; part = part; most = most; opened = 0; lost = 0; over = false }) }
+        ensures { IfOk result (λ poller. poller ≡ record { reported = F.reported front; table = replicate table 0; batch = []; accepting = true; starved = false; tries = 0; ring = ring; part = part; most = most; opened = 0; lost = 0; second = 0; swept = 0; over = false }) }
     {
         Ok(Poller {
             front,
@@ -78,6 +81,8 @@ impl<F: Front> Poller<F> {
             most,
             opened: 0,
             lost: 0,
+            second: 0,
+            swept: 0,
             over: false,
         })
     }
@@ -92,6 +97,14 @@ impl<F: Front> Poller<F> {
         ensures { self.new ≡ record self.old { table = slice_set self.old.table slot generation } }
     {
         self.table[slot] = generation;
+    }
+
+    /// It begins at this second: its first sweep comes once the idle limit has passed since then. It counts from second 0
+    /// if it is not told.
+    pub fn begin_at(&mut self, second: u64)
+        ensures { self.new ≡ record self.old { swept = second } }
+    {
+        self.swept = second;
     }
 
     /// Whether all connections that it may open have been opened, and all of them are closed. A round finds that out by
@@ -139,6 +152,13 @@ impl<F: Front> Poller<F> {
         ensures most { result ≤ 65536 }
     {
         self.ring
+    }
+
+    /// The second of the last round.
+    pub(crate) fn second(&self) -> u64
+        ensures { result ≡ self.now.second }
+    {
+        self.second
     }
 
     /// How many slots are no longer used.

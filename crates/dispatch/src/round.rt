@@ -11,8 +11,10 @@ ghost use Rattle.dispatch.specs.Openings.{AreIn, Between, OnlyTook, AcceptDone};
 ghost use Rattle.dispatch.specs.Outgoing.{PutAll, TicketsPut};
 ghost use Rattle.dispatch.specs.Polls.{HasOpenedAll, flag_after};
 ghost use Rattle.dispatch.specs.Rounds.{RoundDone, AcceptEnded, EndedEarly, IsOver, MayWait, NoSlot, NoneToAccept};
+ghost use Rattle.dispatch.specs.Sweeps.{swept_after};
 
 use crate::accepting::{Accepted, accepted_of};
+use crate::clock::{Clock, Timing};
 use crate::delivering::deliver;
 use crate::faults::ServerFault;
 use crate::front::Front;
@@ -21,6 +23,7 @@ use crate::opening::open;
 use crate::poller::Poller;
 use crate::putting::put_tickets;
 use crate::shared::{Own, Shared};
+use crate::sweeping::sweep_if_due;
 use log::{Log, error};
 use std::alloc::Global;
 use std::io;
@@ -30,7 +33,9 @@ use std::sync::Wait;
 ///
 /// The tickets in hand are put, until one is refused; if the hand has no room for a ticket of each slot and 512 more,
 /// the round ends there. Then it asks once for reports and delivers them ([`deliver`]); it waits for them only if no
-/// connection can be accepted now. While connections may be waiting and a slot is free, it accepts and opens them, with
+/// connection can be accepted now. If at least the idle limit has passed since the last sweep, or since the poller began,
+/// it makes one: it posts a note at each slot in which it has opened a connection, in rising order. Without a limit none
+/// is made. While connections may be waiting and a slot is free, it accepts and opens them, with
 /// at most 4 calls of accept(2).
 ///
 /// An opened connection has the slot's next generation, one note and one ticket, and is logged. A connection whose
@@ -38,12 +43,13 @@ use std::sync::Wait;
 ///
 /// Refusals: `Poll` if waiting for reports failed, and `Worn` if the seat has posted 2^56 times. Then, too, the seat
 /// holds nothing.
-pub fn poller_round<F: Front, R: Wait + Log>(
+pub fn poller_round<F: Front, C: Clock, R: Wait + Log>(
     rt: &R,
     alloc: Global,
     shared: &Shared<F>,
     own: &mut Own,
     poller: &mut Poller<F>,
+    timing: &Timing<'_, C>,
 ) -> Result<(), ServerFault>
     requires same { own.old.seat.table ≡ shared.now.claims }
     requires idle { HoldsNothing own.old.seat }
@@ -53,31 +59,35 @@ pub fn poller_round<F: Front, R: Wait + Log>(
     ensures sized { length poller.new.table ≡ length poller.old.table }
     ensures round { result ≢ Err ServerFault.Worn → RoundDone poller.old poller.new own.old own.new }
     ensures batch { result ≢ Err ServerFault.Worn → EndedEarly shared.now.claims.words own.new ⊎ (poller.new.batch ≡ poller.new.reported) }
+    ensures told { OnOk result (EndedEarly shared.now.claims.words own.new ⊎ C.tells timing.now.clock.now poller.new.second) }
+    ensures swept { OnOk result (EndedEarly shared.now.claims.words own.new ⊎ (poller.new.swept ≡ swept_after timing.now.limit poller.new.second poller.old.swept)) }
+    ensures unswept { (poller.new.swept ≡ poller.old.swept) ⊎ (poller.new.swept ≡ swept_after timing.now.limit poller.new.second poller.old.swept) }
     ensures accepted { OnOk result (EndedEarly shared.now.claims.words own.new ⊎ AcceptEnded poller.new own.new) }
     ensures over { OnOk result (poller.new.over ≡ true → (poller.old.over ≡ true) ⊎ IsOver poller.new own.new) }
 {
-    let most = ROUND_ROOM.saturating_add(shared.claims.slots());
-    if !begin(rt, own, poller, most) {
+    if !begin(rt, own, poller, shared.claims.slots()) {
         return Ok(());
     }
     look(rt, own, poller)?;
     deliver_batch(shared, own, poller)?;
+    sweep_if_due(shared, own, poller, timing)?;
     accept_all(rt, alloc, shared, own, poller)?;
     take_back(rt, own, poller);
     Ok(())
 }
 
 /// The start of a round: puts the tickets in hand, until one is refused. Answers false if the hand then has no room for
-/// so many more tickets.
-fn begin<F: Front, R: Wait>(rt: &R, own: &mut Own, poller: &mut Poller<F>, most: usize) -> bool
+/// a ticket of each of so many slots and 512 more.
+fn begin<F: Front, R: Wait>(rt: &R, own: &mut Own, poller: &mut Poller<F>, slots: usize) -> bool
     ensures put { TicketsPut own.old own.new }
     ensures all { PutAll own.new.ready own.new.hand.tickets }
     ensures poller { poller.new ≡ record poller.old { batch = [] } }
-    ensures room { IsTrue result ↔ (most ≤ ticket_room own.new.hand) }
+    ensures room { IsTrue result ↔ (512 + slots ≤ ticket_room own.new.hand) }
 {
     poller.forget_reports();
     put_tickets(rt, &mut own.ready, &mut own.hand);
-    own.hand.room() >= most
+    let room = own.hand.room();
+    room >= ROUND_ROOM && room - ROUND_ROOM >= slots
 }
 
 /// Takes the reports. It waits for them, unless a connection can be accepted now.
@@ -189,6 +199,8 @@ fn accept_all<F: Front, R: Wait + Log>(
     ensures ended { OnOk result (AcceptEnded poller.new own.new) }
     ensures over { poller.new.over ≡ poller.old.over }
     ensures reported { poller.new.reported ≡ poller.old.reported }
+    ensures second { poller.new.second ≡ poller.old.second }
+    ensures swept { poller.new.swept ≡ poller.old.swept }
 {
     poller.reset_tries();
     for _try in 0..MAX_ACCEPTS {
@@ -231,6 +243,8 @@ fn accept_next<F: Front, R: Wait + Log>(
     ensures starved { IfOk result (λ more. more ≡ false → poller.new.starved ≡ true) }
     ensures over { poller.new.over ≡ poller.old.over }
     ensures reported { poller.new.reported ≡ poller.old.reported }
+    ensures second { poller.new.second ≡ poller.old.second }
+    ensures swept { poller.new.swept ≡ poller.old.swept }
 {
     match accept(poller) {
         Ok(client) => {

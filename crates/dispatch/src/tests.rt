@@ -4,4 +4,6 @@ mod fake;
 mod rounds;
 mod scenes;
 mod stage;
+mod sweeps;
+mod ticks;
 mod turns;

@@ -5,6 +5,7 @@ ghost use Rattle.dispatch.specs.Turns.{HoldsOnly, noted_by};
 
 use crate::front::{Front, Settle};
 use crate::shared::{Own, Shared};
+use crate::terms::Terms;
 use berths::Berth;
 use engine::{Turn, turn_with};
 use ready::Ticket;
@@ -105,14 +106,14 @@ impl<F: Front> Visit<F> {
         &self.berth.pair
     }
 
-    /// Gives the connection a report if notes waited, and makes at most `budget` of its calls on its two wires, which
-    /// read into the buffer. It allocates no memory and waits for no lock.
-    pub(crate) fn play(&mut self, notes: u64, budget: usize, buffer: &mut [u8; MAX_READ]) -> Turn
-        requires least { 1 ≤ budget }
-        requires most { budget ≤ 1024 }
+    /// Gives the connection a report if notes waited, and makes its calls on its two wires, which read into the buffer:
+    /// at most as many as the budget, and all at the moment. It allocates no memory and waits for no lock.
+    pub(crate) fn play(&mut self, notes: u64, terms: Terms, buffer: &mut [u8; MAX_READ]) -> Turn
+        requires least { 1 ≤ terms.budget }
+        requires most { terms.budget ≤ 1024 }
         ensures ticket { self.new.ticket ≡ self.old.ticket }
         ensures outcome { result ≡ outcome_of self.new.berth.pair }
-        ensures run { IsTurn budget (noted_by notes self.old.berth.pair) self.new.berth.pair (IsServed F.Client.told F.Client.does self.old.berth.client self.new.berth.client) (IsServed F.Target.told F.Target.does self.old.berth.target self.new.berth.target) }
+        ensures run { IsTurn terms.budget terms.moment.second terms.moment.limit (noted_by notes self.old.berth.pair) self.new.berth.pair (IsServed F.Client.told F.Client.does terms.moment.second self.old.berth.client self.new.berth.client) (IsServed F.Target.told F.Target.does terms.moment.second self.old.berth.target self.new.berth.target) }
     {
         if notes > 0 {
             self.berth.pair.note();
@@ -121,7 +122,8 @@ impl<F: Front> Visit<F> {
             &mut self.berth.pair,
             &mut self.berth.client,
             &mut self.berth.target,
-            budget,
+            terms.budget,
+            terms.moment,
             buffer,
         )
     }

@@ -7,11 +7,13 @@ ghost use Rattle.dispatch.specs.Hands.{HasRoom};
 ghost use Rattle.dispatch.specs.Outgoing.{KeepsSlot};
 ghost use Rattle.dispatch.specs.Turns.{TurnChange, Rose, exchanges, exchanges_left, HoldsOnly, AtWork, TicketsKept, SlotsKept, TurnDone, noted_by, Released as ReleasedHere};
 
+use crate::clock::{Clock, Timing};
 use crate::faults::ServerFault;
 use crate::front::Front;
 use crate::gate::Gate;
 use crate::putting::{give_back, give_slots, put_ticket, put_tickets};
 use crate::shared::{Own, Shared};
+use crate::terms::Terms;
 use crate::visit::{Back, Visit, put_in, take_out};
 use claims::{ClaimSeat, Claimed, Posted, Released};
 use engine::Turn;
@@ -47,13 +49,17 @@ pub enum Worked {
 ///
 /// Beside that ticket and that slot, all that was to be put is put or in hand, in order.
 ///
+/// The turn is made at one second of the clock, and a connection that is left without a call then, and has moved nothing
+/// for the idle limit, fails.
+///
 /// The only refusal is `Worn`: the seat has posted 2^56 times. The slot is released then, too.
-pub fn worker_turn<F: Front, G: Gate, R: Wait + Log>(
+pub fn worker_turn<F: Front, G: Gate, C: Clock, R: Wait + Log>(
     rt: &R,
     shared: &Shared<F>,
     own: &mut Own,
     gate: &G,
     ticket: Ticket,
+    timing: &Timing<'_, C>,
 ) -> Result<Worked, ServerFault>
     requires same { own.old.seat.table ≡ shared.now.claims }
     requires idle { HoldsNothing own.old.seat }
@@ -68,27 +74,30 @@ pub fn worker_turn<F: Front, G: Gate, R: Wait + Log>(
 {
     put_tickets(rt, &mut own.ready, &mut own.hand);
     give_slots(rt, &mut own.free, &mut own.hand);
-    let worked = turn_of(rt, shared, own, gate, ticket, shared.budget)?;
+    let terms = Terms {
+        budget: shared.budget,
+        moment: timing.moment(),
+    };
+    let worked = turn_of(rt, shared, own, gate, ticket, terms)?;
     if worked == Worked::Ended {
         wake_poller(shared, own, ticket);
     }
     Ok(worked)
 }
 
-/// A turn without what comes before it and after it: nothing in hand is put first, and nobody is woken. It makes at most
-/// `budget` calls.
+/// A turn without what comes before it and after it: nothing in hand is put first, and nobody is woken.
 pub(crate) fn turn_of<F: Front, G: Gate, R: Wait + Log>(
     rt: &R,
     shared: &Shared<F>,
     own: &mut Own,
     gate: &G,
     ticket: Ticket,
-    budget: usize,
+    terms: Terms,
 ) -> Result<Worked, ServerFault>
     requires same { own.old.seat.table ≡ shared.now.claims }
     requires idle { HoldsNothing own.old.seat }
     requires room { HasRoom own.old.hand }
-    requires budget { (1 ≤ budget) × (budget ≤ 1024) }
+    requires budget { (1 ≤ terms.budget) × (terms.budget ≤ 1024) }
     ensures idle { HoldsNothing own.new.seat }
     ensures only { OnlyAt ticket.slot own.old.seat own.new.seat }
     ensures change { TurnChange (account_at own.old.seat ticket.slot) result (account_at own.new.seat ticket.slot) }
@@ -102,7 +111,7 @@ pub(crate) fn turn_of<F: Front, G: Gate, R: Wait + Log>(
     }
     match shared.claims.claim(&mut own.seat, ticket.slot) {
         Claimed::Busy => Ok(Worked::Busy),
-        Claimed::Held => claimed(rt, shared, own, gate, ticket, budget),
+        Claimed::Held => claimed(rt, shared, own, gate, ticket, terms),
     }
 }
 
@@ -113,16 +122,16 @@ fn claimed<F: Front, G: Gate, R: Wait + Log>(
     own: &mut Own,
     gate: &G,
     ticket: Ticket,
-    budget: usize,
+    terms: Terms,
 ) -> Result<Worked, ServerFault>
     requires work { AtWork shared.now.claims ticket.slot own.old }
-    requires budget { (1 ≤ budget) × (budget ≤ 1024) }
+    requires budget { (1 ≤ terms.budget) × (terms.budget ≤ 1024) }
     ensures done { TurnDone ticket result own.old own.new }
     ensures exchanges { own.new.seat.steps ≡ own.old.seat.steps + exchanges_left result }
 {
     match take_out(rt, shared, own, ticket) {
         Ok(visit) if visit.pair().generation() == ticket.generation => {
-            run(rt, shared, own, gate, visit, budget)
+            run(rt, shared, own, gate, visit, terms)
         }
         Ok(other) => {
             let back = put_in(rt, shared, own, other);
@@ -154,10 +163,10 @@ fn run<F: Front, G: Gate, R: Wait + Log>(
     own: &mut Own,
     gate: &G,
     mut visit: Visit<F>,
-    budget: usize,
+    terms: Terms,
 ) -> Result<Worked, ServerFault>
     requires work { AtWork shared.now.claims visit.ticket.slot own.old }
-    requires budget { (1 ≤ budget) × (budget ≤ 1024) }
+    requires budget { (1 ≤ terms.budget) × (terms.budget ≤ 1024) }
     ensures done { TurnDone visit.ticket result own.old own.new }
     ensures exchanges { own.new.seat.steps ≡ own.old.seat.steps + exchanges_left result }
 {
@@ -166,7 +175,7 @@ fn run<F: Front, G: Gate, R: Wait + Log>(
         &mut own.seat,
         gate,
         &mut visit,
-        budget,
+        terms,
         &mut own.buffer,
     ) {
         Turn::Done | Turn::Failed => {
@@ -188,10 +197,10 @@ fn play<F: Front, G: Gate>(
     seat: &mut ClaimSeat,
     gate: &G,
     visit: &mut Visit<F>,
-    budget: usize,
+    terms: Terms,
     buffer: &mut [u8; MAX_READ],
 ) -> Turn
-    requires budget { (1 ≤ budget) × (budget ≤ 1024) }
+    requires budget { (1 ≤ terms.budget) × (terms.budget ≤ 1024) }
     requires same { seat.old.table ≡ shared.now.claims }
     requires inside { visit.old.ticket.slot < shared.now.claims.words }
     requires holder { HoldsOnly visit.old.ticket.slot seat.old }
@@ -201,12 +210,12 @@ fn play<F: Front, G: Gate>(
     ensures exchanges { seat.new.steps ≡ seat.old.steps + 1 }
     ensures ticket { visit.new.ticket ≡ visit.old.ticket }
     ensures outcome { result ≡ outcome_of visit.new.berth.pair }
-    ensures run { IsTurn budget (noted_by ((account_at seat.new visit.old.ticket.slot).taken - (account_at seat.old visit.old.ticket.slot).taken) visit.old.berth.pair) visit.new.berth.pair (IsServed F.Client.told F.Client.does visit.old.berth.client visit.new.berth.client) (IsServed F.Target.told F.Target.does visit.old.berth.target visit.new.berth.target) }
+    ensures run { IsTurn terms.budget terms.moment.second terms.moment.limit (noted_by ((account_at seat.new visit.old.ticket.slot).taken - (account_at seat.old visit.old.ticket.slot).taken) visit.old.berth.pair) visit.new.berth.pair (IsServed F.Client.told F.Client.does terms.moment.second visit.old.berth.client visit.new.berth.client) (IsServed F.Target.told F.Target.does terms.moment.second visit.old.berth.target visit.new.berth.target) }
 {
     let slot = visit.ticket().slot;
     let notes = shared.claims.take(seat, slot);
     gate.before_turn(slot);
-    let outcome = visit.play(notes, budget, buffer);
+    let outcome = visit.play(notes, terms, buffer);
     gate.after_turn(slot);
     outcome
 }

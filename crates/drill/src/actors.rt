@@ -4,8 +4,9 @@ ghost use Rattle.claims.specs.Seats.{HoldsNothing};
 
 use crate::front::KernelFront;
 use crate::looking::{slots_of, tickets_of};
+use crate::ticks::Ticks;
 use dispatch::{
-    Gate, Own, Poller, ServerFault, Shared, Worked, give_slots, own_turn, poller_round,
+    Gate, Own, Poller, ServerFault, Shared, Timing, Worked, give_slots, own_turn, poller_round,
     share_tickets, worker_turn,
 };
 use log::Log;
@@ -43,9 +44,10 @@ impl Worker<'_> {
         gate: &G,
         ticket: Ticket,
         poller: usize,
+        timing: &Timing<'_, Ticks>,
     ) -> Option<Worked> {
         self.change_queue(poller);
-        let worked = self.turn_here(rt, gate, ticket);
+        let worked = self.turn_here(rt, gate, ticket, timing);
         give_slots(rt, &mut self.own.free, &mut self.own.hand);
         self.change_queue(poller);
         worked
@@ -56,11 +58,12 @@ impl Worker<'_> {
         rt: &R,
         gate: &G,
         ticket: Ticket,
+        timing: &Timing<'_, Ticks>,
     ) -> Option<Worked> {
         if !self.own.hand.has_room() {
             return None;
         }
-        worker_turn(rt, self.shared, &mut self.own, gate, ticket).ok()
+        worker_turn(rt, self.shared, &mut self.own, gate, ticket, timing).ok()
     }
 
     /// Exchanges its end of the first poller's queue and that of this one. Done again, each is in its place.
@@ -100,8 +103,20 @@ pub struct Lead<'s> {
 
 impl Lead<'_> {
     /// One round.
-    pub fn round<R: Wait + Log>(&mut self, rt: &R, alloc: Global) -> Result<(), ServerFault> {
-        poller_round(rt, alloc, self.shared, &mut self.own, &mut self.poller)
+    pub fn round<R: Wait + Log>(
+        &mut self,
+        rt: &R,
+        alloc: Global,
+        timing: &Timing<'_, Ticks>,
+    ) -> Result<(), ServerFault> {
+        poller_round(
+            rt,
+            alloc,
+            self.shared,
+            &mut self.own,
+            &mut self.poller,
+            timing,
+        )
     }
 
     /// Whether the poller could try accept(2): its flag is up, and a slot is free.
@@ -131,7 +146,15 @@ impl Lead<'_> {
         &mut self,
         rt: &R,
         gate: &G,
+        timing: &Timing<'_, Ticks>,
     ) -> Result<Option<Worked>, ServerFault> {
-        own_turn(rt, self.shared, &mut self.own, gate, &mut self.poller)
+        own_turn(
+            rt,
+            self.shared,
+            &mut self.own,
+            gate,
+            &mut self.poller,
+            timing,
+        )
     }
 }

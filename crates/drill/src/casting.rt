@@ -10,16 +10,18 @@ use crate::front::KernelFront;
 use crate::outside::Outside;
 use crate::parts::Rest;
 use crate::sizes::{MAX_POLLERS, Sizes};
+use crate::ticks::Ticks;
 use dispatch::{Own, Part, Poller, Shared};
 use ready::FreeQueue;
 use std::alloc::{AllocError, Global};
 use std::cell::RefCell;
 use std::rc::Rc;
 
-/// A server with its threads over this cell. None if the parts are used up.
+/// A server with its threads over this cell and by this clock. None if the parts are used up.
 pub fn crew_of<'s>(
     alloc: Global,
     outside: &Rc<RefCell<Outside>>,
+    clock: Rc<Ticks>,
     shared: &'s Shared<KernelFront>,
     mut rest: Rest,
     sizes: Sizes,
@@ -44,6 +46,7 @@ pub fn crew_of<'s>(
     Ok(Some(Crew {
         sizes,
         outside: outside.clone()?,
+        clock,
         leads,
         workers,
         spare: RefCell::new(spare),

@@ -4,7 +4,8 @@ use crate::gate::{Nested, Planned};
 use crate::outside::{Actor, Outside};
 use crate::sizes::Sizes;
 use crate::step::{Inner, Outer};
-use dispatch::{Gate, Worked};
+use crate::ticks::Ticks;
+use dispatch::{Gate, Timing, Worked};
 use log::Log;
 use std::alloc::Global;
 use std::cell::RefCell;
@@ -18,6 +19,7 @@ use world::{Act, Event, Polling, Reported};
 pub struct Crew<'s> {
     pub sizes: Sizes,
     pub outside: Rc<RefCell<Outside>>,
+    pub clock: Rc<Ticks>,
     /// For each poller its thread.
     pub leads: Vec<RefCell<Lead<'s>>>,
     pub workers: Vec<RefCell<Worker<'s>>>,
@@ -73,7 +75,7 @@ impl Crew<'_> {
         for _ticket in 0..lead.own.hand.tickets() {
             self.record(poller, Event::Poll(Polling::Put));
         }
-        let _ = lead.round(rt, alloc);
+        let _ = lead.round(rt, alloc, &self.timing());
         if lead.could_accept(rt, alloc) != Ok(false) {
             self.expect_rest(poller);
         }
@@ -101,9 +103,10 @@ impl Crew<'_> {
         let former = self.enter(Actor {
             poller,
             worker: number,
+            calls: true,
         });
         self.act(Act::Pop);
-        let worked = worker.turn(rt, gate, ticket, poller);
+        let worked = worker.turn(rt, gate, ticket, poller, &self.timing());
         self.finish(worked);
         if worked == Some(Worked::Ended) {
             self.record(poller, Event::Spurious(Reported::Waker));
@@ -132,16 +135,28 @@ impl Crew<'_> {
             return;
         }
         let worker = self.workers.len();
-        let former = self.enter(Actor { poller, worker });
+        let former = self.enter(Actor {
+            poller,
+            worker,
+            calls: true,
+        });
         self.act(Act::Pop);
         let gate = Planned {
             rt,
             alloc,
             crew: self,
         };
-        let _ = lead.turn(rt, &gate);
+        let _ = lead.turn(rt, &gate, &self.timing());
         self.finish(self.ending());
         self.enter(former);
+    }
+
+    /// The clock and the idle limit, as they are lent to a turn or a round.
+    fn timing(&self) -> Timing<'_, Ticks> {
+        Timing {
+            clock: &self.clock,
+            limit: self.sizes.limits.idle,
+        }
     }
 
     /// One step more was made.

@@ -20,7 +20,9 @@ impl Gate for Nested<'_> {
         begin(self.outside);
     }
 
-    fn after_turn(&self, _slot: usize) {}
+    fn after_turn(&self, _slot: usize) {
+        end(self.outside);
+    }
 }
 
 /// The gate of a turn inside of which happens what is planned for it.
@@ -47,6 +49,7 @@ impl<R: Wait + Log> Gate for Planned<'_, '_, R> {
     }
 
     fn after_turn(&self, _slot: usize) {
+        end(&self.crew.outside);
         for _step in 0..MAX_POLLED {
             let step = match self.crew.outside.try_borrow_mut() {
                 Ok(mut outside) => outside.plan.next_after(),
@@ -65,5 +68,12 @@ fn begin(outside: &RefCell<Outside>) {
     if let Ok(mut outside) = outside.try_borrow_mut() {
         outside.act(Act::Claim);
         outside.act(Act::Take);
+    }
+}
+
+/// The last call was made.
+fn end(outside: &RefCell<Outside>) {
+    if let Ok(mut outside) = outside.try_borrow_mut() {
+        outside.end_calls();
     }
 }

@@ -6,9 +6,23 @@ use crate::sizes::{MAX_POLLERS, Sizes};
 use token::MAX_GENERATION;
 use world::Limits;
 
-/// The sizes of a header: `drill slots=S workers=W ring=R budget=B`, and perhaps ` gen=G`, and perhaps ` pollers=P`. At
-/// most 64 slots and 15 workers, since a world that stands beside the server has one worker more. Every slot starts at
-/// generation G, or 0, which is below the last. There are one or two pollers, and as many slots at least.
+/// The most seconds of an idle limit.
+const MAX_IDLE: usize = 86_400;
+
+/// What may be left out of a header.
+#[derive(Clone, Copy, Debug, PartialEq, Eq)]
+struct Extras {
+    /// The generation at which the slots start.
+    generation: u64,
+    /// The idle limit in seconds; 0 for none.
+    idle: u64,
+    pollers: usize,
+}
+
+/// The sizes of a header: `drill slots=S workers=W ring=R budget=B`, and perhaps ` gen=G`, ` idle=L` and ` pollers=P`, in
+/// this order. At most 64 slots and 15 workers, since a world that stands beside the server has one worker more. Every
+/// slot starts at generation G, or 0, which is below the last. The idle limit is L seconds; without it there is none.
+/// There are one or two pollers, and as many slots at least.
 pub fn read_header(line: &str) -> Option<Sizes>
     ensures { IfSome result IsServerSize }
 {
@@ -18,7 +32,7 @@ pub fn read_header(line: &str) -> Option<Sizes>
     }
     let (slots, workers) = (words.next()?, words.next()?);
     let (ring, budget) = (words.next()?, words.next()?);
-    let (generation, pollers) = further(words.next(), words.next())?;
+    let extras = read_extras(words.next(), words.next(), words.next())?;
     if words.next().is_some() {
         return None;
     }
@@ -27,11 +41,12 @@ pub fn read_header(line: &str) -> Option<Sizes>
         workers: size("workers=", 15, workers)?,
         ring: size("ring=", 65_536, ring)?,
         budget: size("budget=", 1_024, budget)?,
-        generation,
+        generation: extras.generation,
+        idle: extras.idle,
     };
     Some(Sizes {
         limits,
-        half: half(limits.slots, pollers)?,
+        half: half(limits.slots, extras.pollers)?,
     })
 }
 
@@ -61,19 +76,50 @@ fn size(key: &str, most: usize, word: &str) -> Option<usize>
     }
 }
 
-/// The generation at which the slots start, and how many pollers there are, by the words that may be left out.
-fn further(one: Option<&str>, other: Option<&str>) -> Option<(u64, usize)>
-    ensures { IfSome result (λ found. found.0 < 140737488355327) }
+/// What up to three words say that may be left out.
+fn read_extras(one: Option<&str>, two: Option<&str>, three: Option<&str>) -> Option<Extras>
+    ensures { IfSome result (λ extras. extras.generation < 140737488355327) }
 {
-    match (one, other) {
-        (None, _) => Some((0, 1)),
-        (Some(word), None) => match generation(word) {
-            Some(generation) => Some((generation, 1)),
-            None => Some((0, size("pollers=", MAX_POLLERS, word)?)),
-        },
-        (Some(one), Some(other)) => {
-            Some((generation(one)?, size("pollers=", MAX_POLLERS, other)?))
+    if let Some(word) = one {
+        if let Some(generation) = generation(word) {
+            return read_rest(generation, two, three);
         }
+    }
+    if three.is_some() {
+        return None;
+    }
+    read_rest(0, one, two)
+}
+
+/// The same of the words behind the generation.
+fn read_rest(generation: u64, one: Option<&str>, two: Option<&str>) -> Option<Extras>
+    requires { generation < 140737488355327 }
+    ensures { IfSome result (λ extras. extras.generation < 140737488355327) }
+{
+    if let Some(word) = one {
+        if let Some(idle) = size("idle=", MAX_IDLE, word) {
+            return Some(Extras {
+                generation,
+                idle: idle as u64,
+                pollers: read_pollers(two)?,
+            });
+        }
+    }
+    if two.is_some() {
+        return None;
+    }
+    Some(Extras {
+        generation,
+        idle: 0,
+        pollers: read_pollers(one)?,
+    })
+}
+
+/// `pollers=P`, or 1 if that is left out.
+fn read_pollers(word: Option<&str>) -> Option<usize> {
+    match word {
+        Some(word) => size("pollers=", MAX_POLLERS, word),
+        None => Some(1),
     }
 }
 

@@ -5,7 +5,7 @@ use kernel_model::{Accepting, Reply};
 use world::{Act, Change, Event, Listening, Polling};
 
 /// How many kinds there are.
-pub const KINDS: usize = 34;
+pub const KINDS: usize = 37;
 
 /// The name of each kind.
 pub const NAMES: [&str; KINDS] = [
@@ -43,13 +43,17 @@ pub const NAMES: [&str; KINDS] = [
     "call blocked",
     "call interrupted",
     "call failed",
+    "tick",
+    "sweep",
+    "idle",
 ];
 
 /// The number of an event's kind.
 pub fn kind_of(event: &Event) -> usize
-    ensures { result < 34 }
+    ensures { result < 37 }
 {
     match event {
+        Event::Tick(_) => 34,
         Event::Network(_, _, change) => change_kind(change),
         Event::Spurious(_) => 5,
         Event::Vanish(_) => 6,
@@ -60,7 +64,7 @@ pub fn kind_of(event: &Event) -> usize
 }
 
 fn change_kind(change: &Change) -> usize
-    ensures { result < 34 }
+    ensures { result < 37 }
 {
     match change {
         Change::Arrive(_) => 1,
@@ -71,7 +75,7 @@ fn change_kind(change: &Change) -> usize
 }
 
 fn listening_kind(listening: Listening) -> usize
-    ensures { result < 34 }
+    ensures { result < 37 }
 {
     match listening {
         Listening::Connect => 0,
@@ -84,18 +88,19 @@ fn listening_kind(listening: Listening) -> usize
 }
 
 fn polling_kind(polling: &Polling) -> usize
-    ensures { result < 34 }
+    ensures { result < 37 }
 {
     match polling {
         Polling::Open => 12,
         Polling::Poll(_) => 13,
         Polling::Deliver => 14,
         Polling::Put => 15,
+        Polling::Sweep(_) => 35,
     }
 }
 
 fn act_kind(act: Act) -> usize
-    ensures { result < 34 }
+    ensures { result < 37 }
 {
     match act {
         Act::Put => 16,
@@ -107,12 +112,13 @@ fn act_kind(act: Act) -> usize
         Act::Close => 22,
         Act::Retire => 23,
         Act::Free => 24,
+        Act::Expire => 36,
         Act::Call(reply) => reply_kind(reply),
     }
 }
 
 fn reply_kind(reply: Reply) -> usize
-    ensures { result < 34 }
+    ensures { result < 37 }
 {
     match reply {
         Reply::Bytes(_) => 25,

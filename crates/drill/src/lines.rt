@@ -7,6 +7,7 @@ use world::{Act, Change, Event, Listening, Polling, Reported};
 /// The line of an event, without its end.
 pub fn line_of(alloc: Global, event: &Event) -> Result<String, AllocError> {
     match event {
+        Event::Tick(seconds) => format!(in alloc; "tick {seconds}"),
         Event::Network(slot, side, change) => {
             let side = side.name();
             match change {
@@ -57,6 +58,7 @@ fn polling_line(alloc: Global, polling: &Polling) -> Result<String, AllocError> 
             format!(in alloc; "poll{names}")
         }
         Polling::Deliver => String::from_str(alloc, "deliver"),
+        Polling::Sweep(slot) => format!(in alloc; "sweep {slot}"),
         Polling::Put => String::from_str(alloc, "put poller"),
     }
 }
@@ -94,6 +96,7 @@ fn act_line(alloc: Global, worker: usize, act: Act) -> Result<String, AllocError
         Act::Take => "take",
         Act::Post => "post",
         Act::Release => "release",
+        Act::Expire => "idle",
         Act::Close => "close",
         Act::Retire => "retire",
         Act::Free => "free",

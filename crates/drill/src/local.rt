@@ -49,6 +49,7 @@ pub fn local_event(alloc: Global, part: Part, event: Event) -> Result<Event, All
         Event::Poll(Polling::Poll(names)) => {
             Event::Poll(Polling::Poll(local_names(alloc, part, names.as_slice())?))
         }
+        Event::Poll(Polling::Sweep(slot)) => Event::Poll(Polling::Sweep(local_slot(part, slot))),
         event => event,
     })
 }

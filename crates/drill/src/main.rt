@@ -7,8 +7,8 @@
 //! slots has to be its world's report, byte for byte.
 //!
 //! `session.rt` plays the scripts, `crew.rt` makes the steps, `outside.rt`, `station.rt` and `calls.rt` are what the
-//! server's calls get, `tape.rt` keeps the events and the world, and `report.rt` is the server's report. `tests/drill`
-//! makes random scripts.
+//! server's calls get, `ticks.rt` is its clock, `tape.rt` keeps the events and the world, and `report.rt` is the server's
+//! report. `tests/drill` makes random scripts.
 #![tactic(auto)]
 
 mod actors;
@@ -36,7 +36,9 @@ mod sizes;
 mod source;
 mod station;
 mod step;
+mod sweeps;
 mod tape;
+mod ticks;
 mod totals;
 mod wire;
 

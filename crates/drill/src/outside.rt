@@ -6,10 +6,12 @@ use crate::plan::Plan;
 use crate::sizes::{MAX_POLLERS, Sizes};
 use crate::station::Station;
 use crate::step::{Later, Outer, Polled};
+use crate::ticks::Ticks;
 use crate::totals::Totals;
-use dispatch::{Unopened, Worked};
+use dispatch::{Clock, Unopened, Worked};
 use kernel_model::{Accepting, MAX_BACKLOG, MAX_POLLED, Watched};
 use std::alloc::{AllocError, Global};
+use std::rc::Rc;
 use token::{Name, Token};
 use world::{Act, Event, Listening, Polling, Reported};
 
@@ -20,6 +22,8 @@ pub struct Actor {
     pub poller: usize,
     /// The worker, by its number in that poller's world.
     pub worker: usize,
+    /// Whether the turn has read the clock and may still make calls.
+    pub calls: bool,
 }
 
 /// An open end.
@@ -35,6 +39,7 @@ pub struct Socket {
 #[derive(Drop)]
 pub struct Outside {
     sizes: Sizes,
+    clock: Rc<Ticks>,
     stations: Vec<Station>,
     pub plan: Plan,
     /// How many clients wait outside of all kernels. With one poller a client waits at its listener.
@@ -48,17 +53,24 @@ pub struct Outside {
 }
 
 impl Outside {
-    pub fn new(alloc: Global, sizes: Sizes, totals: Totals) -> Result<Outside, AllocError>
+    pub fn new(
+        alloc: Global,
+        sizes: Sizes,
+        clock: Rc<Ticks>,
+        totals: Totals,
+    ) -> Result<Outside, AllocError>
         requires { IsServerSize sizes }
     {
         Ok(Outside {
             sizes,
+            clock,
             stations: stations_of(alloc, sizes)?,
             plan: Plan::new(alloc),
             waiting: 0,
             actor: Actor {
                 poller: 0,
                 worker: 0,
+                calls: false,
             },
             idle: None,
             message: String::new(alloc),
@@ -95,8 +107,17 @@ impl Outside {
 
     /// The worker whose turn it is has done this.
     pub fn act(&mut self, act: Act) {
-        let Actor { poller, worker } = self.actor;
+        let Actor { poller, worker, .. } = self.actor;
         self.record(poller, Event::Work(worker, act));
+    }
+
+    /// The turn in progress has made its last call. Its connection has to end now, if the idle limit has passed for it.
+    pub fn end_calls(&mut self) {
+        self.actor.calls = false;
+        let Actor { poller, worker, .. } = self.actor;
+        if let Some(station) = self.station_mut(poller) {
+            station.tape.expire(worker);
+        }
     }
 
     /// Whether the worker whose turn it is has a ticket to put, in the world.
@@ -118,6 +139,7 @@ impl Outside {
     pub fn happen(&mut self, outer: Outer) {
         let Outer { poller, event } = outer;
         let poller = match &event {
+            Event::Tick(seconds) => return self.tick(*seconds),
             Event::Listen(Listening::Connect) => return self.connect(),
             Event::Vanish(Reported::Listener) if self.waiting > 0 => return,
             Event::Network(slot, _, _)
@@ -127,6 +149,17 @@ impl Outside {
         };
         if let Some(station) = self.station_mut(poller) {
             station.happen(event);
+        }
+    }
+
+    /// The clock goes on, and so does the second of each world, if there is an idle limit. Nothing happens while a turn
+    /// that has read the clock may still make calls: the server makes them at the second that it read.
+    fn tick(&mut self, seconds: u64) {
+        if self.sizes.limits.idle == 0 || self.actor.calls || !self.clock.go_on(seconds) {
+            return;
+        }
+        for station in self.stations.iter_mut() {
+            station.tape.put(Event::Tick(seconds));
         }
     }
 
@@ -184,10 +217,19 @@ impl Outside {
         for _name in &names {
             self.record(poller, Event::Poll(Polling::Deliver));
         }
+        self.sweep(poller);
         if polled == Some(Polled::Interrupted) {
             return Ok(None);
         }
         Ok(Some(names))
+    }
+
+    /// A poller's round comes to its sweep.
+    fn sweep(&mut self, poller: usize) {
+        let second = self.clock.second();
+        if let Some(station) = self.station_mut(poller) {
+            station.sweep(second);
+        }
     }
 
     fn next_polled(&mut self, poller: usize) -> Option<Outer> {

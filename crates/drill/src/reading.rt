@@ -9,6 +9,9 @@ use world::{Change, Event, Listening, Reported};
 /// The most bytes that one arrival brings.
 const MAX_BYTES: usize = 1_024;
 
+/// The most seconds that pass at once.
+const MAX_TICK: u64 = 4_294_967_295;
+
 /// The first word of a text, and what follows the space behind it.
 fn cut(text: &str) -> (&str, &str) {
     text.split_once(' ').unwrap_or((text, ""))
@@ -71,6 +74,16 @@ fn number(word: &str) -> Option<usize> {
     word.parse::<usize>().ok()
 }
 
+/// How many seconds pass.
+fn seconds(word: &str) -> Option<u64> {
+    let seconds = word.parse::<u64>().ok()?;
+    if 1 <= seconds && seconds <= MAX_TICK {
+        Some(seconds)
+    } else {
+        None
+    }
+}
+
 /// What happens outside of the server.
 fn outside(alloc: Global, text: &str) -> Result<Option<Outer>, AllocError> {
     let (word, rest) = cut(text);
@@ -78,6 +91,10 @@ fn outside(alloc: Global, text: &str) -> Result<Option<Outer>, AllocError> {
         "connect" => Ok(Some(Outer {
             poller: 0,
             event: Event::Listen(Listening::Connect),
+        })),
+        "tick" => Ok(seconds(rest).map(|seconds| Outer {
+            poller: 0,
+            event: Event::Tick(seconds),
         })),
         "spurious" => Ok(reported(rest).map(|(poller, who)| Outer {
             poller,

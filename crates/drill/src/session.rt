@@ -10,6 +10,7 @@ use crate::parts::parts_of;
 use crate::play::{Played, play_line};
 use crate::sizes::Sizes;
 use crate::source::Source;
+use crate::ticks::Ticks;
 use crate::totals::Totals;
 use log::{Level, Log, Logged};
 use std::alloc::Global;
@@ -67,14 +68,16 @@ fn play_script<R: Wait + AllocGlobal + Print, B: BufRead>(
     requires { IsServerSize sizes }
 {
     let alloc = rt.alloc();
-    let outside = Rc::new(alloc, RefCell::new(Outside::new(alloc, sizes, *totals)?))?;
+    let clock = Rc::new(alloc, Ticks::new())?;
+    let outside = Outside::new(alloc, sizes, clock.clone()?, *totals)?;
+    let outside = Rc::new(alloc, RefCell::new(outside))?;
     let diary = Diary {
         alloc,
         outside: outside.clone()?,
     };
     let log = Logged::new(rt, Level::Info, diary);
     let (shared, rest) = parts_of(rt, alloc, outside.clone()?, sizes)?;
-    let Some(crew) = crew_of(alloc, &outside, &shared, rest, sizes)? else {
+    let Some(crew) = crew_of(alloc, &outside, clock, &shared, rest, sizes)? else {
         return Err(io::Error::from(ErrorKind::Other));
     };
     let ending = play_lines(&log, alloc, &crew, source);

@@ -5,6 +5,7 @@ use crate::past::Past;
 use crate::plan::RoundPlan;
 use crate::sizes::Sizes;
 use crate::step::Polled;
+use crate::sweeps::Sweeps;
 use crate::tape::Tape;
 use dispatch::{MAX_ACCEPTS, Part, Unopened};
 use kernel_model::{Accepting, Descriptors, Kernel, MAX_POLLED, Refusal, Watched};
@@ -24,6 +25,9 @@ pub struct Station {
     pub plan: RoundPlan,
     pub tape: Tape,
     pub past: Past,
+    /// The slots of this poller.
+    part: Part,
+    sweeps: Sweeps,
     /// How often accept(2) was called since the last poll.
     tries: usize,
     /// Whether accept(2) was starved when it was last called.
@@ -41,6 +45,8 @@ impl Station {
             plan: RoundPlan::new(alloc),
             tape: Tape::new(alloc, sizes, part)?,
             past: Past::new(alloc, part),
+            part,
+            sweeps: Sweeps::new(sizes.limits.idle),
             tries: 0,
             starved: false,
         })
@@ -122,6 +128,20 @@ impl Station {
             names.reverse();
         }
         Ok(names)
+    }
+
+    /// A round has delivered its reports at this second. If a sweep is due, each slot that the table has opened is posted to,
+    /// in rising order.
+    pub fn sweep(&mut self, second: u64) {
+        if !self.sweeps.falls_due(second) {
+            return;
+        }
+        for slot in 0..self.part.slots {
+            if self.tape.has_entry(slot) {
+                let slot = self.part.first.saturating_add(slot);
+                self.tape.put(Event::Poll(Polling::Sweep(slot)));
+            }
+        }
     }
 
     /// What accept(2) is answered, where a client waits or not.

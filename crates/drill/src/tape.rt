@@ -8,7 +8,7 @@ use crate::sizes::Sizes;
 use crate::totals::Totals;
 use dispatch::{Part, Worked};
 use std::alloc::{AllocError, Global};
-use world::{Doing, Event, Limits, World};
+use world::{Act, Doing, Event, Limits, World};
 
 /// A world that makes each event at once, and the script of these events.
 #[derive(Drop)]
@@ -39,6 +39,7 @@ impl Tape {
             generation,
             ..
         } = sizes.limits;
+        let idle = idle_text(alloc, sizes.limits.idle)?;
         Ok(Tape {
             alloc,
             part,
@@ -51,7 +52,7 @@ impl Tape {
                 },
             )?,
             script: format!(in alloc;
-                "world slots={slots} workers={workers} ring={ring} budget={budget} gen={generation}\n"
+                "world slots={slots} workers={workers} ring={ring} budget={budget} gen={generation}{idle}\n"
             )?,
             refused: None,
             over: false,
@@ -69,14 +70,31 @@ impl Tape {
 
     fn try_put(&mut self, event: Event) -> Result<(), AllocError> {
         let event = local_event(self.alloc, self.part, event)?;
-        self.totals.count(kind_of(&event));
-        let line = line_of(self.alloc, &event)?;
-        self.script.push_str(line.as_str())?;
-        self.script.push_str("\n")?;
+        let line = self.write(&event)?;
         if self.world.step(&event).is_err() && self.refused.is_none() {
             self.refused = Some(line);
         }
         Ok(())
+    }
+
+    /// Counts an event, and adds its line to the script.
+    fn write(&mut self, event: &Event) -> Result<String, AllocError> {
+        self.totals.count(kind_of(event));
+        let line = line_of(self.alloc, event)?;
+        self.script.push_str(line.as_str())?;
+        self.script.push_str("\n")?;
+        Ok(line)
+    }
+
+    /// The connection that the world's worker of this number holds expires, if the world has it past the idle limit.
+    pub fn expire(&mut self, worker: usize) {
+        let event = Event::Work(worker, Act::Expire);
+        if self.over || self.world.step(&event).is_err() {
+            return;
+        }
+        if self.write(&event).is_err() {
+            self.over = true;
+        }
     }
 
     /// Nothing that happens from now on is recorded.
@@ -102,6 +120,14 @@ impl Tape {
         script::print(self.alloc, &self.world)
     }
 
+    /// Whether the world's table has a generation over 0 for this slot of the world.
+    pub fn has_entry(&self, slot: usize) -> bool {
+        match self.world.table_entry(slot) {
+            Some(generation) => generation > 0,
+            None => false,
+        }
+    }
+
     /// Whether the world's worker of this number has a ticket to put.
     pub fn has_ticket(&self, worker: usize) -> bool {
         match self.world.workers().get(worker) {
@@ -121,5 +147,14 @@ impl Tape {
                 None => Some(Worked::Quiet),
             },
         }
+    }
+}
+
+/// An idle limit in the header of a world's script, with a space in front; nothing for none.
+fn idle_text(alloc: Global, idle: u64) -> Result<String, AllocError> {
+    if idle == 0 {
+        Ok(String::new(alloc))
+    } else {
+        format!(in alloc; " idle={idle}")
     }
 }

@@ -23,7 +23,7 @@ impl Totals {
 
     /// Counts an event of this kind.
     pub fn count(&mut self, kind: usize)
-        requires { kind < 34 }
+        requires { kind < 37 }
     {
         self.kinds[kind] = self.kinds[kind].saturating_add(1);
     }

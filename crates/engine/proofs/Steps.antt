@@ -45,10 +45,10 @@ pub stays_at : (n m : ℕ) → m ≡ n → Rises n m 0
 stays_at n m e = ap (λ (k : ℕ). k % 2 ^ 64) (e ∙ sym (add-zero n))
 
 -- an answer that moves nothing and that no wire counts
-pub still : {S : Type 0} (told : S → WireView) (does : Asked → Given → S → S → Type 0) (call : Call) (p q : Relay) (reply : AnswerValue) (old new : S) → fits p call reply ≡ true → q ≡ after p call reply →
+pub still : {S : Type 0} (now : ℕ) (told : S → WireView) (does : Asked → Given → S → S → Type 0) (call : Call) (p q : Relay) (reply : AnswerValue) (old new : S) → fits p call reply ≡ true → q ≡ after now p call reply →
     brought (way_from (side_of call)) call reply ≡ [] → carried p (way_to (side_of call)) call reply ≡ [] →
-    is_failed reply ≡ false → is_blocked reply ≡ false → Stays (told old) (told new) → IsCalled does (made (asked p call) reply) old new → IsStep told does call p q old new
-still told does call p q reply old new fit run brings carries sound free s m = record {
+    is_failed reply ≡ false → is_blocked reply ≡ false → Stays (told old) (told new) → IsCalled does (made (asked p call) reply) old new → IsStep told does call now p q old new
+still now told does call p q reply old new fit run brings carries sound free s m = record {
   reply = reply;
   fit = fit;
   run = run;
@@ -75,10 +75,10 @@ fitting n most buffer some within small =
     rw (length-take-le n buffer within, le-leb 1 n some, le-leb n most small) refl
 
 -- a read brought bytes, which stand at the front of the buffer
-pub bytes_in : {S : Type 0} (told : S → WireView) (does : Asked → Given → S → S → Type 0) (side : Side) (most : ℕ) (p q : Relay) (n : ℕ) (room buffer rest : List ℕ) (old new : S) → 1 ≤ n → n ≤ length buffer → n ≤ most →
-    q ≡ after p (Read side most) (Bytes (take n (buffer ++ rest))) → Consumes (told old).remaining (told new).remaining (take n buffer) →
-    Stays (record (told old) { remaining = None }) (record (told new) { remaining = None }) → length room ≡ most → does (ask.Read (length room)) (Brought (take n buffer)) old new → IsStep told does (Read side most) p q old new
-bytes_in told does side most p q n room buffer rest old new some within small run taken s all did =
+pub bytes_in : {S : Type 0} (now : ℕ) (told : S → WireView) (does : Asked → Given → S → S → Type 0) (side : Side) (most : ℕ) (p q : Relay) (n : ℕ) (room buffer rest : List ℕ) (old new : S) → 1 ≤ n → n ≤ length buffer → n ≤ most →
+    q ≡ after now p (Read side most) (Bytes (take n (buffer ++ rest))) → Consumes (told old).remaining (told new).remaining (take n buffer) →
+    Stays (record (told old) { remaining = None }) (record (told new) { remaining = None }) → length room ≡ most → does (ask.Read (length room)) (Brought (take n buffer)) old new → IsStep told does (Read side most) now p q old new
+bytes_in now told does side most p q n room buffer rest old new some within small run taken s all did =
     let same : take n (buffer ++ rest) ≡ take n buffer = take-append-le n buffer rest within in
     record {
       reply = Bytes (take n buffer);
@@ -110,9 +110,9 @@ raised f g moved (inl same) = absurd (moved same)
 raised f g moved (inr rose) = rose
 
 -- a write took bytes
-pub bytes_out : {S : Type 0} (told : S → WireView) (does : Asked → Given → S → S → Type 0) (side : Side) (p q : Relay) (n : ℕ) (offered : List ℕ) (old new : S) → 1 ≤ n → n ≤ length offered → offered ≡ offer p side → q ≡ after p (Write side) (Wrote n) →
-    Appends (told old).written (told new).written (take n offered) → Stays (record (told old) { written = None }) (record (told new) { written = None }) → does (ask.Write offered) (Took n) old new → IsStep told does (Write side) p q old new
-bytes_out told does side p q n offered old new some within same run taken s did = record {
+pub bytes_out : {S : Type 0} (now : ℕ) (told : S → WireView) (does : Asked → Given → S → S → Type 0) (side : Side) (p q : Relay) (n : ℕ) (offered : List ℕ) (old new : S) → 1 ≤ n → n ≤ length offered → offered ≡ offer p side → q ≡ after now p (Write side) (Wrote n) →
+    Appends (told old).written (told new).written (take n offered) → Stays (record (told old) { written = None }) (record (told new) { written = None }) → does (ask.Write offered) (Took n) old new → IsStep told does (Write side) now p q old new
+bytes_out now told does side p q n offered old new some within same run taken s did = record {
   reply = Wrote n;
   fit = let all : n ≤ length (offer p side) = rw same at within in rw (le-leb 1 n some, le-leb n (length (offer p side)) all) refl;
   run = run;
@@ -126,10 +126,10 @@ bytes_out told does side p q n offered old new some within same run taken s did 
 }
 
 -- a call failed
-pub failed : {S : Type 0} (told : S → WireView) (does : Asked → Given → S → S → Type 0) (call : Call) (p q : Relay) (kind : Kind) (old new : S) → fits p call (Failed kind) ≡ true → q ≡ after p call (Failed kind) →
+pub failed : {S : Type 0} (now : ℕ) (told : S → WireView) (does : Asked → Given → S → S → Type 0) (call : Call) (p q : Relay) (kind : Kind) (old new : S) → fits p call (Failed kind) ≡ true → q ≡ after now p call (Failed kind) →
     Keeps (told old).remaining (told new).remaining → Keeps (told old).written (told new).written → Rises (told old).faults (told new).faults 1 → (told new).blocks ≡ (told old).blocks →
-    IsCalled does (made (asked p call) (Failed kind)) old new → IsStep told does call p q old new
-failed told does call p q kind old new fit run left kept faults blocks m = record {
+    IsCalled does (made (asked p call) (Failed kind)) old new → IsStep told does call now p q old new
+failed now told does call p q kind old new fit run left kept faults blocks m = record {
   reply = Failed kind;
   fit = fit;
   run = run;
@@ -180,10 +180,10 @@ failed_fits p (Join side) kind = refl
 failed_fits p (call.Shut side) kind = refl
 
 -- an error, classed by what the wire counted
-pub erred : {S : Type 0} (told : S → WireView) (does : Asked → Given → S → S → Type 0) (call : Call) (p q : Relay) (error : ErrorKind) (reply : AnswerValue) (faults blocks : ℕ) (old new : S) → fits p call Blocked ≡ true → q ≡ after p call reply →
+pub erred : {S : Type 0} (now : ℕ) (told : S → WireView) (does : Asked → Given → S → S → Type 0) (call : Call) (p q : Relay) (error : ErrorKind) (reply : AnswerValue) (faults blocks : ℕ) (old new : S) → fits p call Blocked ≡ true → q ≡ after now p call reply →
     Keeps (told old).remaining (told new).remaining → Keeps (told old).written (told new).written → faults ≡ (told old).faults → blocks ≡ (told old).blocks →
-    IsError (kind_of_error error) reply faults (told new).faults blocks (told new).blocks → does (asked p call) (Refused error) old new → IsStep told does call p q old new
-erred told does call p q error Blocked faults blocks old new may run left kept f b e did = record {
+    IsError (kind_of_error error) reply faults (told new).faults blocks (told new).blocks → does (asked p call) (Refused error) old new → IsStep told does call now p q old new
+erred now told does call p q error Blocked faults blocks old new may run left kept f b e did = record {
   reply = Blocked;
   fit = may;
   run = run;
@@ -195,7 +195,7 @@ erred told does call p q error Blocked faults blocks old new may run left kept f
     made = refused does (asked p call) error Blocked old new tt did;
   };
 }
-erred told does call p q error Interrupted faults blocks old new may run left kept f b e did = record {
+erred now told does call p q error Interrupted faults blocks old new may run left kept f b e did = record {
   reply = Interrupted;
   fit = interrupted_fits p call;
   run = run;
@@ -207,7 +207,7 @@ erred told does call p q error Interrupted faults blocks old new may run left ke
     made = refused does (asked p call) error Interrupted old new tt did;
   };
 }
-erred told does call p q error (Failed kind) faults blocks old new may run left kept f b e did = record {
+erred now told does call p q error (Failed kind) faults blocks old new may run left kept f b e did = record {
   reply = Failed kind;
   fit = failed_fits p call kind;
   run = run;
@@ -219,8 +219,8 @@ erred told does call p q error (Failed kind) faults blocks old new may run left 
     made = refused does (asked p call) error (Failed kind) old new e.sort did;
   };
 }
-erred told does call p q error (Bytes bytes) faults blocks old new may run left kept f b e did = absurd e.sort
-erred told does call p q error End faults blocks old new may run left kept f b e did = absurd e.sort
-erred told does call p q error (Wrote n) faults blocks old new may run left kept f b e did = absurd e.sort
-erred told does call p q error Joined faults blocks old new may run left kept f b e did = absurd e.sort
-erred told does call p q error Shut faults blocks old new may run left kept f b e did = absurd e.sort
+erred now told does call p q error (Bytes bytes) faults blocks old new may run left kept f b e did = absurd e.sort
+erred now told does call p q error End faults blocks old new may run left kept f b e did = absurd e.sort
+erred now told does call p q error (Wrote n) faults blocks old new may run left kept f b e did = absurd e.sort
+erred now told does call p q error Joined faults blocks old new may run left kept f b e did = absurd e.sort
+erred now told does call p q error Shut faults blocks old new may run left kept f b e did = absurd e.sort

@@ -30,11 +30,11 @@ pub record IsAnswered {S : Type 0} (told : S → WireView) (does : Asked → Giv
   pub blocks : Rises (told old).blocks (told new).blocks (if is_blocked reply then 1 else 0)
   pub made : IsCalled does (made (asked p call) reply) old new
 
--- a call was made, and the pair has its answer
-pub record IsStep {S : Type 0} (told : S → WireView) (does : Asked → Given → S → S → Type 0) (call : Call) (old new : Relay) (wire wire_now : S) : Type 0 where
+-- a call was made at the second `now`, and the pair has its answer
+pub record IsStep {S : Type 0} (told : S → WireView) (does : Asked → Given → S → S → Type 0) (call : Call) (now : ℕ) (old new : Relay) (wire wire_now : S) : Type 0 where
   pub reply : AnswerValue
   pub fit : fits old call reply ≡ true
-  pub run : new ≡ after old call reply
+  pub run : new ≡ after now old call reply
   pub served : IsAnswered told does call old reply wire wire_now
 
 -- an error's answer: what the wire counted tells a failure from "would block", and both from an interruption
@@ -43,9 +43,9 @@ pub record IsError (kind : Kind) (reply : AnswerValue) (faults faults_now blocks
   pub failed : Rises faults faults_now (if is_failed reply then 1 else 0)
   pub waited : Rises blocks blocks_now (if is_blocked reply then 1 else 0)
 
--- the next call of a pair was made on the wire of its side, and the pair has its answer
-pub record IsMove (old new : Relay) (client target : Side → Relay → List AnswerValue → Type 0) : Type 0 where
+-- the next call of a pair was made at the second `now` on the wire of its side, and the pair has its answer
+pub record IsMove (now : ℕ) (old new : Relay) (client target : Side → Relay → List AnswerValue → Type 0) : Type 0 where
   pub reply : AnswerValue
-  pub run : answered old reply ≡ Some new
+  pub run : answered now old reply ≡ Some new
   pub by_client : client Client old (reply ∷ [])
   pub by_target : target Target old (reply ∷ [])

@@ -12,6 +12,7 @@ use Rattle.relay_core.specs.declared.Kind.TheVariants.{Zero}
 use Rattle.relay_core.specs.declared.call.Call.{Call}
 use Rattle.relay_core.specs.declared.call.Call.TheVariants as call
 use Rattle.relay_core.specs.declared.verdict.Fault.{Fault}
+use Rattle.relay_core.specs.declared.verdict.Fault.TheVariants.{Broken, Idle}
 use Rattle.relay_core.specs.declared.verdict.Verdict.{Verdict}
 use Rattle.relay_core.specs.declared.verdict.Verdict.TheVariants as verdict
 use Rattle.relay_core.specs.Calls.{side_of, direction_of}
@@ -19,6 +20,8 @@ use Rattle.relay_core.specs.Pairs.{Relay, verdict}
 use Rattle.relay_core.specs.Order.{next_call, offer}
 use Rattle.relay_core.specs.Replies.{AnswerValue, Bytes, End, Wrote, Joined, Shut, Blocked, Interrupted, Failed}
 use Rattle.relay_core.specs.Runs.{answered, over}
+use Rattle.relay_core.specs.Idle.{expired}
+use Rattle.relay_core.specs.Laws.{IsOverdue}
 use Rattle.relay_core.specs.Moved.{all_brought, all_carried}
 use Rattle.engine.specs.Classes.{kind_of_error}
 use Rattle.engine.specs.Asked as ask
@@ -63,13 +66,13 @@ same_side Target Target = true
 abbrev pub one_if : (AnswerValue → Bool) → Side → Call → AnswerValue → ℕ
 one_if test side call reply = if same_side (side_of call) side && test reply then 1 else 0
 
--- how many answers of a list are of a sort, of those to calls on one side, each to the call that comes
+-- how many answers of a list of one second are of a sort, of those to calls on one side, each to the call that comes
 -- next at that point
-abbrev pub count_on : (AnswerValue → Bool) → Side → Relay → List AnswerValue → ℕ
-count_on test side p [] = 0
-count_on test side p (reply ∷ replies) =
+abbrev pub count_on : (AnswerValue → Bool) → Side → ℕ → Relay → List AnswerValue → ℕ
+count_on test side now p [] = 0
+count_on test side now p (reply ∷ replies) =
     unwrap_or (option_map (λ (call : Call). one_if test side call reply) (next_call p)) 0
-    + unwrap_or (option_map (λ (q : Relay). count_on test side q replies) (answered p reply)) 0
+    + unwrap_or (option_map (λ (q : Relay). count_on test side now q replies) (answered now p reply)) 0
 
 -- what a call asks of its wire: a write offers all bytes that are bound for its side
 abbrev pub asked : Relay → Call → Asked
@@ -89,12 +92,12 @@ made asked reply = record { asked = asked; reply = reply }
 abbrev pub made_if : Side → Relay → Call → AnswerValue → List Made
 made_if side p call reply = if same_side (side_of call) side then made (asked p call) reply ∷ [] else []
 
--- the calls on one side along a list of answers, each the one that comes next at that point
-abbrev pub made_on : Side → Relay → List AnswerValue → List Made
-made_on side p [] = []
-made_on side p (reply ∷ replies) =
+-- the calls on one side along a list of answers of one second, each the one that comes next at that point
+abbrev pub made_on : Side → ℕ → Relay → List AnswerValue → List Made
+made_on side now p [] = []
+made_on side now p (reply ∷ replies) =
     unwrap_or (option_map (λ (call : Call). made_if side p call reply) (next_call p)) []
-    ++ unwrap_or (option_map (λ (q : Relay). made_on side q replies) (answered p reply)) []
+    ++ unwrap_or (option_map (λ (q : Relay). made_on side now q replies) (answered now p reply)) []
 
 -- a failure of this kind: a write that took no byte, or an error of that kind
 abbrev pub IsFailure : Given → Kind → Type 0
@@ -133,21 +136,29 @@ AreMade {S} told does (call ∷ calls) old new = (between : S) × IsMade told do
 -- what the answers of a list did to the wire on one side: the bytes that they brought were read from it,
 -- and those that they carried were written to it, in order and nothing else; it counted each answer that
 -- was a fault, and each that was "would block"; and the calls on its side were made on it and no other
-pub record IsServed {S : Type 0} (told : S → WireView) (does : Asked → Given → S → S → Type 0) (old new : S) (side : Side) (p : Relay) (replies : List AnswerValue) : Type 0 where
-  pub read : Consumes (told old).remaining (told new).remaining (all_brought p (way_from side) replies)
-  pub written : Appends (told old).written (told new).written (all_carried p (way_to side) replies)
-  pub faults : Rises (told old).faults (told new).faults (count_on is_failed side p replies)
-  pub blocks : Rises (told old).blocks (told new).blocks (count_on is_blocked side p replies)
-  pub made : AreMade told does (made_on side p replies) old new
+pub record IsServed {S : Type 0} (told : S → WireView) (does : Asked → Given → S → S → Type 0) (now : ℕ) (old new : S) (side : Side) (p : Relay) (replies : List AnswerValue) : Type 0 where
+  pub read : Consumes (told old).remaining (told new).remaining (all_brought now p (way_from side) replies)
+  pub written : Appends (told old).written (told new).written (all_carried now p (way_to side) replies)
+  pub faults : Rises (told old).faults (told new).faults (count_on is_failed side now p replies)
+  pub blocks : Rises (told old).blocks (told new).blocks (count_on is_blocked side now p replies)
+  pub made : AreMade told does (made_on side now p replies) old new
 
--- a turn of at most `budget` calls: there is a list of answers over which the pair ran, and each wire served its side
--- of it, as `client` and `target` say: its bytes, its counts of faults and blocks, and its calls. The list is shorter
--- than the budget only if there is no next call, and a pair that was live fails only by the last answer
-pub record IsTurn (budget : ℕ) (old new : Relay) (client target : Side → Relay → List AnswerValue → Type 0) : Type 0 where
+-- a turn fails a live pair by its last answer, or at its end, since the pair moved nothing for the limit
+abbrev pub FailsBy : ℕ → ℕ → Relay → List AnswerValue → Fault → Type 0
+FailsBy now limit ran replies (Broken side call kind) = (front : List AnswerValue) × (replies ≡ front ++ Failed kind ∷ [])
+FailsBy now limit ran replies Idle = IsOverdue now limit ran
+
+-- a turn of at most `budget` calls: there is a list of answers, all at the second `now`, over which the pair ran, and
+-- each wire served its side of it, as `client` and `target` say: its bytes, its counts of faults and blocks, and its
+-- calls. The pair that ran is then held against the idle limit, which fails it where it is overdue and else changes
+-- nothing. The list is shorter than the budget only if there is no next call
+pub record IsTurn (budget now limit : ℕ) (old new : Relay) (client target : Side → Relay → List AnswerValue → Type 0) : Type 0 where
   pub replies : List AnswerValue
   pub few : length replies ≤ budget
-  pub run : over old replies ≡ Some new
+  pub ran : Relay
+  pub run : over now old replies ≡ Some ran
+  pub held : new ≡ expired now limit ran
   pub whole : OnSome (next_call new) (length replies ≡ budget)
-  pub failed_last : (fault : Fault) → verdict old ≡ verdict.Live → verdict new ≡ verdict.Failed fault → (front : List AnswerValue) × (replies ≡ front ++ Failed fault.kind ∷ [])
+  pub fails : (fault : Fault) → verdict old ≡ verdict.Live → verdict new ≡ verdict.Failed fault → FailsBy now limit ran replies fault
   pub by_client : client Client old replies
   pub by_target : target Target old replies

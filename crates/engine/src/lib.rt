@@ -11,6 +11,7 @@
 #![tactic(auto)]
 
 mod class;
+mod moment;
 mod outcome;
 mod scripted;
 mod step;
@@ -21,6 +22,7 @@ mod turning;
 mod wire;
 
 pub use class::{Class, class_of, pending};
+pub use moment::Moment;
 pub use outcome::Turn;
 pub use scripted::{Bytes, Play, PlayList, ScriptWire};
 pub use tally::Tally;

@@ -7,6 +7,6 @@ pub enum Turn {
     Quiet,
     /// Both ends of input were passed on.
     Done,
-    /// A call failed.
+    /// A call failed, or the idle limit has passed.
     Failed,
 }

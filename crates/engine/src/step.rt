@@ -16,17 +16,23 @@ use crate::wire::Wire;
 use relay_core::{Answer, Call, Kind, MAX_READ, Pair, Side};
 use std::io;
 
-/// Makes the call that comes next, and gives the pair the answer.
-pub(crate) fn step<W: Wire>(pair: &mut Pair, call: Call, wire: &mut W, buffer: &mut [u8; MAX_READ])
+/// Makes the call that comes next, at the second `now`, and gives the pair the answer.
+pub(crate) fn step<W: Wire>(
+    pair: &mut Pair,
+    call: Call,
+    now: u64,
+    wire: &mut W,
+    buffer: &mut [u8; MAX_READ],
+)
     requires next { next_call pair.old ≡ Some call }
     requires possible { IsPossible pair.old call }
-    ensures { IsStep W.told W.does call pair.old pair.new wire.old wire.new }
+    ensures { IsStep W.told W.does call now pair.old pair.new wire.old wire.new }
 {
     match call {
-        Call::Write(side) => write(pair, side, wire),
-        Call::Join(side) => join(pair, side, wire),
-        Call::Shut(side) => shut(pair, side, wire),
-        Call::Read(side, most) => read(pair, side, most, wire, buffer),
+        Call::Write(side) => write(pair, side, now, wire),
+        Call::Join(side) => join(pair, side, now, wire),
+        Call::Shut(side) => shut(pair, side, now, wire),
+        Call::Read(side, most) => read(pair, side, most, now, wire, buffer),
     }
 }
 
@@ -34,38 +40,41 @@ fn read<W: Wire>(
     pair: &mut Pair,
     side: Side,
     most: usize,
+    now: u64,
     wire: &mut W,
     buffer: &mut [u8; MAX_READ],
 )
     requires next { next_call pair.old ≡ Some (call.Read side most) }
     requires possible { IsPossible pair.old (call.Read side most) }
-    ensures { IsStep W.told W.does (call.Read side most) pair.old pair.new wire.old wire.new }
+    ensures { IsStep W.told W.does (call.Read side most) now pair.old pair.new wire.old wire.new }
 {
     let faults = wire.faults();
     let blocks = wire.blocks();
     match wire.read(&mut buffer[..most]) {
-        Ok(0) => pair.answer(Call::Read(side, most), Answer::End),
-        Ok(count) => pair.answer(Call::Read(side, most), Answer::Bytes(&buffer[..count])),
+        Ok(0) => pair.answer(Call::Read(side, most), Answer::End, now),
+        Ok(count) => pair.answer(Call::Read(side, most), Answer::Bytes(&buffer[..count]), now),
         Err(error) => pair.answer(
             Call::Read(side, most),
             error_answer(wire, faults, blocks, &error),
+            now,
         ),
     }
 }
 
-fn write<W: Wire>(pair: &mut Pair, side: Side, wire: &mut W)
+fn write<W: Wire>(pair: &mut Pair, side: Side, now: u64, wire: &mut W)
     requires next { next_call pair.old ≡ Some (call.Write side) }
     requires possible { IsPossible pair.old (call.Write side) }
-    ensures { IsStep W.told W.does (call.Write side) pair.old pair.new wire.old wire.new }
+    ensures { IsStep W.told W.does (call.Write side) now pair.old pair.new wire.old wire.new }
 {
     let faults = wire.faults();
     let blocks = wire.blocks();
     match offer_all(pair, side, wire) {
-        Ok(0) => pair.answer(Call::Write(side), Answer::Failed(Kind::Zero)),
-        Ok(count) => pair.answer(Call::Write(side), Answer::Wrote(count)),
+        Ok(0) => pair.answer(Call::Write(side), Answer::Failed(Kind::Zero), now),
+        Ok(count) => pair.answer(Call::Write(side), Answer::Wrote(count), now),
         Err(error) => pair.answer(
             Call::Write(side),
             error_answer(wire, faults, blocks, &error),
+            now,
         ),
     }
 }
@@ -82,29 +91,33 @@ fn offer_all<W: Wire>(pair: &mut Pair, side: Side, wire: &mut W) -> io::Result<u
     wire.write(pair.offer(side))
 }
 
-fn join<W: Wire>(pair: &mut Pair, side: Side, wire: &mut W)
+fn join<W: Wire>(pair: &mut Pair, side: Side, now: u64, wire: &mut W)
     requires next { next_call pair.old ≡ Some (call.Join side) }
-    ensures { IsStep W.told W.does (call.Join side) pair.old pair.new wire.old wire.new }
+    ensures { IsStep W.told W.does (call.Join side) now pair.old pair.new wire.old wire.new }
 {
     let faults = wire.faults();
     let blocks = wire.blocks();
     match wire.joined() {
-        Ok(()) => pair.answer(Call::Join(side), Answer::Joined),
-        Err(error) => pair.answer(Call::Join(side), error_answer(wire, faults, blocks, &error)),
+        Ok(()) => pair.answer(Call::Join(side), Answer::Joined, now),
+        Err(error) => pair.answer(
+            Call::Join(side),
+            error_answer(wire, faults, blocks, &error),
+            now,
+        ),
     }
 }
 
-fn shut<W: Wire>(pair: &mut Pair, side: Side, wire: &mut W)
+fn shut<W: Wire>(pair: &mut Pair, side: Side, now: u64, wire: &mut W)
     requires next { next_call pair.old ≡ Some (call.Shut side) }
-    ensures { IsStep W.told W.does (call.Shut side) pair.old pair.new wire.old wire.new }
+    ensures { IsStep W.told W.does (call.Shut side) now pair.old pair.new wire.old wire.new }
 {
     let faults = wire.faults();
     match wire.shut_write() {
-        Ok(()) => pair.answer(Call::Shut(side), Answer::Shut),
+        Ok(()) => pair.answer(Call::Shut(side), Answer::Shut, now),
         Err(error) if wire.faults() != faults => {
-            pair.answer(Call::Shut(side), Answer::Failed(kind_of(error.kind())))
+            pair.answer(Call::Shut(side), Answer::Failed(kind_of(error.kind())), now)
         }
-        Err(_) => pair.answer(Call::Shut(side), Answer::Interrupted),
+        Err(_) => pair.answer(Call::Shut(side), Answer::Interrupted, now),
     }
 }
 

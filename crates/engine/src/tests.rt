@@ -2,6 +2,7 @@
 // run shows what a test asserts.
 mod classes;
 mod disturbed;
+mod idle;
 mod session;
 mod turns;
 mod wires;

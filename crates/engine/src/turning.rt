@@ -1,9 +1,11 @@
 ghost use Rattle.std.specs.Prelude.{◌≡◌, ◌≤◌, Some};
 ghost use Rattle.relay_core.specs.Order.{next_call};
-ghost use Rattle.relay_core.specs.Laws.{IsPossible, AnswersAreToNextCalls, CallsComeWhileLive, FailuresAreTold};
+ghost use Rattle.relay_core.specs.Idle.{expired};
+ghost use Rattle.relay_core.specs.Laws.{IsPossible, AnswersAreToNextCalls, CallsComeWhileLive, FailuresAreTold, OnlyOverduePairsExpire};
 ghost use Rattle.engine.specs.Steps.{IsMove};
 ghost use Rattle.engine.specs.Turns.{outcome_of, IsServed, IsTurn};
 
+use crate::moment::Moment;
 use crate::outcome::Turn;
 use crate::step::step;
 use crate::wire::Wire;
@@ -16,6 +18,9 @@ use relay_core::{Call, MAX_READ, Pair, Side, Verdict, laws};
 /// many bytes as the pair asks for, and a write of all bytes that are bound for that side. It invents no answer, and a
 /// failure has the kind of the error that the call gave.
 ///
+/// All its calls are made at the second `now`. A pair that is left without a call, and that has moved nothing for
+/// `limit` seconds, fails ([`Pair::expire`]); a limit of 0 is none.
+///
 /// An error is a failure if the wire counted a fault, "would block" if it counted that, and an interruption if it
 /// counted neither. A write that took no byte is a failure.
 pub fn turn<A: Wire, B: Wire>(
@@ -23,76 +28,87 @@ pub fn turn<A: Wire, B: Wire>(
     client: &mut A,
     target: &mut B,
     budget: usize,
+    now: u64,
+    limit: u64,
 ) -> Turn
     requires least { 1 ≤ budget }
     requires most { budget ≤ 1024 }
     ensures outcome { result ≡ outcome_of pair.new }
-    ensures run { IsTurn budget pair.old pair.new (IsServed A.told A.does client.old client.new) (IsServed B.told B.does target.old target.new) }
+    ensures run { IsTurn budget now limit pair.old pair.new (IsServed A.told A.does now client.old client.new) (IsServed B.told B.does now target.old target.new) }
 {
-    turn_with(pair, client, target, budget, &mut [0; MAX_READ])
+    let moment = Moment { second: now, limit };
+    turn_with(pair, client, target, budget, moment, &mut [0; MAX_READ])
 }
 
-/// [`turn`] with an array that is lent to it, into which the wires read. What the array has before and after says
-/// nothing, so a thread that makes many turns keeps one for all of them, and need not clear it.
+/// [`turn`] at a moment, with an array that is lent to it, into which the wires read. What the array has before and
+/// after says nothing, so a thread that makes many turns keeps one for all of them, and need not clear it.
 pub fn turn_with<A: Wire, B: Wire>(
     pair: &mut Pair,
     client: &mut A,
     target: &mut B,
     budget: usize,
+    moment: Moment,
     buffer: &mut [u8; MAX_READ],
 ) -> Turn
     requires least { 1 ≤ budget }
     requires most { budget ≤ 1024 }
     ensures outcome { result ≡ outcome_of pair.new }
-    ensures run { IsTurn budget pair.old pair.new (IsServed A.told A.does client.old client.new) (IsServed B.told B.does target.old target.new) }
+    ensures run { IsTurn budget moment.second moment.limit pair.old pair.new (IsServed A.told A.does moment.second client.old client.new) (IsServed B.told B.does moment.second target.old target.new) }
 {
     rests_on_laws();
     for _calls in 0..budget {
         let Some(call) = pair.next() else {
-            return outcome(pair);
+            return finish(pair, moment);
         };
-        advance(pair, call, client, target, buffer);
+        advance(pair, call, moment.second, client, target, buffer);
     }
-    outcome(pair)
+    finish(pair, moment)
 }
 
-/// The core's laws for every pair, from which it follows that a pair that was live fails only by its last answer.
+/// The core's laws for every pair, from which it follows that a pair that was live fails only by its last answer, or by
+/// the idle limit.
 fn rests_on_laws()
     ensures answers { AnswersAreToNextCalls }
     ensures calls { CallsComeWhileLive }
     ensures failures { FailuresAreTold }
+    ensures expiries { OnlyOverduePairsExpire }
 {
     laws::answers_are_to_next_calls();
     laws::calls_come_while_live();
     laws::failures_are_told();
+    laws::only_overdue_pairs_expire();
 }
 
-/// Makes the call that comes next on the wire of its side.
+/// Makes the call that comes next, at the second `now`, on the wire of its side.
 fn advance<A: Wire, B: Wire>(
     pair: &mut Pair,
     call: Call,
+    now: u64,
     client: &mut A,
     target: &mut B,
     buffer: &mut [u8; MAX_READ],
 )
     requires next { next_call pair.old ≡ Some call }
     requires possible { IsPossible pair.old call }
-    ensures { IsMove pair.old pair.new (IsServed A.told A.does client.old client.new) (IsServed B.told B.does target.old target.new) }
+    ensures { IsMove now pair.old pair.new (IsServed A.told A.does now client.old client.new) (IsServed B.told B.does now target.old target.new) }
 {
     match call.side() {
-        Side::Client => step(pair, call, client, buffer),
-        Side::Target => step(pair, call, target, buffer),
+        Side::Client => step(pair, call, now, client, buffer),
+        Side::Target => step(pair, call, now, target, buffer),
     }
 }
 
-/// The outcome of a turn that leaves the pair in this state.
-fn outcome(pair: &Pair) -> Turn
-    ensures { result ≡ outcome_of pair.now }
+/// Ends a turn: the pair is held against the idle limit, unless it has a next call, and the outcome is what has become
+/// of it then.
+fn finish(pair: &mut Pair, moment: Moment) -> Turn
+    ensures outcome { result ≡ outcome_of pair.new }
+    ensures held { pair.new ≡ expired moment.second moment.limit pair.old }
 {
     match pair.verdict() {
         Verdict::Done => Turn::Done,
         Verdict::Failed(_) => Turn::Failed,
         Verdict::Live if pair.next().is_some() => Turn::Again,
+        Verdict::Live if pair.expire(moment.second, moment.limit) => Turn::Failed,
         Verdict::Live => Turn::Quiet,
     }
 }

@@ -1,5 +1,5 @@
 -- What holds after any list of steps.
-use Rattle.std.proofs.Common.{◌≡◌, ◌≢◌, Bool, true, false, List, [], ◌∷◌, ◌++◌, Option, Some, None, option_and_then, refl, sym, ap, ◌∙◌, append-nil, append_assoc, inl, inr}
+use Rattle.std.proofs.Common.{◌≡◌, ◌≢◌, Bool, true, false, List, [], ◌∷◌, ◌++◌, Option, Some, None, option_and_then, refl, sym, ap, ◌∙◌, append-nil, append_assoc}
 use Rattle.token.specs.declared.side.Side.{Side}
 use Rattle.kernel_model.specs.Ends.{is_readable}
 use Rattle.readiness.specs.Machine.{Change, Call, Way, Step, Comes, HasRoom, Spurious, Vanished, Polled, Tells, Old, Handed, Looks, Calls, Unasked, opening, step, run, answers_of, change_in, changes_of}

@@ -1,4 +1,4 @@
--- What any list of answers and reports leaves true.
+-- What any list of answers, reports and expiries leaves true.
 use Rattle.std.proofs.Common.{◌≡◌, ℕ, Bool, true, false, List, [], ◌∷◌, ◌++◌, map, Option, Some, None, refl, ap, ◌∙◌, sym, append-nil, option_and_then, inl, inr, ◌⊎◌}
 use Rattle.std.specs.Prelude.{if◌then◌else◌, option_map}
 use Rattle.token.specs.declared.side.Side.{Side}
@@ -12,29 +12,31 @@ use Rattle.relay_core.specs.Pairs.{Flags, Relay, stream_of, with_stream, with_fl
 use Rattle.relay_core.specs.Replies.{AnswerValue, Bytes, End, Wrote, Joined, Shut, Blocked, Interrupted, Failed, after}
 use Rattle.relay_core.specs.Runs.{answered, over}
 use Rattle.relay_core.specs.Moved.{same_way, or_nothing, all_brought, all_carried}
-use Rattle.relay_core.specs.Events.{Event, Answered, Reported, happened, through, brought_by, carried_by, ever_brought, ever_carried}
+use Rattle.relay_core.specs.Idle.{is_overdue, timed_out}
+use Rattle.relay_core.specs.Events.{Event, Answered, Reported, Expired, happened, through, brought_by, carried_by, ever_brought, ever_carried}
 use Rattle.relay_core.specs.Laws.{KeepsEndLast, place_of, OnlyEndsAreSeen, AnswersKeepPlace, AnswersPassEndLast, FailuresAreTold, CallsComeWhileLive, AnswersAreToNextCalls, RunsKeepOrder, RunsPassEndLast, FreshPairsKeepEndLast, RunsKeepPlace, AnswersAreEvents, AnswersKeepOrder}
 use Rattle.relay_core.proofs.Streams.{served, stream_after, same_direction, order_kept, after_keeps_order, end_passed_last}
 use Rattle.relay_core.proofs.Faults.{asked_while_live, fails_by_call}
+use Rattle.relay_core.proofs.Expiries.{stream_timed_out}
 use Rattle.relay_core.proofs.Over.{Step, step_of, seam, fresh_closed}
 
 -- one answer
 
 pub answers_keep_order : AnswersKeepOrder
-answers_keep_order p call reply = after_keeps_order p call reply
+answers_keep_order now p call reply = after_keeps_order now p call reply
 
 pub answers_pass_end_last : AnswersPassEndLast
-answers_pass_end_last p call reply a d = end_passed_last p call reply (after p call reply) a.next a.fit refl d
+answers_pass_end_last now p call reply a d = end_passed_last now p call reply (after now p call reply) a.next a.fit refl d
 
 pub failures_are_told : FailuresAreTold
-failures_are_told p call reply fault a = fails_by_call p call reply (after p call reply) a.next refl fault
+failures_are_told now p call reply fault a = fails_by_call now p call reply (after now p call reply) a.next refl fault
 
 pub calls_come_while_live : CallsComeWhileLive
 calls_come_while_live p call next = asked_while_live p call next
 
 pub answers_are_to_next_calls : AnswersAreToNextCalls
-answers_are_to_next_calls p q reply e =
-    let s : Step p reply q = step_of p reply q e in
+answers_are_to_next_calls now p q reply e =
+    let s : Step now p reply q = step_of now p reply q e in
     record { call = s.call; answers = record { next = s.next; fit = s.fit }; after_it = s.is }
 
 way_of : (e d : Direction) → e ≡ d → same_way e d ≡ true
@@ -79,8 +81,8 @@ seen_again p call reply d (inl h) = stays_seen (same_way (direction_of call) d) 
 seen_again p call reply d (inr h) = rw h.1 (by_end (same_way (direction_of call) d) (stream_of p d) (way_of (direction_of call) d h.0))
 
 pub only_ends_are_seen : OnlyEndsAreSeen
-only_ends_are_seen p call reply d =
-    let is : stream_of (after p call reply) d ≡ (if same_way (direction_of call) d then served reply (stream_of p d) else stream_of p d) = stream_after p d call reply in (
+only_ends_are_seen now p call reply d =
+    let is : stream_of (after now p call reply) d ≡ (if same_way (direction_of call) d then served reply (stream_of p d) else stream_of p d) = stream_after now p d call reply in (
       λ h. named_way (direction_of call) d reply _ (seen_by (same_way (direction_of call) d) reply (stream_of p d) (rw is at h)),
       λ h. rw is (seen_again p call reply d h),
     )
@@ -104,15 +106,15 @@ place_with_stream p Up s e = rw e refl
 place_with_stream p Down s e = rw e refl
 
 pub answers_keep_place : AnswersKeepPlace
-answers_keep_place p call (Bytes bytes) = place_joined _ (side_of call) ∙ place_with_stream p (direction_of call) _ refl
-answers_keep_place p call End = place_joined _ (side_of call) ∙ place_with_stream p (direction_of call) _ refl
-answers_keep_place p call (Wrote n) =
+answers_keep_place now p call (Bytes bytes) = place_joined _ (side_of call) ∙ place_with_stream p (direction_of call) _ refl
+answers_keep_place now p call End = place_joined _ (side_of call) ∙ place_with_stream p (direction_of call) _ refl
+answers_keep_place now p call (Wrote n) =
     place_with_sent _ (direction_of call) _ ∙ (place_joined _ (side_of call) ∙ place_with_stream p (direction_of call) _ refl)
-answers_keep_place p call Joined = place_joined p (side_of call)
-answers_keep_place p call Shut = place_with_stream p (direction_of call) _ refl
-answers_keep_place p call Blocked = place_with_flags p (side_of call) _
-answers_keep_place p call Interrupted = refl
-answers_keep_place p call (Failed kind) = refl
+answers_keep_place now p call Joined = place_joined p (side_of call)
+answers_keep_place now p call Shut = place_with_stream p (direction_of call) _ refl
+answers_keep_place now p call Blocked = place_with_flags p (side_of call) _
+answers_keep_place now p call Interrupted = refl
+answers_keep_place now p call (Failed kind) = refl
 
 -- one event
 
@@ -120,27 +122,43 @@ pub stream_noted : (p : Relay) (d : Direction) → stream_of (noted p) d ≡ str
 stream_noted p Up = refl
 stream_noted p Down = refl
 
+-- a pair that expired has timed out
+expired_to : (b : Bool) (p q : Relay) → (if b then Some (timed_out p) else None) ≡ Some q → q ≡ timed_out p
+expired_to true p q e = cc
+expired_to false p q e = absurd (cc)
+
+-- an event that leaves a direction's stream moves nothing there
+unmoved : (p q : Relay) (d : Direction) → stream_of q d ≡ stream_of p d → (stream_of p d).ring ++ [] ≡ [] ++ (stream_of q d).ring
+unmoved p q d same = append-nil (stream_of p d).ring ∙ sym (ap (λ (s : Stream). s.ring) same)
+
 event_order : (p q : Relay) (event : Event) (d : Direction) → happened p event ≡ Some q → (stream_of p d).ring ++ brought_by p d event ≡ carried_by p d event ++ (stream_of q d).ring
-event_order p q (Answered reply) d e =
-    let s : Step p reply q = step_of p reply q e in
-    rw s.next (order_kept p s.call reply q s.is d)
+event_order p q (Answered now reply) d e =
+    let s : Step now p reply q = step_of now p reply q e in
+    rw s.next (order_kept now p s.call reply q s.is d)
 event_order p q Reported d e =
-    let same : noted p ≡ q = cc in
-    append-nil (stream_of p d).ring ∙ (sym (ap (λ (s : Stream). s.ring) (stream_noted p d)) ∙ ap (λ (x : Relay). (stream_of x d).ring) same)
+    let same : q ≡ noted p = cc in
+    unmoved p q d (rw same (stream_noted p d))
+event_order p q (Expired now limit) d e =
+    let same : q ≡ timed_out p = expired_to (is_overdue now limit p) p q e in
+    unmoved p q d (rw same (stream_timed_out p d))
 
 event_closed : (p q : Relay) (event : Event) → happened p event ≡ Some q → KeepsEndLast p → KeepsEndLast q
-event_closed p q (Answered reply) e c = λ d.
-    let s : Step p reply q = step_of p reply q e in
-    (end_passed_last p s.call reply q s.next s.fit s.is d).closed_last (c d)
+event_closed p q (Answered now reply) e c = λ d.
+    let s : Step now p reply q = step_of now p reply q e in
+    (end_passed_last now p s.call reply q s.next s.fit s.is d).closed_last (c d)
 event_closed p q Reported e c = λ d.
     let same : q ≡ noted p = cc in
     rw (same, stream_noted p d) (c d)
+event_closed p q (Expired now limit) e c = λ d.
+    let same : q ≡ timed_out p = expired_to (is_overdue now limit p) p q e in
+    rw (same, stream_timed_out p d) (c d)
 
 event_place : (p q : Relay) (event : Event) → happened p event ≡ Some q → place_of q ≡ place_of p
-event_place p q (Answered reply) e =
-    let s : Step p reply q = step_of p reply q e in
-    rw s.is (answers_keep_place p s.call reply)
+event_place p q (Answered now reply) e =
+    let s : Step now p reply q = step_of now p reply q e in
+    rw s.is (answers_keep_place now p s.call reply)
 event_place p q Reported e = let same : q ≡ noted p = cc in rw same refl
+event_place p q (Expired now limit) e = rw (expired_to (is_overdue now limit p) p q e) refl
 
 -- a list of them
 
@@ -183,38 +201,38 @@ runs_pass_end_last p q events c h =
     }
 
 pub fresh_pairs_keep_end_last : FreshPairsKeepEndLast
-fresh_pairs_keep_end_last slot generation capacity d = fresh_closed slot generation capacity d
+fresh_pairs_keep_end_last slot generation capacity now d = fresh_closed slot generation capacity now d
 
 pub runs_keep_place : RunsKeepPlace
 runs_keep_place p q events h = run_kept (λ (x : Relay). place_of x ≡ place_of p) (λ a b e step same. event_place a b e step ∙ same) p q events h refl
 
 -- answers alone
 
-same_run : (replies : List AnswerValue) (o : Option Relay) → ((m : Relay) → through m (map Answered replies) ≡ over m replies) → option_and_then (λ (m : Relay). through m (map Answered replies)) o ≡ option_and_then (λ (m : Relay). over m replies) o
-same_run replies None rest = refl
-same_run replies (Some m) rest = rest m
+same_run : (now : ℕ) (replies : List AnswerValue) (o : Option Relay) → ((m : Relay) → through m (map (Answered now) replies) ≡ over now m replies) → option_and_then (λ (m : Relay). through m (map (Answered now) replies)) o ≡ option_and_then (λ (m : Relay). over now m replies) o
+same_run now replies None rest = refl
+same_run now replies (Some m) rest = rest m
 
 same_bytes : (f g : Relay → List ℕ) (o : Option Relay) → ((m : Relay) → f m ≡ g m) → or_nothing (option_map f o) ≡ or_nothing (option_map g o)
 same_bytes f g None rest = refl
 same_bytes f g (Some m) rest = rest m
 
-run_of_answers : (p : Relay) (replies : List AnswerValue) → through p (map Answered replies) ≡ over p replies
-run_of_answers p [] = refl
-run_of_answers p (reply ∷ replies) = same_run replies (answered p reply) (λ m. run_of_answers m replies)
+run_of_answers : (now : ℕ) (p : Relay) (replies : List AnswerValue) → through p (map (Answered now) replies) ≡ over now p replies
+run_of_answers now p [] = refl
+run_of_answers now p (reply ∷ replies) = same_run now replies (answered now p reply) (λ m. run_of_answers now m replies)
 
-brought_by_answers : (p : Relay) (d : Direction) (replies : List AnswerValue) → ever_brought p d (map Answered replies) ≡ all_brought p d replies
-brought_by_answers p d [] = refl
-brought_by_answers p d (reply ∷ replies) =
-    ap (λ (rest : List ℕ). brought_by p d (Answered reply) ++ rest) (same_bytes (λ m. ever_brought m d (map Answered replies)) (λ m. all_brought m d replies) (answered p reply) (λ m. brought_by_answers m d replies))
+brought_by_answers : (now : ℕ) (p : Relay) (d : Direction) (replies : List AnswerValue) → ever_brought p d (map (Answered now) replies) ≡ all_brought now p d replies
+brought_by_answers now p d [] = refl
+brought_by_answers now p d (reply ∷ replies) =
+    ap (λ (rest : List ℕ). brought_by p d (Answered now reply) ++ rest) (same_bytes (λ m. ever_brought m d (map (Answered now) replies)) (λ m. all_brought now m d replies) (answered now p reply) (λ m. brought_by_answers now m d replies))
 
-carried_by_answers : (p : Relay) (d : Direction) (replies : List AnswerValue) → ever_carried p d (map Answered replies) ≡ all_carried p d replies
-carried_by_answers p d [] = refl
-carried_by_answers p d (reply ∷ replies) =
-    ap (λ (rest : List ℕ). carried_by p d (Answered reply) ++ rest) (same_bytes (λ m. ever_carried m d (map Answered replies)) (λ m. all_carried m d replies) (answered p reply) (λ m. carried_by_answers m d replies))
+carried_by_answers : (now : ℕ) (p : Relay) (d : Direction) (replies : List AnswerValue) → ever_carried p d (map (Answered now) replies) ≡ all_carried now p d replies
+carried_by_answers now p d [] = refl
+carried_by_answers now p d (reply ∷ replies) =
+    ap (λ (rest : List ℕ). carried_by p d (Answered now reply) ++ rest) (same_bytes (λ m. ever_carried m d (map (Answered now) replies)) (λ m. all_carried now m d replies) (answered now p reply) (λ m. carried_by_answers now m d replies))
 
 pub answers_are_events : AnswersAreEvents
-answers_are_events p replies = record {
-  run = run_of_answers p replies;
-  brought = λ d. brought_by_answers p d replies;
-  carried = λ d. carried_by_answers p d replies;
+answers_are_events now p replies = record {
+  run = run_of_answers now p replies;
+  brought = λ d. brought_by_answers now p d replies;
+  carried = λ d. carried_by_answers now p d replies;
 }

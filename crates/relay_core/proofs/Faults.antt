@@ -19,7 +19,7 @@ asked_of_live : (b : Bool) (o : Option Call) (call : Call) → (if b then o else
 asked_of_live true o call e = refl
 asked_of_live false o call e = absurd (cc)
 
-live_of : (f : Option Fault) (b : Bool) → is_live (verdict_of f b) ≡ true → verdict_of f b ≡ verdict.Live
+pub live_of : (f : Option Fault) (b : Bool) → is_live (verdict_of f b) ≡ true → verdict_of f b ≡ verdict.Live
 live_of (Some fault) b h = absurd (cc)
 live_of None true h = absurd (cc)
 live_of None false h = refl
@@ -54,31 +54,31 @@ none_is_no_failure None true fault e h = absurd (cc)
 none_is_no_failure None false fault e h = absurd (cc)
 
 -- an answer by which no call failed leaves the pair without a fault
-sound : (p : Relay) (call : Call) (reply : AnswerValue) (fault : Fault) → p.failure ≡ None → (after p call reply).failure ≡ p.failure → verdict (after p call reply) ≡ verdict.Failed fault → TellsOf call reply fault
-sound p call reply fault none same failed = absurd (none_is_no_failure (after p call reply).failure _ fault (same ∙ none) failed)
+sound : (now : ℕ) (p : Relay) (call : Call) (reply : AnswerValue) (fault : Fault) → p.failure ≡ None → (after now p call reply).failure ≡ p.failure → verdict (after now p call reply) ≡ verdict.Failed fault → TellsOf call reply fault
+sound now p call reply fault none same failed = absurd (none_is_no_failure (after now p call reply).failure _ fault (same ∙ none) failed)
 
-told : (p : Relay) (call : Call) (reply : AnswerValue) (fault : Fault) → p.failure ≡ None → verdict (after p call reply) ≡ verdict.Failed fault → TellsOf call reply fault
-told p call (Bytes bytes) fault none = sound p call (Bytes bytes) fault none
+told : (now : ℕ) (p : Relay) (call : Call) (reply : AnswerValue) (fault : Fault) → p.failure ≡ None → verdict (after now p call reply) ≡ verdict.Failed fault → TellsOf call reply fault
+told now p call (Bytes bytes) fault none = sound now p call (Bytes bytes) fault none
     (failure_joined _ (side_of call) ∙ failure_with_stream p (direction_of call) _)
-told p call End fault none = sound p call End fault none
+told now p call End fault none = sound now p call End fault none
     (failure_joined _ (side_of call) ∙ failure_with_stream p (direction_of call) _)
-told p call (Wrote n) fault none = sound p call (Wrote n) fault none
+told now p call (Wrote n) fault none = sound now p call (Wrote n) fault none
     (failure_with_sent _ (direction_of call) _ ∙ (failure_joined _ (side_of call) ∙ failure_with_stream p (direction_of call) _))
-told p call Joined fault none = sound p call Joined fault none (failure_joined p (side_of call))
-told p call Shut fault none = sound p call Shut fault none (failure_with_stream p (direction_of call) _)
-told p call Blocked fault none = sound p call Blocked fault none (failure_with_flags p (side_of call) _)
-told p call Interrupted fault none = sound p call Interrupted fault none refl
-told p call (Failed kind) fault none = λ failed. record { side = cc; call = cc; kind = cc }
+told now p call Joined fault none = sound now p call Joined fault none (failure_joined p (side_of call))
+told now p call Shut fault none = sound now p call Shut fault none (failure_with_stream p (direction_of call) _)
+told now p call Blocked fault none = sound now p call Blocked fault none (failure_with_flags p (side_of call) _)
+told now p call Interrupted fault none = sound now p call Interrupted fault none refl
+told now p call (Failed kind) fault none = λ failed. record { kind = kind; failed = refl; told = cc }
 
-tells : (p : Relay) (call : Call) (reply : AnswerValue) (fault : Fault) → TellsOf call reply fault → verdict (after p call reply) ≡ verdict.Failed fault
-tells p call reply fault t = rw (t.kind, ← t.side, ← t.call)
+tells : (now : ℕ) (p : Relay) (call : Call) (reply : AnswerValue) (fault : Fault) → TellsOf call reply fault → verdict (after now p call reply) ≡ verdict.Failed fault
+tells now p call reply fault t = rw (t.failed, t.told) refl
 
 -- the pair fails by a failed call and by nothing else, and its fault tells of that call
-pub fails_by_call : (p : Relay) (call : Call) (reply : AnswerValue) (q : Relay) → next_call p ≡ Some call → q ≡ after p call reply → (fault : Fault) → (verdict q ≡ verdict.Failed fault) ↔ TellsOf call reply fault
-fails_by_call p call reply q next e fault =
+pub fails_by_call : (now : ℕ) (p : Relay) (call : Call) (reply : AnswerValue) (q : Relay) → next_call p ≡ Some call → q ≡ after now p call reply → (fault : Fault) → (verdict q ≡ verdict.Failed fault) ↔ TellsOf call reply fault
+fails_by_call now p call reply q next e fault =
     let none : p.failure ≡ None = faultless p.failure _ (asked_while_live p call next) in
-    rw e (told p call reply fault none, tells p call reply fault)
+    rw e (told now p call reply fault none, tells now p call reply fault)
 
 -- an interrupted call changes nothing but the turn
-pub interrupted_changes_turn : (p : Relay) (call : Call) (reply : AnswerValue) (q : Relay) → q ≡ after p call reply → reply ≡ Interrupted → q ≡ record p { turn = q.turn }
-interrupted_changes_turn p call reply q e i = rw (e, i)
+pub interrupted_changes_turn : (now : ℕ) (p : Relay) (call : Call) (reply : AnswerValue) (q : Relay) → q ≡ after now p call reply → reply ≡ Interrupted → q ≡ record p { turn = q.turn }
+interrupted_changes_turn now p call reply q e i = rw (e, i)

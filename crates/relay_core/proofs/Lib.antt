@@ -3,4 +3,5 @@ pub mod Streams
 pub mod Faults
 pub mod Over
 pub mod Rest
+pub mod Expiries
 pub mod Events

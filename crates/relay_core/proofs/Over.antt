@@ -11,41 +11,41 @@ use Rattle.relay_core.specs.Runs.{answered, over}
 use Rattle.relay_core.specs.Laws.{IsClosedLast}
 
 -- one answered call: the call that came next, which the answer fits
-pub record Step (p : Relay) (reply : AnswerValue) (q : Relay) : Type 0 where
+pub record Step (now : ℕ) (p : Relay) (reply : AnswerValue) (q : Relay) : Type 0 where
   pub call : Call
   pub next : next_call p ≡ Some call
   pub fit : fits p call reply ≡ true
-  pub is : q ≡ after p call reply
+  pub is : q ≡ after now p call reply
 
-fitted : (p : Relay) (reply : AnswerValue) (q : Relay) (call : Call) → next_call p ≡ Some call → (b : Bool) → fits p call reply ≡ b → (if b then Some (after p call reply) else None) ≡ Some q → Step p reply q
-fitted p reply q call next true fit e = record { call = call; next = next; fit = fit; is = cc }
-fitted p reply q call next false fit e = absurd (cc)
+fitted : (now : ℕ) (p : Relay) (reply : AnswerValue) (q : Relay) (call : Call) → next_call p ≡ Some call → (b : Bool) → fits p call reply ≡ b → (if b then Some (after now p call reply) else None) ≡ Some q → Step now p reply q
+fitted now p reply q call next true fit e = record { call = call; next = next; fit = fit; is = cc }
+fitted now p reply q call next false fit e = absurd (cc)
 
-stepped : (p : Relay) (reply : AnswerValue) (q : Relay) (o : Option Call) → next_call p ≡ o → option_and_then (λ (call : Call). if fits p call reply then Some (after p call reply) else None) o ≡ Some q → Step p reply q
-stepped p reply q None next e = absurd (cc)
-stepped p reply q (Some call) next e = fitted p reply q call next (fits p call reply) refl e
+stepped : (now : ℕ) (p : Relay) (reply : AnswerValue) (q : Relay) (o : Option Call) → next_call p ≡ o → option_and_then (λ (call : Call). if fits p call reply then Some (after now p call reply) else None) o ≡ Some q → Step now p reply q
+stepped now p reply q None next e = absurd (cc)
+stepped now p reply q (Some call) next e = fitted now p reply q call next (fits p call reply) refl e
 
-pub step_of : (p : Relay) (reply : AnswerValue) (q : Relay) → answered p reply ≡ Some q → Step p reply q
-step_of p reply q e = stepped p reply q (next_call p) refl e
+pub step_of : (now : ℕ) (p : Relay) (reply : AnswerValue) (q : Relay) → answered now p reply ≡ Some q → Step now p reply q
+step_of now p reply q e = stepped now p reply q (next_call p) refl e
 
 -- the same the other way round: an answer that fits the call that comes next
-pub answered_next : (p : Relay) (call : Call) (reply : AnswerValue) → next_call p ≡ Some call → fits p call reply ≡ true → answered p reply ≡ Some (after p call reply)
-answered_next p call reply next fit = rw (next, fit)
+pub answered_next : (now : ℕ) (p : Relay) (call : Call) (reply : AnswerValue) → next_call p ≡ Some call → fits p call reply ≡ true → answered now p reply ≡ Some (after now p call reply)
+answered_next now p call reply next fit = rw (next, fit)
 
 -- one list of answers and then another
-after_first : (replies more : List AnswerValue) (o : Option Relay) → ((m : Relay) → over m (replies ++ more) ≡ option_and_then (λ (q : Relay). over q more) (over m replies)) →
-    option_and_then (λ (m : Relay). over m (replies ++ more)) o ≡ option_and_then (λ (q : Relay). over q more) (option_and_then (λ (m : Relay). over m replies) o)
-after_first replies more None rest = refl
-after_first replies more (Some m) rest = rest m
+after_first : (now : ℕ) (replies more : List AnswerValue) (o : Option Relay) → ((m : Relay) → over now m (replies ++ more) ≡ option_and_then (λ (q : Relay). over now q more) (over now m replies)) →
+    option_and_then (λ (m : Relay). over now m (replies ++ more)) o ≡ option_and_then (λ (q : Relay). over now q more) (option_and_then (λ (m : Relay). over now m replies) o)
+after_first now replies more None rest = refl
+after_first now replies more (Some m) rest = rest m
 
-pub over-append : (p : Relay) (replies more : List AnswerValue) → over p (replies ++ more) ≡ option_and_then (λ (q : Relay). over q more) (over p replies)
-over-append p [] more = refl
-over-append p (reply ∷ replies) more = after_first replies more (answered p reply) (λ m. over-append m replies more)
+pub over-append : (now : ℕ) (p : Relay) (replies more : List AnswerValue) → over now p (replies ++ more) ≡ option_and_then (λ (q : Relay). over now q more) (over now p replies)
+over-append now p [] more = refl
+over-append now p (reply ∷ replies) more = after_first now replies more (answered now p reply) (λ m. over-append now m replies more)
 
 -- a list of answers and one more, to the call that comes next
-pub over_push : (p q : Relay) (replies : List AnswerValue) (call : Call) (reply : AnswerValue) → over p replies ≡ Some q → next_call q ≡ Some call → fits q call reply ≡ true → over p (replies ++ reply ∷ []) ≡ Some (after q call reply)
-over_push p q replies call reply h next fit =
-    over-append p replies (reply ∷ []) ∙ rw (h, answered_next q call reply next fit)
+pub over_push : (now : ℕ) (p q : Relay) (replies : List AnswerValue) (call : Call) (reply : AnswerValue) → over now p replies ≡ Some q → next_call q ≡ Some call → fits q call reply ≡ true → over now p (replies ++ reply ∷ []) ≡ Some (after now q call reply)
+over_push now p q replies call reply h next fit =
+    over-append now p replies (reply ∷ []) ∙ rw (h, answered_next now q call reply next fit)
 
 -- one list after another
 pub seam : (r b1 b2 c1 c2 s t : List ℕ) → r ++ b1 ≡ c1 ++ s → s ++ b2 ≡ c2 ++ t → r ++ (b1 ++ b2) ≡ (c1 ++ c2) ++ t
@@ -56,6 +56,6 @@ seam r b1 b2 c1 c2 s t first rest =
     ∙ (ap (λ (xs : List ℕ). c1 ++ xs) rest
     ∙ sym (append_assoc c1 c2 t))))
 
-pub fresh_closed : (slot generation capacity : ℕ) (d : Direction) → IsClosedLast (stream_of (fresh slot generation capacity) d)
-fresh_closed slot generation capacity Up = record { ended = λ h. absurd (cc); empty = λ h. absurd (cc) }
-fresh_closed slot generation capacity Down = record { ended = λ h. absurd (cc); empty = λ h. absurd (cc) }
+pub fresh_closed : (slot generation capacity now : ℕ) (d : Direction) → IsClosedLast (stream_of (fresh slot generation capacity now) d)
+fresh_closed slot generation capacity now Up = record { ended = λ h. absurd (cc); empty = λ h. absurd (cc) }
+fresh_closed slot generation capacity now Down = record { ended = λ h. absurd (cc); empty = λ h. absurd (cc) }

@@ -25,9 +25,9 @@ served (Wrote n) s = dropped s n
 served Shut s = closed s
 served reply s = s
 
-stream_with_turn : (p : Relay) (t d : Direction) → stream_of (record p { turn = t }) d ≡ stream_of p d
-stream_with_turn p t Up = refl
-stream_with_turn p t Down = refl
+stream_at : (p : Relay) (t : Direction) (second : ℕ) (d : Direction) → stream_of (record p { turn = t; moved = second }) d ≡ stream_of p d
+stream_at p t second Up = refl
+stream_at p t second Down = refl
 
 stream_joined : (p : Relay) (side : Side) (d : Direction) → stream_of (mark_joined p side) d ≡ stream_of p d
 stream_joined p Client d = refl
@@ -57,35 +57,35 @@ alike true s = refl
 alike false s = refl
 
 -- only the direction that the call serves changes, and only by the answer
-pub stream_after : (p : Relay) (d : Direction) (call : Call) (reply : AnswerValue) → stream_of (after p call reply) d ≡ (if same_way (direction_of call) d then served reply (stream_of p d) else stream_of p d)
-stream_after p d call (Bytes bytes) =
-    stream_with_turn (effect p call (Bytes bytes)) (opposite (direction_of call)) d
+pub stream_after : (now : ℕ) (p : Relay) (d : Direction) (call : Call) (reply : AnswerValue) → stream_of (after now p call reply) d ≡ (if same_way (direction_of call) d then served reply (stream_of p d) else stream_of p d)
+stream_after now p d call (Bytes bytes) =
+    stream_at (effect p call (Bytes bytes)) (opposite (direction_of call)) now d
     ∙ (stream_joined (change_stream p call (λ s. taken_in s bytes)) (side_of call) d
     ∙ stream_changed p (direction_of call) (λ s. taken_in s bytes) d)
-stream_after p d call End =
-    stream_with_turn (effect p call End) (opposite (direction_of call)) d
+stream_after now p d call End =
+    stream_at (effect p call End) (opposite (direction_of call)) now d
     ∙ (stream_joined (change_stream p call ended) (side_of call) d
     ∙ stream_changed p (direction_of call) ended d)
-stream_after p d call (Wrote n) =
+stream_after now p d call (Wrote n) =
     let moved : Relay = change_stream p call (λ s. dropped s n) in
     let joined : Relay = mark_joined moved (side_of call) in
-    stream_with_turn (effect p call (Wrote n)) (opposite (direction_of call)) d
+    stream_at (effect p call (Wrote n)) (opposite (direction_of call)) now d
     ∙ (stream_with_sent joined (direction_of call) _ d
     ∙ (stream_joined moved (side_of call) d
     ∙ stream_changed p (direction_of call) (λ s. dropped s n) d))
-stream_after p d call Joined =
-    stream_with_turn (effect p call Joined) (opposite (direction_of call)) d
+stream_after now p d call Joined =
+    stream_at (effect p call Joined) (opposite (direction_of call)) now d
     ∙ (stream_joined p (side_of call) d ∙ alike (same_way (direction_of call) d) (stream_of p d))
-stream_after p d call Shut =
-    stream_with_turn (effect p call Shut) (opposite (direction_of call)) d ∙ stream_changed p (direction_of call) closed d
-stream_after p d call Blocked =
-    stream_with_turn (effect p call Blocked) (opposite (direction_of call)) d
+stream_after now p d call Shut =
+    stream_at (effect p call Shut) (opposite (direction_of call)) now d ∙ stream_changed p (direction_of call) closed d
+stream_after now p d call Blocked =
+    stream_at (effect p call Blocked) (opposite (direction_of call)) p.moved d
     ∙ (stream_with_flags p (side_of call) (without_flag call (flags_of p (side_of call))) d
     ∙ alike (same_way (direction_of call) d) (stream_of p d))
-stream_after p d call Interrupted =
-    stream_with_turn p (opposite (direction_of call)) d ∙ alike (same_way (direction_of call) d) (stream_of p d)
-stream_after p d call (Failed kind) =
-    stream_with_turn (effect p call (Failed kind)) (opposite (direction_of call)) d
+stream_after now p d call Interrupted =
+    stream_at p (opposite (direction_of call)) p.moved d ∙ alike (same_way (direction_of call) d) (stream_of p d)
+stream_after now p d call (Failed kind) =
+    stream_at (effect p call (Failed kind)) (opposite (direction_of call)) p.moved d
     ∙ (failed_keeps d ∙ alike (same_way (direction_of call) d) (stream_of p d))
   where
     failed_keeps : (d : Direction) → stream_of (effect p call (Failed kind)) d ≡ stream_of p d
@@ -105,24 +105,24 @@ same_order : (b : Bool) (s t : Stream) → t.ring ≡ s.ring → s.ring ++ [] �
 same_order true s t e = append-nil s.ring ∙ sym e
 same_order false s t e = append-nil s.ring
 
-ring_after : (p : Relay) (d : Direction) (call : Call) (reply : AnswerValue) → (if same_way (direction_of call) d then served reply (stream_of p d) else stream_of p d).ring ≡ (stream_of (after p call reply) d).ring
-ring_after p d call reply = sym (ap (λ (s : Stream). s.ring) (stream_after p d call reply))
+ring_after : (now : ℕ) (p : Relay) (d : Direction) (call : Call) (reply : AnswerValue) → (if same_way (direction_of call) d then served reply (stream_of p d) else stream_of p d).ring ≡ (stream_of (after now p call reply) d).ring
+ring_after now p d call reply = sym (ap (λ (s : Stream). s.ring) (stream_after now p d call reply))
 
-pub after_keeps_order : (p : Relay) (call : Call) (reply : AnswerValue) → KeepsOrder p call reply (after p call reply)
-after_keeps_order p call (Bytes bytes) = λ d. read_order (same_way (direction_of call) d) (stream_of p d) bytes ∙ ring_after p d call (Bytes bytes)
-after_keeps_order p call End = λ d. same_order (same_way (direction_of call) d) (stream_of p d) (ended (stream_of p d)) refl ∙ ring_after p d call End
-after_keeps_order p call (Wrote n) = λ d.
+pub after_keeps_order : (now : ℕ) (p : Relay) (call : Call) (reply : AnswerValue) → KeepsOrder p call reply (after now p call reply)
+after_keeps_order now p call (Bytes bytes) = λ d. read_order (same_way (direction_of call) d) (stream_of p d) bytes ∙ ring_after now p d call (Bytes bytes)
+after_keeps_order now p call End = λ d. same_order (same_way (direction_of call) d) (stream_of p d) (ended (stream_of p d)) refl ∙ ring_after now p d call End
+after_keeps_order now p call (Wrote n) = λ d.
     written_order (same_way (direction_of call) d) (stream_of p d) n
-    ∙ ap (λ (ring : List ℕ). carried p d call (Wrote n) ++ ring) (ring_after p d call (Wrote n))
-after_keeps_order p call Joined = λ d. same_order (same_way (direction_of call) d) (stream_of p d) (stream_of p d) refl ∙ ring_after p d call Joined
-after_keeps_order p call Shut = λ d. same_order (same_way (direction_of call) d) (stream_of p d) (closed (stream_of p d)) refl ∙ ring_after p d call Shut
-after_keeps_order p call Blocked = λ d. same_order (same_way (direction_of call) d) (stream_of p d) (stream_of p d) refl ∙ ring_after p d call Blocked
-after_keeps_order p call Interrupted = λ d. same_order (same_way (direction_of call) d) (stream_of p d) (stream_of p d) refl ∙ ring_after p d call Interrupted
-after_keeps_order p call (Failed kind) = λ d. same_order (same_way (direction_of call) d) (stream_of p d) (stream_of p d) refl ∙ ring_after p d call (Failed kind)
+    ∙ ap (λ (ring : List ℕ). carried p d call (Wrote n) ++ ring) (ring_after now p d call (Wrote n))
+after_keeps_order now p call Joined = λ d. same_order (same_way (direction_of call) d) (stream_of p d) (stream_of p d) refl ∙ ring_after now p d call Joined
+after_keeps_order now p call Shut = λ d. same_order (same_way (direction_of call) d) (stream_of p d) (closed (stream_of p d)) refl ∙ ring_after now p d call Shut
+after_keeps_order now p call Blocked = λ d. same_order (same_way (direction_of call) d) (stream_of p d) (stream_of p d) refl ∙ ring_after now p d call Blocked
+after_keeps_order now p call Interrupted = λ d. same_order (same_way (direction_of call) d) (stream_of p d) (stream_of p d) refl ∙ ring_after now p d call Interrupted
+after_keeps_order now p call (Failed kind) = λ d. same_order (same_way (direction_of call) d) (stream_of p d) (stream_of p d) refl ∙ ring_after now p d call (Failed kind)
 
 -- bytes leave in the order in which they came
-pub order_kept : (p : Relay) (call : Call) (reply : AnswerValue) (q : Relay) → q ≡ after p call reply → KeepsOrder p call reply q
-order_kept p call reply q e = rw e (after_keeps_order p call reply)
+pub order_kept : (now : ℕ) (p : Relay) (call : Call) (reply : AnswerValue) (q : Relay) → q ≡ after now p call reply → KeepsOrder p call reply q
+order_kept now p call reply q e = rw e (after_keeps_order now p call reply)
 
 pub same_direction : (e d : Direction) → same_way e d ≡ true → e ≡ d
 same_direction Up Up h = refl
@@ -180,9 +180,9 @@ closed_last true Interrupted s open_end drained c = c
 closed_last true (Failed kind) s open_end drained c = c
 
 -- the end of input is passed on last, and for good
-pub end_passed_last : (p : Relay) (call : Call) (reply : AnswerValue) (q : Relay) → next_call p ≡ Some call → fits p call reply ≡ true → q ≡ after p call reply → (d : Direction) → PassesEndLast (stream_of p d) (stream_of q d)
-end_passed_last p call reply q next fit e d =
-    let is : stream_of q d ≡ (if same_way (direction_of call) d then served reply (stream_of p d) else stream_of p d) = rw e (stream_after p d call reply) in
+pub end_passed_last : (now : ℕ) (p : Relay) (call : Call) (reply : AnswerValue) (q : Relay) → next_call p ≡ Some call → fits p call reply ≡ true → q ≡ after now p call reply → (d : Direction) → PassesEndLast (stream_of p d) (stream_of q d)
+end_passed_last now p call reply q next fit e d =
+    let is : stream_of q d ≡ (if same_way (direction_of call) d then served reply (stream_of p d) else stream_of p d) = rw e (stream_after now p d call reply) in
     record {
       last = λ h. marked (same_way (direction_of call) d) reply (stream_of p d) (IsDrained (stream_of p d)) (drained_before p d call reply next fit) (rw is at h);
       for_good = λ h. rw is (stays (same_way (direction_of call) d) reply (stream_of p d) h);

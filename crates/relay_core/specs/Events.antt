@@ -1,21 +1,26 @@
--- What happens to a pair: its next call is answered, or a report comes. Part of the promises.
-use Rattle.std.specs.Prelude.{List, [], ◌∷◌, ◌++◌, ℕ, Option, Some, option_and_then, option_map}
+-- What happens to a pair: its next call is answered, a report comes, or the idle limit passes. Part of the promises.
+use Rattle.std.specs.Prelude.{List, [], ◌∷◌, ◌++◌, ℕ, Option, Some, None, option_and_then, option_map, if◌then◌else◌}
 use Rattle.token.specs.declared.direction.Direction.{Direction}
 use Rattle.relay_core.specs.declared.call.Call.{Call}
 use Rattle.relay_core.specs.Pairs.{Relay, noted}
 use Rattle.relay_core.specs.Order.{next_call}
 use Rattle.relay_core.specs.Replies.{AnswerValue}
 use Rattle.relay_core.specs.Runs.{answered}
+use Rattle.relay_core.specs.Idle.{is_overdue, timed_out}
 use Rattle.relay_core.specs.Moved.{brought, carried, or_nothing}
 
+-- an answer comes at a second; the limit passes at a second, too
 pub data Event : Type 0 where
-  Answered : AnswerValue → Event
+  Answered : ℕ → AnswerValue → Event
   Reported : Event
+  Expired : ℕ → ℕ → Event
 
--- the pair afterwards, if there is a next call and the answer fits it; a report may come at any time
+-- the pair afterwards: an answer needs a next call that it fits, a report may come at any time, and only a pair that
+-- is overdue expires
 abbrev pub happened : Relay → Event → Option Relay
-happened p (Answered reply) = answered p reply
+happened p (Answered now reply) = answered now p reply
 happened p Reported = Some (noted p)
+happened p (Expired now limit) = if is_overdue now limit p then Some (timed_out p) else None
 
 -- one after another; undefined from the first on that cannot happen
 abbrev pub through : Relay → List Event → Option Relay
@@ -24,13 +29,13 @@ through p (event ∷ events) = option_and_then (λ (q : Relay). through q events
 
 -- the bytes that an event brings into a direction
 abbrev pub brought_by : Relay → Direction → Event → List ℕ
-brought_by p d (Answered reply) = or_nothing (option_map (λ (call : Call). brought d call reply) (next_call p))
-brought_by p d Reported = []
+brought_by p d (Answered now reply) = or_nothing (option_map (λ (call : Call). brought d call reply) (next_call p))
+brought_by p d event = []
 
 -- and those that it takes out
 abbrev pub carried_by : Relay → Direction → Event → List ℕ
-carried_by p d (Answered reply) = or_nothing (option_map (λ (call : Call). carried p d call reply) (next_call p))
-carried_by p d Reported = []
+carried_by p d (Answered now reply) = or_nothing (option_map (λ (call : Call). carried p d call reply) (next_call p))
+carried_by p d event = []
 
 -- all bytes that a list of events brings in
 abbrev pub ever_brought : Relay → Direction → List Event → List ℕ

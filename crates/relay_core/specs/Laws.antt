@@ -1,17 +1,20 @@
 -- The laws of every pair. Part of the promises.
-use Rattle.std.specs.Prelude.{◌≡◌, ◌↔◌, ℕ, ◌≤◌, ◌⊎◌, true, false, List, [], ◌++◌, length, map, Some, None}
+use Rattle.std.specs.Prelude.{◌≡◌, ◌↔◌, ℕ, ◌-◌, ◌≤◌, ◌⊎◌, true, false, List, [], ◌++◌, length, map, Some, None}
 use Rattle.token.specs.declared.direction.Direction.{Direction}
 use Rattle.token.specs.Sides.{source, destination, inward, outward}
 use Rattle.flow.specs.Stream.{Stream, free_room}
 use Rattle.relay_core.specs.declared.call.Call.{Call}
 use Rattle.relay_core.specs.declared.call.Call.TheVariants.{Write, Join, Shut, Read}
+use Rattle.token.specs.declared.kind.Kind.{Kind}
 use Rattle.relay_core.specs.declared.verdict.Fault.{Fault}
+use Rattle.relay_core.specs.declared.verdict.Fault.TheVariants.{Broken, Idle}
 use Rattle.relay_core.specs.declared.verdict.Verdict.TheVariants as Verdict
 use Rattle.relay_core.specs.Calls.{side_of, kind_of, direction_of}
 use Rattle.relay_core.specs.Pairs.{Relay, ready, fresh, stream_of, flags_of, is_joined, noted, verdict}
 use Rattle.relay_core.specs.Order.{next_call, offer}
 use Rattle.relay_core.specs.Replies.{AnswerValue, End, Failed, fits, after}
 use Rattle.relay_core.specs.Runs.{answered, over}
+use Rattle.relay_core.specs.Idle.{is_overdue, expired}
 use Rattle.relay_core.specs.Moved.{brought, carried, all_brought, all_carried}
 use Rattle.relay_core.specs.Events.{Event, Answered, through, ever_brought, ever_carried}
 
@@ -52,11 +55,11 @@ abbrev pub KeepsOrder : Relay → Call → AnswerValue → Relay → Type 0
 KeepsOrder old call reply new =
     (d : Direction) → (stream_of old d).ring ++ brought d call reply ≡ carried old d call reply ++ (stream_of new d).ring
 
--- the fault tells of this call, and how it failed
+-- the call failed, and the fault tells of this call and how it failed
 pub record TellsOf (made : Call) (reply : AnswerValue) (fault : Fault) : Type 0 where
-  pub side : fault.side ≡ side_of made
-  pub call : fault.call ≡ kind_of made
-  pub kind : reply ≡ Failed fault.kind
+  pub kind : Kind
+  pub failed : reply ≡ Failed kind
+  pub told : fault ≡ Broken (side_of made) (kind_of made) kind
 
 -- the answer fits the call that comes next
 pub record AnswersNext (p : Relay) (call : Call) (reply : AnswerValue) : Type 0 where
@@ -85,39 +88,47 @@ pub record IsAtRest (p : Relay) (d : Direction) : Type 0 where
   pub unasked : IsDrained (stream_of p d) → (flags_of p (destination d)).write ≡ false
   pub unread : (stream_of p d).end_seen ≡ false → 1 ≤ free_room (stream_of p d) → (flags_of p (source d)).read ≡ false
 
+-- the pair is live and has no next call, and at this second its last movement lies at least a limit back that is not 0
+pub record IsOverdue (now limit : ℕ) (p : Relay) : Type 0 where
+  pub live : verdict p ≡ Verdict.Live
+  pub quiet : next_call p ≡ None
+  pub limited : 1 ≤ limit
+  pub before : p.moved ≤ now
+  pub long : limit ≤ now - p.moved
+
 -- laws of one answer
 
 abbrev pub AnswersKeepOrder : Type 0
-AnswersKeepOrder = (p : Relay) (call : Call) (reply : AnswerValue) → KeepsOrder p call reply (after p call reply)
+AnswersKeepOrder = (now : ℕ) (p : Relay) (call : Call) (reply : AnswerValue) → KeepsOrder p call reply (after now p call reply)
 
 abbrev pub AnswersPassEndLast : Type 0
 AnswersPassEndLast =
-    (p : Relay) (call : Call) (reply : AnswerValue) → AnswersNext p call reply →
-    (d : Direction) → PassesEndLast (stream_of p d) (stream_of (after p call reply) d)
+    (now : ℕ) (p : Relay) (call : Call) (reply : AnswerValue) → AnswersNext p call reply →
+    (d : Direction) → PassesEndLast (stream_of p d) (stream_of (after now p call reply) d)
 
 -- the end of a direction is seen by an End that a call on it is answered, and then for good
 abbrev pub OnlyEndsAreSeen : Type 0
 OnlyEndsAreSeen =
-    (p : Relay) (call : Call) (reply : AnswerValue) (d : Direction) →
-    ((stream_of (after p call reply) d).end_seen ≡ true) ↔ (((stream_of p d).end_seen ≡ true) ⊎ ((direction_of call ≡ d) × (reply ≡ End)))
+    (now : ℕ) (p : Relay) (call : Call) (reply : AnswerValue) (d : Direction) →
+    ((stream_of (after now p call reply) d).end_seen ≡ true) ↔ (((stream_of p d).end_seen ≡ true) ⊎ ((direction_of call ≡ d) × (reply ≡ End)))
 
 abbrev pub AnswersKeepPlace : Type 0
-AnswersKeepPlace = (p : Relay) (call : Call) (reply : AnswerValue) → place_of (after p call reply) ≡ place_of p
+AnswersKeepPlace = (now : ℕ) (p : Relay) (call : Call) (reply : AnswerValue) → place_of (after now p call reply) ≡ place_of p
 
--- a pair fails by a failed call alone, and its fault tells of that call
+-- an answer fails a pair by a failed call alone, and its fault tells of that call
 abbrev pub FailuresAreTold : Type 0
 FailuresAreTold =
-    (p : Relay) (call : Call) (reply : AnswerValue) (fault : Fault) → AnswersNext p call reply →
-    (verdict (after p call reply) ≡ Verdict.Failed fault) ↔ TellsOf call reply fault
+    (now : ℕ) (p : Relay) (call : Call) (reply : AnswerValue) (fault : Fault) → AnswersNext p call reply →
+    (verdict (after now p call reply) ≡ Verdict.Failed fault) ↔ TellsOf call reply fault
 
 -- what one answer does is what the answer to some next call does
-pub record IsAnswerOf (p : Relay) (reply : AnswerValue) (q : Relay) : Type 0 where
+pub record IsAnswerOf (now : ℕ) (p : Relay) (reply : AnswerValue) (q : Relay) : Type 0 where
   pub call : Call
   pub answers : AnswersNext p call reply
-  pub after_it : q ≡ after p call reply
+  pub after_it : q ≡ after now p call reply
 
 abbrev pub AnswersAreToNextCalls : Type 0
-AnswersAreToNextCalls = (p q : Relay) (reply : AnswerValue) → answered p reply ≡ Some q → IsAnswerOf p reply q
+AnswersAreToNextCalls = (now : ℕ) (p q : Relay) (reply : AnswerValue) → answered now p reply ≡ Some q → IsAnswerOf now p reply q
 
 -- laws of the next call
 
@@ -136,7 +147,22 @@ ReportsSetFlags = (p : Relay) → noted p ≡ record p { client = ready; target 
 abbrev pub ReportsKeepStreams : Type 0
 ReportsKeepStreams = (p : Relay) (d : Direction) → stream_of (noted p) d ≡ stream_of p d
 
--- laws of runs: over any list of answers and reports
+-- laws of the idle limit
+
+-- an overdue pair has failed by the limit, and any other is as it was
+pub record IsHeldAgainst (now limit : ℕ) (p : Relay) : Type 0 where
+  pub overdue : IsOverdue now limit p → verdict (expired now limit p) ≡ Verdict.Failed Idle
+  pub other : is_overdue now limit p ≡ false → expired now limit p ≡ p
+  pub exact : (is_overdue now limit p ≡ true) ↔ IsOverdue now limit p
+
+abbrev pub OnlyOverduePairsExpire : Type 0
+OnlyOverduePairsExpire = (now limit : ℕ) (p : Relay) → IsHeldAgainst now limit p
+
+-- the limit changes nothing but the verdict
+abbrev pub ExpiriesChangeVerdictAlone : Type 0
+ExpiriesChangeVerdictAlone = (now limit : ℕ) (p : Relay) → expired now limit p ≡ record p { failure = (expired now limit p).failure }
+
+-- laws of runs: over any list of answers, reports and expiries
 
 -- the bytes of each direction keep their order, and none is lost or doubled
 abbrev pub RunsKeepOrder : Type 0
@@ -155,16 +181,16 @@ RunsPassEndLast =
     (p q : Relay) (events : List Event) → KeepsEndLast p → through p events ≡ Some q → RunPassesEndLast p q events
 
 abbrev pub FreshPairsKeepEndLast : Type 0
-FreshPairsKeepEndLast = (slot generation capacity : ℕ) → KeepsEndLast (fresh slot generation capacity)
+FreshPairsKeepEndLast = (slot generation capacity now : ℕ) → KeepsEndLast (fresh slot generation capacity now)
 
 abbrev pub RunsKeepPlace : Type 0
 RunsKeepPlace = (p q : Relay) (events : List Event) → through p events ≡ Some q → place_of q ≡ place_of p
 
--- a list of answers alone, as events
-pub record IsRunOf (p : Relay) (replies : List AnswerValue) : Type 0 where
-  pub run : through p (map Answered replies) ≡ over p replies
-  pub brought : (d : Direction) → ever_brought p d (map Answered replies) ≡ all_brought p d replies
-  pub carried : (d : Direction) → ever_carried p d (map Answered replies) ≡ all_carried p d replies
+-- a list of answers of one second alone, as events
+pub record IsRunOf (now : ℕ) (p : Relay) (replies : List AnswerValue) : Type 0 where
+  pub run : through p (map (Answered now) replies) ≡ over now p replies
+  pub brought : (d : Direction) → ever_brought p d (map (Answered now) replies) ≡ all_brought now p d replies
+  pub carried : (d : Direction) → ever_carried p d (map (Answered now) replies) ≡ all_carried now p d replies
 
 abbrev pub AnswersAreEvents : Type 0
-AnswersAreEvents = (p : Relay) (replies : List AnswerValue) → IsRunOf p replies
+AnswersAreEvents = (now : ℕ) (p : Relay) (replies : List AnswerValue) → IsRunOf now p replies

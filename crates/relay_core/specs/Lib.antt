@@ -5,6 +5,7 @@ pub mod Order
 pub mod Replies
 pub mod Answers
 pub mod Runs
+pub mod Idle
 pub mod Moved
 pub mod Events
 pub mod Laws

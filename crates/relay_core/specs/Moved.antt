@@ -29,16 +29,16 @@ carried p d call reply = []
 abbrev pub or_nothing : Option (List ℕ) → List ℕ
 or_nothing bytes = unwrap_or bytes []
 
--- all bytes that a list of answers brings in, each to the call that comes next at that point
-abbrev pub all_brought : Relay → Direction → List AnswerValue → List ℕ
-all_brought p d [] = []
-all_brought p d (reply ∷ replies) =
+-- all bytes that a list of answers of one second brings in, each to the call that comes next at that point
+abbrev pub all_brought : ℕ → Relay → Direction → List AnswerValue → List ℕ
+all_brought now p d [] = []
+all_brought now p d (reply ∷ replies) =
     or_nothing (option_map (λ (call : Call). brought d call reply) (next_call p))
-    ++ or_nothing (option_map (λ (q : Relay). all_brought q d replies) (answered p reply))
+    ++ or_nothing (option_map (λ (q : Relay). all_brought now q d replies) (answered now p reply))
 
 -- and all bytes that it takes out
-abbrev pub all_carried : Relay → Direction → List AnswerValue → List ℕ
-all_carried p d [] = []
-all_carried p d (reply ∷ replies) =
+abbrev pub all_carried : ℕ → Relay → Direction → List AnswerValue → List ℕ
+all_carried now p d [] = []
+all_carried now p d (reply ∷ replies) =
     or_nothing (option_map (λ (call : Call). carried p d call reply) (next_call p))
-    ++ or_nothing (option_map (λ (q : Relay). all_carried q d replies) (answered p reply))
+    ++ or_nothing (option_map (λ (q : Relay). all_carried now q d replies) (answered now p reply))

@@ -14,7 +14,8 @@ use Rattle.relay_core.specs.declared.verdict.Verdict.TheVariants.{Live, Done, Fa
 -- `client` and `target` are what the relay believes of the two sockets: a flag that is set says that the
 -- call is worth a try, and one that is not, that the last try would have had to wait and no report came
 -- since. `joined` says that the target's connect is known to have ended, `turn` is the direction that is
--- looked at first, and `sent_up` and `sent_down` count the bytes that writes took
+-- looked at first, `sent_up` and `sent_down` count the bytes that writes took, and `moved` is the second
+-- at which the connection was made or last moved
 pub record Relay : Type 0 where
   pub slot : ℕ
   pub generation : ℕ
@@ -27,14 +28,15 @@ pub record Relay : Type 0 where
   pub failure : Option Fault
   pub sent_up : ℕ
   pub sent_down : ℕ
+  pub moved : ℕ
 
 -- both calls are worth a try
 abbrev pub ready : Flags
 ready = record { read = true; write = true }
 
--- a connection that was just made
-abbrev pub fresh : ℕ → ℕ → ℕ → Relay
-fresh slot generation capacity = record {
+-- a connection that was made at the second `now`
+abbrev pub fresh : ℕ → ℕ → ℕ → ℕ → Relay
+fresh slot generation capacity now = record {
   slot = slot;
   generation = generation;
   up = empty_stream capacity;
@@ -46,6 +48,7 @@ fresh slot generation capacity = record {
   failure = None;
   sent_up = 0;
   sent_down = 0;
+  moved = now;
 }
 
 -- the stream of one direction
@@ -88,8 +91,8 @@ with_sent p Down n = record p { sent_down = n }
 abbrev pub noted : Relay → Relay
 noted p = record p { client = ready; target = ready }
 
--- what has become of the connection: it failed once a call failed, it is done once both ends of input
--- were passed on, and else it is live
+-- what has become of the connection: it failed once a call failed or the idle limit passed, it is done once
+-- both ends of input were passed on, and else it is live
 abbrev pub verdict_of : Option Fault → Bool → Verdict
 verdict_of (Some fault) both_shut = Failed fault
 verdict_of None true = Done

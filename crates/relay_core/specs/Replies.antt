@@ -1,11 +1,12 @@
 -- What a socket may answer to a call, and what each answer does to the pair. Part of the promises.
-use Rattle.std.specs.Prelude.{ℕ, ◌+◌, ◌-◌, ◌^◌, Bool, true, false, ◌&&◌, nat_le, min, List, length, Some}
+use Rattle.std.specs.Prelude.{ℕ, ◌+◌, ◌-◌, ◌^◌, Bool, true, false, ◌&&◌, nat_le, min, if◌then◌else◌, List, length, Some}
 use Rattle.token.specs.declared.kind.Kind.{Kind}
 use Rattle.token.specs.declared.direction.Direction.{Direction}
 use Rattle.token.specs.Sides.{opposite}
 use Rattle.flow.specs.Stream.{Stream, taken_in, dropped, ended, closed}
 use Rattle.relay_core.specs.declared.call.Call.{Call}
 use Rattle.relay_core.specs.declared.call.Call.TheVariants as call
+use Rattle.relay_core.specs.declared.verdict.Fault.TheVariants.{Broken}
 use Rattle.relay_core.specs.Calls.{side_of, kind_of, direction_of}
 use Rattle.relay_core.specs.Pairs.{Flags, Relay, stream_of, with_stream, flags_of, with_flags, mark_joined, sent, with_sent}
 use Rattle.relay_core.specs.Order.{offer}
@@ -51,7 +52,7 @@ without_flag call flags = record flags { write = false }
 abbrev pub count_more : Relay → Direction → ℕ → Relay
 count_more p d n = with_sent p d (min (sent p d + n) (2 ^ 64 - 1))
 
--- what an answer does, but for the turn. A socket that moved bytes or an end is connected.
+-- what an answer does, but for the turn and the second. A socket that moved bytes or an end is connected.
 abbrev pub effect : Relay → Call → AnswerValue → Relay
 effect p call (Bytes bytes) = mark_joined (change_stream p call (λ stream. taken_in stream bytes)) (side_of call)
 effect p call End = mark_joined (change_stream p call ended) (side_of call)
@@ -60,8 +61,20 @@ effect p call Joined = mark_joined p (side_of call)
 effect p call Shut = change_stream p call closed
 effect p call Blocked = with_flags p (side_of call) (without_flag call (flags_of p (side_of call)))
 effect p call Interrupted = p
-effect p call (Failed kind) = record p { failure = Some (record { side = side_of call; call = kind_of call; kind = kind }) }
+effect p call (Failed kind) = record p { failure = Some (Broken (side_of call) (kind_of call) kind) }
 
--- the pair after an answered call: the turn goes to the direction that the call did not serve
-abbrev pub after : Relay → Call → AnswerValue → Relay
-after p call reply = record (effect p call reply) { turn = opposite (direction_of call) }
+-- an answer by which the connection moved: bytes or an end came in, bytes went out, the socket is connected, or the
+-- end was passed on
+abbrev pub moves : AnswerValue → Bool
+moves Blocked = false
+moves Interrupted = false
+moves (Failed kind) = false
+moves reply = true
+
+-- the pair after a call that was answered at the second `now`: the turn goes to the direction that the call did not
+-- serve
+abbrev pub after : ℕ → Relay → Call → AnswerValue → Relay
+after now p call reply = record (effect p call reply) {
+  turn = opposite (direction_of call);
+  moved = if moves reply then now else p.moved;
+}

@@ -1,3 +1,7 @@
+ghost use Rattle.std.specs.Prelude.{◌≡◌};
+ghost use Rattle.relay_core.specs.Answers.{reply_of};
+ghost use Rattle.relay_core.specs.Replies.{moves};
+
 use token::Kind;
 
 /// What a socket answered to a call.
@@ -19,4 +23,18 @@ pub enum Answer<'a> {
     Interrupted,
     /// The call failed.
     Failed(Kind),
+}
+
+impl Answer<'_> {
+    /// Whether the connection moved by this answer: bytes or an end came in, bytes went out, the socket is connected, or
+    /// the end was passed on.
+    pub fn moves(self) -> bool
+        ensures { result ≡ moves (reply_of self.entry) }
+    {
+        match self {
+            Answer::Bytes(_) | Answer::End | Answer::Wrote(_) | Answer::Joined | Answer::Shut =>
+                true,
+            Answer::Blocked | Answer::Interrupted | Answer::Failed(_) => false,
+        }
+    }
 }

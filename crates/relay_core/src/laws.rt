@@ -1,10 +1,10 @@
-//! What holds for every pair, whatever answers and reports arrive. The functions do nothing: the contract of each is
+//! What holds for every pair, whatever answers and reports arrive and whenever the idle limit passes. The functions do nothing: the contract of each is
 //! the law that it is named after, so that the layers above can use it.
 //!
-//! The first laws are about one answer, about the next call and about a report, and the last ones about whole runs: any
-//! list of answers and reports.
+//! The first laws are about one answer, about the next call, about a report and about the idle limit, and the last ones
+//! about whole runs: any list of answers, reports and expiries.
 
-ghost use Rattle.relay_core.specs.Laws.{AnswersAreEvents, AnswersAreToNextCalls, AnswersKeepOrder, AnswersKeepPlace, AnswersPassEndLast, CallsComeWhileLive, FailuresAreTold, FreshPairsKeepEndLast, LivePairsRest, OnlyEndsAreSeen, ReportsKeepStreams, ReportsSetFlags, RunsKeepOrder, RunsKeepPlace, RunsPassEndLast};
+ghost use Rattle.relay_core.specs.Laws.{AnswersAreEvents, AnswersAreToNextCalls, AnswersKeepOrder, AnswersKeepPlace, AnswersPassEndLast, CallsComeWhileLive, ExpiriesChangeVerdictAlone, FailuresAreTold, FreshPairsKeepEndLast, LivePairsRest, OnlyEndsAreSeen, OnlyOverduePairsExpire, ReportsKeepStreams, ReportsSetFlags, RunsKeepOrder, RunsKeepPlace, RunsPassEndLast};
 
 /// In each direction, the bytes that were there and those that an answer brings in are, in order, those that it takes
 /// out and those that are there afterwards.
@@ -27,7 +27,7 @@ pub fn answers_keep_place()
     ensures { AnswersKeepPlace }
 {}
 
-/// A pair fails only by a failed call, and its fault describes that call.
+/// An answer fails a pair only by a failed call, and the fault describes that call.
 pub fn failures_are_told()
     ensures { FailuresAreTold }
 {}
@@ -53,14 +53,25 @@ pub fn reports_change_flags_alone()
     ensures streams { ReportsKeepStreams }
 {}
 
-/// Over any list of answers and reports, the bytes that writes take are, in each direction and in order, those that
-/// waited and those that reads bring; none is lost or duplicated.
+/// A pair is failed by the idle limit only while it is live, has no next call, and has moved nothing for that long; any
+/// other stays as it was.
+pub fn only_overdue_pairs_expire()
+    ensures { OnlyOverduePairsExpire }
+{}
+
+/// The idle limit changes nothing but the verdict.
+pub fn expiries_change_verdict_alone()
+    ensures { ExpiriesChangeVerdictAlone }
+{}
+
+/// Over any list of answers, reports and expiries, the bytes that writes take are, in each direction and in order, those
+/// that waited and those that reads bring; none is lost or duplicated.
 pub fn runs_keep_order()
     ensures { RunsKeepOrder }
 {}
 
-/// If every end that was passed on came last, this is still so after any list of answers and reports, and an end that
-/// is passed on then comes after every byte that waited or was ever read.
+/// If every end that was passed on came last, this is still so after any list of answers, reports and expiries, and an
+/// end that is passed on then comes after every byte that waited or was ever read.
 pub fn runs_pass_end_last()
     ensures { RunsPassEndLast }
 {}
@@ -70,12 +81,13 @@ pub fn fresh_pairs_keep_end_last()
     ensures { FreshPairsKeepEndLast }
 {}
 
-/// No list of answers and reports changes the slot, the generation or the capacity of a ring.
+/// No list of answers, reports and expiries changes the slot, the generation or the capacity of a ring.
 pub fn runs_keep_place()
     ensures { RunsKeepPlace }
 {}
 
-/// A list of answers is a list of events without reports: it does the same, and moves the same bytes.
+/// A list of answers of one second is a list of events without reports and expiries: it does the same, and moves the same
+/// bytes.
 pub fn answers_are_events()
     ensures { AnswersAreEvents }
 {}

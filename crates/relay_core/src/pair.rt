@@ -5,7 +5,8 @@ ghost use Rattle.relay_core.specs.Pairs.{fresh, stream_of, with_stream, flags_of
 ghost use Rattle.relay_core.specs.Order.{is_waiting, call_for, next_call, offer};
 ghost use Rattle.relay_core.specs.Replies.{Interrupted, fits, after, count_more, without_flag};
 ghost use Rattle.relay_core.specs.Answers.{reply_of};
-ghost use Rattle.relay_core.specs.Laws.{IsPossible, KeepsOrder, PassesEndLast, TellsOf};
+ghost use Rattle.relay_core.specs.Idle.{is_overdue, expired};
+ghost use Rattle.relay_core.specs.Laws.{IsPossible, IsOverdue, KeepsOrder, PassesEndLast, TellsOf};
 ghost use Rattle.token.specs.declared.direction.Direction.{Direction};
 ghost use Rattle.relay_core.specs.declared.verdict.Fault.{Fault};
 
@@ -35,6 +36,7 @@ pub struct Pair {
     failure: Option<Fault>,
     sent_up: u64,
     sent_down: u64,
+    moved: u64,
 }
 
 impl Model for Pair {
@@ -42,7 +44,7 @@ impl Model for Pair {
 
     ghost Value = { Relay };
 
-    ghost view = { λ p. record { slot = p.slot; generation = p.generation; up = p.up; down = p.down; client = p.client; target = p.target; joined = p.joined; turn = p.turn; failure = p.failure; sent_up = p.sent_up; sent_down = p.sent_down } };
+    ghost view = { λ p. record { slot = p.slot; generation = p.generation; up = p.up; down = p.down; client = p.client; target = p.target; joined = p.joined; turn = p.turn; failure = p.failure; sent_up = p.sent_up; sent_down = p.sent_down; moved = p.moved } };
 }
 
 impl Pair {
@@ -50,7 +52,7 @@ impl Pair {
     ghost use Rattle.relay_core.specs.Lending.{with_offer, LendsOffer, LendsStream};
 
     /// A new connection, in a slot that has been opened `generation` times, with a ring of `capacity` bytes, 1 to
-    /// 65,536, for each direction. This allocates all the memory that the pair will ever use.
+    /// 65,536, for each direction, made at the second `now`. This allocates all the memory that the pair will ever use.
     ///
     /// Fails only if there is no memory for one of the two rings; then no pair is made.
     pub fn new(
@@ -58,10 +60,11 @@ impl Pair {
         slot: usize,
         generation: u64,
         capacity: usize,
+        now: u64,
     ) -> Result<Pair, AllocError>
         requires least { 1 ≤ capacity }
         requires most { capacity ≤ 65536 }
-        ensures { IfOk result (λ pair. pair ≡ fresh slot generation capacity) }
+        ensures { IfOk result (λ pair. pair ≡ fresh slot generation capacity now) }
     {
         Ok(Pair {
             slot,
@@ -75,6 +78,7 @@ impl Pair {
             failure: None,
             sent_up: 0,
             sent_down: 0,
+            moved: now,
         })
     }
 
@@ -123,11 +127,11 @@ impl Pair {
         }
     }
 
-    /// Takes the answer to the call that comes next.
-    pub fn answer(&mut self, call: Call, answer: Answer<'_>)
+    /// Takes the answer to the call that comes next, which came at the second `now`.
+    pub fn answer(&mut self, call: Call, answer: Answer<'_>, now: u64)
         requires next { next_call self.old ≡ Some call }
         requires fits { fits self.old call (reply_of answer) ≡ true }
-        ensures value { self.new ≡ after self.old call (reply_of answer.entry) }
+        ensures value { self.new ≡ after now self.old call (reply_of answer.entry) }
 
         // What that comes to:
         ensures order { KeepsOrder self.old call (reply_of answer.entry) self.new }
@@ -135,7 +139,7 @@ impl Pair {
         ensures interrupted { reply_of answer.entry ≡ Interrupted → self.new ≡ record self.old { turn = self.new.turn } }
         ensures failed { (fault : Fault) → (verdict self.new ≡ Verdict.Failed fault) ↔ TellsOf call (reply_of answer.entry) fault }
     {
-        self.take_answer(call, answer);
+        self.take_answer(call, answer, now);
     }
 
     /// A report of any kind arrived for one of the sockets: every call is worth trying again.
@@ -145,6 +149,25 @@ impl Pair {
     {
         self.client = Flags::READY;
         self.target = Flags::READY;
+    }
+
+    /// Holds a live pair that has no next call against the idle limit: if it has moved nothing for `limit` seconds at the
+    /// second `now`, it fails, and the answer is true. Otherwise nothing changes. A limit of 0 is none.
+    pub fn expire(&mut self, now: u64, limit: u64) -> bool
+        ensures value { self.new ≡ expired now limit self.old }
+        ensures told { result ≡ is_overdue now limit self.old }
+
+        // What that comes to:
+        ensures overdue { (result ≡ true) ↔ IsOverdue now limit self.old }
+        ensures fails { result ≡ true → verdict self.new ≡ Verdict.Failed Fault.Idle }
+        ensures keeps { result ≡ false → self.new ≡ self.old }
+        ensures verdict_alone { self.new ≡ record self.old { failure = self.new.failure } }
+    {
+        let is_overdue = self.is_overdue(now, limit);
+        if is_overdue {
+            self.failure = Some(Fault::Idle);
+        }
+        is_overdue
     }
 
     /// What has become of the connection.
@@ -164,6 +187,13 @@ impl Pair {
         ensures down { result.1 ≡ self.now.sent_down }
     {
         (self.sent_up, self.sent_down)
+    }
+
+    /// The second at which the connection was made or last moved ([`Answer::moves`]).
+    pub fn moved(&self) -> u64
+        ensures { result ≡ self.now.moved }
+    {
+        self.moved
     }
 
     /// The slot of the connection.
@@ -239,12 +269,13 @@ impl Pair {
     /// What `answer` does. That the calls below have room, and an end to pass on, follows from the
     /// order of work.
     #[tactic(auto, using(crate::proofs::Possible::bytes_fit, crate::proofs::Possible::shut_fits))]
-    fn take_answer(&mut self, call: Call, answer: Answer<'_>)
+    fn take_answer(&mut self, call: Call, answer: Answer<'_>, now: u64)
         requires next { next_call self.old ≡ Some call }
         requires fits { fits self.old call (reply_of answer) ≡ true }
-        ensures { self.new ≡ after self.old call (reply_of answer.entry) }
+        ensures { self.new ≡ after now self.old call (reply_of answer.entry) }
     {
         let direction = call.direction();
+        let moved = if answer.moves() { now } else { self.moved };
         match answer {
             Answer::Bytes(bytes) => {
                 self.flow_mut(direction).take_in(bytes);
@@ -264,7 +295,7 @@ impl Pair {
             Answer::Blocked => self.clear_flag(call),
             Answer::Interrupted => {}
             Answer::Failed(kind) => {
-                self.failure = Some(Fault {
+                self.failure = Some(Fault::Broken {
                     side: call.side(),
                     call: call.kind(),
                     kind,
@@ -272,6 +303,7 @@ impl Pair {
             }
         }
         self.turn = direction.other();
+        self.moved = moved;
     }
 
     /// Whether the verdict is Live.
@@ -279,6 +311,17 @@ impl Pair {
         ensures { result ≡ is_live (verdict self.now) }
     {
         self.failure.is_none() && !(self.up.is_shut() && self.down.is_shut())
+    }
+
+    /// Whether the idle limit has passed for a live pair that has no next call.
+    fn is_overdue(&self, now: u64, limit: u64) -> bool
+        ensures { result ≡ is_overdue now limit self.now }
+    {
+        limit > 0
+            && now >= self.moved
+            && now - self.moved >= limit
+            && self.is_live()
+            && self.next().is_none()
     }
 
     fn flow(&self, direction: Direction) -> &Flow

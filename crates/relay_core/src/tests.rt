@@ -1,3 +1,4 @@
+mod idle;
 mod sessions;
 
 use super::*;
@@ -12,9 +13,14 @@ const TARGET: Side = Side::Target;
 
 /// Answers the next call, if it is this one and the answer fits it.
 fn answered(pair: &mut Pair, call: Call, answer: Answer<'_>) -> bool {
+    answered_at(pair, call, answer, 0)
+}
+
+/// The same at a second.
+fn answered_at(pair: &mut Pair, call: Call, answer: Answer<'_>, now: u64) -> bool {
     match pair.next() {
         Some(next) if next == call && pair.fits(next, answer) => {
-            pair.answer(next, answer);
+            pair.answer(next, answer, now);
             true
         }
         _ => false,
@@ -76,7 +82,7 @@ fn first_wrong_fit(pair: &Pair) -> Option<usize> {
 
 #[test]
 fn answers_that_fit(rt: HostRuntime) -> Result<(), Fail> {
-    let mut pair = Pair::new(rt.alloc(), 0, 1, 4)?;
+    let mut pair = Pair::new(rt.alloc(), 0, 1, 4, 0)?;
     assert!(rt; answered(&mut pair, Call::Read(CLIENT, 4), Answer::Bytes(b"abc")));
     assert_eq!(rt; first_wrong_fit(&pair), None);
     Ok(())
@@ -91,7 +97,13 @@ static SIZES: [(usize, usize); 4] = [(1, 1), (16_384, 16_384), (16_385, 16_384),
 
 /// The slot, the generation and the first call of a pair in the last slot, at its last generation.
 fn first_call(alloc: Global, capacity: usize) -> Result<(usize, u64, Option<Call>), AllocError> {
-    let pair = Pair::new(alloc, LAST_SLOT, LAST_GENERATION, capacity.clamp(1, 65_536))?;
+    let pair = Pair::new(
+        alloc,
+        LAST_SLOT,
+        LAST_GENERATION,
+        capacity.clamp(1, 65_536),
+        0,
+    )?;
     Ok((pair.slot(), pair.generation(), pair.next()))
 }
 
@@ -159,6 +171,8 @@ fn laws_do_nothing(_rt: HostRuntime) {
     laws::calls_come_while_live();
     laws::live_pairs_rest();
     laws::reports_change_flags_alone();
+    laws::only_overdue_pairs_expire();
+    laws::expiries_change_verdict_alone();
     laws::runs_keep_order();
     laws::runs_pass_end_last();
     laws::fresh_pairs_keep_end_last();

@@ -1,15 +1,20 @@
 use crate::call::CallKind;
 use token::{Kind, Side};
 
-/// The call that failed, and how.
+/// Why a connection failed.
 #[derive(Clone, Copy, Debug, PartialEq, Eq)]
-pub struct Fault {
-    /// The side on whose socket the call was made.
-    pub side: Side,
-    /// Which call it was.
-    pub call: CallKind,
-    /// How it failed.
-    pub kind: Kind,
+pub enum Fault {
+    /// A call failed.
+    Broken {
+        /// The side on whose socket the call was made.
+        side: Side,
+        /// Which call it was.
+        call: CallKind,
+        /// How it failed.
+        kind: Kind,
+    },
+    /// The connection moved nothing for the idle limit.
+    Idle,
 }
 
 /// What has become of a connection.
@@ -19,6 +24,6 @@ pub enum Verdict {
     Live,
     /// Both ends of input were passed on.
     Done,
-    /// A call failed.
+    /// A call failed, or the connection moved nothing for the idle limit.
     Failed(Fault),
 }

@@ -5,6 +5,7 @@ use Rattle.token.specs.Sides.{side_name}
 use Rattle.token.specs.Kinds.{kind_name}
 use Rattle.relay_core.specs.Calls.{call_name}
 use Rattle.relay_core.specs.declared.verdict.Fault.{Fault}
+use Rattle.relay_core.specs.declared.verdict.Fault.TheVariants.{Broken, Idle}
 use Rattle.relay_log.specs.declared.cause.Cause.{Cause}
 use Rattle.relay_log.specs.declared.cause.Cause.TheVariants.{Memory, Connect, Register}
 
@@ -21,10 +22,15 @@ done_message slot generation up down =
     codes "done s=" ++ (decimal slot ++ (codes " g=" ++ (decimal generation
     ++ (codes " up=" ++ (decimal up ++ (codes " down=" ++ decimal down))))))
 
+-- the call that failed and how, or that the idle limit passed
+abbrev pub fault_text : Fault → List ℕ
+fault_text (Broken side call kind) =
+    codes " side=" ++ (side_name side ++ (codes " call=" ++ (call_name call ++ (codes " kind=" ++ kind_name kind))))
+fault_text Idle = codes " idle"
+
 abbrev pub fail_message : ℕ → ℕ → Fault → List ℕ
 fail_message slot generation fault =
-    codes "fail s=" ++ (decimal slot ++ (codes " g=" ++ (decimal generation
-    ++ (codes " side=" ++ (side_name fault.side ++ (codes " call=" ++ (call_name fault.call ++ (codes " kind=" ++ kind_name fault.kind))))))))
+    codes "fail s=" ++ (decimal slot ++ (codes " g=" ++ (decimal generation ++ fault_text fault)))
 
 abbrev pub cause_name : Cause → List ℕ
 cause_name Memory = codes "memory"

@@ -6,6 +6,7 @@
 //! | `peer s=3 g=1 from=192.0.2.7:50000` | debug | whose connection that is: the client's address and port |
 //! | `done s=3 g=1 up=120 down=400` | info | both its ends were passed on; bytes sent each way |
 //! | `fail s=3 g=1 side=target call=write kind=pipe` | warn | a call on one of its sockets failed |
+//! | `fail s=3 g=1 idle` | warn | it moved nothing for the idle limit |
 //! | `drop kind=memory` | warn | an accepted connection was closed at once: memory ran out, or `connect` or `register` failed |
 //!
 //! A message is a value that prints itself, so passing one to a log takes no memory.

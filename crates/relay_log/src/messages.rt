@@ -63,7 +63,7 @@ impl Display for Done {
     }
 }
 
-/// A connection failed.
+/// A connection failed: by a call, or since it moved nothing for the idle limit.
 #[derive(Clone, Copy, Debug, PartialEq, Eq)]
 pub struct Failed {
     pub slot: usize,
@@ -76,13 +76,18 @@ impl Display for Failed {
 
     fn fmt<W: fmt::Write>(&self, f: &mut fmt::Formatter<W>) -> fmt::Result {
         let (slot, generation) = (self.slot, self.generation);
-        let side = self.fault.side.name();
-        let call = self.fault.call.name();
-        let kind = self.fault.kind.name();
-        write!(
-            f,
-            "fail s={slot} g={generation} side={side} call={call} kind={kind}"
-        )
+        match self.fault {
+            Fault::Broken { side, call, kind } => {
+                let side = side.name();
+                let call = call.name();
+                let kind = kind.name();
+                write!(
+                    f,
+                    "fail s={slot} g={generation} side={side} call={call} kind={kind}"
+                )
+            }
+            Fault::Idle => write!(f, "fail s={slot} g={generation} idle"),
+        }
     }
 }
 

@@ -11,7 +11,7 @@ use std::fmt;
 use std::test::Fail;
 
 /// A write to the target that met a closed reading end.
-const PIPE: Fault = Fault {
+const PIPE: Fault = Fault::Broken {
     side: Side::Target,
     call: CallKind::Write,
     kind: Kind::Pipe,
@@ -27,6 +27,8 @@ fn texts(rt: HostRuntime) -> Result<(), Fail> {
     );
     let text = "fail s=3 g=1 side=target call=write kind=pipe";
     assert_eq!(rt; fail_text(alloc, 3, 1, PIPE)?.as_str(), text);
+    let text = "fail s=3 g=1 idle";
+    assert_eq!(rt; fail_text(alloc, 3, 1, Fault::Idle)?.as_str(), text);
     for (cause, text) in [
         (Cause::Memory, "drop kind=memory"),
         (Cause::Connect, "drop kind=connect"),
@@ -125,10 +127,11 @@ const CAUSES: [(Cause, &str); 3] = [
 
 /// Logs each failure of a connection.
 fn log_each_failure(log: &impl Log, slot: usize, generation: u64) {
+    log_fail(log, slot, generation, Fault::Idle);
     for (side, _) in SIDES {
         for (call, _) in CALLS {
             for (kind, _) in KINDS {
-                log_fail(log, slot, generation, Fault { side, call, kind });
+                log_fail(log, slot, generation, Fault::Broken { side, call, kind });
             }
         }
     }
@@ -151,6 +154,7 @@ fn log_all(log: &impl Log) {
 
 /// The lines of each failure of a connection whose name prints so.
 fn add_failures(alloc: Global, lines: &mut Vec<String>, name: &str) -> Result<(), AllocError> {
+    lines.push(format!(in alloc; "[WARN  relayd] fail {name} idle")?)?;
     for (_, side) in SIDES {
         for (_, call) in CALLS {
             for (_, kind) in KINDS {

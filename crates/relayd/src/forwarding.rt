@@ -17,7 +17,7 @@ struct SettingRow {
 }
 
 /// The settings, in the order of the help.
-const SETTINGS: [SettingRow; 8] = [
+const SETTINGS: [SettingRow; 9] = [
     SettingRow {
         key: "listen",
         option: None,
@@ -65,6 +65,12 @@ const SETTINGS: [SettingRow; 8] = [
         option: Some("log"),
         value_name: "LEVEL",
         help: "The least important messages that are logged [default: info]",
+    },
+    SettingRow {
+        key: "idle",
+        option: Some("idle"),
+        value_name: "SECONDS",
+        help: "Close a connection that moved nothing for so long; 0 for never [default: 0]",
     },
 ];
 

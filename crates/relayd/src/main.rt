@@ -7,6 +7,7 @@
 #![tactic(auto)]
 
 mod causes;
+mod clock;
 mod command_line;
 mod config;
 mod constants;
@@ -21,6 +22,7 @@ mod streams;
 #[cfg(test)]
 mod tests;
 
+use clock::MonotonicClock;
 use log::Logged;
 use log_queue::Queued;
 use logging::Errors;
@@ -41,7 +43,8 @@ fn main(rt: HostRuntime) -> ExitCode {
         let queue = logging::start(rt)?;
         let sink = Queued { rt, queue: &queue };
         let logged = Logged::new(rt, program::level_filter(settings.log), sink);
-        let served = server::serve(&logged, rt.alloc(), &settings, &OpenGate, bound);
+        let clock = MonotonicClock(rt);
+        let served = server::serve(&logged, rt.alloc(), &settings, &OpenGate, &clock, bound);
         is_stuck.set(!logging::finish(&rt, &queue));
         served
     };

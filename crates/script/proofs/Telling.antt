@@ -31,12 +31,12 @@ has_header : (ls : List NumberedLine) (p : Plan) → plan_of ls ≡ Ok p → IsS
 has_header [] p is = absurd (cc)
 has_header (l ∷ ls) p is = at_header l.number ls p (header_of l.text) is
 
-long_is_none : (text : List ℕ) (p : Plan) → most_bytes < length text → parsed text ≡ Ok p → ⊥
+pub long_is_none : (text : List ℕ) (p : Plan) → most_bytes < length text → parsed text ≡ Ok p → ⊥
 long_is_none text p long is =
     let clash : Err TooLong ≡ Ok p = rw (lt-ltb most_bytes (length text) long) at is in
     absurd (cc)
 
-script_may : (text : List ℕ) (p : Plan) → parsed text ≡ Ok p → MayBeScript text
+pub script_may : (text : List ℕ) (p : Plan) → parsed text ≡ Ok p → MayBeScript text
 script_may text p is = by_length (cases_lt most_bytes (length text))
   where
     by_length : (most_bytes < length text) ⊎ (length text ≤ most_bytes) → MayBeScript text
@@ -63,7 +63,7 @@ by_script text script (Err (NotAllowed line word)) is to = inr (script, (is, to)
 by_script text script (Err NoMemory) is to = script_may text (said_by script) is
 
 -- a front that is one byte longer than a script may be is as long as the input, or too long as the input is
-long_parsed : (input : List ℕ) → most_bytes < length input → parsed (take (most_bytes + 1) input) ≡ parsed input
+pub long_parsed : (input : List ℕ) → most_bytes < length input → parsed (take (most_bytes + 1) input) ≡ parsed input
 long_parsed input long =
     let longer : most_bytes < length (take (most_bytes + 1) input) = omega (arith, length-take-le (most_bytes + 1) input (omega (arith, long))) in
     rw (lt-ltb most_bytes (length (take (most_bytes + 1) input)) longer, lt-ltb most_bytes (length input) long) refl
@@ -85,7 +85,7 @@ leads_too text input (Err (NotAllowed line word)) same may (inl is) = inl (sym s
 leads_too text input (Err (NotAllowed line word)) same may (inr (script, (is, to))) = inr (script, (sym same ∙ is, to))
 
 -- what was computed of the front holds of the whole input
-of_front : (input : List ℕ) (r : Result Reached Fault) → LeadsTo (take (most_bytes + 1) input) r → LeadsTo input r
+pub of_front : (input : List ℕ) (r : Result Reached Fault) → LeadsTo (take (most_bytes + 1) input) r → LeadsTo input r
 of_front input r to = by_length (cases_lt most_bytes (length input))
   where
     by_length : (most_bytes < length input) ⊎ (length input ≤ most_bytes) → LeadsTo input r

@@ -110,6 +110,7 @@ act_of word =
     else if bytes_eq word (codes "take") then Some act.Take
     else if bytes_eq word (codes "post") then Some act.Post
     else if bytes_eq word (codes "release") then Some act.Release
+    else if bytes_eq word (codes "idle") then Some act.Expire
     else if bytes_eq word (codes "close") then Some act.Close
     else if bytes_eq word (codes "retire") then Some act.Retire
     else if bytes_eq word (codes "free") then Some act.Free
@@ -152,6 +153,8 @@ event_with_one word one =
     if bytes_eq word (codes "accept") then option_map (λ a. Plainly (event.Listen (listening.Accept a))) (accepting_of one)
     else if bytes_eq word (codes "spurious") then option_map (λ who. Plainly (event.Spurious who)) (lone_who one)
     else if bytes_eq word (codes "vanish") then option_map (λ who. Plainly (event.Vanish who)) (lone_who one)
+    else if bytes_eq word (codes "tick") then option_map (λ n. Plainly (event.Tick n)) (number_of one)
+    else if bytes_eq word (codes "sweep") then option_map (λ s. Plainly (event.Poll (polling.Sweep s))) (slot_of one)
     else if bytes_eq word (codes "put") && bytes_eq one (codes "poller") then Some (Plainly (event.Poll polling.Put))
     else worker_event word one
 

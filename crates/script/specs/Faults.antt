@@ -2,7 +2,7 @@
 use Rattle.std.specs.Prelude.{◌≡◌, ℕ, List, [], ◌∷◌, ◌++◌, codes, take, slice_get, Option, Some, None, Result, Ok, Err}
 use Rattle.std.specs.Fmt.{decimal}
 use Rattle.script.specs.declared.word.Word.{Word}
-use Rattle.script.specs.declared.word.Word.TheVariants.{Accept, Arrive, Call, Claim, Close, Connect, Deliver, Drop, End, Fin, Free, Open, Poll, Pop, Post, Put, Read, Release, Reset, Retire, Room, Shut, Spurious, Take, Vanish, Wrote}
+use Rattle.script.specs.declared.word.Word.TheVariants.{Accept, Arrive, Call, Claim, Close, Connect, Deliver, Drop, End, Fin, Free, Idle, Open, Poll, Pop, Post, Put, Read, Release, Reset, Retire, Room, Shut, Spurious, Sweep, Take, Tick, Vanish, Wrote}
 use Rattle.script.specs.declared.fault.Fault.{Fault}
 use Rattle.script.specs.declared.fault.Fault.TheVariants.{TooLong, NoWorld, Malformed, NotAllowed, NoMemory}
 
@@ -19,6 +19,7 @@ word_text Drop = codes "drop"
 word_text End = codes "end"
 word_text Fin = codes "fin"
 word_text Free = codes "free"
+word_text Idle = codes "idle"
 word_text Open = codes "open"
 word_text Poll = codes "poll"
 word_text Pop = codes "pop"
@@ -31,7 +32,9 @@ word_text Retire = codes "retire"
 word_text Room = codes "room"
 word_text Shut = codes "shut"
 word_text Spurious = codes "spurious"
+word_text Sweep = codes "sweep"
 word_text Take = codes "take"
+word_text Tick = codes "tick"
 word_text Vanish = codes "vanish"
 word_text Wrote = codes "wrote"
 

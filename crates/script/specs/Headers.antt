@@ -4,6 +4,7 @@ use Rattle.std.specs.Prelude.{ℕ, ◌≤◌, nat_lt, nat_le, ◌&&◌, if◌the
 use Rattle.std.specs.Str.{bytes_eq}
 use Rattle.world.specs.declared.limits.Limits.{Limits}
 use Rattle.world.specs.States.{IsWithinLimits}
+use Rattle.script.specs.declared.header.Extras.{Extras}
 use Rattle.script.specs.declared.header.Header.{Header}
 use Rattle.script.specs.declared.header.Header.TheVariants.{Flow, World}
 use Rattle.script.specs.Texts.{NumberedLine, words_of, value_after}
@@ -24,22 +25,40 @@ ring_of word = size_of (codes "ring=") 65536 word
 abbrev pub IsRing : ℕ → Type 0
 IsRing n = (1 ≤ n) × (n ≤ 65536)
 
+-- `idle=L`, the idle limit in seconds, 1 to 86,400
+abbrev pub idle_of : List ℕ → Option ℕ
+idle_of word = size_of (codes "idle=") 86400 word
+
 -- what is of a size that it may have
 abbrev pub IsWithin : Header → Type 0
 IsWithin (Flow ring) = IsRing ring
 IsWithin (World limits) = IsWithinLimits limits
 
--- `slots=S workers=W ring=R budget=B`, for slots that have had this generation
-abbrev pub limits_with : ℕ → List ℕ → List ℕ → List ℕ → List ℕ → Option Limits
-limits_with generation slots workers ring budget =
+-- what may stand behind the sizes: the generation that the slots have had, 0 where it is not given, and the idle
+-- limit, 0 for none
+abbrev pub behind : ℕ → ℕ → Extras
+behind generation idle = record { generation = generation; idle = idle }
+
+abbrev pub either_extra : Option ℕ → Option ℕ → Option Extras
+either_extra (Some g) idle = Some (behind g 0)
+either_extra None idle = option_map (λ n. behind 0 n) idle
+
+-- nothing, ` gen=G`, ` idle=L`, or both in this order
+abbrev pub extras_of : List (List ℕ) → Option Extras
+extras_of [] = Some (behind 0 0)
+extras_of (word ∷ []) = either_extra (generation_of word) (idle_of word)
+extras_of (generation ∷ idle ∷ []) = option_and_then (λ g. option_map (λ n. behind g n) (idle_of idle)) (generation_of generation)
+extras_of _ = None
+
+-- `slots=S workers=W ring=R budget=B`, with what stands behind
+abbrev pub limits_with : Extras → List ℕ → List ℕ → List ℕ → List ℕ → Option Limits
+limits_with extras slots workers ring budget =
     option_and_then (λ s. option_and_then (λ w. option_and_then (λ r. option_map (λ b.
-    record { slots = s; workers = w; ring = r; budget = b; generation = generation })
+    record { slots = s; workers = w; ring = r; budget = b; generation = extras.generation; idle = extras.idle })
     (size_of (codes "budget=") 1024 budget)) (ring_of ring)) (size_of (codes "workers=") 16 workers)) (size_of (codes "slots=") 64 slots)
 
--- the same with ` gen=G` behind it, or without: then the slots have had no generation
 abbrev pub limits_of : List (List ℕ) → Option Limits
-limits_of (slots ∷ workers ∷ ring ∷ budget ∷ []) = limits_with 0 slots workers ring budget
-limits_of (slots ∷ workers ∷ ring ∷ budget ∷ generation ∷ []) = option_and_then (λ g. limits_with g slots workers ring budget) (generation_of generation)
+limits_of (slots ∷ workers ∷ ring ∷ budget ∷ words) = option_and_then (λ e. limits_with e slots workers ring budget) (extras_of words)
 limits_of _ = None
 
 abbrev pub lone_ring : List (List ℕ) → Option ℕ

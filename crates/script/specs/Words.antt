@@ -1,6 +1,6 @@
 -- The first word of an event, by which a fault names it. Part of the promises.
 use Rattle.world.specs.declared.event.Event.{Event}
-use Rattle.world.specs.declared.event.Event.TheVariants.{Network, Spurious, Vanish, Listen, Poll, Work}
+use Rattle.world.specs.declared.event.Event.TheVariants.{Tick, Network, Spurious, Vanish, Listen, Poll, Work}
 use Rattle.world.specs.declared.event.Change.{Change}
 use Rattle.world.specs.declared.event.Change.TheVariants.{Arrive, Fin, Reset, Room}
 use Rattle.world.specs.declared.event.Listening.{Listening}
@@ -27,6 +27,7 @@ abbrev pub polling_word : Polling → Word
 polling_word polling.Open = word.Open
 polling_word (polling.Poll names) = word.Poll
 polling_word polling.Deliver = word.Deliver
+polling_word (polling.Sweep slot) = word.Sweep
 polling_word polling.Put = word.Put
 
 abbrev pub act_word : Act → Word
@@ -37,11 +38,13 @@ act_word act.Take = word.Take
 act_word (act.Call r) = word.Call
 act_word act.Post = word.Post
 act_word act.Release = word.Release
+act_word act.Expire = word.Idle
 act_word act.Close = word.Close
 act_word act.Retire = word.Retire
 act_word act.Free = word.Free
 
 abbrev pub event_word : Event → Word
+event_word (Tick seconds) = word.Tick
 event_word (Network slot side c) = change_word c
 event_word (Spurious who) = word.Spurious
 event_word (Vanish who) = word.Vanish

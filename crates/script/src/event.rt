@@ -18,6 +18,7 @@ pub fn word_of(event: &Event) -> Word
     ensures { result ≡ event_word event.now }
 {
     match event {
+        Event::Tick(_) => Word::Tick,
         Event::Network(_, _, change) => change_word(change),
         Event::Spurious(_) => Word::Spurious,
         Event::Vanish(_) => Word::Vanish,
@@ -55,6 +56,7 @@ fn polling_word(polling: &Polling) -> Word
         Polling::Open => Word::Open,
         Polling::Poll(_) => Word::Poll,
         Polling::Deliver => Word::Deliver,
+        Polling::Sweep(_) => Word::Sweep,
         Polling::Put => Word::Put,
     }
 }
@@ -70,6 +72,7 @@ fn act_word(act: Act) -> Word
         Act::Call(_) => Word::Call,
         Act::Post => Word::Post,
         Act::Release => Word::Release,
+        Act::Expire => Word::Idle,
         Act::Close => Word::Close,
         Act::Retire => Word::Retire,
         Act::Free => Word::Free,

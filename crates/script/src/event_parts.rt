@@ -168,6 +168,8 @@ pub(crate) fn act(word: &[u8]) -> Option<Act>
         Some(Act::Post)
     } else if word == b"release".as_slice() {
         Some(Act::Release)
+    } else if word == b"idle".as_slice() {
+        Some(Act::Expire)
     } else if word == b"close".as_slice() {
         Some(Act::Close)
     } else if word == b"retire".as_slice() {

@@ -6,7 +6,7 @@ use crate::event_parts::{
     accepting, act, full_write, lone_reply, lone_who, names, reply_with, side, slot, worker,
 };
 use crate::lines::Pieces;
-use crate::values::bytes;
+use crate::values::{bytes, number};
 use kernel_model::Reply;
 use std::alloc::{AllocError, Global};
 use token::Side;
@@ -80,6 +80,10 @@ fn event_with_one(word: &[u8], one: &[u8]) -> Option<Event>
         Some(Event::Spurious(lone_who(one)?))
     } else if word == b"vanish".as_slice() {
         Some(Event::Vanish(lone_who(one)?))
+    } else if word == b"tick".as_slice() {
+        Some(Event::Tick(number(one)? as u64))
+    } else if word == b"sweep".as_slice() {
+        Some(Event::Poll(Polling::Sweep(slot(one)?)))
     } else if word == b"put".as_slice() && one == b"poller".as_slice() {
         Some(Event::Poll(Polling::Put))
     } else {

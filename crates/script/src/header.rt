@@ -1,9 +1,9 @@
 // The header: the first line of a script that is not skipped.
 ghost use Rattle.std.specs.Prelude.{◌≡◌, ◌≤◌, ◌<◌, IfSome};
 ghost use Rattle.world.specs.States.{IsWithinLimits};
-ghost use Rattle.script.specs.Headers.{size_of, generation_of, ring_of, limits_with, limits_of, lone_ring, header_of, IsRing, IsWithin};
+ghost use Rattle.script.specs.Headers.{size_of, generation_of, ring_of, idle_of, either_extra, extras_of, limits_with, limits_of, lone_ring, header_of, IsRing, IsWithin};
 
-use crate::limits::{MAX_BUDGET, MAX_SLOTS, MAX_WORKERS};
+use crate::limits::{MAX_BUDGET, MAX_IDLE, MAX_SLOTS, MAX_WORKERS};
 use crate::lines::Pieces;
 use crate::values::value_after;
 use flow::Flow;
@@ -17,6 +17,15 @@ pub enum Header {
     Flow(usize),
     /// A world with these sizes.
     World(Limits),
+}
+
+/// What may stand behind the sizes of a world.
+#[derive(Clone, Copy)]
+struct Extras {
+    /// The generation at which every slot starts; 0 if it is not given.
+    generation: u64,
+    /// The idle limit in seconds; 0 for none.
+    idle: u64,
 }
 
 /// The header that a line stands for, if any.
@@ -47,30 +56,62 @@ fn lone_ring(mut words: Pieces) -> Option<usize>
     ring(word)
 }
 
-/// The sizes of a world: `slots=S workers=W ring=R budget=B`, and perhaps `gen=G`.
+/// The sizes of a world: `slots=S workers=W ring=R budget=B`, perhaps `gen=G`, and perhaps `idle=L`.
 fn limits(mut words: Pieces) -> Option<Limits>
     ensures value { result ≡ limits_of words.entry }
     ensures range { IfSome result IsWithinLimits }
 {
     let (slots, workers) = (words.next()?, words.next()?);
     let (ring, budget) = (words.next()?, words.next()?);
-    match (words.next(), words.next()) {
-        (None, _) => limits_with(0, slots, workers, ring, budget),
-        (Some(word), None) => limits_with(generation(word)?, slots, workers, ring, budget),
-        (Some(_), Some(_)) => None,
+    limits_with(read_extras(words)?, slots, workers, ring, budget)
+}
+
+/// Nothing, `gen=G`, `idle=L`, or both in this order.
+fn read_extras(mut words: Pieces) -> Option<Extras>
+    ensures value { result ≡ extras_of words.entry }
+    ensures range { IfSome result (λ extras. extras.generation < 140737488355327) }
+{
+    match (words.next(), words.next(), words.next()) {
+        (None, _, _) => Some(Extras {
+            generation: 0,
+            idle: 0,
+        }),
+        (Some(word), None, _) => either_extra(word),
+        (Some(first), Some(second), None) => Some(Extras {
+            generation: generation(first)?,
+            idle: idle(second)?,
+        }),
+        (Some(_), Some(_), Some(_)) => None,
     }
 }
 
-/// The sizes of a world whose slots start at this generation.
+/// `gen=G` or `idle=L`.
+fn either_extra(word: &[u8]) -> Option<Extras>
+    ensures value { result ≡ either_extra (generation_of word.now) (idle_of word.now) }
+    ensures range { IfSome result (λ extras. extras.generation < 140737488355327) }
+{
+    match generation(word) {
+        Some(generation) => Some(Extras {
+            generation,
+            idle: 0,
+        }),
+        None => Some(Extras {
+            generation: 0,
+            idle: idle(word)?,
+        }),
+    }
+}
+
+/// The sizes of a world, with what stands behind them.
 fn limits_with(
-    generation: u64,
+    extras: Extras,
     slots: &[u8],
     workers: &[u8],
     ring_size: &[u8],
     budget: &[u8],
 ) -> Option<Limits>
-    requires { generation < 140737488355327 }
-    ensures value { result ≡ limits_with generation slots.now workers.now ring_size.now budget.now }
+    requires { extras.generation < 140737488355327 }
+    ensures value { result ≡ limits_with extras slots.now workers.now ring_size.now budget.now }
     ensures range { IfSome result IsWithinLimits }
 {
     Some(Limits {
@@ -78,7 +119,8 @@ fn limits_with(
         workers: size(b"workers=", MAX_WORKERS, workers)?,
         ring: ring(ring_size)?,
         budget: size(b"budget=", MAX_BUDGET, budget)?,
-        generation,
+        generation: extras.generation,
+        idle: extras.idle,
     })
 }
 
@@ -114,4 +156,12 @@ pub(crate) fn generation(word: &[u8]) -> Option<u64>
     } else {
         None
     }
+}
+
+/// `idle=L`, 1 to 86,400 seconds.
+pub(crate) fn idle(word: &[u8]) -> Option<u64>
+    ensures { result ≡ idle_of word.now }
+{
+    let idle = size(b"idle=", MAX_IDLE, word)?;
+    Some(idle as u64)
 }

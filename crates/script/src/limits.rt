@@ -16,5 +16,8 @@ pub(crate) const MAX_WORKERS: usize = 16;
 /// The most calls of one turn.
 pub(crate) const MAX_BUDGET: usize = 1_024;
 
+/// The most seconds of an idle limit.
+pub(crate) const MAX_IDLE: usize = 86_400;
+
 /// The most hexadecimal digits of a word, two for each byte.
 pub(crate) const MAX_DIGITS: usize = 2_048;

@@ -1,7 +1,7 @@
 //! The forms of a script's lines: which words may follow the first one.
 
 use crate::event_parts::{accepting, kind, lone_who, name, side, slot, worker};
-use crate::header::{generation, ring, size};
+use crate::header::{generation, idle, ring, size};
 use crate::limits::{MAX_BUDGET, MAX_SLOTS, MAX_WORKERS};
 use crate::lines::Pieces;
 use crate::values::{is_hex_text, number};
@@ -18,8 +18,10 @@ pub(crate) enum Part {
     Ring,
     /// `budget=B`.
     Budget,
-    /// `gen=G`, or nothing.
+    /// `gen=G`, `idle=L`, or nothing.
     Generation,
+    /// `idle=L`, or nothing.
+    Idle,
     /// The number of a slot.
     Slot,
     /// The name of a side.
@@ -38,7 +40,7 @@ pub(crate) enum Part {
     Name,
     /// The answer to a call.
     Reply,
-    /// A count of bytes.
+    /// A count of bytes or of seconds.
     Count,
     /// `full`, or nothing.
     Full,
@@ -90,6 +92,7 @@ pub(crate) const STEPS: Forms = Forms {
 /// The steps of a world.
 pub(crate) const EVENTS: Forms = Forms {
     rows: &[
+        ("tick", &[Part::Count]),
         ("connect", &[]),
         ("arrive", &[Part::Slot, Part::Side, Part::Hex]),
         ("fin", &[Part::Slot, Part::Side]),
@@ -102,6 +105,7 @@ pub(crate) const EVENTS: Forms = Forms {
         ("open", &[]),
         ("poll", &[Part::Name]),
         ("deliver", &[]),
+        ("sweep", &[Part::Slot]),
         ("put", &[Part::Actor]),
         ("pop", &[Part::Worker]),
         ("claim", &[Part::Worker]),
@@ -109,11 +113,12 @@ pub(crate) const EVENTS: Forms = Forms {
         ("call", &[Part::Worker, Part::Reply]),
         ("post", &[Part::Worker]),
         ("release", &[Part::Worker]),
+        ("idle", &[Part::Worker]),
         ("close", &[Part::Worker]),
         ("retire", &[Part::Worker]),
         ("free", &[Part::Worker]),
     ],
-    wanted: "not a step of a world; one of accept, arrive, call, claim, close, connect, deliver, drop, fin, free, open, poll, pop, post, put, release, reset, retire, room, spurious, take and vanish is wanted",
+    wanted: "not a step of a world; one of accept, arrive, call, claim, close, connect, deliver, drop, fin, free, idle, open, poll, pop, post, put, release, reset, retire, room, spurious, sweep, take, tick and vanish is wanted",
 };
 
 /// The answers to a call.
@@ -180,9 +185,8 @@ impl Part {
     /// Whether a word is of this kind.
     fn takes(self, word: &[u8]) -> bool {
         match self {
-            Part::Slots | Part::Workers | Part::Ring | Part::Budget | Part::Generation => {
-                self.takes_size(word)
-            }
+            Part::Slots | Part::Workers | Part::Ring => self.takes_size(word),
+            Part::Budget | Part::Generation | Part::Idle => self.takes_size(word),
             Part::Slot => slot(word).is_some(),
             Part::Worker => worker(word).is_some(),
             Part::Actor => word == b"poller".as_slice() || worker(word).is_some(),
@@ -200,7 +204,8 @@ impl Part {
             Part::Workers => size(b"workers=", MAX_WORKERS, word).is_some(),
             Part::Ring => ring(word).is_some(),
             Part::Budget => size(b"budget=", MAX_BUDGET, word).is_some(),
-            _ => generation(word).is_some(),
+            Part::Idle => idle(word).is_some(),
+            _ => generation(word).is_some() || idle(word).is_some(),
         }
     }
 
@@ -220,6 +225,7 @@ impl Part {
     fn rest(self, word: &[u8], rest: &'static [Part]) -> &'static [Part] {
         match self {
             Part::Name => &[Part::Name],
+            Part::Generation if generation(word).is_some() => &[Part::Idle],
             Part::Reported if slot(word).is_some() => &[Part::Side],
             Part::Reply => match REPLIES.row(word) {
                 Some((_, parts)) => parts,
@@ -232,7 +238,7 @@ impl Part {
     /// What is wrong if the line ends before a word of this kind.
     fn missing(self) -> Option<Wrong<'static>> {
         match self {
-            Part::Generation | Part::Name | Part::Full => None,
+            Part::Generation | Part::Idle | Part::Name | Part::Full => None,
             _ => Some(Wrong {
                 word: None,
                 wanted: self.wanted(),
@@ -248,7 +254,10 @@ impl Part {
             Part::Workers => "workers=1 to workers=16 is wanted",
             Part::Ring => "ring=1 to ring=65536 is wanted",
             Part::Budget => "budget=1 to budget=1024 is wanted",
-            Part::Generation => "gen=0 to gen=140737488355326, or the end of the line, is wanted",
+            Part::Generation => {
+                "gen=0 to gen=140737488355326, idle=1 to idle=86400, or the end of the line, is wanted"
+            }
+            Part::Idle => "idle=1 to idle=86400, or the end of the line, is wanted",
             Part::Slot => "the number of a slot, 0 to 63, is wanted",
             Part::Side => "client or target is wanted",
             Part::Hex => "1 to 1024 bytes as pairs of lower-case hexadecimal digits are wanted",

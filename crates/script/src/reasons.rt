@@ -15,6 +15,8 @@ const BROKEN: &str = "an error has come to the socket";
 
 const UNQUEUED: &str = "no report of it is in the queue";
 
+const UNLIMITED: &str = "the world has no idle limit";
+
 const UNACCEPTED: &str = "the poller has no accepted connection";
 
 /// The first reason that holds.
@@ -88,6 +90,7 @@ fn wrote_reason(end: &End, length: usize, count: usize) -> &'static str {
 /// Why a step of a world is not allowed.
 pub(crate) fn event_reason(world: &World, event: &Event) -> &'static str {
     match event {
+        Event::Tick(seconds) => tick_reason(world, *seconds),
         Event::Network(slot, side, change) => network_reason(world, *slot, *side, change),
         Event::Spurious(Reported::End(slot, _)) => vacant_reason(world, *slot),
         Event::Spurious(_) => NOT_HERE,
@@ -99,6 +102,34 @@ pub(crate) fn event_reason(world: &World, event: &Event) -> &'static str {
             None => "there is no such worker",
         },
     }
+}
+
+/// Why that many seconds do not pass.
+fn tick_reason(world: &World, seconds: u64) -> &'static str {
+    first_of(&[
+        (world.limits().idle == 0, UNLIMITED),
+        (seconds == 0, "at least 1 second passes"),
+        (
+            4_294_967_295 < seconds,
+            "at most 4294967295 seconds pass at once",
+        ),
+        (
+            u64::MAX - world.second() < seconds,
+            "the last second is 18446744073709551615",
+        ),
+    ])
+}
+
+/// Why the poller does not post to a slot.
+fn sweep_reason(world: &World, slot: usize) -> &'static str {
+    first_of(&[
+        (world.limits().idle == 0, UNLIMITED),
+        (world.slots().len() <= slot, "there is no such slot"),
+        (
+            world.table_entry(slot) == Some(0),
+            "the slot was never opened",
+        ),
+    ])
 }
 
 /// Why a slot has no ends.
@@ -193,6 +224,7 @@ fn poll_reason(world: &World, polling: &Polling) -> &'static str {
             ),
         ]),
         Polling::Deliver => first_of(&[(world.batch().is_empty(), "the batch is empty")]),
+        Polling::Sweep(slot) => sweep_reason(world, *slot),
         Polling::Put => first_of(&[(
             world.poller_hand().is_empty(),
             "the poller has no ticket to put",
@@ -212,6 +244,7 @@ fn are_queued(kernel: &Kernel, names: &[Name]) -> bool {
 
 fn work_reason(world: &World, worker: &Worker, act: Act) -> &'static str {
     match (act, worker.doing()) {
+        (Act::Expire, _) if world.limits().idle == 0 => UNLIMITED,
         (Act::Put, _) => first_of(&[(worker.hand().is_empty(), "the worker has no ticket to put")]),
         (Act::Pop, Doing::Idle) => first_of(&[
             (
@@ -245,7 +278,11 @@ fn holder_reason(kernel: &Kernel, slot: &Slot, left: usize, act: Act) -> &'stati
         Act::Call(_) if left == 0 => "no calls are left",
         Act::Call(reply) => call_reason(kernel, connection, reply),
         Act::Post => over_reason(verdict),
-        Act::Release if verdict != Verdict::Live => over_reason(verdict),
+        Act::Release | Act::Expire if verdict != Verdict::Live => over_reason(verdict),
+        Act::Expire => first_of(&[
+            (connection.pair.next().is_some(), "there is a next call"),
+            (true, "the connection moved within the idle limit"),
+        ]),
         Act::Release => release_reason(slot, connection, left),
         Act::Close => first_of(&[(verdict == Verdict::Live, "the connection is live")]),
         _ => NOT_HERE,

@@ -28,6 +28,8 @@ pub enum Word {
     Fin,
     /// `free`.
     Free,
+    /// `idle`.
+    Idle,
     /// `open`.
     Open,
     /// `poll`.
@@ -52,8 +54,12 @@ pub enum Word {
     Shut,
     /// `spurious`.
     Spurious,
+    /// `sweep`.
+    Sweep,
     /// `take`.
     Take,
+    /// `tick`.
+    Tick,
     /// `vanish`.
     Vanish,
     /// `wrote`, with `full` or without.
@@ -77,6 +83,7 @@ impl Word {
             Word::End => "end",
             Word::Fin => "fin",
             Word::Free => "free",
+            Word::Idle => "idle",
             Word::Open => "open",
             Word::Poll => "poll",
             Word::Pop => "pop",
@@ -89,7 +96,9 @@ impl Word {
             Word::Room => "room",
             Word::Shut => "shut",
             Word::Spurious => "spurious",
+            Word::Sweep => "sweep",
             Word::Take => "take",
+            Word::Tick => "tick",
             Word::Vanish => "vanish",
             Word::Wrote => "wrote",
         }

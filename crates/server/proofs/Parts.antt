@@ -1,5 +1,5 @@
 -- How many parts there are, and lists with one item for each of them.
-use Rattle.std.proofs.Common.{◌≡◌, ◌⊎◌, ℕ, ◌+◌, ◌*◌, ◌-◌, ◌/◌, ◌<◌, ◌≤◌, min, max, List, [], ◌∷◌, ◌++◌, map, replicate, All, Bool, true, false, ap, ◌∙◌, sym, subst, arith, inl, inr}
+use Rattle.std.proofs.Common.{◌≡◌, ◌⊎◌, ℕ, ◌+◌, ◌*◌, ◌-◌, ◌/◌, ◌<◌, ◌≤◌, min, max, List, [], ◌∷◌, ◌++◌, map, replicate, All, true, false, ap, ◌∙◌, sym, subst, arith, inl, inr}
 use mathlib.Core.Logic.{dite}
 use native.Mathlib.Decide.{ℕ_discrete}
 use Rattle.std.specs.List.{range_with_len}
@@ -29,7 +29,7 @@ mapped_all of f xs n m all each = subst (λ (k : ℕ). map of xs ≡ map f (rang
 
 -- one poller more that has opened nothing yet
 pub begun_one : (slots bytes : ℕ) (ps qs : List PollerState) {p : PollerState} {reported : List ℕ} {part : Part} {most : ℕ} → qs ≡ ps ++ p ∷ []
-    → p ≡ record { reported = reported; table = replicate slots 0; batch = []; accepting = true; starved = false; tries = 0; ring = bytes; part = part; most = most; opened = 0; lost = 0; over = false }
+    → p ≡ record { reported = reported; table = replicate slots 0; batch = []; accepting = true; starved = false; tries = 0; ring = bytes; part = part; most = most; opened = 0; lost = 0; second = 0; swept = 0; over = false }
     → All (λ (q : PollerState). HasBegun slots bytes q) ps → All (λ (q : PollerState). HasBegun slots bytes q) qs
 begun_one slots bytes ps qs {p} more is all =
     let one : HasBegun slots bytes p = record {

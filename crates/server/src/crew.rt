@@ -2,7 +2,7 @@
 use crate::dividing::Cast;
 use crate::fault_record::FaultRecord;
 use crate::split::Split;
-use dispatch::{Front, Gate, ServerFault, Shared};
+use dispatch::{Clock, Front, Gate, ServerFault, Shared, Timing};
 use log::Log;
 use ready::ReadyQueue;
 use std::alloc::Global;
@@ -12,10 +12,11 @@ use std::sync::{Arc, Mutex, Wait};
 
 /// What every thread of a server is handed.
 #[derive(Drop)]
-pub(crate) struct Crew<'a, F: Front, G: Gate, R> {
+pub(crate) struct Crew<'a, F: Front, G: Gate, C, R> {
     pub(crate) rt: &'a R,
     pub(crate) alloc: Global,
     pub(crate) gate: &'a G,
+    pub(crate) timing: Timing<'a, C>,
     pub(crate) faults: &'a FaultRecord,
     pub(crate) shared: Arc<Shared<F>>,
     /// Which slots are which poller's.
@@ -28,7 +29,7 @@ pub(crate) struct Crew<'a, F: Front, G: Gate, R> {
     pub(crate) cast: Mutex<Cast<F>>,
 }
 
-impl<F: Front + Drop, G: Gate, R: Wait + Log> Crew<'_, F, G, R>
+impl<F: Front + Drop, G: Gate, C: Clock, R: Wait + Log> Crew<'_, F, G, C, R>
 where
     F::Waker: Drop,
 {

@@ -5,7 +5,7 @@ ghost use Rattle.claims.specs.Seats.{HoldsNothing};
 
 use crate::crew::Crew;
 use dispatch::{
-    Front, Gate, MAX_OWN_TURNS, Own, Poller, ServerFault, Shared, own_turn, poller_round,
+    Clock, Front, Gate, MAX_OWN_TURNS, Own, Poller, ServerFault, Shared, own_turn, poller_round,
     share_tickets,
 };
 use log::Log;
@@ -30,16 +30,17 @@ where
 {
     /// Makes rounds until the poller is over, or a fault is recorded. A fault of its own is recorded, and ends all other
     /// threads.
-    pub(crate) fn lead<G: Gate, R: Wait + Log>(mut self, crew: &Crew<'_, F, G, R>) {
+    pub(crate) fn lead<G: Gate, C: Clock, R: Wait + Log>(mut self, crew: &Crew<'_, F, G, C, R>) {
+        self.poller.begin_at(crew.timing.moment().second);
         if let Err(fault) = self.run_rounds(crew) {
             crew.fail(self.number, &mut self.own.ready, fault);
         }
         crew.leave(&mut self.own.ready);
     }
 
-    pub(crate) fn run_rounds<G: Gate, R: Wait + Log>(
+    pub(crate) fn run_rounds<G: Gate, C: Clock, R: Wait + Log>(
         &mut self,
-        crew: &Crew<'_, F, G, R>,
+        crew: &Crew<'_, F, G, C, R>,
     ) -> Result<(), ServerFault> {
         for _round in crew.rt.forever() {
             if crew.faults.is_written() || self.poller.is_over() {
@@ -51,6 +52,7 @@ where
                 &self.shared,
                 &mut self.own,
                 &mut self.poller,
+                &crew.timing,
             )?;
             if crew.pollers_work {
                 self.run_turns(crew)?;
@@ -60,9 +62,9 @@ where
     }
 
     /// Runs the turns that a round left to its own thread.
-    fn run_turns<G: Gate, R: Wait + Log>(
+    fn run_turns<G: Gate, C: Clock, R: Wait + Log>(
         &mut self,
-        crew: &Crew<'_, F, G, R>,
+        crew: &Crew<'_, F, G, C, R>,
     ) -> Result<(), ServerFault> {
         share_tickets(crew.rt, &mut self.own, &mut self.poller);
         for _turn in 0..MAX_OWN_TURNS {
@@ -72,6 +74,7 @@ where
                 &mut self.own,
                 crew.gate,
                 &mut self.poller,
+                &crew.timing,
             )?;
             if run.is_none() {
                 return Ok(());

@@ -20,8 +20,8 @@ mod tests;
 mod working;
 
 pub use dispatch::{
-    Front, Gate, Hand, MAX_BATCH, OpenGate, Own, Part, Poller, ServerFault, Settle, Shared,
-    Unopened, Worked, deliver, own_turn, poller_round, share_tickets, worker_turn,
+    Clock, Front, Gate, Hand, MAX_BATCH, OpenGate, Own, Part, Poller, ServerFault, Settle, Shared,
+    Timing, Unopened, Worked, deliver, own_turn, poller_round, share_tickets, worker_turn,
 };
 pub use serving::serve;
 pub use sockets::{Bound, Dial, Socket, SocketWire, Sockets, Wakers, bind, open_all};

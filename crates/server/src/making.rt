@@ -147,7 +147,7 @@ fn poller_of<F: Front + Drop>(
     front: F,
 ) -> Result<Poller<F>, AllocError>
     requires number { number < parts_of split.slots split.size }
-    ensures { IfOk result (λ poller. poller ≡ record { reported = F.reported front; table = replicate settings.now.slots 0; batch = []; accepting = true; starved = false; tries = 0; ring = settings.now.ring; part = part_of split.slots split.size number; most = share_of settings.now.stop_after (parts_of split.slots split.size) number; opened = 0; lost = 0; over = false }) }
+    ensures { IfOk result (λ poller. poller ≡ record { reported = F.reported front; table = replicate settings.now.slots 0; batch = []; accepting = true; starved = false; tries = 0; ring = settings.now.ring; part = part_of split.slots split.size number; most = share_of settings.now.stop_after (parts_of split.slots split.size) number; opened = 0; lost = 0; second = 0; swept = 0; over = false }) }
 {
     let most = share_of(settings.stop_after, split.pollers(), number);
     let part = split.part(number);

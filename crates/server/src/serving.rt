@@ -6,7 +6,7 @@ use crate::fault_record::FaultRecord;
 use crate::making::{Server, build};
 use crate::sockets::{Bound, Dial, open_all};
 use crate::split::Split;
-use dispatch::{Front, Gate, ServerFault};
+use dispatch::{Clock, Front, Gate, ServerFault, Timing};
 use log::{Log, error};
 use settings::Settings;
 use std::alloc::Global;
@@ -18,31 +18,38 @@ use std::{fmt, thread};
 
 /// Serves on the bound socket: accepts connections and forwards each one to the settings' target, with the settings'
 /// number of workers in addition to the threads that poll. There are as many of these as workers, but at most one for
-/// each 64 slots, and at least one; one of them is the calling thread. It returns once `stop_after` connections were opened and
+/// each 64 slots, and at least one; one of them is the calling thread. The settings' idle limit is counted by the clock. It
+/// returns once `stop_after` connections were opened and
 /// all of them are closed, or on a fault; by then every thread has ended, and every socket is closed.
 ///
 /// Refuses with `NoMemory` if there is not enough to begin with, `Poll` if the system cannot report on sockets,
 /// `Threads` if a thread cannot be started, and `Worn` if a thread has posted 2^56 notes. Of several faults it answers
 /// that of the first poller, or else of the first worker.
-pub fn serve<G: Gate + Sync, R: Net + Dial + Wait + Threads + Log + Sync>(
+pub fn serve<G: Gate + Sync, C: Clock + Sync, R: Net + Dial + Wait + Threads + Log + Sync>(
     rt: &R,
     alloc: Global,
     settings: &Settings,
     gate: &G,
+    clock: &C,
     bound: Bound,
 ) -> Result<(), ServerFault> {
     let split = Split::new(settings.slots, settings.workers);
     let target = SocketAddr::from(settings.target);
     let (fronts, wakers) = open_all(rt, alloc, bound, target, split)?;
     let server = build(rt, alloc, settings, split, fronts, wakers)?;
-    run_threads(rt, alloc, gate, server)
+    let timing = Timing {
+        clock,
+        limit: u64::from(settings.idle),
+    };
+    run_threads(rt, alloc, gate, timing, server)
 }
 
 /// Starts all threads but one that polls, which is the calling thread, and ends with the last of them.
-pub(crate) fn run_threads<F, G: Gate + Sync, R: Wait + Threads + Log + Sync>(
+pub(crate) fn run_threads<F, G: Gate + Sync, C: Clock + Sync, R: Wait + Threads + Log + Sync>(
     rt: &R,
     alloc: Global,
     gate: &G,
+    timing: Timing<'_, C>,
     server: Server<F>,
 ) -> Result<(), ServerFault>
 where
@@ -52,7 +59,7 @@ where
     F::Waker: Send + Sync + Drop,
 {
     let faults = FaultRecord::new();
-    run_server(rt, alloc, gate, server, &faults)?;
+    run_server(rt, alloc, gate, timing, server, &faults)?;
     match faults.into_fault() {
         Some(fault) => Err(fault),
         None => Ok(()),
@@ -61,10 +68,11 @@ where
 
 /// The same. The fault of a thread is recorded, and `NoMemory` is refused if there is not enough for what the threads
 /// own, before any has started.
-fn run_server<'a, F, G: Gate + Sync, R: Wait + Threads + Log + Sync>(
+fn run_server<'a, F, G: Gate + Sync, C: Clock + Sync, R: Wait + Threads + Log + Sync>(
     rt: &'a R,
     alloc: Global,
     gate: &'a G,
+    timing: Timing<'a, C>,
     server: Server<F>,
     faults: &'a FaultRecord,
 ) -> Result<(), ServerFault>
@@ -91,6 +99,7 @@ where
         rt,
         alloc,
         gate,
+        timing,
         faults,
         shared,
         split,
@@ -104,7 +113,10 @@ where
 
 /// Starts the threads of the workers and of all pollers but one, leads that one in the calling thread, and ends with the
 /// last of them. A thread that cannot be started is a fault.
-fn run_crew<F, G: Gate + Sync, R: Wait + Threads + Log + Sync>(crew: &Crew<F, G, R>, workers: usize)
+fn run_crew<F, G: Gate + Sync, C: Clock + Sync, R: Wait + Threads + Log + Sync>(
+    crew: &Crew<F, G, C, R>,
+    workers: usize,
+)
 where
     F: Front + Drop + Send,
     F::Client: Send,
@@ -128,7 +140,10 @@ where
 }
 
 /// A thread that was not started is a fault.
-fn not_started<F: Front, G: Gate, R: Wait + Log, E: fmt::Display>(crew: &Crew<F, G, R>, error: &E) {
+fn not_started<F: Front, G: Gate, C: Clock, R: Wait + Log, E: fmt::Display>(
+    crew: &Crew<F, G, C, R>,
+    error: &E,
+) {
     error!(crew.rt; target: "relayd", "threads: {error}");
     crew.faults.write(crew.rt, 0, ServerFault::Threads);
 }

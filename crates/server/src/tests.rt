@@ -3,3 +3,4 @@ mod faults;
 mod holding;
 mod serving;
 mod sockets;
+mod still;

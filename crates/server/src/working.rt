@@ -5,7 +5,9 @@ ghost use Rattle.claims.specs.Seats.{HoldsNothing};
 ghost use Rattle.dispatch.specs.Hands.{HasRoom};
 
 use crate::crew::Crew;
-use dispatch::{Front, Gate, Own, ServerFault, Shared, give_slots, put_tickets, worker_turn};
+use dispatch::{
+    Clock, Front, Gate, Own, ServerFault, Shared, give_slots, put_tickets, worker_turn,
+};
 use log::Log;
 use ready::{FreeQueue, Ticket};
 use std::sync::{Arc, Wait};
@@ -31,15 +33,15 @@ where
 {
     /// Takes tickets and runs their turns until the queue of tickets is closed and empty, or a fault is recorded. A fault
     /// of its own is recorded, and ends all other threads.
-    pub(crate) fn work<G: Gate, R: Wait + Log>(mut self, crew: &Crew<'_, F, G, R>) {
+    pub(crate) fn work<G: Gate, C: Clock, R: Wait + Log>(mut self, crew: &Crew<'_, F, G, C, R>) {
         if let Err(fault) = self.run_turns(crew) {
             crew.fail(self.number, &mut self.own.ready, fault);
         }
     }
 
-    fn run_turns<G: Gate, R: Wait + Log>(
+    fn run_turns<G: Gate, C: Clock, R: Wait + Log>(
         &mut self,
-        crew: &Crew<'_, F, G, R>,
+        crew: &Crew<'_, F, G, C, R>,
     ) -> Result<(), ServerFault> {
         for _turn in crew.rt.forever() {
             if crew.faults.is_written() {
@@ -60,16 +62,23 @@ where
     }
 
     /// Runs a turn. If its connection ends, its slot goes back to the poller that has it.
-    fn turn<G: Gate, R: Wait + Log>(
+    fn turn<G: Gate, C: Clock, R: Wait + Log>(
         &mut self,
-        crew: &Crew<'_, F, G, R>,
+        crew: &Crew<'_, F, G, C, R>,
         ticket: Ticket,
     ) -> Result<(), ServerFault>
         requires { HasRoom self.old.own.hand }
     {
         let poller = crew.split.poller_of(ticket.slot);
         self.change_queue(poller);
-        let worked = worker_turn(crew.rt, &self.shared, &mut self.own, crew.gate, ticket);
+        let worked = worker_turn(
+            crew.rt,
+            &self.shared,
+            &mut self.own,
+            crew.gate,
+            ticket,
+            &crew.timing,
+        );
         self.give_all(crew.rt);
         self.change_queue(poller);
         worked?;

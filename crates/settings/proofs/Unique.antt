@@ -10,7 +10,7 @@ use Rattle.settings.specs.Table.{Setting, address, number, level, ValueKind, an_
 use Rattle.settings.specs.Document.{HasKind, Writes, Gives, GivesEach, Refuses, IsFirstFault, HasNoUnknown}
 use Rattle.settings.specs.Text.{setting, IsDocument, IsSettingsOf, IsFaultOf}
 use Rattle.settings.specs.declared.keys.Key.{Key}
-use Rattle.settings.specs.declared.keys.Key.TheVariants.{Listen, Target, Ring, Budget, Workers, Slots, StopAfter, Log}
+use Rattle.settings.specs.declared.keys.Key.TheVariants.{Listen, Target, Ring, Budget, Workers, Slots, StopAfter, Log, Idle}
 use Rattle.settings.specs.declared.faults.SettingsFault.{SettingsFault}
 use Rattle.settings.specs.declared.faults.SettingsFault.TheVariants.{Missing}
 use Rattle.settings.specs.declared.fields.Settings.{Settings}
@@ -103,6 +103,7 @@ each_once doc v w p q Workers = gives_once (optional Workers (a_number 1 16) (nu
 each_once doc v w p q Slots = gives_once (optional Slots (a_number 1 4096) (number 1024)) doc _ _ q.1.1.1.1.1.0 p.1.1.1.1.1.0
 each_once doc v w p q StopAfter = gives_once (optional StopAfter (a_number 0 4294967295) (number 0)) doc _ _ q.1.1.1.1.1.1.0 p.1.1.1.1.1.1.0
 each_once doc v w p q Log = gives_once (optional Log a_level (level Info)) doc _ _ q.1.1.1.1.1.1.1.0 p.1.1.1.1.1.1.1.0
+each_once doc v w p q Idle = gives_once (optional Idle (a_number 0 86400) (number 0)) doc _ _ q.1.1.1.1.1.1.1.1.0 p.1.1.1.1.1.1.1.1.0
 
 -- any settings of a text have the same setting at each key
 pub settings_once : (text : List ℕ) (s t : Settings) → IsSettingsOf text s → IsSettingsOf text t → (k : Key) → setting t k ≡ setting s k

@@ -1,7 +1,7 @@
 -- The words that a settings text uses for its keys and for the levels of `log`. Part of the promises.
 use Rattle.std.specs.Prelude.{ℕ, List, codes}
 use Rattle.settings.specs.declared.keys.Key.{Key}
-use Rattle.settings.specs.declared.keys.Key.TheVariants.{Listen, Target, Ring, Budget, Workers, Slots, StopAfter, Log}
+use Rattle.settings.specs.declared.keys.Key.TheVariants.{Listen, Target, Ring, Budget, Workers, Slots, StopAfter, Log, Idle}
 use Rattle.settings.specs.declared.levels.LogLevel.{LogLevel}
 use Rattle.settings.specs.declared.levels.LogLevel.TheVariants.{Off, Error, Warn, Info, Debug, Trace}
 
@@ -15,6 +15,7 @@ key_name Workers = codes "workers"
 key_name Slots = codes "slots"
 key_name StopAfter = codes "stop_after"
 key_name Log = codes "log"
+key_name Idle = codes "idle"
 
 -- a level as it is written
 abbrev pub level_name : LogLevel → List ℕ

@@ -2,7 +2,7 @@
 use Rattle.std.specs.Prelude.{ℕ, List, [], ◌∷◌, Option, Some, None}
 use Rattle.settings.specs.Addresses.{SocketAddress}
 use Rattle.settings.specs.declared.keys.Key.{Key}
-use Rattle.settings.specs.declared.keys.Key.TheVariants.{Listen, Target, Ring, Budget, Workers, Slots, StopAfter, Log}
+use Rattle.settings.specs.declared.keys.Key.TheVariants.{Listen, Target, Ring, Budget, Workers, Slots, StopAfter, Log, Idle}
 use Rattle.settings.specs.declared.levels.LogLevel.{LogLevel}
 use Rattle.settings.specs.declared.levels.LogLevel.TheVariants.{Info}
 
@@ -40,4 +40,5 @@ table =
     ∷ optional Slots (a_number 1 4096) (number 1024)
     ∷ optional StopAfter (a_number 0 4294967295) (number 0)
     ∷ optional Log a_level (level Info)
+    ∷ optional Idle (a_number 0 86400) (number 0)
     ∷ []

@@ -9,7 +9,7 @@ use Rattle.settings.specs.Addresses.{address_text}
 use Rattle.settings.specs.Table.{Setting, address, number, level, Row, table}
 use Rattle.settings.specs.Document.{GivesEach, IsFirstFault, IsFirstUnknown, HasNoUnknown}
 use Rattle.settings.specs.declared.keys.Key.{Key}
-use Rattle.settings.specs.declared.keys.Key.TheVariants.{Listen, Target, Ring, Budget, Workers, Slots, StopAfter, Log}
+use Rattle.settings.specs.declared.keys.Key.TheVariants.{Listen, Target, Ring, Budget, Workers, Slots, StopAfter, Log, Idle}
 use Rattle.settings.specs.declared.faults.SettingsFault.{SettingsFault}
 use Rattle.settings.specs.declared.faults.SettingsFault.TheVariants.{NotToml, UnknownKey}
 use Rattle.settings.specs.declared.fields.Settings.{Settings}
@@ -24,6 +24,7 @@ setting s Workers = number s.workers
 setting s Slots = number s.slots
 setting s StopAfter = number s.stop_after
 setting s Log = level s.log
+setting s Idle = number s.idle
 
 -- the bytes are UTF-8, and TOML reads them as this document
 abbrev pub IsDocument : List ℕ → Members → Type 0

@@ -2,7 +2,7 @@
 
 use crate::addresses::address_of;
 use crate::limits::MAX_LOOKS;
-use crate::table::{BUDGET, LISTEN, RING, SLOTS, STOP_AFTER, TARGET, WORKERS};
+use crate::table::{BUDGET, IDLE, LISTEN, RING, SLOTS, STOP_AFTER, TARGET, WORKERS};
 use crate::{Key, OneLine, SettingsFault};
 use std::alloc::{AllocError, Global};
 use std::fmt;
@@ -56,7 +56,7 @@ fn unknown(alloc: Global, text: &str, name: &str) -> Option<String> {
     let place = place_of(alloc, text, name).ok()?;
     let name = OneLine(name);
     format!(in alloc;
-        "{place}{name}: one of listen, target, ring, budget, workers, slots, stop_after and log is wanted"
+        "{place}{name}: one of listen, target, ring, budget, workers, slots, stop_after, log and idle is wanted"
     ).ok()
 }
 
@@ -111,6 +111,7 @@ impl Wanted {
             Key::Slots => Wanted::Number(SLOTS.low, SLOTS.high),
             Key::StopAfter => Wanted::Number(STOP_AFTER.low, STOP_AFTER.high),
             Key::Log => Wanted::Level,
+            Key::Idle => Wanted::Number(IDLE.low, IDLE.high),
         }
     }
 }

@@ -24,12 +24,15 @@ pub struct Settings {
     pub stop_after: u32,
     /// The level of the messages on standard error.
     pub log: LogLevel,
+    /// How many seconds a connection may move nothing before it fails, up to 86,400; 0 for no such limit.
+    pub idle: u32,
     // What every reader may rely on: the ranges hold for every value of the type.
     pub ghost target_port: { 1 ≤ target.1 },
     pub ghost ring_range: { (1 ≤ ring) × (ring ≤ 65536) },
     pub ghost budget_range: { (1 ≤ budget) × (budget ≤ 1024) },
     pub ghost workers_range: { (1 ≤ workers) × (workers ≤ 16) },
     pub ghost slots_range: { (1 ≤ slots) × (slots ≤ 4096) },
+    pub ghost idle_range: { idle ≤ 86400 },
 }
 
 /// A line `KEY=VALUE` for each key, in the order of `Key`.
@@ -42,10 +45,11 @@ impl fmt::Display for Settings {
         let listen = AddressText(self.listen);
         let target = AddressText(self.target);
         let (ring, budget, workers) = (self.ring, self.budget, self.workers);
-        let (slots, stop_after, log) = (self.slots, self.stop_after, self.log);
+        let (slots, stop_after) = (self.slots, self.stop_after);
+        let (log, idle) = (self.log, self.idle);
         write!(
             f,
-            "listen={listen}\ntarget={target}\nring={ring}\nbudget={budget}\nworkers={workers}\nslots={slots}\nstop_after={stop_after}\nlog={log}\n"
+            "listen={listen}\ntarget={target}\nring={ring}\nbudget={budget}\nworkers={workers}\nslots={slots}\nstop_after={stop_after}\nlog={log}\nidle={idle}\n"
         )
     }
 }

@@ -23,6 +23,8 @@ pub enum Key {
     StopAfter,
     /// The level of the messages on standard error.
     Log,
+    /// How many seconds a connection may move nothing before it fails; 0 for ever.
+    Idle,
 }
 
 impl Key {
@@ -39,6 +41,7 @@ impl Key {
             Key::Slots => "slots",
             Key::StopAfter => "stop_after",
             Key::Log => "log",
+            Key::Idle => "idle",
         }
     }
 
@@ -56,6 +59,7 @@ impl Key {
             "slots" => Some(Key::Slots),
             "stop_after" => Some(Key::StopAfter),
             "log" => Some(Key::Log),
+            "idle" => Some(Key::Idle),
             _ => None,
         }
     }

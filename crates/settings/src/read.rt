@@ -15,7 +15,8 @@ use crate::fields::Settings;
 use crate::keys::Key;
 use crate::levels::LogLevel;
 use crate::table::{
-    AddressRow, BUDGET, LISTEN, LOG, LevelRow, NumberRow, RING, SLOTS, STOP_AFTER, TARGET, WORKERS,
+    AddressRow, BUDGET, IDLE, LISTEN, LOG, LevelRow, NumberRow, RING, SLOTS, STOP_AFTER, TARGET,
+    WORKERS,
 };
 use std::alloc::Global;
 use toml::{Table, Value};
@@ -82,6 +83,7 @@ fn settings_of(document: &Table) -> Result<Settings, SettingsFault>
         slots: number_at(document, SLOTS)? as usize,
         stop_after: number_at(document, STOP_AFTER)?,
         log: level_at(document, LOG)?,
+        idle: number_at(document, IDLE)?,
     })
 }
 

@@ -85,3 +85,11 @@ pub(crate) const LOG: LevelRow = LevelRow {
     key: Key::Log,
     default: LogLevel::Info,
 };
+
+/// In seconds; 0 stands for no limit. The most is a day.
+pub(crate) const IDLE: NumberRow = NumberRow {
+    key: Key::Idle,
+    low: 0,
+    high: 86_400,
+    default: 0,
+};

@@ -46,12 +46,12 @@ pub record LineOk (h : Side → List ℕ) (r : Side → Bool) (k : Watcher) (s g
 abbrev pub EndsThere : Watcher → ℕ → ℕ → Connection → Sockets → Type 0
 EndsThere k s g c ends = (side : Side) → end_at k.ends (descriptor c.ends side) ≡ Some (registered s g side (socket_of ends side))
 
-line_ok : (h : Side → List ℕ) (r : Side → Bool) (k : Watcher) (s g : ℕ) (c : Connection) (ends : Sockets) (call : Call) (side : Side) (t : answer.AnswerValue) (replies : Option Endpoint)
-    → ((e : Endpoint) → replies ≡ Some e → Answered h r c.pair ends call side t e)
-    → Kept (LineOk h r k s g c ends) (option_map (λ (q : Watcher). record { kernel = q; connection = record c { pair = after c.pair call t } })
+line_ok : (now : ℕ) (h : Side → List ℕ) (r : Side → Bool) (k : Watcher) (s g : ℕ) (c : Connection) (ends : Sockets) (call : Call) (side : Side) (t : answer.AnswerValue) (replies : Option Endpoint)
+    → ((e : Endpoint) → replies ≡ Some e → Answered now h r c.pair ends call side t e)
+    → Kept (LineOk h r k s g c ends) (option_map (λ (q : Watcher). record { kernel = q; connection = record c { pair = after now c.pair call t } })
     (option_map (λ (e : Endpoint). with_answer k s g c side e) replies))
-line_ok h r k s g c ends call side t None f = record { kept = tt }
-line_ok h r k s g c ends call side t (Some e) f = record { kept = record { side = side; socket = e; kernel = refl; descriptors = refl; answered = f e refl } }
+line_ok now h r k s g c ends call side t None f = record { kept = tt }
+line_ok now h r k s g c ends call side t (Some e) f = record { kept = record { side = side; socket = e; kernel = refl; descriptors = refl; answered = f e refl } }
 
 told_is : (k : Watcher) (s g : ℕ) (c : Connection) (ends : Sockets) (side : Side) (most : ℕ) (said : Reply) → EndsThere k s g c ends
     → told_of (record { kernel = k; connection = c }) (Read side most) said ≡ told_read (socket_of ends side) most said
@@ -64,34 +64,34 @@ told_is k s g c ends side most reply.Blocked there = refl
 told_is k s g c ends side most reply.Interrupted there = refl
 told_is k s g c ends side most (reply.Failed kind) there = refl
 
-pub replied_keeps : (h : Side → List ℕ) (r : Side → Bool) (k : Watcher) (s g : ℕ) (c : Connection) (ends : Sockets) (call : Call) (said : Reply)
-    → EndsThere k s g c ends → IsAsked c.pair call → PairOk h r c.pair ends → Kept (LineOk h r k s g c ends) (replied (record { kernel = k; connection = c }) call said)
-replied_keeps h r k s g c ends (Read side most) said there up ok =
+pub replied_keeps : (now : ℕ) (h : Side → List ℕ) (r : Side → Bool) (k : Watcher) (s g : ℕ) (c : Connection) (ends : Sockets) (call : Call) (said : Reply)
+    → EndsThere k s g c ends → IsAsked c.pair call → PairOk h r c.pair ends → Kept (LineOk h r k s g c ends) (replied now (record { kernel = k; connection = c }) call said)
+replied_keeps now h r k s g c ends (Read side most) said there up ok =
     kept_bind _ (told_of (record { kernel = k; connection = c }) (Read side most) said) (λ t told.
     kept_when (fits c.pair (Read side most) t) _ (λ fit.
-    rw (there side) (line_ok h r k s g c ends (Read side most) side t (after_read (socket_of ends side) most said)
-    (λ e is. read_keeps h r c.pair ends side most said t e up (sym (told_is k s g c ends side most said there) ∙ told) is ok))))
-replied_keeps h r k s g c ends (Write side) said there up ok =
+    rw (there side) (line_ok now h r k s g c ends (Read side most) side t (after_read (socket_of ends side) most said)
+    (λ e is. read_keeps now h r c.pair ends side most said t e up (sym (told_is k s g c ends side most said there) ∙ told) is ok))))
+replied_keeps now h r k s g c ends (Write side) said there up ok =
     kept_bind _ (plain said) (λ t told.
     kept_when (fits c.pair (Write side) t) _ (λ fit.
-    rw (there side) (line_ok h r k s g c ends (Write side) side t (after_write (socket_of ends side) (offer c.pair side) said)
-    (λ e is. write_keeps h r c.pair ends side said t e up told is ok))))
-replied_keeps h r k s g c ends (Join side) said there up ok =
+    rw (there side) (line_ok now h r k s g c ends (Write side) side t (after_write (socket_of ends side) (offer c.pair side) said)
+    (λ e is. write_keeps now h r c.pair ends side said t e up told is ok))))
+replied_keeps now h r k s g c ends (Join side) said there up ok =
     kept_bind _ (plain said) (λ t told.
     kept_when (fits c.pair (Join side) t) _ (λ fit.
-    rw (there side) (line_ok h r k s g c ends (Join side) side t (after_join (socket_of ends side) said)
-    (λ e is. join_keeps h r c.pair ends side said t e told is ok))))
-replied_keeps h r k s g c ends (Shut side) said there drained ok =
+    rw (there side) (line_ok now h r k s g c ends (Join side) side t (after_join (socket_of ends side) said)
+    (λ e is. join_keeps now h r c.pair ends side said t e told is ok))))
+replied_keeps now h r k s g c ends (Shut side) said there drained ok =
     kept_bind _ (plain said) (λ t told.
     kept_when (fits c.pair (Shut side) t) _ (λ fit.
-    rw (there side) (line_ok h r k s g c ends (Shut side) side t (after_shut (socket_of ends side) said)
-    (λ e is. shut_keeps h r c.pair ends side said t e drained told is ok))))
+    rw (there side) (line_ok now h r k s g c ends (Shut side) side t (after_shut (socket_of ends side) said)
+    (λ e is. shut_keeps now h r c.pair ends side said t e drained told is ok))))
 
-pub called_keeps : (h : Side → List ℕ) (r : Side → Bool) (k : Watcher) (s g : ℕ) (c : Connection) (ends : Sockets) (said : Reply)
-    → EndsThere k s g c ends → PairOk h r c.pair ends → Kept (LineOk h r k s g c ends) (called (record { kernel = k; connection = c }) said)
+pub called_keeps : (now : ℕ) (h : Side → List ℕ) (r : Side → Bool) (k : Watcher) (s g : ℕ) (c : Connection) (ends : Sockets) (said : Reply)
+    → EndsThere k s g c ends → PairOk h r c.pair ends → Kept (LineOk h r k s g c ends) (called now (record { kernel = k; connection = c }) said)
 unfolding called
-called_keeps h r k s g c ends said there ok = kept_bind _ (next_call c.pair) (λ call next.
-    replied_keeps h r k s g c ends call said there (kept_at (next_call c.pair) call next (asked c.pair)) ok)
+called_keeps now h r k s g c ends said there ok = kept_bind _ (next_call c.pair) (λ call next.
+    replied_keeps now h r k s g c ends call said there (kept_at (next_call c.pair) call next (asked c.pair)) ok)
 
 -- the state after it: all but the kernel and the slot is as it was, for these facts
 call_lands : (past next : History) (st q : State) (s : ℕ) (p place : Place) (c : Connection) (line : Line) → Quiet past next → slice_get st.slots s ≡ Some p → (ok : ConnectionOk past st s p.generation p.notes c)
@@ -137,11 +137,11 @@ pub record LodgingOk (past : History) (st : State) (s : ℕ) (p : Place) (l : Lo
   pub place : l.place ≡ record p { connection = Some line.connection }
   pub goes : LineOk (past s p.generation) (λ side. is_pending st (token_at s side p.generation) || is_nonempty p.notes) st.kernel s p.generation connection ok.ends line
 
-lodged_keeps : (past : History) (st : State) (s : ℕ) (p : Place) (said : Reply) → SlotOk past st s p → Kept (LodgingOk past st s p) (lodged_call (record { kernel = st.kernel; place = p }) said)
+lodged_keeps : (past : History) (st : State) (s : ℕ) (p : Place) (said : Reply) → SlotOk past st s p → Kept (LodgingOk past st s p) (lodged_call st.second (record { kernel = st.kernel; place = p }) said)
 unfolding lodged_call
 lodged_keeps past st s p said slot = kept_bind _ p.connection (λ c lying.
     (let ok : ConnectionOk past st s p.generation p.notes c = slot.connection c lying in
-    kept_then _ _ (λ line l. record { connection = c; lying = lying; ok = ok; line = line; kernel = refl; place = refl; goes = l }) (called_keeps (past s p.generation) _ st.kernel s p.generation c ok.ends said ok.there ok.pair)))
+    kept_then _ _ (λ line l. record { connection = c; lying = lying; ok = ok; line = line; kernel = refl; place = refl; goes = l }) (called_keeps st.second (past s p.generation) _ st.kernel s p.generation c ok.ends said ok.there ok.pair)))
 
 pub call_keeps : (past next : History) (st : State) (w : ℕ) (k : Actor) (d : Doing) (said : Reply) → Quiet past next → AllOk past st → Kept (AllOk next) (call st w k d said)
 call_keeps past next st w k (Holds s left) said quiet all = kept_when (nat_lt 0 left) _ (λ some.

@@ -113,6 +113,7 @@ none_brought past st q (event.Network s other (Arrive bytes)) e side goes ok = e
       off_if _ bytes.items (right_off (s == e.slot && side_number other == side_number side) _ (rw there (ne_eqb l.place.generation e.generation (λ is. omega arith)))))
   | No h ↦ off_if _ bytes.items (left_off (s == e.slot) _ _ h)
 ]
+none_brought past st q (event.Tick n) e side goes ok = refl
 none_brought past st q (event.Network s other Fin) e side goes ok = refl
 none_brought past st q (event.Network s other Reset) e side goes ok = refl
 none_brought past st q (event.Network s other Room) e side goes ok = refl
@@ -167,22 +168,22 @@ ended_ok past st q s old c ends k was lying set closing slot =
 -- One event, and lists of them
 
 shape_closes : (past : History) (st q : State) (ev : Event) → step st ev ≡ Some q → AllOk past st → AllClosed past st → Shape st ev q → AllClosed (after_event past st ev) q
-shape_closes past st q ev goes all closed (Same slots over) = record {
+shape_closes past st q ev goes all closed (Same slots over on) = record {
   each = λ i e here. (let ok : ClosedOk past st e = closed.each i e (rw over at here) in
       aged past (after_event past st ev) st q e (same_bytes past st q ev e goes ok) (λ p stands. ok.older p (rw slots at stands)) (λ p c stands lying. ok.over p c (rw slots at stands) lying) ok);
 }
-shape_closes past st q ev goes all closed (Changed s old new was set over stays) = record {
+shape_closes past st q ev goes all closed (Changed s old new was set over on stays) = record {
   each = λ i e here. (let ok : ClosedOk past st e = closed.each i e (rw over at here) in
       slot_aged past (after_event past st ev) st q e s old new (same_bytes past st q ev e goes ok) was set (let is : new.generation ≡ old.generation = stays.generation in omega arith)
       (λ c is. inl ((stays.connection c is).0, (stays.connection c is).1)) ok);
 }
-shape_closes past st q ev goes all closed (Opened s g old new was entry set over generation live) = record {
+shape_closes past st q ev goes all closed (Opened s g old new was entry set over on generation fresh) = record {
   each = λ i e here. (let ok : ClosedOk past st e = closed.each i e (rw over at here) in
       let is : slice_get st.table s ≡ Some old.generation = (all.each s old was).entry in
       let same : old.generation ≡ g = cc in
       slot_aged past (after_event past st ev) st q e s old new (same_bytes past st q ev e goes ok) was set (omega arith) (λ c is. inr (omega arith)) ok);
 }
-shape_closes past st q ev goes all closed (Ended s old c ends k was lying set over closing brings) = record {
+shape_closes past st q ev goes all closed (Ended s old c ends k was lying set over on closing brings) = record {
   each = λ i e here.
       elim (last_of st.past i (record { slot = s; generation = c.pair.generation; verdict = verdict c.pair; ends = ends }) e (rw over at here)) [
         | Before h ↦ (let ok : ClosedOk past st e = closed.each i e h in

@@ -1,5 +1,5 @@
 -- A call that fails, and that a pair fails by nothing else.
-use Rattle.std.proofs.Common.{◌≡◌, ℕ, inr, List, Option, Some, None, refl, sym, ap, ◌∙◌, subst, option_map}
+use Rattle.std.proofs.Common.{◌≡◌, ℕ, ◌≤◌, le_refl, Bool, true, false, if◌then◌else◌, inr, List, Option, Some, None, refl, sym, ap, ◌∙◌, subst, option_map}
 use Rattle.std.specs.Prelude.{slice_get, nat_lt}
 use Rattle.token.specs.declared.kind.Kind.{Kind}
 use Rattle.kernel_model.specs.declared.reply.Reply.{Reply}
@@ -11,7 +11,7 @@ use Rattle.relay_core.specs.declared.verdict.Fault.{Fault}
 use Rattle.relay_core.specs.declared.verdict.Verdict.TheVariants.{Failed}
 use Rattle.relay_core.specs.Pairs.{verdict}
 use Rattle.relay_core.specs.Order.{next_call}
-use Rattle.relay_core.specs.Replies.{fits, after}
+use Rattle.relay_core.specs.Replies.{fits, moves, after}
 use Rattle.relay_core.specs.Replies as answer
 use Rattle.relay_core.specs.Laws.{Place as Standing, AnswersNext, TellsOf}
 use Rattle.world.specs.declared.connection.Connection.{Connection}
@@ -66,26 +66,32 @@ pub record Caller (st : State) (w s left : ℕ) (k : Actor) (c : Connection) : T
   pub holds : k.doing ≡ Holds s left
   pub lies : connection_at st s ≡ Some c
 
+-- an answer does not bring the second of the last movement back
+later_or_same : (b : Bool) (m n : ℕ) → m ≤ n → (m ≤ (if b then n else m)) × ((if b then n else m) ≤ n)
+later_or_same true m n h = (h, le_refl n)
+later_or_same false m n h = (le_refl m, h)
+
 blames : (laws : CoreLaws) (st : State) (w s left : ℕ) (k : Actor) (kernel : Watcher) (c : Connection) (call : Call) (said : Reply) (t : answer.AnswerValue) → Caller st w s left k c → AnswersNext c.pair call t
-    → told_of (record { kernel = kernel; connection = c }) call said ≡ Some t → (fault : Fault) → verdict (after c.pair call t) ≡ Failed fault → failure_by st (event.Work w (act.Call said)) ≡ Some (failure s c.pair.generation fault)
+    → told_of (record { kernel = kernel; connection = c }) call said ≡ Some t → (fault : Fault) → verdict (after st.second c.pair call t) ≡ Failed fault → failure_by st (event.Work w (act.Call said)) ≡ Some (failure s c.pair.generation fault)
 blames laws st w s left k kernel c call said t caller answers told fault failed =
-    let tells : TellsOf call t fault = (laws.failures c.pair call t fault answers).0 failed in
-    let said_is : said ≡ reply.Failed fault.kind = failed_told (record { kernel = kernel; connection = c }) call said fault.kind (told ∙ ap (λ (u : answer.AnswerValue). Some u) tells.kind) in
-    let fault_is : fault_of fault.kind call ≡ fault = rw (sym tells.side, sym tells.call) refl in
+    let tells : TellsOf call t fault = (laws.failures st.second c.pair call t fault answers).0 failed in
+    let said_is : said ≡ reply.Failed tells.kind = failed_told (record { kernel = kernel; connection = c }) call said tells.kind (told ∙ ap (λ (u : answer.AnswerValue). Some u) tells.failed) in
+    let fault_is : fault_of tells.kind call ≡ fault = sym tells.told in
     rw (said_is, caller.there, caller.holds, caller.lies, answers.next) (ap (λ (f : Fault). Some (failure s c.pair.generation f)) fault_is)
 
 replied_continues : (laws : CoreLaws) (st : State) (w s left : ℕ) (k : Actor) (kernel : Watcher) (c : Connection) (call : Call) (said : Reply) → Caller st w s left k c → next_call c.pair ≡ Some call
-    → Kept (λ (line : Line). Continues st (event.Work w (act.Call said)) s c line.connection) (replied (record { kernel = kernel; connection = c }) call said)
+    → Kept (λ (line : Line). Continues st (event.Work w (act.Call said)) s c line.connection) (replied st.second (record { kernel = kernel; connection = c }) call said)
 replied_continues laws st w s left k kernel c call said caller next =
     kept_bind _ (told_of (record { kernel = kernel; connection = c }) call said) (λ t told.
     kept_when (fits c.pair call t) _ (λ fit.
     kept_map _ (made (record { kernel = kernel; connection = c }) call said) (λ q is. record {
-      generation = ap (λ (x : Standing). x.generation) (laws.place c.pair call t);
+      generation = ap (λ (x : Standing). x.generation) (laws.place st.second c.pair call t);
       fails = λ fault failed. inr (blames laws st w s left k kernel c call said t caller (record { next = next; fit = fit }) told fault failed);
+      since = λ moved. later_or_same (moves t) c.pair.moved st.second moved;
     })))
 
 called_continues : (laws : CoreLaws) (st : State) (w s left : ℕ) (k : Actor) (kernel : Watcher) (c : Connection) (said : Reply) → Caller st w s left k c
-    → Kept (λ (line : Line). Continues st (event.Work w (act.Call said)) s c line.connection) (called (record { kernel = kernel; connection = c }) said)
+    → Kept (λ (line : Line). Continues st (event.Work w (act.Call said)) s c line.connection) (called st.second (record { kernel = kernel; connection = c }) said)
 unfolding called
 called_continues laws st w s left k kernel c said caller = kept_bind _ (next_call c.pair) (λ call next. replied_continues laws st w s left k kernel c call said caller next)
 
@@ -96,7 +102,7 @@ continuing st e s p c line lying goes = record {
 }
 
 lodged_stays : (laws : CoreLaws) (st : State) (w s left : ℕ) (k : Actor) (p : Place) (said : Reply) → slice_get st.workers w ≡ Some k → k.doing ≡ Holds s left → slice_get st.slots s ≡ Some p
-    → Kept (λ (l : Lodging). Stays st (event.Work w (act.Call said)) s p l.place) (lodged_call (record { kernel = st.kernel; place = p }) said)
+    → Kept (λ (l : Lodging). Stays st (event.Work w (act.Call said)) s p l.place) (lodged_call st.second (record { kernel = st.kernel; place = p }) said)
 unfolding lodged_call
 lodged_stays laws st w s left k p said there holds here = kept_bind _ p.connection (λ c lying.
     kept_then _ _ (λ line goes. continuing st (event.Work w (act.Call said)) s p c line lying goes) (called_continues laws st w s left k st.kernel c said (record { there = there; holds = holds; lies = rw here lying })))
@@ -104,7 +110,7 @@ lodged_stays laws st w s left k p said there holds here = kept_bind _ p.connecti
 pub call_shape : (laws : CoreLaws) (st : State) (w : ℕ) (k : Actor) (d : Doing) (said : Reply) → slice_get st.workers w ≡ Some k → k.doing ≡ d → Kept (Shape st (event.Work w (act.Call said))) (Steps.call st w k d said)
 call_shape laws st w k (Holds s left) said there holds = kept_when (nat_lt 0 left) _ (λ some.
     kept_bind _ (slice_get st.slots s) (λ p here.
-    kept_then _ _ (λ l stays. Changed s p l.place here refl refl stays) (lodged_stays laws st w s left k p said there holds here)))
+    kept_then _ _ (λ l stays. Changed s p l.place here refl refl (record { limits = refl; second = le_refl _ }) stays) (lodged_stays laws st w s left k p said there holds here)))
 call_shape laws st w k Idle said there holds = record { kept = tt }
 call_shape laws st w k (Tries t) said there holds = record { kept = tt }
 call_shape laws st w k (Closed s) said there holds = record { kept = tt }

@@ -54,8 +54,8 @@ fresh_direction gave ring x y none = record {
   last = record { ended = λ h. absurd (cc); empty = λ h. refl };
 }
 
-fresh_pair : (h : Side → List ℕ) (r : Side → Bool) (s g ring : ℕ) → ((side : Side) → h side ≡ []) → PairOk h r (fresh s g ring) both_opened
-fresh_pair h r s g ring none = record {
+fresh_pair : (h : Side → List ℕ) (r : Side → Bool) (s g ring now : ℕ) → ((side : Side) → h side ≡ []) → PairOk h r (fresh s g ring now) both_opened
+fresh_pair h r s g ring now none = record {
   covered = by_side _ (record { read = refl; write = refl }) (record { read = refl; write = refl });
   directions = by_direction _ (fresh_direction (h Client) ring Client Target (none Client)) (fresh_direction (h Target) ring Target Client (none Target));
 }
@@ -69,19 +69,19 @@ abbrev pub fresh_world : State → ℕ → ℕ → State
 fresh_world st s g = opened_world st s g (open_both st.kernel (token_at s Client g) (token_at s Target g))
 
 fresh_slot : (past next : History) (st : State) (s g : ℕ) (p : Place) → Quiet past next → slice_get st.table s ≡ Some g → SlotOk past st s p
-    → SlotOk next (fresh_world st s (g + 1)) s (opened_place s (g + 1) st.limits.ring (record { client = lowest_free st.kernel.ends; target = lowest_free (with_client st.kernel s (g + 1)) }))
+    → SlotOk next (fresh_world st s (g + 1)) s (opened_place s (g + 1) st.limits.ring st.second (record { client = lowest_free st.kernel.ends; target = lowest_free (with_client st.kernel s (g + 1)) }))
 fresh_slot past next st s g p quiet entry ok =
     let same : p.generation ≡ g = (let is : slice_get st.table s ≡ Some p.generation = ok.entry in cc) in record {
       entry = get-set_same st.table s g (g + 1) entry;
       later = λ h side before. quiet s h side ∙ ok.later h side (omega arith);
-      connection = λ c here. (let is : record { pair = fresh s (g + 1) st.limits.ring; ends = record { client = lowest_free st.kernel.ends; target = lowest_free (with_client st.kernel s (g + 1)) } } ≡ c = cc in
+      connection = λ c here. (let is : record { pair = fresh s (g + 1) st.limits.ring st.second; ends = record { client = lowest_free st.kernel.ends; target = lowest_free (with_client st.kernel s (g + 1)) } } ≡ c = cc in
           subst (λ (b : Connection). ConnectionOk next (fresh_world st s (g + 1)) s (g + 1) ((g + 1) ∷ []) b) is (record {
             generation = refl;
             up = refl;
             down = refl;
             ends = both_opened;
             there = by_side _ (client_opens st.kernel s (g + 1)) (target_opens st.kernel s (g + 1));
-            pair = fresh_pair (next s (g + 1)) _ s (g + 1) st.limits.ring (λ side. quiet s (g + 1) side ∙ ok.later (g + 1) side (omega arith));
+            pair = fresh_pair (next s (g + 1)) _ s (g + 1) st.limits.ring st.second (λ side. quiet s (g + 1) side ∙ ok.later (g + 1) side (omega arith));
           }));
     }
 

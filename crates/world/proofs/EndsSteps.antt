@@ -27,7 +27,7 @@ use Rattle.world.proofs.EndsChanges.{arrival_changes, finish_changes, failure_ch
 use Rattle.world.proofs.EndsNetwork.{BringsTo, network_keeps}
 use Rattle.world.proofs.EndsQueue.{Quiet, rests_keep, spurious_keeps, vanish_keeps, listen_keeps, batched_keeps}
 use Rattle.world.proofs.EndsPlaces.{deliver_keeps}
-use Rattle.world.proofs.EndsWorkers.{put_by_poller_keeps, put_by_worker_keeps, pop_keeps, claim_keeps, take_keeps, post_keeps, release_keeps, close_keeps, retire_keeps, free_keeps}
+use Rattle.world.proofs.EndsWorkers.{put_by_poller_keeps, put_by_worker_keeps, pop_keeps, claim_keeps, take_keeps, expire_keeps, sweep_keeps, tick_keeps, post_keeps, release_keeps, close_keeps, retire_keeps, free_keeps}
 use Rattle.world.proofs.EndsOpening.{open_keeps}
 use Rattle.world.proofs.EndsCalls.{call_keeps}
 
@@ -68,6 +68,7 @@ polled_keeps : (past next : History) (st : State) (p : Polling) → Quiet past n
 polled_keeps past next st polling.Open quiet all = kept_when st.accepted _ (λ some. kept_bind (λ (s : ℕ). opening_of st s) (slice_get st.free 0) (λ s first. open_keeps past next st s quiet all))
 polled_keeps past next st (polling.Poll names) quiet all = batched_keeps past next st names.items quiet all
 polled_keeps past next st polling.Deliver quiet all = deliver_keeps past next st quiet all
+polled_keeps past next st (polling.Sweep s) quiet all = sweep_keeps past next st s quiet all
 polled_keeps past next st polling.Put quiet all = put_by_poller_keeps past next st st.hand quiet all
 
 acted_keeps : (past next : History) (st : State) (w : ℕ) (k : Actor) (a : Act) → Quiet past next → AllOk past st → Kept (AllOk next) (acted st w k a)
@@ -78,11 +79,13 @@ acted_keeps past next st w k act.Take quiet all = take_keeps past next st k.doin
 acted_keeps past next st w k (act.Call r) quiet all = call_keeps past next st w k k.doing r quiet all
 acted_keeps past next st w k act.Post quiet all = post_keeps past next st k.doing quiet all
 acted_keeps past next st w k act.Release quiet all = release_keeps past next st w k k.doing quiet all
+acted_keeps past next st w k act.Expire quiet all = expire_keeps past next st k.doing quiet all
 acted_keeps past next st w k act.Close quiet all = close_keeps past next st w k k.doing quiet all
 acted_keeps past next st w k act.Retire quiet all = retire_keeps past next st w k k.doing quiet all
 acted_keeps past next st w k act.Free quiet all = free_keeps past next st w k k.doing quiet all
 
 pub step_keeps : (past : History) (st : State) (e : Event) → AllOk past st → Kept (AllOk (after_event past st e)) (step st e)
+step_keeps past st (event.Tick n) all = tick_keeps past (same_history past) st n (quiet past) all
 step_keeps past st (event.Network s side change) all = change_keeps past st s side change all
 step_keeps past st (event.Spurious who) all = spurious_keeps past (same_history past) st who (quiet past) all
 step_keeps past st (event.Vanish who) all = vanish_keeps past (same_history past) st who (quiet past) all

@@ -1,6 +1,6 @@
 -- What a worker does beside a call: it moves tickets, and changes its slot's holder and notes; and it closes a
 -- connection's ends.
-use Rattle.std.proofs.Common.{◌≡◌, ℕ, Bool, true, false, not, List, [], ◌∷◌, Some, None, refl, sym, ap, ◌∙◌, length}
+use Rattle.std.proofs.Common.{◌≡◌, ℕ, ◌+◌, Bool, true, false, not, List, [], ◌∷◌, Some, None, refl, sym, subst, ap, ◌∙◌, length, nat_lt}
 use Rattle.std.specs.Prelude.{slice_get, slice_set, if◌then◌else◌, ◌==◌}
 use Rattle.token.specs.declared.side.Side.{Side}
 use Rattle.token.specs.declared.side.Side.TheVariants.{Client, Target}
@@ -9,6 +9,8 @@ use Rattle.token.specs.Names.{EndName}
 use Rattle.kernel_model.specs.Names.{without_name}
 use Rattle.kernel_model.specs.Kernel as kernel
 use Rattle.kernel_model.specs.Kernel.{Watcher, Registered, end_at}
+use Rattle.relay_core.specs.Idle.{timed_out}
+use Rattle.token.specs.declared.direction.Direction.TheVariants.{Up, Down}
 use Rattle.relay_core.specs.Pairs.{verdict, is_live}
 use Rattle.kernel_model.specs.Ends.{is_nonempty}
 use Rattle.world.specs.declared.connection.Connection.{Connection}
@@ -18,8 +20,10 @@ use Rattle.world.specs.declared.actors.Doing.{Doing}
 use Rattle.world.specs.declared.actors.Doing.TheVariants.{Idle, Tries, Holds, Closed, Retired}
 use Rattle.world.specs.Places.{Place, Actor, is_held}
 use Rattle.world.specs.States.{State}
-use Rattle.world.specs.Steps.{with_note, put_by_poller, put_by_worker, popped, pop, claim, noted_place, take, with_place, post, may_release, release, closed_world, close, retire, free}
-use Rattle.world.proofs.TurnsKept.{Kept, kept_bind, kept_map, kept_guard, kept_when}
+use Rattle.world.specs.Steps.{is_limited, tick, sweep, posted, post_at, with_note, put_by_poller, put_by_worker, popped, pop, claim, noted_place, take, with_place, post, expired_place, expire, may_release, release, closed_world, close, retire, free}
+use Rattle.world.proofs.TurnsKept.{Kept, kept_bind, kept_map, kept_then, kept_guard, kept_when}
+use Rattle.world.proofs.TurnsExpired.{Expired, expired_so}
+use Rattle.world.proofs.EndsPairs.{by_side, by_direction}
 use Rattle.world.proofs.EndsHeld.{History, token_at, registered, ConnectionOk, SlotOk, AllOk}
 use Rattle.world.proofs.EndsNames.{has_without, other_slot}
 use Rattle.world.proofs.EndsKernel.{end_kept}
@@ -83,6 +87,49 @@ take_keeps past next st Idle quiet all = record { kept = tt }
 take_keeps past next st (Tries t) quiet all = record { kept = tt }
 take_keeps past next st (Closed s) quiet all = record { kept = tt }
 take_keeps past next st (Retired s) quiet all = record { kept = tt }
+
+-- an overdue connection fails, and keeps all else
+timed_out_ok : (past : History) (st : State) (s g : ℕ) (notes : List ℕ) (c : Connection) → ConnectionOk past st s g notes c → ConnectionOk past st s g notes (record c { pair = timed_out c.pair })
+timed_out_ok past st s g notes c ok = record {
+  generation = ok.generation;
+  up = ok.up;
+  down = ok.down;
+  ends = ok.ends;
+  there = by_side _ (ok.there Client) (ok.there Target);
+  pair = record {
+    covered = by_side _ (ok.pair.covered Client) (ok.pair.covered Target);
+    directions = by_direction _ (ok.pair.directions Up) (ok.pair.directions Down);
+  };
+}
+
+expired_ok : (past : History) (st : State) (s now limit : ℕ) (p q : Place) → Expired now limit p q → SlotOk past st s p → SlotOk past st s q
+expired_ok past st s now limit p q x ok = subst (λ (r : Place). SlotOk past st s r) (sym x.is) (record {
+  entry = ok.entry;
+  later = ok.later;
+  connection = λ b here. (let this : record x.connection { pair = timed_out x.connection.pair } ≡ b = cc in
+      subst (λ (r : Connection). ConnectionOk past st s p.generation p.notes r) this (timed_out_ok past st s p.generation p.notes x.connection (ok.connection x.connection x.was)));
+})
+
+pub expire_keeps : (past next : History) (st : State) (d : Doing) → Quiet past next → AllOk past st → Kept (AllOk next) (expire st d)
+expire_keeps past next st (Holds s left) quiet all = kept_bind _ (slice_get st.slots s) (λ p here.
+    kept_then (λ (q : Place). with_place st s q) (expired_place st.second st.limits.idle p) (λ q x.
+    place_keeps past next st (with_place st s q) s p q quiet here refl (steady st (with_place st s q) refl refl refl refl) (expired_ok next (with_place st s q) s st.second st.limits.idle p q x) all)
+    (expired_so st.second st.limits.idle p))
+expire_keeps past next st Idle quiet all = record { kept = tt }
+expire_keeps past next st (Tries t) quiet all = record { kept = tt }
+expire_keeps past next st (Closed s) quiet all = record { kept = tt }
+expire_keeps past next st (Retired s) quiet all = record { kept = tt }
+
+-- the poller posts to a slot that it sweeps
+pub sweep_keeps : (past next : History) (st : State) (s : ℕ) → Quiet past next → AllOk past st → Kept (AllOk next) (sweep st s)
+sweep_keeps past next st s quiet all = kept_when (is_limited st) _ (λ limited. kept_bind _ (slice_get st.table s) (λ g entry. kept_when (nat_lt 0 g) (post_at st s g) (λ over.
+    kept_map _ (slice_get st.slots s) (λ p here.
+    place_keeps past next st (posted st s g p) s p (with_note p g) quiet here refl (steady st (posted st s g p) refl refl refl refl)
+    (λ ok. note_keeps next next (posted st s g p) (posted st s g p) s p g (λ i h side. refl) refl refl refl ok) all))))
+
+-- time passes
+pub tick_keeps : (past next : History) (st : State) (n : ℕ) → Quiet past next → AllOk past st → Kept (AllOk next) (tick st n)
+tick_keeps past next st n quiet all = kept_guard _ (record st { second = st.second + n }) (λ may. rests_keep past next st _ quiet (record { slots = refl; table = refl; ring = refl; ends = refl; pending = λ i side g entry h. h }) all)
 
 pub post_keeps : (past next : History) (st : State) (d : Doing) → Quiet past next → AllOk past st → Kept (AllOk next) (post st d)
 post_keeps past next st (Holds s left) quiet all = kept_bind _ (slice_get st.slots s) (λ p here.

@@ -1,5 +1,5 @@
 -- A connection's call with its reply leaves it what it is: the same slot, generation and rings.
-use Rattle.std.proofs.Common.{◌≡◌, Some, refl, option_map}
+use Rattle.std.proofs.Common.{◌≡◌, ℕ, Some, refl, option_map}
 use Rattle.kernel_model.specs.declared.reply.Reply.{Reply}
 use Rattle.kernel_model.specs.Kernel.{Watcher}
 use Rattle.relay_core.specs.declared.call.Call.{Call}
@@ -16,12 +16,12 @@ use Rattle.world.proofs.TurnsKept.{Kept, kept_bind, kept_map, kept_when, kept_th
 abbrev StandsAs : Connection → Line → Type 0
 StandsAs c line = place_of line.connection.pair ≡ place_of c.pair
 
-replied_stands : (laws : CoreLaws) (l : Line) (call : Call) (r : Reply) → Kept (StandsAs l.connection) (replied l call r)
-replied_stands laws l call r = kept_bind _ (told_of l call r) (λ t is. kept_when (fits l.connection.pair call t) (option_map (λ (k : Watcher). record { kernel = k; connection = record l.connection { pair = after l.connection.pair call t } }) (made l call r)) (λ fit. kept_map _ (made l call r) (λ k done. laws.place l.connection.pair call t)))
+replied_stands : (laws : CoreLaws) (now : ℕ) (l : Line) (call : Call) (r : Reply) → Kept (StandsAs l.connection) (replied now l call r)
+replied_stands laws now l call r = kept_bind _ (told_of l call r) (λ t is. kept_when (fits l.connection.pair call t) (option_map (λ (k : Watcher). record { kernel = k; connection = record l.connection { pair = after now l.connection.pair call t } }) (made l call r)) (λ fit. kept_map _ (made l call r) (λ k done. laws.place now l.connection.pair call t)))
 
-called_stands : (laws : CoreLaws) (l : Line) (r : Reply) → Kept (StandsAs l.connection) (called l r)
+called_stands : (laws : CoreLaws) (now : ℕ) (l : Line) (r : Reply) → Kept (StandsAs l.connection) (called now l r)
 unfolding called
-called_stands laws l r = kept_bind _ (next_call l.connection.pair) (λ call next. replied_stands laws l call r)
+called_stands laws now l r = kept_bind _ (next_call l.connection.pair) (λ call next. replied_stands laws now l call r)
 
 -- the slot keeps all but the connection, and the connection what it is
 pub record StaysIn (p q : Place) : Type 0 where
@@ -34,9 +34,9 @@ pub record StaysIn (p q : Place) : Type 0 where
   pub is : q.connection ≡ Some new
   pub stands : place_of new.pair ≡ place_of old.pair
 
-pub lodged_stays : (laws : CoreLaws) (l : Lodging) (r : Reply) → Kept (λ (m : Lodging). StaysIn l.place m.place) (lodged_call l r)
+pub lodged_stays : (laws : CoreLaws) (now : ℕ) (l : Lodging) (r : Reply) → Kept (λ (m : Lodging). StaysIn l.place m.place) (lodged_call now l r)
 unfolding lodged_call
-lodged_stays laws l r = kept_bind _ l.place.connection (λ c is. kept_then _ (called (record { kernel = l.kernel; connection = c }) r) (λ line same. record {
+lodged_stays laws now l r = kept_bind _ l.place.connection (λ c is. kept_then _ (called now (record { kernel = l.kernel; connection = c }) r) (λ line same. record {
   generation = refl;
   holder = refl;
   notes = refl;
@@ -45,4 +45,4 @@ lodged_stays laws l r = kept_bind _ l.place.connection (λ c is. kept_then _ (ca
   was = is;
   is = refl;
   stands = same;
-}) (called_stands laws (record { kernel = l.kernel; connection = c }) r))
+}) (called_stands laws now (record { kernel = l.kernel; connection = c }) r))

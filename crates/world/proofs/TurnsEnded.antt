@@ -26,6 +26,7 @@ use Rattle.world.specs.declared.event.Act.{Act}
 use Rattle.world.specs.declared.event.Act.TheVariants as act
 use Rattle.world.specs.Steps.{acted, worked}
 use Rattle.world.proofs.TurnsWorker.{put_turns, pop_turns, claim_turns}
+use Rattle.world.proofs.TurnsExpired.{expire_turns}
 use Rattle.world.proofs.TurnsHeld.{Held, held_by, closed_by, stays_held, by_is_shaped, take_turns, call_turns}
 
 -- it posts to its own slot
@@ -224,6 +225,7 @@ acted_turns laws st w k act.Take there turns = take_turns st w k k.doing there r
 acted_turns laws st w k (act.Call r) there turns = call_turns laws st w k k.doing r there refl turns
 acted_turns laws st w k act.Post there turns = post_turns st w k k.doing there refl turns
 acted_turns laws st w k act.Release there turns = release_turns st w k k.doing there refl turns
+acted_turns laws st w k act.Expire there turns = expire_turns st w k k.doing there refl turns
 acted_turns laws st w k act.Close there turns = close_turns st w k k.doing there refl turns
 acted_turns laws st w k act.Retire there turns = retire_turns st w k k.doing there refl turns
 acted_turns laws st w k act.Free there turns = free_turns st w k k.doing there refl turns

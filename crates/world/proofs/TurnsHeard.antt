@@ -38,7 +38,7 @@ use Rattle.world.specs.declared.limits.Limits.{Limits}
 use Rattle.world.specs.Places.{Place, Actor, is_held}
 use Rattle.world.specs.States.{State, opening}
 use Rattle.world.specs.Calls.{Line, descriptor, told_of, made, called}
-use Rattle.world.specs.Steps.{connection_at, over_kernel, change_at, network, watched_of, spurious, vanish, may_accept, after_accept, listen, post_at, delivered_at, delivered, put_by_poller, batched, opened_world, opening_of, token_of, polled, put_by_worker, popped, pop, claim, noted_place, with_place, take, Lodging, lodged_call, doing, call, with_note, post, may_release, release, closed_world, close, retire, free, acted, step}
+use Rattle.world.specs.Steps.{connection_at, over_kernel, change_at, network, watched_of, spurious, vanish, may_accept, after_accept, listen, post_at, delivered_at, delivered, put_by_poller, batched, opened_world, opening_of, token_of, polled, put_by_worker, popped, pop, claim, noted_place, is_limited, expired_place, expire, with_place, take, Lodging, lodged_call, doing, call, with_note, post, may_release, release, closed_world, close, retire, free, acted, step}
 use Rattle.world.specs.Runs.{run}
 use Rattle.world.specs.Headline.{ListenerHolds}
 use Rattle.world.specs.Support.{is_covered}
@@ -175,17 +175,19 @@ polled_listens : (st : State) (p : Polling) → Listens st → Kept Listens (pol
 polled_listens st polling.Open l = kept_when st.accepted (option_and_then (λ (s : ℕ). opening_of st s) (slice_get st.free 0)) (λ had. kept_bind _ (slice_get st.free 0) (λ s first. opening_listens st s l))
 polled_listens st (polling.Poll names) l = batched_listens st names.items l
 polled_listens st polling.Deliver l = kept_bind _ (slice_get st.batch 0) (λ n first. delivered_listens st n first l)
+polled_listens st (polling.Sweep s) l = kept_when (is_limited st) _ (λ limited. kept_bind _ (slice_get st.table s) (λ g entry. kept_when (nat_lt 0 g) (post_at st s g) (λ over.
+    kept_map _ (slice_get st.slots s) (λ p there. record { covered = l.covered }))))
 polled_listens st polling.Put l = put_listens st st.hand l
 
 -- what a worker does
 
-called_line_hears : (l : Line) (r : Reply) → Kept (λ (m : Line). HearsOn l.kernel m.kernel) (called l r)
+called_line_hears : (now : ℕ) (l : Line) (r : Reply) → Kept (λ (m : Line). HearsOn l.kernel m.kernel) (called now l r)
 unfolding called
-called_line_hears l r = kept_bind _ (next_call l.connection.pair) (λ c next. kept_bind _ (told_of l c r) (λ t is. kept_when (fits l.connection.pair c t) (option_map (λ (k : Watcher). record { kernel = k; connection = record l.connection { pair = after l.connection.pair c t } }) (made l c r)) (λ fit. kept_then (λ (k : Watcher). record { kernel = k; connection = record l.connection { pair = after l.connection.pair c t } }) (made l c r) (λ k on. on) (made_hears l c r))))
+called_line_hears now l r = kept_bind _ (next_call l.connection.pair) (λ c next. kept_bind _ (told_of l c r) (λ t is. kept_when (fits l.connection.pair c t) (option_map (λ (k : Watcher). record { kernel = k; connection = record l.connection { pair = after now l.connection.pair c t } }) (made l c r)) (λ fit. kept_then (λ (k : Watcher). record { kernel = k; connection = record l.connection { pair = after now l.connection.pair c t } }) (made l c r) (λ k on. on) (made_hears l c r))))
 
-lodged_hears : (l : Lodging) (r : Reply) → Kept (λ (m : Lodging). HearsOn l.kernel m.kernel) (lodged_call l r)
+lodged_hears : (now : ℕ) (l : Lodging) (r : Reply) → Kept (λ (m : Lodging). HearsOn l.kernel m.kernel) (lodged_call now l r)
 unfolding lodged_call
-lodged_hears l r = kept_bind _ l.place.connection (λ c is. kept_then (λ (line : Line). record { kernel = line.kernel; place = record l.place { connection = Some line.connection } }) (called (record { kernel = l.kernel; connection = c }) r) (λ line on. on) (called_line_hears (record { kernel = l.kernel; connection = c }) r))
+lodged_hears now l r = kept_bind _ l.place.connection (λ c is. kept_then (λ (line : Line). record { kernel = line.kernel; place = record l.place { connection = Some line.connection } }) (called now (record { kernel = l.kernel; connection = c }) r) (λ line on. on) (called_line_hears now (record { kernel = l.kernel; connection = c }) r))
 
 worker_put_listens : (st : State) (w : ℕ) (k : Actor) (hand : List Ticket) → Listens st → Kept Listens (put_by_worker st w k hand)
 worker_put_listens st w k [] l = kept_none
@@ -220,9 +222,9 @@ call_listens : (st : State) (w : ℕ) (k : Actor) (d : Doing) (r : Reply) → Li
 call_listens st w k (Holds s left) r l = kept_when (nat_lt 0 left) (option_and_then
     (λ (p : Place). option_map
     (λ (m : Lodging). doing (with_place (record st { kernel = m.kernel }) s m.place) w k (Holds s (left - 1)))
-    (lodged_call (record { kernel = st.kernel; place = p }) r))
-    (slice_get st.slots s)) (λ some. kept_bind _ (slice_get st.slots s) (λ p lies. kept_then (λ (m : Lodging). doing (with_place (record st { kernel = m.kernel }) s m.place) w k (Holds s (left - 1))) (lodged_call (record { kernel = st.kernel; place = p }) r)
-    (λ m on. goes_on st (doing (with_place (record st { kernel = m.kernel }) s m.place) w k (Holds s (left - 1))) refl refl on l) (lodged_hears (record { kernel = st.kernel; place = p }) r)))
+    (lodged_call st.second (record { kernel = st.kernel; place = p }) r))
+    (slice_get st.slots s)) (λ some. kept_bind _ (slice_get st.slots s) (λ p lies. kept_then (λ (m : Lodging). doing (with_place (record st { kernel = m.kernel }) s m.place) w k (Holds s (left - 1))) (lodged_call st.second (record { kernel = st.kernel; place = p }) r)
+    (λ m on. goes_on st (doing (with_place (record st { kernel = m.kernel }) s m.place) w k (Holds s (left - 1))) refl refl on l) (lodged_hears st.second (record { kernel = st.kernel; place = p }) r)))
 call_listens st w k Idle r l = kept_none
 call_listens st w k (Tries t) r l = kept_none
 call_listens st w k (Closed s) r l = kept_none
@@ -241,6 +243,13 @@ release_listens st w k Idle l = kept_none
 release_listens st w k (Tries t) l = kept_none
 release_listens st w k (Closed s) l = kept_none
 release_listens st w k (Retired s) l = kept_none
+
+expire_listens : (st : State) (d : Doing) → Listens st → Kept Listens (expire st d)
+expire_listens st (Holds s left) l = kept_bind _ (slice_get st.slots s) (λ p lies. kept_map (λ (q : Place). with_place st s q) (expired_place st.second st.limits.idle p) (λ q is. record { covered = l.covered }))
+expire_listens st Idle l = kept_none
+expire_listens st (Tries t) l = kept_none
+expire_listens st (Closed s) l = kept_none
+expire_listens st (Retired s) l = kept_none
 
 close_listens : (st : State) (w : ℕ) (k : Actor) (d : Doing) → Listens st → Kept Listens (close st w k d)
 close_listens st w k (Holds s left) l = kept_bind _ (slice_get st.slots s) (λ p lies. kept_bind _ p.connection (λ c is. kept_when (not (is_live (verdict c.pair)))
@@ -273,6 +282,7 @@ acted_listens st w k act.Take l = take_listens st k.doing l
 acted_listens st w k (act.Call r) l = call_listens st w k k.doing r l
 acted_listens st w k act.Post l = post_listens st k.doing l
 acted_listens st w k act.Release l = release_listens st w k k.doing l
+acted_listens st w k act.Expire l = expire_listens st k.doing l
 acted_listens st w k act.Close l = close_listens st w k k.doing l
 acted_listens st w k act.Retire l = retire_listens st w k k.doing l
 acted_listens st w k act.Free l = free_listens st w k k.doing l
@@ -280,6 +290,7 @@ acted_listens st w k act.Free l = free_listens st w k k.doing l
 -- every event, and every list of them
 
 step_listens : (st : State) (e : Event) → Listens st → Kept Listens (step st e)
+step_listens st (event.Tick n) l = kept_guard _ (record st { second = st.second + n }) (λ may. record { covered = l.covered })
 step_listens st (event.Network s side change) l = network_listens st s side change l
 step_listens st (event.Spurious who) l = spurious_listens st who l
 step_listens st (event.Vanish who) l = vanish_listens st who l

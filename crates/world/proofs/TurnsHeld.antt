@@ -186,9 +186,9 @@ pub call_turns : (laws : CoreLaws) (st : State) (w : ℕ) (k : Actor) (d : Doing
 call_turns laws st w k (Holds s left) r there does turns = kept_when (nat_lt 0 left) (option_and_then
     (λ (p : Place). option_map
     (λ (l : Lodging). doing (with_place (record st { kernel = l.kernel }) s l.place) w k (Holds s (left - 1)))
-    (lodged_call (record { kernel = st.kernel; place = p }) r))
-    (slice_get st.slots s)) (λ some. kept_bind _ (slice_get st.slots s) (λ p lies. kept_map _ (lodged_call (record { kernel = st.kernel; place = p }) r) (λ l is. called_turns st w k s left p l there does lies
-    (kept_at (lodged_call (record { kernel = st.kernel; place = p }) r) l is (lodged_stays laws (record { kernel = st.kernel; place = p }) r)) turns)))
+    (lodged_call st.second (record { kernel = st.kernel; place = p }) r))
+    (slice_get st.slots s)) (λ some. kept_bind _ (slice_get st.slots s) (λ p lies. kept_map _ (lodged_call st.second (record { kernel = st.kernel; place = p }) r) (λ l is. called_turns st w k s left p l there does lies
+    (kept_at (lodged_call st.second (record { kernel = st.kernel; place = p }) r) l is (lodged_stays laws st.second (record { kernel = st.kernel; place = p }) r)) turns)))
 call_turns laws st w k Idle r there does turns = kept_none
 call_turns laws st w k (Tries t) r there does turns = kept_none
 call_turns laws st w k (Closed s) r there does turns = kept_none

@@ -1,5 +1,5 @@
 -- Who has a slot, through what the network, the kernel and the poller do.
-use Rattle.std.proofs.Common.{◌≡◌, ℕ, ◌+◌, ◌≤◌, ◌==◌, Bool, true, false, not, ◌&&◌, ◌||◌, List, [], ◌∷◌, ◌++◌, length, slice_get, drop, Option, Some, None, refl, ap, sym, arith, eq-eqb, lt-ltb, length-append, option_and_then}
+use Rattle.std.proofs.Common.{◌≡◌, ℕ, ◌+◌, ◌≤◌, ◌==◌, Bool, true, false, not, ◌&&◌, ◌||◌, List, [], ◌∷◌, ◌++◌, length, nat_lt, slice_get, drop, Option, Some, None, refl, ap, sym, arith, eq-eqb, lt-ltb, length-append, option_and_then}
 use Rattle.token.specs.declared.side.Side.{Side}
 use Rattle.token.specs.declared.side.Side.TheVariants.{Client, Target}
 use Rattle.token.specs.declared.name.Name.{Name}
@@ -26,7 +26,7 @@ use Rattle.kernel_model.specs.declared.accepting.Accepting.{Accepting}
 use Rattle.kernel_model.specs.declared.accepting.Accepting.TheVariants.{Accepted, Blocked, Again, Starved}
 use Rattle.world.specs.Places.{Place, Actor, is_held, is_by_worker}
 use Rattle.world.specs.States.{State}
-use Rattle.world.specs.Steps.{connection_at, over_kernel, network, watched_of, spurious, vanish, may_accept, after_accept, listen, with_note, wakes, with_ticket, posted, post_at, delivered_at, delivered, deliver, put_by_poller, batched, opened_place, opened_world, opening_of, token_of, polled}
+use Rattle.world.specs.Steps.{connection_at, over_kernel, is_limited, tick, sweep, network, watched_of, spurious, vanish, may_accept, after_accept, listen, with_note, wakes, with_ticket, posted, post_at, delivered_at, delivered, deliver, put_by_poller, batched, opened_place, opened_world, opening_of, token_of, polled}
 use Rattle.world.specs.Support.{one, total, of_slot, tried, worker_tickets, tickets}
 use Rattle.world.proofs.TurnsTotals.{total_push, total_moved, total_le, get-set_same, get-set_other}
 use Rattle.world.proofs.TurnsKept.{Kept, kept_some, kept_none, kept_bind, kept_map, kept_when, kept_guard, kept_if, kept_then}
@@ -39,6 +39,10 @@ over st k turns = record { each = turns.each }
 
 over_kept : (st : State) (o : Option Watcher) → Turns st → Kept Turns (over_kernel st o)
 over_kept st o turns = kept_map _ o (λ k is. over st k turns)
+
+-- time passes
+pub tick_turns : (st : State) (n : ℕ) → Turns st → Kept Turns (tick st n)
+tick_turns st n turns = kept_guard _ (record st { second = st.second + n }) (λ may. record { each = turns.each })
 
 pub network_turns : (st : State) (s : ℕ) (side : Side) (change : Change) → Turns st → Kept Turns (network st s side change)
 network_turns st s side change turns = kept_bind _ (connection_at st s) (λ c is. over_kept st _ turns)
@@ -159,6 +163,11 @@ delivered_turns st (name.End n) turns = delivered_at_turns st n (slice_get st.ta
 deliver_turns : (st : State) → Turns st → Kept Turns (deliver st)
 deliver_turns st turns = kept_bind _ (slice_get st.batch 0) (λ n is. kept_then (λ (q : State). record q { batch = drop 1 st.batch }) (delivered st n) (λ q all. record { each = all.each }) (delivered_turns st n turns))
 
+-- a slot is swept
+sweep_turns : (st : State) (s : ℕ) → Turns st → Kept Turns (sweep st s)
+sweep_turns st s turns = kept_when (is_limited st) _ (λ limited. kept_bind _ (slice_get st.table s) (λ g entry. kept_when (nat_lt 0 g) (post_at st s g) (λ over.
+    kept_map _ (slice_get st.slots s) (λ p there. posted_at_turns st s g p entry there turns))))
+
 -- a slot is opened
 
 total_first : {X : Type 0} (f : X → ℕ) (xs : List X) (x : X) → slice_get xs 0 ≡ Some x → total f xs ≡ f x + total f (drop 1 xs)
@@ -217,9 +226,9 @@ first_free st s p there first turns =
       gone = omega arith;
     }
 
-opened_connection : (st : State) (s g : ℕ) (ends : Descriptors) (f : Facts) (c : Connection) → f.slot ≡ s → f.ring ≡ st.limits.ring → (opened_place s g st.limits.ring ends).connection ≡ Some c → ConnectionOk f (opened_place s g st.limits.ring ends) c
+opened_connection : (st : State) (s g : ℕ) (ends : Descriptors) (f : Facts) (c : Connection) → f.slot ≡ s → f.ring ≡ st.limits.ring → (opened_place s g st.limits.ring st.second ends).connection ≡ Some c → ConnectionOk f (opened_place s g st.limits.ring st.second ends) c
 opened_connection st s g ends f c slot ring is =
-    let same : record { pair = fresh s g st.limits.ring; ends = ends } ≡ c = (cc) in
+    let same : record { pair = fresh s g st.limits.ring st.second; ends = ends } ≡ c = (cc) in
     rw (← same) (record {
       stands = rw (slot, ring) refl;
       live = λ nobody. refl;
@@ -236,7 +245,7 @@ opened_turns st s g p t there first turns =
     let this : one (s == s) ≡ 1 = one_same s in
     let this_right : names s g (record { slot = s; generation = g }) ≡ 1 = names_own s g in
     let none : tickets st s ≡ 0 = free.tickets in
-    keep_others st (opened_world st s g t) s p (opened_place s g st.limits.ring t.told) there refl (λ j q apart other. record {
+    keep_others st (opened_world st s g t) s p (opened_place s g st.limits.ring st.second t.told) there refl (λ j q apart other. record {
       ring = refl;
       slot = refl;
       entry = sym (get-set_other st.table s j g apart);
@@ -272,4 +281,5 @@ pub polled_turns : (st : State) (p : Polling) → Turns st → Kept Turns (polle
 polled_turns st polling.Open turns = kept_when st.accepted (option_and_then (λ (s : ℕ). opening_of st s) (slice_get st.free 0)) (λ had. kept_bind _ (slice_get st.free 0) (λ s first. opening_turns st s first turns))
 polled_turns st (polling.Poll names) turns = batched_turns st names.items turns
 polled_turns st polling.Deliver turns = deliver_turns st turns
+polled_turns st (polling.Sweep s) turns = sweep_turns st s turns
 polled_turns st polling.Put turns = put_turns st st.hand refl turns

@@ -19,13 +19,14 @@ use Rattle.world.specs.CoreLaws.{CoreLaws}
 use Rattle.world.proofs.TurnsTotals.{total_push, total_none, total_le, total_le_at, get-replicate, get_beside}
 use Rattle.world.proofs.TurnsKept.{Kept, kept_some, kept_next, kept_at}
 use Rattle.world.proofs.TurnsFacts.{facts, SlotOk, Turns, names, tried_right, worker_right, worker_holds, worker_closes, worker_retires, is_number, right_tickets, one_same, names_of_slot}
-use Rattle.world.proofs.TurnsPoller.{network_turns, spurious_turns, vanish_turns, listen_turns, polled_turns, right_is_less, sure}
+use Rattle.world.proofs.TurnsPoller.{tick_turns, network_turns, spurious_turns, vanish_turns, listen_turns, polled_turns, right_is_less, sure}
 use Rattle.world.proofs.TurnsWorker.{Waiting, waiting}
 use Rattle.world.proofs.TurnsEnded.{own_generation, worked_turns}
 
 -- each event keeps it, and so does a list of them
 
 step_turns : (laws : CoreLaws) (st : State) (e : Event) → Turns st → Kept Turns (step st e)
+step_turns laws st (event.Tick n) turns = tick_turns st n turns
 step_turns laws st (event.Network s side change) turns = network_turns st s side change turns
 step_turns laws st (event.Spurious who) turns = spurious_turns st who turns
 step_turns laws st (event.Vanish who) turns = vanish_turns st who turns
@@ -169,9 +170,11 @@ tried_own st (event.Work w act.Pop) q made turns = tt
 tried_own st (event.Work w (act.Call r)) q made turns = tt
 tried_own st (event.Work w act.Post) q made turns = tt
 tried_own st (event.Work w act.Release) q made turns = tt
+tried_own st (event.Work w act.Expire) q made turns = tt
 tried_own st (event.Work w act.Close) q made turns = tt
 tried_own st (event.Work w act.Retire) q made turns = tt
 tried_own st (event.Work w act.Free) q made turns = tt
+tried_own st (event.Tick n) q made turns = tt
 tried_own st (event.Network s side change) q made turns = tt
 tried_own st (event.Spurious who) q made turns = tt
 tried_own st (event.Vanish who) q made turns = tt

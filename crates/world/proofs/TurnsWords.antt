@@ -32,7 +32,7 @@ use Rattle.world.specs.declared.event.Act.{Act}
 use Rattle.world.specs.declared.event.Act.TheVariants as act
 use Rattle.world.specs.Places.{Place, Actor, is_held}
 use Rattle.world.specs.States.{State}
-use Rattle.world.specs.Steps.{connection_at, over_kernel, watched_of, may_accept, after_accept, listen, with_note, wakes as wakes_place, with_ticket, posted, post_at, delivered_at, delivered, put_by_poller, batched, opened_place, opened_world, opening_of, token_of, polled, with_worker, with_place, doing, put_by_worker, popped, pop, claim, heard, take, Lodging, lodged_call, call, post, may_release, release, closed_world, close, retire, freed, free, acted, step}
+use Rattle.world.specs.Steps.{connection_at, over_kernel, watched_of, may_accept, after_accept, listen, with_note, wakes as wakes_place, with_ticket, posted, post_at, delivered_at, delivered, put_by_poller, batched, opened_place, opened_world, opening_of, token_of, polled, is_limited, sweep, expired_place, expire, with_worker, with_place, doing, put_by_worker, popped, pop, claim, heard, take, Lodging, lodged_call, call, post, may_release, release, closed_world, close, retire, freed, free, acted, step}
 use Rattle.world.specs.Support.{one, total, of_slot, tried, worker_tickets, tickets}
 use Rattle.world.specs.Words.{word_at, after_all, is_wake, wakes, claims, at_slot, is_entry, delivery_steps, steps, WordMoves, WordsMove, WordsMoveInRuns}
 use Rattle.claims.specs.Words as words
@@ -43,6 +43,7 @@ use Rattle.world.proofs.TurnsKept.{Kept, kept_some, kept_none, kept_bind, kept_m
 use Rattle.world.proofs.TurnsFacts.{facts, Turns, one_same, one_other, Replaced, replaced, turned}
 use Rattle.world.proofs.TurnsPoller.{hand_other, hand_own, first_free, FirstFree}
 use Rattle.world.proofs.TurnsWorker.{Waiting, waiting}
+use Rattle.world.proofs.TurnsExpired.{expired_so}
 use Rattle.world.proofs.TurnsHeld.{Held, held_by, closed_by}
 use Rattle.world.proofs.TurnsCall.{lodged_stays}
 use Rattle.world.proofs.TurnsRun.{turns_after}
@@ -170,6 +171,11 @@ delivered_words st e (name.End n) made = delivered_at_words st e n (slice_get st
 deliver_words : (st : State) → Kept (WordsMove st (event.Poll polling.Deliver)) (polled st polling.Deliver)
 deliver_words st = kept_bind _ (slice_get st.batch 0) (λ n is. kept_then (λ (q : State). record q { batch = drop 1 st.batch }) (delivered st n) (λ q moves. shorter_batch st q (event.Poll polling.Deliver) moves) (delivered_words st (event.Poll polling.Deliver) n (λ i. rw is refl)))
 
+-- a slot is swept
+sweep_words : (st : State) (s : ℕ) → Kept (WordsMove st (event.Poll (polling.Sweep s))) (sweep st s)
+sweep_words st s = kept_when (is_limited st) _ (λ limited. kept_bind _ (slice_get st.table s) (λ g entry. kept_when (nat_lt 0 g) (post_at st s g) (λ over.
+    kept_map _ (slice_get st.slots s) (λ p there. posted_words st (event.Poll (polling.Sweep s)) s g p (λ i. refl) there))))
+
 -- a slot is opened
 opened_words : (st : State) (e : Event) (s g : ℕ) (p : Place) (t : Told Watcher Descriptors) → ((i : ℕ) → steps st e i ≡ at_slot i s (words.adopt ∷ words.take ∷ words.post ∷ words.release ∷ [])) → slice_get st.slots s ≡ Some p → slice_get st.free 0 ≡ Some s → Turns st → WordsMove st e (opened_world st s g t)
 opened_words st e s g p t made there first turns =
@@ -177,7 +183,7 @@ opened_words st e s g p t made there first turns =
     let more : total (of_slot s) (st.hand ++ record { slot = s; generation = g } ∷ []) ≡ total (of_slot s) st.hand + one (s == s) = total_push (of_slot s) st.hand _ in
     let this : one (s == s) ≡ 1 = one_same s in
     let woken : wakes (words.adopt ∷ words.take ∷ words.post ∷ words.release ∷ []) (word_at p) ≡ 1 = rw (f.held, f.free) refl in
-    touched st (opened_world st s g t) e s p (opened_place s g st.limits.ring t.told) (words.adopt ∷ words.take ∷ words.post ∷ words.release ∷ []) there refl made refl (rw woken (omega arith)) (λ i apart.
+    touched st (opened_world st s g t) e s p (opened_place s g st.limits.ring st.second t.told) (words.adopt ∷ words.take ∷ words.post ∷ words.release ∷ []) there refl made refl (rw woken (omega arith)) (λ i apart.
     let other : one (s == i) ≡ 0 = one_other s i apart in
     let same : total (of_slot i) (st.hand ++ record { slot = s; generation = g } ∷ []) ≡ total (of_slot i) st.hand + one (s == i) = total_push (of_slot i) st.hand _ in
     omega arith)
@@ -190,6 +196,7 @@ polled_words : (st : State) (p : Polling) → Turns st → Kept (WordsMove st (e
 polled_words st polling.Open turns = open_words st turns
 polled_words st (polling.Poll names) turns = batched_words st names.items (event.Poll (polling.Poll names)) (λ s. refl)
 polled_words st polling.Deliver turns = deliver_words st
+polled_words st (polling.Sweep s) turns = sweep_words st s
 polled_words st polling.Put turns = put_words st st.hand (event.Poll polling.Put) (λ s. refl) refl
 
 -- a worker: those acts that make no step
@@ -224,15 +231,24 @@ call_words : (laws : CoreLaws) (st : State) (w : ℕ) (k : Actor) (d : Doing) (r
 call_words laws st w k (Holds s left) r e none there does = kept_when (nat_lt 0 left) (option_and_then
     (λ (p : Place). option_map
     (λ (l : Lodging). doing (with_place (record st { kernel = l.kernel }) s l.place) w k (Holds s (left - 1)))
-    (lodged_call (record { kernel = st.kernel; place = p }) r))
-    (slice_get st.slots s)) (λ some. kept_bind _ (slice_get st.slots s) (λ p lies. kept_then (λ (l : Lodging). doing (with_place (record st { kernel = l.kernel }) s l.place) w k (Holds s (left - 1))) (lodged_call (record { kernel = st.kernel; place = p }) r)
+    (lodged_call st.second (record { kernel = st.kernel; place = p }) r))
+    (slice_get st.slots s)) (λ some. kept_bind _ (slice_get st.slots s) (λ p lies. kept_then (λ (l : Lodging). doing (with_place (record st { kernel = l.kernel }) s l.place) w k (Holds s (left - 1))) (lodged_call st.second (record { kernel = st.kernel; place = p }) r)
     (λ l stays. stays_word st (doing (with_place (record st { kernel = l.kernel }) s l.place) w k (Holds s (left - 1))) e s p l.place lies refl none stays.notes stays.holder (λ i.
     let m : total (worker_tickets i) (slice_set st.workers w (record k { doing = Holds s (left - 1) })) + tried i (Holds s left) ≡ total (worker_tickets i) st.workers + tried i (Holds s (left - 1)) = tickets_on st w k (Holds s left) (Holds s (left - 1)) i there does in
-    omega arith)) (lodged_stays laws (record { kernel = st.kernel; place = p }) r)))
+    omega arith)) (lodged_stays laws st.second (record { kernel = st.kernel; place = p }) r)))
 call_words laws st w k Idle r e none there does = kept_none
 call_words laws st w k (Tries t) r e none there does = kept_none
 call_words laws st w k (Closed s) r e none there does = kept_none
 call_words laws st w k (Retired s) r e none there does = kept_none
+
+expire_words : (st : State) (d : Doing) (e : Event) → ((s : ℕ) → steps st e s ≡ []) → Kept (WordsMove st e) (expire st d)
+expire_words st (Holds s left) e none = kept_bind _ (slice_get st.slots s) (λ p lies. kept_then (λ (q : Place). with_place st s q) (expired_place st.second st.limits.idle p)
+    (λ q x. stays_word st (with_place st s q) e s p q lies refl none (ap (λ (r : Place). r.notes) x.is) (ap (λ (r : Place). r.holder) x.is) (λ i. refl))
+    (expired_so st.second st.limits.idle p))
+expire_words st Idle e none = kept_none
+expire_words st (Tries t) e none = kept_none
+expire_words st (Closed s) e none = kept_none
+expire_words st (Retired s) e none = kept_none
 
 close_words : (st : State) (w : ℕ) (k : Actor) (d : Doing) (e : Event) → ((s : ℕ) → steps st e s ≡ []) → slice_get st.workers w ≡ Some k → k.doing ≡ d → Kept (WordsMove st e) (close st w k d)
 close_words st w k (Holds s left) e none there does = kept_bind _ (slice_get st.slots s) (λ p lies. kept_bind _ p.connection (λ c is. kept_when (not (is_live (verdict c.pair)))
@@ -331,11 +347,13 @@ acted_words laws st w k act.Take there turns = take_words st w k k.doing there r
 acted_words laws st w k (act.Call r) there turns = call_words laws st w k k.doing r (event.Work w (act.Call r)) (λ i. rw there refl) there refl
 acted_words laws st w k act.Post there turns = post_words st w k k.doing there refl turns
 acted_words laws st w k act.Release there turns = release_words st w k k.doing there refl turns
+acted_words laws st w k act.Expire there turns = expire_words st k.doing (event.Work w act.Expire) (λ i. rw there refl)
 acted_words laws st w k act.Close there turns = close_words st w k k.doing (event.Work w act.Close) (λ i. rw there refl) there refl
 acted_words laws st w k act.Retire there turns = retire_words st w k k.doing there refl turns
 acted_words laws st w k act.Free there turns = free_words st w k k.doing (event.Work w act.Free) (λ i. rw there refl) there refl
 
 step_words : (laws : CoreLaws) (st : State) (e : Event) → Turns st → Kept (WordsMove st e) (step st e)
+step_words laws st (event.Tick n) turns = kept_guard _ (record st { second = st.second + n }) (λ may. untouched st (record st { second = st.second + n }) (event.Tick n) refl (λ i. refl) (λ s. refl))
 step_words laws st (event.Network s side change) turns = kept_bind _ (connection_at st s) (λ c is. over_words st (event.Network s side change) _ (λ i. refl))
 step_words laws st (event.Spurious who) turns = kept_bind _ (watched_of st who) (λ x is. over_words st (event.Spurious who) _ (λ i. refl))
 step_words laws st (event.Vanish who) turns = kept_bind _ (watched_of st who) (λ x is. over_words st (event.Vanish who) _ (λ i. refl))

@@ -53,15 +53,15 @@ made l (Write side) r = write l.kernel (descriptor l.connection.ends side) (offe
 made l (Join side) r = join l.kernel (descriptor l.connection.ends side) r
 made l (Shut side) r = shut l.kernel (descriptor l.connection.ends side) r
 
--- one call with its reply: the kernel may reply so, and the pair takes it in
-abbrev pub replied : Line → Call → Reply → Option Line
-replied l call r = option_and_then
+-- one call with its reply at the second `now`: the kernel may reply so, and the pair takes it in
+abbrev pub replied : ℕ → Line → Call → Reply → Option Line
+replied now l call r = option_and_then
     (λ (t : answer.AnswerValue). when (fits l.connection.pair call t)
     (option_map
-    (λ (k : Watcher). record { kernel = k; connection = record l.connection { pair = after l.connection.pair call t } })
+    (λ (k : Watcher). record { kernel = k; connection = record l.connection { pair = after now l.connection.pair call t } })
     (made l call r)))
     (told_of l call r)
 
 -- the same for the connection's next call; without one, no reply can come
-unfoldable pub called : Line → Reply → Option Line
-called l r = option_and_then (λ (call : Call). replied l call r) (next_call l.connection.pair)
+unfoldable pub called : ℕ → Line → Reply → Option Line
+called now l r = option_and_then (λ (call : Call). replied now l call r) (next_call l.connection.pair)

@@ -1,6 +1,6 @@
 -- The headline: what holds after every run of events, clause by clause. Part of the promises. No definition here depends
 -- on how the relay achieves it; what the clause about due connections depends on is in `Support`.
-use Rattle.std.specs.Prelude.{◌≡◌, ℕ, ◌==◌, true, false, ◌||◌, ◌⊎◌, List, [], ◌∷◌, ◌++◌, Option, Some, None, IsSome, slice_get, option_map, option_and_then}
+use Rattle.std.specs.Prelude.{◌≡◌, ℕ, ◌+◌, ◌≤◌, ◌==◌, Bool, true, false, ◌||◌, if◌then◌else◌, ◌⊎◌, List, [], ◌∷◌, ◌++◌, Option, Some, None, IsSome, slice_get, option_map, option_and_then}
 use Rattle.std.specs.List.{list_all}
 use Rattle.token.specs.declared.kind.Kind.{Kind}
 use Rattle.token.specs.declared.side.Side.{Side}
@@ -10,12 +10,14 @@ use Rattle.token.specs.declared.name.Name.TheVariants as name
 use Rattle.token.specs.Sides.{source, destination}
 use Rattle.flow.specs.Stream.{Stream}
 use Rattle.kernel_model.specs.declared.both.Sockets.{Sockets}
+use Rattle.kernel_model.specs.declared.reply.Reply.{Reply}
 use Rattle.kernel_model.specs.declared.reply.Reply.TheVariants as reply
 use Rattle.kernel_model.specs.Ends.{Endpoint}
 use Rattle.kernel_model.specs.Kernel.{Registered, end_at}
 use Rattle.kernel_model.specs.Names.{has}
 use Rattle.relay_core.specs.declared.call.Call.{Call}
 use Rattle.relay_core.specs.declared.verdict.Fault.{Fault}
+use Rattle.relay_core.specs.declared.verdict.Fault.TheVariants.{Broken, Idle}
 use Rattle.relay_core.specs.declared.verdict.Verdict.TheVariants.{Done, Failed}
 use Rattle.relay_core.specs.Calls.{side_of, kind_of}
 use Rattle.relay_core.specs.Pairs.{stream_of, verdict}
@@ -26,6 +28,7 @@ use Rattle.world.specs.declared.actors.Doing.TheVariants.{Tries, Holds}
 use Rattle.world.specs.declared.event.Event.{Event}
 use Rattle.world.specs.declared.event.Event.TheVariants as event
 use Rattle.world.specs.declared.event.Act.TheVariants as act
+use Rattle.world.specs.declared.event.Polling.TheVariants as polling
 use Rattle.world.specs.declared.limits.Limits.{Limits}
 use Rattle.world.specs.declared.past.Past.{Past}
 use Rattle.world.specs.Places.{Place, Actor}
@@ -115,7 +118,7 @@ held_by st w = option_and_then (λ (k : Actor). slot_held k.doing) (slice_get st
 
 -- the fault that tells of this call, and that it failed with this kind
 abbrev pub fault_of : Kind → Call → Fault
-fault_of kind call = record { side = side_of call; call = kind_of call; kind = kind }
+fault_of kind call = Broken (side_of call) (kind_of call) kind
 
 -- a fault, and the slot and generation of the connection that has it
 pub record Failure : Type 0 where
@@ -141,10 +144,64 @@ abbrev pub FailedBy : State → List Event → Failure → Type 0
 FailedBy st [] f = ⊥
 FailedBy st (e ∷ es) f = (failure_by st e ≡ Some f) ⊎ ((q : State) × (step st e ≡ Some q) × FailedBy q es f)
 
--- a connection failed only after a failed call: live ones, and closed ones
+-- a connection is known by its slot and generation
+pub record Named : Type 0 where
+  pub slot : ℕ
+  pub generation : ℕ
+
+abbrev pub named : ℕ → ℕ → Named
+named s g = record { slot = s; generation = g }
+
+-- the connection that the poller opens next
+abbrev pub next_opened : State → Option Named
+next_opened st = option_and_then (λ (s : ℕ). option_map (λ (g : ℕ). named s (g + 1)) (slice_get st.table s)) (slice_get st.free 0)
+
+-- the connection in the slot that a worker holds
+abbrev pub held_connection : State → ℕ → Option Named
+held_connection st w =
+    option_and_then (λ (s : ℕ). option_map (λ (c : Connection). named s c.pair.generation) (connection_at st s)) (held_by st w)
+
+-- a reply by which something moves: bytes or an end came in, bytes went out, the socket is connected, or an end
+-- was passed on
+abbrev pub is_movement : Reply → Bool
+is_movement (reply.Bytes n) = true
+is_movement reply.End = true
+is_movement (reply.Wrote n full) = true
+is_movement reply.Joined = true
+is_movement reply.Shut = true
+is_movement r = false
+
+-- the connection that an event opens, or of which it moves something
+abbrev pub moved_by : State → Event → Option Named
+moved_by st (event.Poll polling.Open) = next_opened st
+moved_by st (event.Work w (act.Call r)) = if is_movement r then held_connection st w else None
+moved_by st e = None
+
+-- where the event opens or moves this connection, it comes at least `limit` seconds before the second `now`
+abbrev pub LiesBack : ℕ → ℕ → Named → State → Event → Type 0
+LiesBack now limit x st e = moved_by st e ≡ Some x → st.second + limit ≤ now
+
+-- among the events a worker that held this connection let it expire, at a second that is at least the idle limit
+-- after the connection was opened and after each time that it moved
+pub record ExpiredBy (first : State) (events : List Event) (x : Named) : Type 0 where
+  pub before : List Event
+  pub after : List Event
+  pub worker : ℕ
+  pub state : State
+  pub split : events ≡ before ++ event.Work worker act.Expire ∷ after
+  pub reached : run first before ≡ Some state
+  pub held : held_connection state worker ≡ Some x
+  pub idle : Throughout (LiesBack state.second first.limits.idle x) first before
+
+-- why a connection failed: a call of it did, or it moved nothing for the idle limit
+abbrev pub FailedAfter : State → List Event → ℕ → ℕ → Fault → Type 0
+FailedAfter first events s g (Broken side call kind) = FailedBy first events (failure s g (Broken side call kind))
+FailedAfter first events s g Idle = ExpiredBy first events (named s g)
+
+-- a connection failed only after a failed call, or after moving nothing for the idle limit: live ones, and closed ones
 pub record FailuresHold (first st : State) (events : List Event) : Type 0 where
-  pub lying : (s : ℕ) (c : Connection) (fault : Fault) → connection_at st s ≡ Some c → verdict c.pair ≡ Failed fault → FailedBy first events (failure s c.pair.generation fault)
-  pub closed : (i : ℕ) (p : Past) (fault : Fault) → slice_get st.past i ≡ Some p → p.verdict ≡ Failed fault → FailedBy first events (failure p.slot p.generation fault)
+  pub lying : (s : ℕ) (c : Connection) (fault : Fault) → connection_at st s ≡ Some c → verdict c.pair ≡ Failed fault → FailedAfter first events s c.pair.generation fault
+  pub closed : (i : ℕ) (p : Past) (fault : Fault) → slice_get st.past i ≡ Some p → p.verdict ≡ Failed fault → FailedAfter first events p.slot p.generation fault
 
 -- No lost edge
 

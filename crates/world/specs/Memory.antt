@@ -29,11 +29,12 @@ abbrev pub listening_allocates : Listening → Bool
 listening_allocates listening.Connect = true
 listening_allocates l = false
 
--- the poller makes a connection, fills its batch, leaves a note, or adds to the ready queue
+-- the poller makes a connection, fills its batch, leaves a note (as every sweep does), or adds to the ready queue
 abbrev pub polling_allocates : State → Polling → Bool
 polling_allocates st polling.Open = true
 polling_allocates st (polling.Poll names) = true
 polling_allocates st polling.Deliver = becomes_note st (slice_get st.batch 0)
+polling_allocates st (polling.Sweep s) = true
 polling_allocates st polling.Put = true
 
 -- a worker adds to the ready queue, writes bytes, leaves a note, adds to the closed connections or to the free queue
@@ -48,6 +49,7 @@ act_allocates a = false
 -- the network brings bytes, or a change of which a report may be queued; a report is queued without cause; or one of
 -- those above
 abbrev pub may_allocate : State → Event → Bool
+may_allocate st (event.Tick n) = false
 may_allocate st (event.Network s side change) = true
 may_allocate st (event.Spurious who) = true
 may_allocate st (event.Vanish who) = false

@@ -9,12 +9,13 @@ use Rattle.world.specs.declared.actors.Doing.TheVariants.{Idle}
 use Rattle.world.specs.declared.past.Past.{Past}
 use Rattle.world.specs.Places.{Place, Actor}
 
--- `kernel` has the ends, the readiness queue and the listener's backlog. The poller has `flag`, which says
+-- `second` is the second that it is; nothing but the clock changes it. `kernel` has the ends, the readiness queue and the listener's backlog. The poller has `flag`, which says
 -- that an accept is worth a try, perhaps an `accepted` connection, its `table` of the slots' generations,
 -- the rest of its `batch`, and the tickets in its `hand`. `ready` and `free` are the two queues between the
 -- poller and the workers, and `past` are the closed connections, in order
 pub record State : Type 0 where
   pub limits : Limits
+  pub second : ℕ
   pub kernel : Watcher
   pub flag : Bool
   pub accepted : Bool
@@ -52,6 +53,7 @@ resting = record { doing = Idle; hand = [] }
 abbrev pub opening : Limits → State
 opening l = record {
   limits = l;
+  second = 0;
   kernel = idle;
   flag = true;
   accepted = false;

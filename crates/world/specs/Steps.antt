@@ -20,6 +20,7 @@ use Rattle.kernel_model.specs.Kernel as kernel
 use Rattle.kernel_model.specs.Kernel.{Watcher}
 use Rattle.relay_core.specs.Pairs.{fresh, noted, verdict, is_live}
 use Rattle.relay_core.specs.Order.{next_call}
+use Rattle.relay_core.specs.Idle.{is_overdue, timed_out}
 use Rattle.world.specs.declared.connection.Connection.{Connection}
 use Rattle.world.specs.declared.actors.Ticket.{Ticket}
 use Rattle.world.specs.declared.actors.Holder.TheVariants.{Nobody, By, Free as IsFree}
@@ -48,6 +49,16 @@ connection_at st s = option_and_then (λ (p : Place). p.connection) (slice_get s
 -- the same state over another kernel
 abbrev pub over_kernel : State → Option Watcher → Option State
 over_kernel st k = option_map (λ (q : Watcher). record st { kernel = q }) k
+
+-- Time
+
+-- the events of the idle limit need one
+abbrev pub is_limited : State → Bool
+is_limited st = nat_lt 0 st.limits.idle
+
+-- some seconds pass: 1 to 2^32 - 1 at once, up to second 2^64 - 1
+abbrev pub tick : State → ℕ → Option State
+tick st n = guard (is_limited st && (nat_le 1 n && (nat_le n 4294967295 && nat_le (st.second + n) 18446744073709551615))) (record st { second = st.second + n })
 
 -- The network
 
@@ -99,9 +110,9 @@ listen st listening.Drop = guard st.accepted (record st { accepted = false })
 abbrev pub token_of : ℕ → Side → ℕ → Option EndName
 token_of s side g = guard (nat_le s 32767 && (nat_le 1 g && nat_le g 140737488355327)) (record { slot = s; side = side; generation = g })
 
--- a slot with its fresh connection, and the note of its opening
-abbrev pub opened_place : ℕ → ℕ → ℕ → Descriptors → Place
-opened_place s g ring ends = record { generation = g; connection = Some (record { pair = fresh s g ring; ends = ends }); holder = Nobody; notes = g ∷ [] }
+-- a slot with the fresh connection of this second, and the note of its opening
+abbrev pub opened_place : ℕ → ℕ → ℕ → ℕ → Descriptors → Place
+opened_place s g ring now ends = record { generation = g; connection = Some (record { pair = fresh s g ring now; ends = ends }); holder = Nobody; notes = g ∷ [] }
 
 -- the world once both ends are open
 abbrev pub opened_world : State → ℕ → ℕ → Told Watcher Descriptors → State
@@ -111,7 +122,7 @@ opened_world st s g t = record st {
   table = slice_set st.table s g;
   hand = st.hand ++ record { slot = s; generation = g } ∷ [];
   free = drop 1 st.free;
-  slots = slice_set st.slots s (opened_place s g st.limits.ring t.told);
+  slots = slice_set st.slots s (opened_place s g st.limits.ring st.second t.told);
 }
 
 -- a slot is opened for the generation after the table's; its old notes are thrown away
@@ -165,6 +176,10 @@ deliver st = option_and_then
     (λ (n : Name). option_map (λ (q : State). record q { batch = drop 1 st.batch }) (delivered st n))
     (slice_get st.batch 0)
 
+-- it posts, as for a report, to a slot that was ever opened
+abbrev pub sweep : State → ℕ → Option State
+sweep st s = when (is_limited st) (option_and_then (λ (g : ℕ). when (nat_lt 0 g) (post_at st s g)) (slice_get st.table s))
+
 -- the first of the poller's tickets goes to the end of the ready queue
 abbrev pub put_by_poller : State → List Ticket → Option State
 put_by_poller st [] = None
@@ -178,6 +193,7 @@ abbrev pub polled : State → Polling → Option State
 polled st polling.Open = when st.accepted (option_and_then (λ (s : ℕ). opening_of st s) (slice_get st.free 0))
 polled st (polling.Poll names) = batched st names.items
 polled st polling.Deliver = deliver st
+polled st (polling.Sweep s) = sweep st s
 polled st polling.Put = put_by_poller st st.hand
 
 -- A worker, by its number w and as it is, k
@@ -238,19 +254,19 @@ pub record Lodging : Type 0 where
   pub kernel : Watcher
   pub place : Place
 
--- its connection's next call gets a reply
-unfoldable pub lodged_call : Lodging → Reply → Option Lodging
-lodged_call l r = option_and_then
+-- its connection's next call gets a reply at the second `now`
+unfoldable pub lodged_call : ℕ → Lodging → Reply → Option Lodging
+lodged_call now l r = option_and_then
     (λ (c : Connection). option_map
     (λ (line : Line). record { kernel = line.kernel; place = record l.place { connection = Some line.connection } })
-    (called (record { kernel = l.kernel; connection = c }) r))
+    (called now (record { kernel = l.kernel; connection = c }) r))
     l.place.connection
 
 abbrev pub call : State → ℕ → Actor → Doing → Reply → Option State
 call st w k (Holds s left) r = when (nat_lt 0 left) (option_and_then
     (λ (p : Place). option_map
     (λ (l : Lodging). doing (with_place (record st { kernel = l.kernel }) s l.place) w k (Holds s (left - 1)))
-    (lodged_call (record { kernel = st.kernel; place = p }) r))
+    (lodged_call st.second (record { kernel = st.kernel; place = p }) r))
     (slice_get st.slots s))
 call st w k d r = None
 
@@ -277,6 +293,20 @@ release st w k (Holds s left) = option_and_then
     p.connection)
     (slice_get st.slots s)
 release st w k d = None
+
+-- a connection that is overdue fails
+abbrev pub expired : ℕ → ℕ → Connection → Option Connection
+expired now limit c = guard (is_overdue now limit c.pair) (record c { pair = timed_out c.pair })
+
+abbrev pub expired_place : ℕ → ℕ → Place → Option Place
+expired_place now limit p = option_and_then (λ (c : Connection). option_map (λ (d : Connection). record p { connection = Some d }) (expired now limit c)) p.connection
+
+-- the connection of its slot fails, since it moved nothing for the idle limit and has no call to make
+abbrev pub expire : State → Doing → Option State
+expire st (Holds s left) = option_and_then
+    (λ (p : Place). option_map (λ (q : Place). with_place st s q) (expired_place st.second st.limits.idle p))
+    (slice_get st.slots s)
+expire st d = None
 
 -- both ends of a connection that is done or failed are closed, and it is kept as it was
 abbrev pub closed_world : State → ℕ → Actor → ℕ → Place → Connection → Told Watcher Sockets → State
@@ -323,6 +353,7 @@ acted st w k act.Take = take st k.doing
 acted st w k (act.Call r) = call st w k k.doing r
 acted st w k act.Post = post st k.doing
 acted st w k act.Release = release st w k k.doing
+acted st w k act.Expire = expire st k.doing
 acted st w k act.Close = close st w k k.doing
 acted st w k act.Retire = retire st w k k.doing
 acted st w k act.Free = free st w k k.doing
@@ -332,6 +363,7 @@ worked st w a = of_worker st w (λ (k : Actor). acted st w k a)
 
 -- One event
 abbrev pub step : State → Event → Option State
+step st (event.Tick n) = tick st n
 step st (event.Network s side change) = network st s side change
 step st (event.Spurious who) = spurious st who
 step st (event.Vanish who) = vanish st who

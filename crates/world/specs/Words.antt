@@ -88,6 +88,7 @@ worker_steps (Some k) a s = act_steps a k.doing s
 abbrev pub steps : State → Event → ℕ → List StepKind
 steps st (event.Poll polling.Open) s = opening_steps (slice_get st.free 0) s
 steps st (event.Poll polling.Deliver) s = delivery_steps st (slice_get st.batch 0) s
+steps st (event.Poll (polling.Sweep t)) s = at_slot s t (post ∷ [])
 steps st (event.Work w a) s = worker_steps (slice_get st.workers w) a s
 steps st e s = []
 

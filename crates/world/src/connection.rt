@@ -23,7 +23,7 @@ impl Connection {
     ghost use Rattle.kernel_model.specs.Replies.{needs_memory};
     ghost use Rattle.relay_core.specs.Answers.{reply_of};
     ghost use Rattle.world.specs.Calls.{descriptor, Line, made, replied, called};
-    ghost use Rattle.world.specs.Steps.{may_release};
+    ghost use Rattle.world.specs.Steps.{may_release, expired};
 
     /// The descriptor of one side's end.
     pub fn descriptor(&self, side: Side) -> usize
@@ -53,22 +53,35 @@ impl Connection {
         is_live(self.pair.verdict()) && (self.pair.next().is_none() || noted)
     }
 
-    /// Makes the next call on the kernel's end, which gets this reply.
+    /// Fails it, if it is live, has no call to make, and moved nothing for `limit` seconds at the second `now`.
+    ///
+    /// Refuses with `NotAllowed`, and changes nothing, otherwise. A limit of 0 is none.
+    pub fn expire(&mut self, now: u64, limit: u64) -> Result<(), Refusal>
+        ensures { MeetsAlways (expired now limit self.old) self.old self.new result }
+    {
+        if self.pair.expire(now, limit) {
+            Ok(())
+        } else {
+            Err(Refusal::NotAllowed)
+        }
+    }
+
+    /// Makes the next call on the kernel's end, which gets this reply at the second `now`.
     ///
     /// Refuses with `NotAllowed` if there is no next call, or if it may not be answered so, and with `NoMemory` if
     /// there is no memory for the bytes that a write takes. A refusal changes nothing.
     #[tactic(auto, unfolding(crate::specs::Calls::called))]
-    pub fn call(&mut self, kernel: &mut Kernel, reply: Reply) -> Result<(), Refusal>
-        ensures outcome { Meets (called (record { kernel = kernel.old; connection = self.old }) reply) (record { kernel = kernel.old; connection = self.old }) (record { kernel = kernel.new; connection = self.new }) result }
+    pub fn call(&mut self, kernel: &mut Kernel, reply: Reply, now: u64) -> Result<(), Refusal>
+        ensures outcome { Meets (called now (record { kernel = kernel.old; connection = self.old }) reply) (record { kernel = kernel.old; connection = self.old }) (record { kernel = kernel.new; connection = self.new }) result }
         ensures memory { IsErrOf result Refusal.NoMemory → IsTrue (needs_memory reply) }
     {
         match self.pair.next() {
             None => Err(Refusal::NotAllowed),
             Some(call) => match (call, reply) {
                 (Call::Read(side, most), Reply::Bytes(count)) => {
-                    self.read(kernel, side, most, count)
+                    self.read(kernel, side, most, count, now)
                 }
-                _ => self.make(kernel, call, reply),
+                _ => self.make(kernel, call, reply, now),
             },
         }
     }
@@ -80,9 +93,10 @@ impl Connection {
         side: Side,
         most: usize,
         count: usize,
+        now: u64,
     ) -> Result<(), Refusal>
         requires { next_call self.old.pair ≡ Some (Call.Read side most) }
-        ensures { MeetsAlways (replied (record { kernel = kernel.old; connection = self.old }) (Call.Read side most) (Reply.Bytes count)) (record { kernel = kernel.old; connection = self.old }) (record { kernel = kernel.new; connection = self.new }) result }
+        ensures { MeetsAlways (replied now (record { kernel = kernel.old; connection = self.old }) (Call.Read side most) (Reply.Bytes count)) (record { kernel = kernel.old; connection = self.old }) (record { kernel = kernel.new; connection = self.new }) result }
     {
         let call = Call::Read(side, most);
         let descriptor = self.descriptor(side);
@@ -95,15 +109,21 @@ impl Connection {
         if !self.pair.fits(call, Answer::Bytes(bytes)) {
             return Err(Refusal::NotAllowed);
         }
-        self.pair.answer(call, Answer::Bytes(bytes));
+        self.pair.answer(call, Answer::Bytes(bytes), now);
         kernel.read(descriptor, most, Reply::Bytes(count))
     }
 
     /// A call whose reply brings no bytes, if it is the next one.
-    fn make(&mut self, kernel: &mut Kernel, call: Call, reply: Reply) -> Result<(), Refusal>
+    fn make(
+        &mut self,
+        kernel: &mut Kernel,
+        call: Call,
+        reply: Reply,
+        now: u64,
+    ) -> Result<(), Refusal>
         requires next { next_call self.old.pair ≡ Some call }
         requires no_bytes { told_of (record { kernel = kernel.old; connection = self.old }) call reply ≡ plain reply }
-        ensures outcome { Meets (replied (record { kernel = kernel.old; connection = self.old }) call reply) (record { kernel = kernel.old; connection = self.old }) (record { kernel = kernel.new; connection = self.new }) result }
+        ensures outcome { Meets (replied now (record { kernel = kernel.old; connection = self.old }) call reply) (record { kernel = kernel.old; connection = self.old }) (record { kernel = kernel.new; connection = self.new }) result }
         ensures memory { IsErrOf result Refusal.NoMemory → IsTrue (needs_memory reply) }
     {
         let Some(answer) = plain(reply) else {
@@ -113,7 +133,7 @@ impl Connection {
             return Err(Refusal::NotAllowed);
         }
         self.ask(kernel, call, reply)?;
-        self.pair.answer(call, answer);
+        self.pair.answer(call, answer, now);
         Ok(())
     }
 

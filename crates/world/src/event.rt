@@ -4,6 +4,8 @@ use token::{Name, Side};
 /// One event of the machine, by the actor that causes it.
 #[derive(Drop)]
 pub enum Event {
+    /// This many seconds pass, 1 to 2^32 - 1.
+    Tick(u64),
     /// The network changes something at one end of the connection in a slot.
     Network(usize, Side, Change),
     /// A report is queued without cause.
@@ -60,6 +62,8 @@ pub enum Polling {
     Poll(Vec<Name>),
     /// It delivers the first name of its batch.
     Deliver,
+    /// It posts to this slot, so that a worker looks whether its connection is past the idle limit.
+    Sweep(usize),
     /// It puts the first ticket in its hand into the ready queue.
     Put,
 }
@@ -81,6 +85,8 @@ pub enum Act {
     Post,
     /// It releases its slot.
     Release,
+    /// It fails the connection of its slot, which moved nothing for the idle limit and has no call to make.
+    Expire,
     /// It closes the connection of its slot.
     Close,
     /// It retires its slot, which is free from then on.

@@ -9,8 +9,8 @@ use relay_core::laws;
 /// After every list of events that can happen, from the opening world with any limits: in each direction of a
 /// connection, the bytes that arrived are those that were sent, then those in the ring, then the unread ones, and its
 /// end is passed on only after every byte; what a closed connection sent is a prefix of what arrived for it; no
-/// connection was tried on a report for another generation; a connection failed only after a failed call; and whatever
-/// could move is due to be tried.
+/// connection was tried on a report for another generation; a connection failed only after a failed call, or after
+/// moving nothing for the idle limit; and whatever could move is due to be tried.
 pub fn every_run_holds()
     ensures { EveryRunHolds }
 {
@@ -24,4 +24,5 @@ pub(crate) fn rests_on_core()
     laws::answers_keep_place();
     laws::failures_are_told();
     laws::live_pairs_rest();
+    laws::only_overdue_pairs_expire();
 }

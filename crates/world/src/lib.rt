@@ -11,12 +11,16 @@
 //! ticket, with which a worker claims the slot. [`World::movable`] says whether a connection could move, and
 //! [`World::due`] whether it is due to be tried.
 //!
+//! With an idle limit the machine also has time: it starts at second 0, and ticks raise the second. A slot that was
+//! ever opened may be swept, which posts to it as a report does, and the worker that holds a connection without a call
+//! to make fails it, if it has moved nothing for the limit.
+//!
 //! Each event does exactly what its definition says ([`World::step`]), and changes the claim word of its slot as the
 //! table of the words' steps says. [`replay`] promises more about the world after every list of events: the bytes of
 //! each connection keep their order and none is lost, an end is passed on after every byte, no connection is tried on a
-//! report for another generation, a connection fails only after a failed call, and whatever could move is due to be
-//! tried. Events have no textual form here, and a slot's word is not one atomic number: a slot has its holder and its
-//! notes.
+//! report for another generation, a connection fails only after a failed call, or after moving nothing for the idle
+//! limit, and whatever could move is due to be tried. Events have no textual form here, and a slot's word is not one
+//! atomic number: a slot has its holder and its notes.
 //!
 //! The definitions are in `specs/`: slots and workers in `Places.antt`, the whole state in `States.antt`, a
 //! connection's calls in `Calls.antt`, one event in `Steps.antt`, for which events memory may run out in `Memory.antt`,

@@ -1,8 +1,12 @@
 /// The most bytes that one arrival brings.
 pub(crate) const MAX_BYTES: usize = 1_024;
 
+/// The most seconds that pass at once.
+pub(crate) const MAX_TICK: u64 = 4_294_967_295;
+
 /// The sizes of a world: 1 to 64 slots, 1 to 16 workers, a ring of 1 to 65,536 bytes for each direction, a budget of 1
-/// to 1,024 calls per turn, and the generation at which every slot starts, which is at most 2^47 - 2.
+/// to 1,024 calls per turn, the generation at which every slot starts, which is at most 2^47 - 2, and the number of
+/// seconds after which a connection that moves nothing may be failed, where 0 is never.
 #[derive(Clone, Copy, Debug, PartialEq, Eq)]
 pub struct Limits {
     pub slots: usize,
@@ -10,4 +14,5 @@ pub struct Limits {
     pub ring: usize,
     pub budget: usize,
     pub generation: u64,
+    pub idle: u64,
 }

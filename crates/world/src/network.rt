@@ -1,10 +1,10 @@
-// What happens outside the relay: the network's changes, reports, and connections at the listener.
+// What happens outside the relay: time, the network's changes, reports, and connections at the listener.
 ghost use Rattle.kernel_model.specs.Outcome.{Meets};
 ghost use Rattle.world.specs.Steps.{change_at};
 
 use crate::connection::Connection;
 use crate::event::{Change, Listening, Reported};
-use crate::limits::MAX_BYTES;
+use crate::limits::{MAX_BYTES, MAX_TICK};
 use crate::world::World;
 use kernel_model::{Accepting, Kernel, Refusal, Watched};
 use token::Side;
@@ -15,7 +15,7 @@ impl World {
     ghost use Rattle.std.specs.Option.{option_copied};
     ghost use Rattle.kernel_model.specs.Outcome.{Meets, MeetsAlways};
     ghost use Rattle.world.specs.Memory.{listening_allocates};
-    ghost use Rattle.world.specs.Steps.{connection_at, network, watched_of, spurious, vanish, may_accept, listen};
+    ghost use Rattle.world.specs.Steps.{connection_at, tick, network, watched_of, spurious, vanish, may_accept, listen};
 
     /// The connection in a slot.
     pub fn connection(&self, slot: usize) -> Option<&Connection>
@@ -26,6 +26,20 @@ impl World {
         } else {
             None
         }
+    }
+
+    /// Some seconds pass, if there is an idle limit.
+    pub(crate) fn tick(&mut self, seconds: u64) -> Result<(), Refusal>
+        ensures { MeetsAlways (tick self.old seconds) self.old self.new result }
+    {
+        if self.limits.idle == 0 || seconds == 0 || seconds > MAX_TICK {
+            return Err(Refusal::NotAllowed);
+        }
+        if seconds > u64::MAX - self.second {
+            return Err(Refusal::NotAllowed);
+        }
+        self.second += seconds;
+        Ok(())
     }
 
     /// The network changes something at one end of the connection in a slot.

@@ -17,7 +17,7 @@ impl World {
     ghost use Rattle.kernel_model.specs.Outcome.{Meets};
     ghost use Rattle.kernel_model.specs.Kernel.{open_both};
     ghost use Rattle.world.specs.Memory.{becomes_note, is_entry, polling_allocates};
-    ghost use Rattle.world.specs.Steps.{opened_world, delivered, delivered_at, deliver, batched, put_by_poller, post_at, polled};
+    ghost use Rattle.world.specs.Steps.{opened_world, delivered, delivered_at, deliver, sweep, batched, put_by_poller, post_at, polled};
 
     /// The poller does something.
     pub(crate) fn poll(&mut self, event: &Polling) -> Result<(), Refusal>
@@ -28,6 +28,7 @@ impl World {
             Polling::Open => self.open(),
             Polling::Poll(names) => self.take_batch(names.as_slice()),
             Polling::Deliver => self.deliver(),
+            Polling::Sweep(slot) => self.sweep(*slot),
             Polling::Put => self.put_by_poller(),
         }
     }
@@ -83,7 +84,7 @@ impl World {
         requires inside_table { slot < length self.old.table }
         ensures { Meets (Some (opened_world self.old slot generation (open_both self.old.kernel client target))) self.old self.new result }
     {
-        let pair = Pair::new(self.alloc, slot, generation, self.limits.ring)?;
+        let pair = Pair::new(self.alloc, slot, generation, self.limits.ring, self.second)?;
         let notes = vec![in self.alloc; generation; 1]?;
         self.hand.reserve(1)?;
         let ends = self.kernel.open_both(client, target)?;
@@ -128,6 +129,7 @@ impl World {
     /// It delivers this name.
     fn deliver_name(&mut self, name: Name) -> Result<(), Refusal>
         ensures event { Meets (delivered self.old name) self.old self.new result }
+        ensures batch { self.new.batch ≡ self.old.batch }
         ensures memory { IsErrOf result Refusal.NoMemory → IsTrue (becomes_note self.old (Some name)) }
     {
         match name {
@@ -143,6 +145,7 @@ impl World {
     /// It posts to the slot of a token, unless the token's generation differs from the table's.
     fn deliver_end(&mut self, token: Token) -> Result<(), Refusal>
         ensures event { Meets (delivered_at self.old token (slice_get self.old.table token.slot)) self.old self.new result }
+        ensures batch { self.new.batch ≡ self.old.batch }
         ensures memory { IsErrOf result Refusal.NoMemory → IsTrue (is_entry token.generation (slice_get self.old.table token.slot)) }
     {
         match self.table_entry(token.slot()) {
@@ -162,7 +165,8 @@ impl World {
 
     /// It posts to a slot, and takes in hand the ticket that this may create.
     fn post_at(&mut self, slot: usize, generation: u64) -> Result<(), Refusal>
-        ensures { Meets (post_at self.old slot generation) self.old self.new result }
+        ensures event { Meets (post_at self.old slot generation) self.old self.new result }
+        ensures batch { self.new.batch ≡ self.old.batch }
     {
         if slot >= self.slots.len() {
             return Err(Refusal::NotAllowed);
@@ -176,6 +180,19 @@ impl World {
             self.hand.push(Ticket { slot, generation }).unwrap();
         }
         Ok(())
+    }
+
+    /// It posts to a slot that was ever opened, if there is an idle limit.
+    fn sweep(&mut self, slot: usize) -> Result<(), Refusal>
+        ensures { Meets (sweep self.old slot) self.old self.new result }
+    {
+        if self.limits.idle == 0 {
+            return Err(Refusal::NotAllowed);
+        }
+        match self.table_entry(slot) {
+            Some(generation) if generation > 0 => self.post_at(slot, generation),
+            Some(_) | None => Err(Refusal::NotAllowed),
+        }
     }
 
     /// It puts the first ticket in its hand into the ready queue.

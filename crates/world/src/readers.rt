@@ -1,5 +1,6 @@
 // The parts of a world that a report shows.
 use crate::actors::Ticket;
+use crate::limits::Limits;
 use crate::past::Past;
 use crate::slot::Slot;
 use crate::worker::Worker;
@@ -9,6 +10,20 @@ use token::Name;
 
 impl World {
     ghost use Rattle.std.specs.Prelude.{◌≡◌};
+
+    /// The sizes of the world, and its idle limit.
+    pub fn limits(&self) -> Limits
+        ensures { result ≡ self.now.limits }
+    {
+        self.limits
+    }
+
+    /// The second that it is.
+    pub fn second(&self) -> u64
+        ensures { result ≡ self.now.second }
+    {
+        self.second
+    }
 
     /// The open ends, the readiness queue and the listener.
     pub fn kernel(&self) -> &Kernel

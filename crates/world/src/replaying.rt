@@ -24,7 +24,7 @@ use std::alloc::{AllocError, Global};
 ///   ring, then those that are unread; and if its end was passed on, that was after every byte (`bytes`). What a closed
 ///   connection sent is a prefix of what arrived for it, and all of it if the connection was done (`closed`).
 /// - No connection was tried on a note or a ticket of another generation (`own`).
-/// - A connection failed only after a failed call (`failures`).
+/// - A connection failed only after a failed call, or after moving nothing for the idle limit (`failures`).
 /// - A connection that could move is due to be tried (`due`). While the accept flag is down, nobody waits at the
 ///   listener, or its name is queued or in the batch (`listener`).
 ///

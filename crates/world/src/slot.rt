@@ -31,7 +31,7 @@ impl Slot {
     ghost use Rattle.kernel_model.specs.Replies.{needs_memory};
     ghost use Rattle.world.specs.Places.{is_held};
     ghost use Rattle.world.specs.States.{unused};
-    ghost use Rattle.world.specs.Steps.{with_note, noted_place, Lodging, lodged_call};
+    ghost use Rattle.world.specs.Steps.{with_note, noted_place, expired_place, Lodging, lodged_call};
 
     /// A slot without a connection.
     pub fn new(alloc: Global, generation: u64) -> Slot
@@ -114,16 +114,28 @@ impl Slot {
         Ok(())
     }
 
-    /// Makes the connection's next call, which gets this reply ([`Connection::call`]).
+    /// Fails its connection, which has no call to make, if that moved nothing for `limit` seconds at the second `now`.
+    ///
+    /// Refuses with `NotAllowed` otherwise, or if there is no connection, and changes nothing.
+    pub fn expire(&mut self, now: u64, limit: u64) -> Result<(), Refusal>
+        ensures { MeetsAlways (expired_place now limit self.old) self.old self.new result }
+    {
+        match &mut self.connection {
+            Some(connection) => connection.expire(now, limit),
+            None => Err(Refusal::NotAllowed),
+        }
+    }
+
+    /// Makes the connection's next call, which gets this reply at the second `now` ([`Connection::call`]).
     ///
     /// Also refuses with `NotAllowed`, and changes nothing, if there is no connection.
     #[tactic(auto, unfolding(crate::specs::Steps::lodged_call))]
-    pub fn call(&mut self, kernel: &mut Kernel, reply: Reply) -> Result<(), Refusal>
-        ensures outcome { Meets (lodged_call (record { kernel = kernel.old; place = self.old }) reply) (record { kernel = kernel.old; place = self.old }) (record { kernel = kernel.new; place = self.new }) result }
+    pub fn call(&mut self, kernel: &mut Kernel, reply: Reply, now: u64) -> Result<(), Refusal>
+        ensures outcome { Meets (lodged_call now (record { kernel = kernel.old; place = self.old }) reply) (record { kernel = kernel.old; place = self.old }) (record { kernel = kernel.new; place = self.new }) result }
         ensures memory { IsErrOf result Refusal.NoMemory → IsTrue (needs_memory reply) }
     {
         match &mut self.connection {
-            Some(connection) => connection.call(kernel, reply),
+            Some(connection) => connection.call(kernel, reply, now),
             None => Err(Refusal::NotAllowed),
         }
     }

@@ -51,6 +51,7 @@ impl World {
         ensures memory { IsErrOf result Refusal.NoMemory → IsTrue (may_allocate self.old event.now) }
     {
         match event {
+            Event::Tick(seconds) => self.tick(*seconds),
             Event::Network(slot, side, change) => self.network(*slot, *side, change),
             Event::Spurious(who) => self.spurious(*who),
             Event::Vanish(who) => self.vanish(*who),

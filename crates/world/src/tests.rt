@@ -11,6 +11,8 @@ use token::{Kind, Name, Side, Token, TokenFault};
 /// come from the client.
 #[derive(Clone, Copy, Debug)]
 enum Play {
+    Tick(u64),
+    Sweep(usize),
     Arrive(&'static [u8]),
     Fin(Side),
     Reset(Side),
@@ -96,6 +98,8 @@ fn name(side: Side) -> Result<Name, Refusal> {
 fn event(alloc: Global, play: Play) -> Result<Event, Refusal> {
     Ok(match play {
         Play::Arrive(bytes) => Event::Network(0, CLIENT, Change::Arrive(bytes.to_vec(alloc)?)),
+        Play::Tick(seconds) => Event::Tick(seconds),
+        Play::Sweep(slot) => Event::Poll(Polling::Sweep(slot)),
         Play::Fin(side) => Event::Network(0, side, Change::Fin),
         Play::Reset(side) => Event::Network(0, side, Change::Reset),
         Play::Room(side) => Event::Network(0, side, Change::Room),
@@ -120,6 +124,16 @@ fn add(alloc: Global, events: &mut Vec<Event>, plays: &[Play]) -> Result<(), Ref
     Ok(())
 }
 
+/// One slot and one worker, and no idle limit.
+const SMALL: Limits = Limits {
+    slots: 1,
+    workers: 1,
+    ring: 4,
+    budget: 64,
+    generation: 0,
+    idle: 0,
+};
+
 /// The world of one slot and one worker after a connection was opened, and these plays; or the index of the
 /// play that failed.
 fn played(
@@ -132,12 +146,21 @@ fn played(
         return Err(Refusal::NotAllowed);
     }
     let limits = Limits {
-        slots: 1,
-        workers: 1,
         ring,
         budget,
-        generation: 0,
+        ..SMALL
     };
+    played_within(alloc, limits, plays)
+}
+
+/// The same in a world with these limits.
+fn played_within(
+    alloc: Global,
+    limits: Limits,
+    plays: &[Play],
+) -> Result<Result<World, usize>, Refusal>
+    requires { IsWithinLimits limits }
+{
     let mut events = Vec::new(alloc);
     add(alloc, &mut events, &OPENED)?;
     add(alloc, &mut events, plays)?;
@@ -380,7 +403,7 @@ fn notes_and_workers_make_it_due(rt: HostRuntime) -> Result<(), Fail> {
 // A late report of an old connection brings no note to the next one in its slot.
 #[test]
 fn slots_are_used_again(rt: HostRuntime) -> Result<(), Fail> {
-    let failed = Some(Verdict::Failed(Fault {
+    let failed = Some(Verdict::Failed(Fault::Broken {
         side: CLIENT,
         call: CallKind::Read,
         kind: Kind::Reset,
@@ -514,6 +537,79 @@ fn the_event_that_fails_is_told(rt: HostRuntime) -> Result<(), Fail> {
     Ok(())
 }
 
+/// A connection at rest, some seconds later: a worker claims its slot and finds no call to make.
+fn swept(seconds: u64) -> [Play; 11] {
+    [
+        BLOCKED,
+        BLOCKED,
+        RELEASE,
+        Play::Tick(seconds),
+        Play::Sweep(0),
+        Play::Put,
+        Play::Work(Act::Pop),
+        Play::Work(Act::Claim),
+        Play::Work(Act::Take),
+        BLOCKED,
+        BLOCKED,
+    ]
+}
+
+// Of each row: the idle limit, the seconds that pass at rest, what happens then, and the index of the event that fails,
+// after the seven of the opening.
+#[test]
+fn only_a_quiet_connection_expires(rt: HostRuntime) -> Result<(), Fail> {
+    const EXPIRE: Play = Play::Work(Act::Expire);
+    let rows: [(u64, u64, &'static [Play], Option<usize>); 7] = [
+        (30, 30, &[EXPIRE, Play::Work(Act::Close)], None),
+        (30, 29, &[EXPIRE], Some(18)),
+        (30, 29, &[Play::Tick(1), EXPIRE], None),
+        (
+            30,
+            30,
+            &[Play::Work(Act::Post), Play::Work(Act::Take), EXPIRE],
+            Some(20),
+        ),
+        (30, 30, &[EXPIRE, EXPIRE], Some(19)),
+        (0, 30, &[], Some(10)),
+        (30, 4_294_967_296, &[], Some(10)),
+    ];
+    for (idle, seconds, plays, wanted) in rows {
+        let limits = Limits { idle, ..SMALL };
+        let mut all = Vec::from_slice(rt.alloc(), swept(seconds).as_slice())?;
+        all.extend_from_slice(plays)?;
+        let failed = match played_within(rt.alloc(), limits, all.as_slice())? {
+            Ok(_) => None,
+            Err(index) => Some(index),
+        };
+        assert_eq!(rt; failed, wanted, "{seconds} {plays:?}");
+    }
+    Ok(())
+}
+
+#[test]
+fn time_passes_and_slots_are_swept(rt: HostRuntime) -> Result<(), Fail> {
+    let limits = Limits { idle: 1, ..SMALL };
+    let mut world = World::new(rt.alloc(), limits)?;
+    assert_eq!(rt;
+        world.step(&Event::Poll(Polling::Sweep(0))),
+        Err(Refusal::NotAllowed)
+    );
+    assert_eq!(rt; world.step(&Event::Tick(0)), Err(Refusal::NotAllowed));
+    world.step(&Event::Tick(4_294_967_295))?;
+    world.step(&Event::Tick(1))?;
+    assert_eq!(rt; world.second(), 4_294_967_296);
+    let opened = Limits {
+        generation: 3,
+        idle: 1,
+        ..SMALL
+    };
+    let mut world = World::new(rt.alloc(), opened)?;
+    world.step(&Event::Poll(Polling::Sweep(0)))?;
+    assert_eq!(rt; world.slots()[0].notes(), [3].as_slice());
+    assert_eq!(rt; world.poller_hand().len(), 0);
+    Ok(())
+}
+
 #[test]
 fn a_world_without_connections(rt: HostRuntime) -> Result<(), Fail> {
     let limits = Limits {
@@ -522,6 +618,7 @@ fn a_world_without_connections(rt: HostRuntime) -> Result<(), Fail> {
         ring: 4,
         budget: 64,
         generation: 0,
+        idle: 0,
     };
     let mut world = World::new(rt.alloc(), limits)?;
     assert_eq!(rt; world.free_slots(), [0, 1].as_slice());

@@ -27,7 +27,7 @@ impl World {
     ghost use Rattle.kernel_model.specs.Replies.{needs_memory};
     ghost use Rattle.world.specs.Memory.{act_allocates};
     ghost use Rattle.world.specs.Places.{Actor};
-    ghost use Rattle.world.specs.Steps.{of_worker, claim, take, call, post, release, close, retire, free, pop, worked};
+    ghost use Rattle.world.specs.Steps.{of_worker, claim, take, call, post, release, expire, close, retire, free, pop, worked};
 
     /// A worker does something.
     pub(crate) fn work(&mut self, worker: usize, act: Act) -> Result<(), Refusal>
@@ -45,6 +45,7 @@ impl World {
             (Act::Call(reply), Doing::Holds(slot, left)) => self.call(worker, slot, left, reply),
             (Act::Post, Doing::Holds(slot, left)) => self.post(slot, left),
             (Act::Release, Doing::Holds(slot, left)) => self.release(worker, slot, left),
+            (Act::Expire, Doing::Holds(slot, left)) => self.expire(slot, left),
             (Act::Close, Doing::Holds(slot, left)) => self.close(worker, slot, left),
             (Act::Retire, Doing::Closed(slot)) => self.retire(worker, slot),
             (Act::Free, Doing::Retired(slot)) => self.free(worker, slot),
@@ -118,7 +119,7 @@ impl World {
         if left == 0 || slot >= self.slots.len() {
             return Err(Refusal::NotAllowed);
         }
-        match self.slots[slot].call(&mut self.kernel, reply) {
+        match self.slots[slot].call(&mut self.kernel, reply, self.second) {
             Ok(()) => {
                 self.workers[worker].turn_to(Doing::Holds(slot, left - 1));
                 Ok(())
@@ -161,6 +162,17 @@ impl World {
         let generation = self.slots[slot].generation();
         self.workers[worker].release(noted, slot, generation);
         self.slots[slot].holder = Holder::Nobody;
+        Ok(())
+    }
+
+    /// It fails the connection of its slot, which moved nothing for the idle limit.
+    fn expire(&mut self, slot: usize, left: usize) -> Result<(), Refusal>
+        ensures { MeetsAlways (expire self.old (Doing.Holds slot left)) self.old self.new result }
+    {
+        if slot >= self.slots.len() {
+            return Err(Refusal::NotAllowed);
+        }
+        self.slots[slot].expire(self.second, self.limits.idle)?;
         Ok(())
     }
 

@@ -17,6 +17,7 @@ use token::Name;
 pub struct World {
     pub(crate) alloc: Global,
     pub(crate) limits: Limits,
+    pub(crate) second: u64,
     pub(crate) kernel: Kernel,
     pub(crate) flag: bool,
     pub(crate) accepted: bool,
@@ -38,6 +39,7 @@ impl Model for World {
 
     ghost view = { λ w. record {
       limits = w.limits;
+      second = w.second;
       kernel = w.kernel;
       flag = w.flag;
       accepted = w.accepted;
@@ -58,7 +60,7 @@ impl World {
     ghost use Rattle.std.specs.Prelude.{◌≡◌, IfOk, replicate};
     ghost use Rattle.world.specs.States.{IsWithinLimits, opening};
 
-    /// A world as it starts: every slot is free and has the generation of the limits.
+    /// A world as it starts, at second 0: every slot is free and has the generation of the limits.
     ///
     /// Fails only if there is no memory for its slots, workers and queues; then no world is made.
     pub fn new(alloc: Global, limits: Limits) -> Result<World, AllocError>
@@ -68,6 +70,7 @@ impl World {
         Ok(World {
             alloc,
             limits,
+            second: 0,
             kernel: Kernel::new(alloc),
             flag: true,
             accepted: false,

@@ -43,7 +43,7 @@ fn run_rounds<R: Wait>(
 }
 
 /// Whether the log has these lines, and no other.
-fn are_lines(lines: &Lines, wanted: &[&str]) -> bool {
+pub(super) fn are_lines(lines: &Lines, wanted: &[&str]) -> bool {
     let mut lines = lines.as_slice().iter();
     for text in wanted {
         if lines.next().map(|line| line.as_str()) != Some(*text) {

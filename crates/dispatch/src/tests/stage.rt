@@ -3,8 +3,9 @@ ghost use Rattle.std.specs.Prelude.{◌≡◌, ◌≤◌, length, IfOk};
 ghost use Rattle.claims.specs.Seats.{fresh_seat, HoldsNothing};
 
 use super::fake::{Fake, Script};
+use super::ticks::Ticks;
 use crate::{
-    Gate, Hand, MAX_BATCH, Own, Part, Poller, Shared, Worked, own_turn, poller_round,
+    Gate, Hand, MAX_BATCH, Own, Part, Poller, Shared, Timing, Worked, own_turn, poller_round,
     share_tickets, worker_turn,
 };
 use berths::Berths;
@@ -24,6 +25,9 @@ pub(crate) struct Stage {
     pub(crate) shared: Shared<Fake>,
     pub(crate) own: Own,
     pub(crate) poller: Poller<Fake>,
+    pub(crate) clock: Ticks,
+    /// The idle limit.
+    pub(crate) limit: u64,
     pub ghost same: { own.seat.table ≡ shared.claims },
     pub ghost idle: { HoldsNothing own.seat },
     pub ghost sized: { length poller.table ≡ shared.claims.words },
@@ -32,7 +36,19 @@ pub(crate) struct Stage {
 impl Stage {
     /// Whether a round ended without a fault.
     pub(crate) fn round<R: Wait + Log>(&mut self, rt: &R, alloc: Global) -> bool {
-        poller_round(rt, alloc, &self.shared, &mut self.own, &mut self.poller).is_ok()
+        let timing = Timing {
+            clock: &self.clock,
+            limit: self.limit,
+        };
+        poller_round(
+            rt,
+            alloc,
+            &self.shared,
+            &mut self.own,
+            &mut self.poller,
+            &timing,
+        )
+        .is_ok()
     }
 
     /// A worker's turn for a ticket. None where the hand is full, or the seat is worn.
@@ -45,7 +61,11 @@ impl Stage {
         if !self.own.hand.has_room() {
             return None;
         }
-        worker_turn(rt, &self.shared, &mut self.own, gate, ticket).ok()
+        let timing = Timing {
+            clock: &self.clock,
+            limit: self.limit,
+        };
+        worker_turn(rt, &self.shared, &mut self.own, gate, ticket, &timing).ok()
     }
 
     /// How many tickets stay in hand for the poller's own turns.
@@ -56,10 +76,19 @@ impl Stage {
 
     /// The poller's own turn. None where there was none, or the seat is worn.
     pub(crate) fn own_turn<G: Gate, R: Wait + Log>(&mut self, rt: &R, gate: &G) -> Option<Worked> {
-        match own_turn(rt, &self.shared, &mut self.own, gate, &mut self.poller) {
-            Ok(worked) => worked,
-            Err(_) => None,
-        }
+        let timing = Timing {
+            clock: &self.clock,
+            limit: self.limit,
+        };
+        let worked = own_turn(
+            rt,
+            &self.shared,
+            &mut self.own,
+            gate,
+            &mut self.poller,
+            &timing,
+        );
+        worked.unwrap_or(None)
     }
 
     /// The word of each slot.
@@ -95,7 +124,8 @@ impl Stage {
     }
 }
 
-/// A server whose front plays this script, and which opens at most so many connections. Rings have four bytes.
+/// A server whose front plays this script, and which opens at most so many connections. Rings have four bytes, its clock
+/// shows 0, and it has no idle limit.
 pub(crate) fn staged(
     rt: &impl Wait,
     alloc: Global,
@@ -156,5 +186,7 @@ fn stage_of(shared: Shared<Fake>, own: Own, poller: Poller<Fake>) -> Stage
         shared,
         own,
         poller,
+        clock: Ticks::new(0),
+        limit: 0,
     }
 }

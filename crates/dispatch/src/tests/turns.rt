@@ -55,6 +55,8 @@ struct Row {
     /// Whether the connections are lost from their places.
     lost: bool,
     ticket: (usize, u64),
+    /// The second of the turn, and the idle limit. The connections were opened at second 0.
+    idle: (u64, u64),
     budget: usize,
     line: &'static str,
     done: Outcome,
@@ -77,6 +79,7 @@ const QUIET: Row = Row {
     scene: SILENT,
     lost: false,
     ticket: (1, 1),
+    idle: (0, 0),
     budget: 64,
     line: "",
     done: RESTED,
@@ -100,8 +103,23 @@ const ENDED: Outcome = Outcome {
     ..RESTED
 };
 
-const ROWS: [Row; 8] = [
+const ROWS: [Row; 11] = [
     QUIET,
+    // It has moved nothing for the limit, or for one second less, or there is no limit.
+    Row {
+        idle: (30, 30),
+        line: "[WARN  relayd] fail s=1 g=1 idle",
+        done: ENDED,
+        ..QUIET
+    },
+    Row {
+        idle: (29, 30),
+        ..QUIET
+    },
+    Row {
+        idle: (u64::MAX, 0),
+        ..QUIET
+    },
     // The slot is free.
     Row {
         accepts: &[None, Some(ErrorKind::WouldBlock)],
@@ -182,6 +200,8 @@ fn opened<R: Wait>(rt: &R, alloc: Global, row: &Row) -> Result<Stage, AllocError
         return Err(AllocError);
     }
     let _tickets = (stage.own.hand.take_ticket(), stage.own.hand.take_ticket());
+    stage.clock.set(row.idle.0);
+    stage.limit = row.idle.1;
     if row.lost {
         stage.shared.berths = Berths::new(alloc, stage.shared.claims.slots())?;
     }

@@ -139,7 +139,7 @@ fn fresh_wire(
 
 fn fresh_session(alloc: Global, (up, down): Given) -> Result<Session, AllocError> {
     Ok(Session {
-        pair: Pair::new(alloc, 0, 1, 4)?,
+        pair: Pair::new(alloc, 0, 1, 4, 0)?,
         client: fresh_wire(alloc, true, up, down.len())?,
         target: fresh_wire(alloc, false, down, up.len())?,
     })
@@ -228,7 +228,7 @@ fn is_failure(ended: &Ended, given: Given, at: &Point, kind: Kind) -> bool {
         Side::Client => (1, 0),
         Side::Target => (0, 1),
     };
-    let fault = Fault {
+    let fault = Fault::Broken {
         side: at.side,
         call: at.call,
         kind,

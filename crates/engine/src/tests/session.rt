@@ -32,14 +32,22 @@ pub fn open(alloc: Global, ring: usize, client: &Part, target: &Part) -> Result<
     requires large { ring ≤ 65536 }
 {
     Ok(Session {
-        pair: Pair::new(alloc, 0, 1, ring)?,
+        pair: Pair::new(alloc, 0, 1, ring, 0)?,
         client: wire_of(alloc, client)?,
         target: wire_of(alloc, target)?,
     })
 }
 
-/// Takes a turn.
+/// Takes a turn without an idle limit.
 pub fn take_turn(session: &mut Session, budget: usize) -> Turn
+    requires least { 1 ≤ budget }
+    requires most { budget ≤ 1024 }
+{
+    take_turn_at(session, budget, 0, 0)
+}
+
+/// Takes a turn at a second, under an idle limit.
+pub fn take_turn_at(session: &mut Session, budget: usize, now: u64, limit: u64) -> Turn
     requires least { 1 ≤ budget }
     requires most { budget ≤ 1024 }
 {
@@ -48,6 +56,8 @@ pub fn take_turn(session: &mut Session, budget: usize) -> Turn
         &mut session.client,
         &mut session.target,
         budget,
+        now,
+        limit,
     )
 }
 

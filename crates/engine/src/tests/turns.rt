@@ -74,7 +74,7 @@ static ROWS: [Row; 9] = [
         waiting: b"c",
         want: Seen {
             turn: Turn::Failed,
-            verdict: Verdict::Failed(Fault {
+            verdict: Verdict::Failed(Fault::Broken {
                 side: Side::Target,
                 call: CallKind::Write,
                 kind: Kind::Pipe,
@@ -241,7 +241,7 @@ static ROWS: [Row; 9] = [
         waiting: b"x",
         want: Seen {
             turn: Turn::Failed,
-            verdict: Verdict::Failed(Fault {
+            verdict: Verdict::Failed(Fault::Broken {
                 side: Side::Target,
                 call: CallKind::Write,
                 kind: Kind::Zero,
@@ -359,7 +359,7 @@ fn play_fault(alloc: Global, kind: Kind) -> Result<Played, AllocError> {
 fn fault_seen(kind: Kind) -> Seen {
     Seen {
         turn: Turn::Failed,
-        verdict: Verdict::Failed(Fault {
+        verdict: Verdict::Failed(Fault::Broken {
             side: Side::Client,
             call: CallKind::Read,
             kind,

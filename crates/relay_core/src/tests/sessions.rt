@@ -120,7 +120,7 @@ static SESSIONS: [Session; 6] = [
                 reported: false,
                 steps: &[(Call::Read(TARGET, 3), Answer::Failed(Kind::Reset))],
                 shown: Shown {
-                    verdict: Verdict::Failed(Fault {
+                    verdict: Verdict::Failed(Fault::Broken {
                         side: TARGET,
                         call: CallKind::Read,
                         kind: Kind::Reset,
@@ -136,7 +136,7 @@ static SESSIONS: [Session; 6] = [
                 reported: true,
                 steps: &[],
                 shown: Shown {
-                    verdict: Verdict::Failed(Fault {
+                    verdict: Verdict::Failed(Fault::Broken {
                         side: TARGET,
                         call: CallKind::Read,
                         kind: Kind::Reset,
@@ -258,7 +258,7 @@ static SESSIONS: [Session; 6] = [
                     (Call::Shut(TARGET), Answer::Failed(Kind::NotConnected)),
                 ],
                 shown: Shown {
-                    verdict: Verdict::Failed(Fault {
+                    verdict: Verdict::Failed(Fault::Broken {
                         side: TARGET,
                         call: CallKind::Shut,
                         kind: Kind::NotConnected,
@@ -284,7 +284,7 @@ static SESSIONS: [Session; 6] = [
                 (Call::Write(TARGET), Answer::Failed(Kind::Refused)),
             ],
             shown: Shown {
-                verdict: Verdict::Failed(Fault {
+                verdict: Verdict::Failed(Fault::Broken {
                     side: TARGET,
                     call: CallKind::Write,
                     kind: Kind::Refused,
@@ -361,7 +361,7 @@ fn first_wrong(pair: &mut Pair, stages: &[Stage]) -> Option<usize> {
 /// That stage, and the slot and the generation of the pair after the last one.
 fn played(alloc: Global, session: &Session) -> Result<(Option<usize>, usize, u64), AllocError> {
     let capacity = session.capacity.clamp(1, 65_536);
-    let mut pair = Pair::new(alloc, session.slot, session.generation, capacity)?;
+    let mut pair = Pair::new(alloc, session.slot, session.generation, capacity, 0)?;
     let wrong = first_wrong(&mut pair, session.stages);
     Ok((wrong, pair.slot(), pair.generation()))
 }

@@ -1,6 +1,7 @@
 // What a fault of one thread does to the others, and which fault is answered.
 
 use super::failing::{Failing, server_without_reports};
+use super::still::{NO_LIMIT, Still};
 use crate::crew::Crew;
 use crate::dividing::{Cast, Rest, divide};
 use crate::fault_record::FaultRecord;
@@ -24,11 +25,12 @@ fn crew_of<'a, R>(
     alloc: Global,
     faults: &'a FaultRecord,
     shared: &Arc<Shared<Failing>>,
-) -> Result<Crew<'a, Failing, OpenGate, R>, AllocError> {
+) -> Result<Crew<'a, Failing, OpenGate, Still, R>, AllocError> {
     Ok(Crew {
         rt,
         alloc,
         gate: &OpenGate,
+        timing: NO_LIMIT,
         faults,
         shared: Arc::try_clone(shared)?,
         split: Split::new(1, 2),
@@ -201,7 +203,7 @@ fn a_failed_wait_ends_all_threads(rt: HostRuntime) -> Result<(), Fail> {
     let sink = Locked::new(rt, Vec::new(alloc));
     let log = Logged::new(rt, Level::Error, &sink);
     let server = server_without_reports(&rt, alloc, ErrorKind::PermissionDenied)?;
-    let served = run_threads(&log, alloc, &OpenGate, server);
+    let served = run_threads(&log, alloc, &OpenGate, NO_LIMIT, server);
     let bytes = sink.into_inner();
     // A worker that was not started, and a line that is missing, are refused allocations.
     if served == Err(ServerFault::Threads) || bytes.is_empty() {

@@ -1,6 +1,7 @@
 // A server over real sockets on loopback, with its clients and its target in the same process.
 
 use super::holding::Holding;
+use super::still::{NO_LIMIT, Still};
 use crate::making::build;
 use crate::serving::{run_threads, serve};
 use crate::sockets::{Bound, Dial, bind, open_all};
@@ -35,6 +36,7 @@ fn settings(target: SocketAddr, stop_after: u32) -> Option<Settings> {
         slots: 2,
         stop_after,
         log: LogLevel::Info,
+        idle: 0,
     })
 }
 
@@ -119,7 +121,7 @@ fn four_clients_read_their_own_bytes(rt: HostRuntime) -> Result<(), Fail> {
     let address = bound.text();
     let (served, ((), (left, right))) = thread::join(
         &rt,
-        || serve(&log, alloc, &settings, &OpenGate, bound),
+        || serve(&log, alloc, &settings, &OpenGate, &Still, bound),
         || {
             thread::join(
                 &rt,
@@ -162,7 +164,7 @@ fn serve_by_workers<R: Net + Dial + Wait + Threads + Log + Sync>(
     let (fronts, wakers) = open_all(rt, alloc, bound, target, split)?;
     let mut server = build(rt, alloc, settings, split, fronts, wakers)?;
     server.pollers_work = false;
-    run_threads(rt, alloc, gate, server)
+    run_threads(rt, alloc, gate, NO_LIMIT, server)
 }
 
 // A client is connected when both have shut their side before the server begins.

@@ -23,6 +23,7 @@ fn settings(port: u16) -> Settings {
         slots: 1,
         stop_after: 0,
         log: LogLevel::Off,
+        idle: 0,
     }
 }
 

@@ -1,7 +1,12 @@
-use Rattle.std.proofs.Common.{sym, ◌∙◌}
-use Rattle.dispatch.proofs.Reports.{delivered_quiet}
+use Rattle.std.proofs.Common.{List, subst, sym, ◌∙◌}
+use Rattle.std.specs.Prelude.{OnOk}
+use Rattle.ready.specs.declared.ticket.Ticket.{Ticket}
+use Rattle.dispatch.specs.Deliveries.{ArePosted}
+use Rattle.dispatch.proofs.Reports.{one_reported}
 use Rattle.dispatch.proofs.delivering.report.Goals as goal
 
-pub returns-in-Quiet-clause-delivered : goal.returns-in-Quiet-clause-delivered
-returns-in-Quiet-clause-delivered c =
-    delivered_quiet (sym c.connection.ensures.value ∙ c.in-Some.is) (c.requires.idle.nowhere c.in-Some.ticket.slot) c.in-Quiet.ensures.change
+pub returns-clause-delivered : goal.returns-clause-delivered
+returns-clause-delivered c =
+    subst (λ (ts : List Ticket). OnOk c.post_note.result (ArePosted ts c.args.seat.now c.post_note.new.seat c.args.hand.now c.post_note.new.hand))
+    (sym (one_reported c.args.table.now c.args.number c.in-Some.ticket (sym c.connection.ensures.value ∙ c.in-Some.is)))
+    c.post_note.ensures.posted

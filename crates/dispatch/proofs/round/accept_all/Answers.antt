@@ -15,6 +15,8 @@ loop-try-init g c = record {
   done = accept_none c.args.poller.now c.reset_tries.new.self c.args.own.now (same_tries c.args.poller.now c.reset_tries.new.self 4 c.reset_tries.ensures);
   over = ap (λ (s : PollerState). s.over) c.reset_tries.ensures;
   reported = ap (λ (s : PollerState). s.reported) c.reset_tries.ensures;
+  second = ap (λ (s : PollerState). s.second) c.reset_tries.ensures;
+  swept = ap (λ (s : PollerState). s.swept) c.reset_tries.ensures;
 }
 
 pub returns-then-not-may_accept-clause-done : goal.returns-then-not-may_accept-clause-done
@@ -31,4 +33,6 @@ loop-try-preserved g c = record {
   done = accept_and_next c.loop-try.invariant.done c.may_accept.ensures.took c.in_ok-accept_next.ensures.done;
   over = c.in_ok-accept_next.ensures.over ∙ c.loop-try.invariant.over;
   reported = c.in_ok-accept_next.ensures.reported ∙ c.loop-try.invariant.reported;
+  second = c.in_ok-accept_next.ensures.second ∙ c.loop-try.invariant.second;
+  swept = c.in_ok-accept_next.ensures.swept ∙ c.loop-try.invariant.swept;
 }

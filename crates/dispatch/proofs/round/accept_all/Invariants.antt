@@ -12,4 +12,6 @@ invariant-loop-try g l = record {
   done : AcceptDone l.fn.poller l.poller l.fn.own l.own;
   over : l.poller.over ≡ l.fn.poller.over;
   reported : l.poller.reported ≡ l.fn.poller.reported;
+  second : l.poller.second ≡ l.fn.poller.second;
+  swept : l.poller.swept ≡ l.fn.poller.swept;
 }

@@ -1,7 +1,8 @@
-use Rattle.std.proofs.Common.{Bool, Ok, ap, arith}
+use Rattle.std.proofs.Common.{◌∙◌, ap, arith}
 use Rattle.dispatch.specs.Polls.{PollerState}
 use Rattle.dispatch.proofs.Connections.{SamePoller, accept_both, accept_took, room_same, took_none}
-use Rattle.dispatch.proofs.Reports.{few_tickets, capacity_kept}
+use Rattle.dispatch.proofs.Reports.{few_tickets, capacity_kept, reported_le}
+use Rattle.dispatch.proofs.Sweeps.{few_sweep, own_sweep}
 use Rattle.dispatch.proofs.WholeRounds.{begun_is, looked_is, round_of, round_ended}
 use Rattle.dispatch.proofs.round.poller_round.Goals as goal
 
@@ -20,13 +21,30 @@ returns-in_err-look-clause-round g c = λ _. round_ended c.args.poller.now c.loo
     c.look.ensures.took
 
 -- a batch has at most 256 reports, and each takes at most one ticket
+pub sweep_if_due-requires-clause-room : goal.sweep_if_due-requires-clause-room
+sweep_if_due-requires-clause-room g c =
+    let few = few_tickets c.in_ok-deliver_batch.ensures.delivered in
+    let same = capacity_kept c.in_ok-deliver_batch.ensures.delivered in
+    let reported = reported_le c.look.new.poller.table c.look.new.poller.batch in
+    let most = c.look.ensures.few in
+    let room = c.begin.ensures.room.0 c.if-not-begin.false in
+    let looked = room_same c.begin.new.own c.look.new.own c.look.ensures.took in
+    let sized = c.deliver_batch.ensures.between.sized in
+    omega arith
+
+-- and a sweep takes at most one for each slot
 pub accept_all-requires-clause-room : goal.accept_all-requires-clause-room
 accept_all-requires-clause-room g c =
     let few = few_tickets c.in_ok-deliver_batch.ensures.delivered in
     let same = capacity_kept c.in_ok-deliver_batch.ensures.delivered in
+    let reported = reported_le c.look.new.poller.table c.look.new.poller.batch in
     let most = c.look.ensures.few in
     let room = c.begin.ensures.room.0 c.if-not-begin.false in
     let looked = room_same c.begin.new.own c.look.new.own c.look.ensures.took in
+    let sized = c.deliver_batch.ensures.between.sized in
+    let roused = few_tickets c.in_ok-sweep_if_due.ensures.posted in
+    let still = capacity_kept c.in_ok-sweep_if_due.ensures.posted in
+    let slots = few_sweep c.deliver_batch.new.poller c.sweep_if_due.new.poller in
     omega arith
 
 pub returns-clause-round : goal.returns-clause-round
@@ -38,7 +56,8 @@ returns-clause-round g c = λ _.
       batch = ap (λ (s : PollerState). s.batch) c.take_back.ensures.poller;
       part = ap (λ (s : PollerState). s.part) c.take_back.ensures.poller;
     } in
-    round_of c.args.poller.now c.look.new.poller c.deliver_batch.new.poller c.take_back.new.poller c.args.own.now c.begin.new.own c.look.new.own c.deliver_batch.new.own c.take_back.new.own
+    round_of c.args.poller.now c.look.new.poller c.deliver_batch.new.poller c.sweep_if_due.new.poller c.take_back.new.poller
+    c.args.own.now c.begin.new.own c.look.new.own c.deliver_batch.new.own c.sweep_if_due.new.own c.take_back.new.own
     (looked_is c.begin.ensures.poller c.look.ensures.poller)
     c.begin.ensures.put
     c.look.ensures.took
@@ -53,4 +72,17 @@ returns-clause-round g c = λ _.
       batch = ap (λ (s : PollerState). s.batch) c.deliver_batch.ensures.poller;
       part = ap (λ (s : PollerState). s.part) c.deliver_batch.ensures.poller;
     })
-    (accept_both c.in_ok-accept_all.ensures.done (accept_took c.accept_all.new.poller c.take_back.new.poller c.accept_all.new.own c.take_back.new.own flags c.take_back.ensures.took)))
+    (ap (λ (s : PollerState). s.swept) c.deliver_batch.ensures.poller)
+    c.in_ok-sweep_if_due.ensures.posted
+    c.sweep_if_due.ensures.ready
+    c.sweep_if_due.ensures.free
+    (own_sweep c.deliver_batch.new.poller.part c.deliver_batch.new.poller c.sweep_if_due.new.poller c.sweep_if_due.ensures.own)
+    (record {
+      table = ap (λ (s : PollerState). s.table) c.sweep_if_due.ensures.poller;
+      opened = ap (λ (s : PollerState). s.opened) c.sweep_if_due.ensures.poller;
+      lost = ap (λ (s : PollerState). s.lost) c.sweep_if_due.ensures.poller;
+      batch = ap (λ (s : PollerState). s.batch) c.sweep_if_due.ensures.poller;
+      part = ap (λ (s : PollerState). s.part) c.sweep_if_due.ensures.poller;
+    })
+    (accept_both c.in_ok-accept_all.ensures.done (accept_took c.accept_all.new.poller c.take_back.new.poller c.accept_all.new.own c.take_back.new.own flags c.take_back.ensures.took))
+    (ap (λ (s : PollerState). s.swept) c.take_back.ensures.poller ∙ c.accept_all.ensures.swept))

@@ -1,5 +1,4 @@
-use Rattle.std.proofs.Common.{◌≡◌, ℕ, ◌+◌, ◌∷◌, [], map, ap, arith}
-use Rattle.std.proofs.lemmas.List.Elements.{All-append}
+use Rattle.std.proofs.Common.{ap, arith}
 use Rattle.server.proofs.Parts.{mapped_more, mapped_all, begun_one}
 use Rattle.server.proofs.making.pollers_of.Goals as goal
 

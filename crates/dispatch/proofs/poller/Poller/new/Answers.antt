@@ -1,4 +1,4 @@
-use Rattle.std.proofs.Common.{◌≡◌, ◌≤◌, List, length, replicate, slice_index_or, rules, arith, subst, sym}
+use Rattle.std.proofs.Common.{◌≡◌, replicate, rules}
 use Rattle.dispatch.proofs.Polls.{own_none, are_none}
 use Rattle.dispatch.proofs.poller.Poller.new.Goals as goal
 
