@@ -2,14 +2,14 @@
 
 use crate::constants::VERSION;
 use crate::forwarding::{add_settings, settings_text};
-use clap::{Arg, ArgMatches, Error};
+use clap::{Arg, ArgAction, ArgMatches, Error};
 use std::alloc::{AllocError, Global};
 
 /// A command of the program.
 #[derive(Drop)]
 pub enum Command<'a> {
-    /// Run the script on standard input.
-    Simulate,
+    /// Run the script on standard input, and show each step if this says so.
+    Simulate { each: bool },
     /// Read this settings file and print what it sets.
     Check(&'a str),
     /// Read this settings file and serve as it says, with the messages of another level if one is named.
@@ -38,7 +38,17 @@ fn chosen<'a>(matches: &ArgMatches<'a>) -> Command<'a> {
     let check = matches.subcommand_matches("check");
     match check.and_then(|check| check.get_str("config")) {
         Some(path) => Command::Check(path),
-        None => Command::Simulate,
+        None => Command::Simulate {
+            each: shows_each(matches),
+        },
+    }
+}
+
+/// Whether the simulator is to show each step.
+fn shows_each(matches: &ArgMatches<'_>) -> bool {
+    match matches.subcommand_matches("sim") {
+        Some(sim) => sim.get_flag("each"),
+        None => false,
     }
 }
 
@@ -68,7 +78,8 @@ struct CommandRow {
 /// What a command takes as arguments.
 #[derive(Clone, Copy, PartialEq, Eq)]
 enum Takes {
-    Nothing,
+    /// Whether each step is shown.
+    Each,
     /// The settings file.
     File,
     /// The settings file, and a level in place of the file's.
@@ -100,8 +111,8 @@ const COMMANDS: [CommandRow; 4] = [
     CommandRow {
         name: "sim",
         about: "Runs the script on standard input and prints its report",
-        details: "A script is a header and steps, one per line: what comes from the network, and what the\nsockets reply to the relay. The report says where every byte is after the last step. For\na script with a fault, one line that names the fault is printed, and the status is 1.\n\nExample:\n  relayd sim < examples/one-direction.flow\n\nrelayd(1) lists the steps.",
-        takes: Takes::Nothing,
+        details: "A script is a header and steps, one per line: what comes from the network, and what the\nsockets reply to the relay. The report says where every byte is after the last step. For\na script with a fault, one line that names the fault is printed, and the status is 1.\n\nExamples:\n  relayd sim < examples/one-direction.flow\n  relayd sim --each < examples/half-close.world\n\nrelayd(1) lists the steps.",
+        takes: Takes::Each,
     },
 ];
 
@@ -111,11 +122,19 @@ fn subcommand<'a>(alloc: Global, row: CommandRow) -> Result<clap::Command<'a>, A
         .about(row.about)
         .after_help(row.details);
     match row.takes {
-        Takes::Nothing => Ok(command),
+        Takes::Each => command.arg(each(alloc)),
         Takes::File => command.arg(config(alloc)),
         Takes::FileAndLevel => command.arg(config(alloc))?.arg(level(alloc)),
         Takes::Settings => add_settings(alloc, command),
     }
+}
+
+/// The argument that has each step shown.
+fn each<'a>(alloc: Global) -> Arg<'a> {
+    Arg::new(alloc, "each")
+        .long("each")
+        .action(ArgAction::SetTrue)
+        .help("Print each step, and what it changes in the report")
 }
 
 /// The argument that names the settings file.

@@ -4,6 +4,7 @@ ghost use Rattle.std.specs.Char.{to_ascii_lowercase};
 ghost use Rattle.clap.specs.Values.{kind_of};
 ghost use Rattle.log.specs.Level.{filter_name};
 ghost use Rattle.settings.specs.Names.{level_name};
+ghost use Rattle.script.specs.Each.{WritesEach, WritesEachFault};
 ghost use Rattle.script.specs.Runs.{WritesReport, WritesFault};
 
 use crate::causes::LoggedCauses;
@@ -52,6 +53,7 @@ pub fn report_arguments_fault<E: Write>(errors: &mut E, fault: ArgumentsFault) -
 /// | command | what it does |
 /// |---|---|
 /// | `sim`, or none | runs the script that `reader` has, and writes its report or its fault's line to `writer` |
+/// | `sim --each` | the same, but writes each step to `writer`, and below it what it changes in the report |
 /// | `check --config FILE` | reads a settings file and writes each setting to `writer` |
 /// | `forward LISTEN TARGET` | does the same as `run` with the settings of the command line |
 /// | `run --config FILE` | reads a settings file, listens, writes `listening A.B.C.D:PORT` to `writer`, and serves; log lines go to the process's own standard error |
@@ -98,7 +100,7 @@ where
 
 /// Tells somebody at a terminal that a script is waited for.
 fn tell_if_typed<I: IsTerminal, E: Write>(command: &Command<'_>, reader: &I, errors: &mut E) {
-    if matches!(command, Command::Simulate) && reader.is_terminal() {
+    if matches!(command, Command::Simulate { .. }) && reader.is_terminal() {
         // If this can't be written, the script is read all the same.
         let _ = writeln!(
             errors,
@@ -131,14 +133,18 @@ where
     requires { S.IsAlwaysCallable serve.now }
 {
     match command {
-        Command::Simulate => {
+        Command::Simulate { each } => {
             let name = "input";
             let mut reader = Stream {
                 name,
                 inner: reader,
                 log,
             };
-            simulate(rt.alloc(), log, &mut reader, writer)
+            if each {
+                simulate_each(rt.alloc(), log, &mut reader, writer)
+            } else {
+                simulate(rt.alloc(), log, &mut reader, writer)
+            }
         }
         Command::Check(path) => {
             let settings = config::load(rt, log, path)?;
@@ -168,6 +174,24 @@ fn simulate<L: Log, I: Read, O: Write>(
     ensures refused { result ≡ Ok 1 → IfSome (I.remaining reader.old) (λ text. WritesFault text (O.contents writer.old) (O.contents writer.new)) }
 {
     match script::run(alloc, reader, writer, &LoggedCauses { alloc, log }) {
+        Ok(Outcome::Report) => Ok(DONE),
+        Ok(Outcome::Refused) => Ok(FAULT),
+        Err(fault) => Err(ProgramFault::Script(fault)),
+    }
+}
+
+/// Runs a script and shows each step. Returns 0 if all of it was shown, and 1 if the line of its fault was written. The
+/// cause of a fault is logged.
+fn simulate_each<L: Log, I: Read, O: Write>(
+    alloc: Global,
+    log: &L,
+    reader: &mut I,
+    writer: &mut O,
+) -> Result<u8, ProgramFault>
+    ensures report { result ≡ Ok 0 → IfSome (I.remaining reader.old) (λ text. WritesEach text (O.contents writer.old) (O.contents writer.new)) }
+    ensures refused { result ≡ Ok 1 → IfSome (I.remaining reader.old) (λ text. WritesEachFault text (O.contents writer.old) (O.contents writer.new)) }
+{
+    match script::run_each(alloc, reader, writer, &LoggedCauses { alloc, log }) {
         Ok(Outcome::Report) => Ok(DONE),
         Ok(Outcome::Refused) => Ok(FAULT),
         Err(fault) => Err(ProgramFault::Script(fault)),

@@ -167,12 +167,12 @@ fn a_reader_that_fails(rt: HostRuntime) -> Result<(), Fail> {
     Ok(())
 }
 
-/// A writer that fails after any front of the output, or at its flush, is reported, and what it took stands.
-fn reports_a_failed_writer(
+/// A writer that fails after any front of the output is reported, and what it took stands. Returns the whole output.
+fn reports_failed_writes(
     rt: &HostRuntime,
     arguments: &[String],
     script: &[u8],
-) -> Result<(), Fail> {
+) -> Result<Vec<u8>, Fail> {
     let sink = Sink::failing_after(rt.alloc(), ROOM)?;
     let whole = play(rt, arguments, &mut Source::whole(script), sink)?;
     if whole.status != 0 {
@@ -185,9 +185,19 @@ fn reports_a_failed_writer(
             return Err(Fail::from("a write that fails is not reported"));
         }
     }
+    Ok(whole.output)
+}
+
+/// The same, and of one that fails at its flush.
+fn reports_a_failed_writer(
+    rt: &HostRuntime,
+    arguments: &[String],
+    script: &[u8],
+) -> Result<(), Fail> {
+    let output = reports_failed_writes(rt, arguments, script)?;
     let sink = Sink::failing_at_its_flush(rt.alloc(), ROOM)?;
     let run = play(rt, arguments, &mut Source::whole(script), sink)?;
-    if !run.is_unwritten(Some(whole.output.as_slice())) {
+    if !run.is_unwritten(Some(output.as_slice())) {
         return Err(Fail::from("a flush that fails is not reported"));
     }
     Ok(())
@@ -196,6 +206,13 @@ fn reports_a_failed_writer(
 #[test]
 fn a_writer_that_fails_in_sim(rt: HostRuntime) -> Result<(), Fail> {
     reports_a_failed_writer(&rt, &[], SCRIPT)
+}
+
+#[test]
+fn a_writer_that_fails_in_sim_each(rt: HostRuntime) -> Result<(), Fail> {
+    let arguments = arguments(rt.alloc(), "relayd sim --each")?;
+    reports_failed_writes(&rt, arguments.as_slice(), SCRIPT)?;
+    Ok(())
 }
 
 #[test]

@@ -5,3 +5,4 @@ pub mod Playing
 pub mod Keeping
 pub mod Telling
 pub mod Headline
+pub mod Showing

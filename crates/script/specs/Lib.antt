@@ -13,3 +13,4 @@ pub mod Reports
 pub mod WorldReports
 pub mod Laws
 pub mod Runs
+pub mod Each

@@ -4,18 +4,20 @@
 //! at most R bytes, or `world slots=S workers=W ring=R budget=B` for the whole relay. Each further line is a step: what
 //! arrives from the network, what a socket replies to the relay's next call, or what the poller or a worker does.
 //! [`parse`] reads the whole text before the first step is made, [`Script::carry_out`] makes the steps one by one, and
-//! [`Reached::report`] is the report. [`run`] does all three, from a reader to a writer.
+//! [`Reached::report`] is the report. [`run`] does all three, from a reader to a writer; [`run_each`] writes what is new in
+//! the report after each step.
 //!
 //! A script that has a fault gives one line in place of the report. [`cause`] tells a person more: which word is
 //! malformed and what is expected there, or why a step is not allowed. [`run`] passes text and fault to its
 //! [`Explain`].
 //!
 //! `docs/FORMATS.md` describes scripts and reports; `specs/` has the same as definitions: `Texts`, `Headers`, `Steps`,
-//! `Events` and `Scripts` for the text, `Transfers` and `Plays` for the steps, `Reports` and `WorldReports` for what is
-//! written, and `Laws` and `Runs` for what holds for every run.
+//! `Events` and `Scripts` for the text, `Transfers` and `Plays` for the steps, `Reports`, `WorldReports` and `Each` for
+//! what is written, and `Laws` and `Runs` for what holds for every run.
 #![tactic(auto)]
 
 mod causes;
+mod each;
 mod event;
 mod event_parts;
 mod events;
@@ -26,12 +28,14 @@ mod header;
 mod laws;
 mod limits;
 mod lines;
+mod machine;
 mod parsing;
 mod parts;
 mod reasons;
 mod report;
 mod running;
 mod script;
+mod shown;
 mod step;
 mod steps;
 #[cfg(test)]
@@ -43,6 +47,7 @@ mod world_report;
 mod world_script;
 
 pub use causes::cause;
+pub use each::run_each;
 pub use event::{NumberedEvent, word_of};
 pub use explain::Explain;
 pub use fault::Fault;

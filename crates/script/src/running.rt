@@ -1,4 +1,4 @@
-ghost use Rattle.std.specs.Prelude.{◌≡◌, ◌+◌, IfOk, IfErr, IfSome, Ok, Err};
+ghost use Rattle.std.specs.Prelude.{◌≡◌, ◌≢◌, ◌+◌, IfOk, IfErr, IfSome, Ok, Err};
 ghost use Rattle.std.specs.Io.KnownBytes.{Appends};
 ghost use Rattle.script.specs.Scripts.{most_bytes};
 ghost use Rattle.input.specs.Reads.{TakesAtMost};
@@ -85,8 +85,22 @@ fn read_and_answer<R: Read, W: Write, X: Explain>(
 {
     match input::read_at_most(alloc, reader, MAX_BYTES + 1) {
         Ok(text) => answer(alloc, text.as_slice(), writer, explain),
-        Err(InputFault::NoMemory) => tell_fault(writer, Fault::NoMemory),
-        Err(InputFault::Unreadable) => Err(ScriptFault::Read),
+        Err(fault) => answer_unread(writer, fault),
+    }
+}
+
+/// Answers that a script was not read: if memory ran out for it, that is told.
+pub(crate) fn answer_unread<W: Write>(
+    writer: &mut W,
+    fault: InputFault,
+) -> Result<Outcome, ScriptFault>
+    ensures told { result ≡ Ok Outcome.Refused → Appends (W.contents writer.old) (W.contents writer.new) (fault_line Fault.NoMemory) }
+    ensures report { result ≢ Ok Outcome.Report }
+    ensures unread { result ≡ Err ScriptFault.Read → writer.new ≡ writer.old }
+{
+    match fault {
+        InputFault::NoMemory => tell_fault(writer, Fault::NoMemory),
+        InputFault::Unreadable => Err(ScriptFault::Read),
     }
 }
 
@@ -155,7 +169,7 @@ fn tell_state<W: Write>(
 }
 
 /// Writes the line of a fault. It allocates no memory, so each fault is told as itself.
-fn tell_fault<W: Write>(writer: &mut W, fault: Fault) -> Result<Outcome, ScriptFault>
+pub(crate) fn tell_fault<W: Write>(writer: &mut W, fault: Fault) -> Result<Outcome, ScriptFault>
     ensures ok { IfOk result (λ told. (told ≡ Outcome.Refused) × Appends (W.contents writer.old) (W.contents writer.new) (fault_line fault)) }
     ensures err { IfErr result (λ fault. fault ≡ ScriptFault.Write) }
 {
@@ -169,7 +183,11 @@ fn tell_fault<W: Write>(writer: &mut W, fault: Fault) -> Result<Outcome, ScriptF
 const NO_MEMORY: &[u8] = b"out of memory\n";
 
 /// Writes all of a line, and flushes it.
-fn write<W: Write>(writer: &mut W, line: &[u8], told: Outcome) -> Result<Outcome, ScriptFault>
+pub(crate) fn write<W: Write>(
+    writer: &mut W,
+    line: &[u8],
+    told: Outcome,
+) -> Result<Outcome, ScriptFault>
     ensures ok { IfOk result (λ outcome. (outcome ≡ told) × Appends (W.contents writer.old) (W.contents writer.new) line.now) }
     ensures err { IfErr result (λ fault. fault ≡ ScriptFault.Write) }
 {

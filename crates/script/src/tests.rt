@@ -124,14 +124,18 @@ impl Explain for Count {
     }
 }
 
-/// What a run of a text tells, and what it leaves at a writer that had `> `. Running out of memory is a failure, and so
-/// is another count of explained faults than the outcome has.
-fn ran(alloc: Global, text: &[u8]) -> Result<(Outcome, Vec<u8>), Fail> {
+/// What a run of a text tells, with each step shown or not, and what it leaves at a writer that had `> `. Running out
+/// of memory is a failure, and so is another count of explained faults than the outcome has.
+fn ran(alloc: Global, text: &[u8], each: bool) -> Result<(Outcome, Vec<u8>), Fail> {
     let mut reader = text;
     let mut written = Vec::with_capacity(alloc, 400)?;
     written.extend_from_slice(b"> ")?;
     let faults = Count(Cell::new(0));
-    let outcome = run(alloc, &mut reader, &mut written, &faults)?;
+    let outcome = if each {
+        run_each(alloc, &mut reader, &mut written, &faults)?
+    } else {
+        run(alloc, &mut reader, &mut written, &faults)?
+    };
     if written.ends_with(b"out of memory\n".as_slice()) {
         return Err(Fail::from(AllocError));
     }
@@ -143,11 +147,11 @@ fn ran(alloc: Global, text: &[u8]) -> Result<(Outcome, Vec<u8>), Fail> {
 
 #[test]
 fn runs_from_a_reader_to_a_writer(rt: HostRuntime) -> Result<(), Fail> {
-    let (outcome, written) = ran(rt.alloc(), WHOLE)?;
+    let (outcome, written) = ran(rt.alloc(), WHOLE, false)?;
     assert_eq!(rt; outcome, Outcome::Report);
     assert!(rt; written.starts_with(b"> ".as_slice()));
     assert_eq!(rt; written.get(2..), Some(REPORT));
-    let (outcome, written) = ran(rt.alloc(), b"flow ring=1\nfin\nfin")?;
+    let (outcome, written) = ran(rt.alloc(), b"flow ring=1\nfin\nfin", false)?;
     assert_eq!(rt; outcome, Outcome::Refused);
     assert_eq!(rt;
         written.as_slice(),
@@ -156,11 +160,26 @@ fn runs_from_a_reader_to_a_writer(rt: HostRuntime) -> Result<(), Fail> {
     Ok(())
 }
 
+// The rows of `tests/program` have whole scripts.
+#[test]
+fn shows_each_step(rt: HostRuntime) -> Result<(), Fail> {
+    let (outcome, written) = ran(rt.alloc(), b"flow ring=1\narrive 61\n\nroom", true)?;
+    assert_eq!(rt; outcome, Outcome::Report);
+    assert_eq!(rt;
+        written.as_slice(),
+        b"> > flow ring=1\nup sent=- ring=- unread=- end=no shut=no\n> arrive 61\nup sent=- ring=- unread=61 end=no shut=no\n> room\n".as_slice()
+    );
+    let (outcome, written) = ran(rt.alloc(), b"flow ring=1\nfin\nfin", true)?;
+    assert_eq!(rt; outcome, Outcome::Refused);
+    assert!(rt; written.ends_with(b"> fin\nline 3: not allowed: fin\n".as_slice()));
+    Ok(())
+}
+
 // The second read fills a ring from which a short write took two bytes.
 #[test]
 fn bytes_keep_their_order_round_a_ring(rt: HostRuntime) -> Result<(), Fail> {
     let text = b"flow ring=4\narrive 010203040506\nroom\nread 3\nwrote 2\nread 3\nwrote 3\n";
-    let (outcome, written) = ran(rt.alloc(), text)?;
+    let (outcome, written) = ran(rt.alloc(), text, false)?;
     assert_eq!(rt; outcome, Outcome::Report);
     assert_eq!(rt;
         written.get(2..),
@@ -178,7 +197,7 @@ const SESSION_REPORT: &[u8] =
 
 /// Every form of a line that says an event.
 const FORMS: &[u8] =
-    b"world slots=64 workers=16 ring=65536 budget=1024\nconnect\narrive 63 client 00ff\nfin 0 target\nreset 0 client\nroom 0 target\nspurious listener\nspurious 0 client\nvanish waker\nvanish 0 target\naccept ok\naccept blocked\naccept again\naccept starved\ndrop\nopen\npoll\npoll waker listener 0.140737488355327.client\ndeliver\nput poller\nput 15\npop 0\nclaim 0\ntake 0\ncall 0 read 1\ncall 0 end\ncall 0 wrote 1\ncall 0 wrote 1 full\ncall 0 joined\ncall 0 shut\ncall 0 blocked\ncall 0 interrupted\ncall 0 failed reset\ncall 0 failed pipe\ncall 0 failed aborted\ncall 0 failed refused\ncall 0 failed notconnected\ncall 0 failed timedout\ncall 0 failed zero\ncall 0 failed other\npost 0\nrelease 0\nclose 0\nretire 0\nfree 0";
+    b"world slots=64 workers=16 ring=65536 budget=1024\ntick 18446744073709551615\nsweep 63\nidle 15\nconnect\narrive 63 client 00ff\nfin 0 target\nreset 0 client\nroom 0 target\nspurious listener\nspurious 0 client\nvanish waker\nvanish 0 target\naccept ok\naccept blocked\naccept again\naccept starved\ndrop\nopen\npoll\npoll waker listener 0.140737488355327.client\ndeliver\nput poller\nput 15\npop 0\nclaim 0\ntake 0\ncall 0 read 1\ncall 0 end\ncall 0 wrote 1\ncall 0 wrote 1 full\ncall 0 joined\ncall 0 shut\ncall 0 blocked\ncall 0 interrupted\ncall 0 failed reset\ncall 0 failed pipe\ncall 0 failed aborted\ncall 0 failed refused\ncall 0 failed notconnected\ncall 0 failed timedout\ncall 0 failed zero\ncall 0 failed other\npost 0\nrelease 0\nclose 0\nretire 0\nfree 0";
 
 const LIMITS: Limits = Limits {
     slots: 64,
@@ -186,6 +205,7 @@ const LIMITS: Limits = Limits {
     ring: 65_536,
     budget: 1_024,
     generation: 0,
+    idle: 0,
 };
 
 #[test]
@@ -204,7 +224,7 @@ fn every_form_of_an_event(rt: HostRuntime) -> Result<(), Fail> {
             "{line}"
         );
     }
-    assert_eq!(rt; line, 45);
+    assert_eq!(rt; line, 48);
     Ok(())
 }
 
@@ -220,6 +240,29 @@ fn prints_a_world(rt: HostRuntime) -> Result<(), Fail> {
 fn reports_a_world_that_a_script_leads_to(rt: HostRuntime) -> Result<(), Fail> {
     let reached = parse(rt.alloc(), SESSION)?.carry_out(rt.alloc())?;
     assert_eq!(rt; reached.report(rt.alloc())?.as_bytes(), SESSION_REPORT);
+    Ok(())
+}
+
+/// A connection that a worker fails and closes, since it moved nothing for 30 seconds.
+const QUIET: &[u8] =
+    b"world slots=1 workers=1 ring=4 budget=64 idle=30\nconnect\naccept ok\nopen\nput poller\npop 0\nclaim 0\ntake 0\ncall 0 blocked\ncall 0 blocked\nrelease 0\ntick 30\nsweep 0\nput poller\npop 0\nclaim 0\ntake 0\ncall 0 blocked\ncall 0 blocked\nidle 0\nclose 0\nretire 0\nfree 0";
+
+const QUIET_REPORT: &[u8] =
+    b"listener backlog=0 flag=up\nqueue\nbatch\nready\nfree 0\npoller\nworker 0 idle\nslot 0 free gen=1 notes=0\npast 0.1 failed idle up=- down=-\n";
+
+/// The same a second earlier.
+const TOO_EARLY: &[u8] =
+    b"world slots=1 workers=1 ring=4 budget=64 idle=30\nconnect\naccept ok\nopen\nput poller\npop 0\nclaim 0\ntake 0\ncall 0 blocked\ncall 0 blocked\nrelease 0\ntick 29\nsweep 0\nput poller\npop 0\nclaim 0\ntake 0\ncall 0 blocked\ncall 0 blocked\nidle 0\nclose 0\nretire 0\nfree 0";
+
+#[test]
+fn a_quiet_connection_fails(rt: HostRuntime) -> Result<(), Fail> {
+    let reached = parse(rt.alloc(), QUIET)?.carry_out(rt.alloc())?;
+    assert_eq!(rt; reached.report(rt.alloc())?.as_bytes(), QUIET_REPORT);
+    let mut told = None;
+    if let Err(fault) = parse(rt.alloc(), TOO_EARLY)?.carry_out(rt.alloc()) {
+        told = Some(fault);
+    }
+    assert_eq!(rt; told, Some(Fault::NotAllowed(20, Word::Idle)));
     Ok(())
 }
 

@@ -83,7 +83,7 @@ impl WorldScript {
 }
 
 /// Makes the event of a line happen, or returns the fault of that line.
-fn happen(world: &mut World, numbered: &NumberedEvent) -> Result<(), Fault>
+pub(crate) fn happen(world: &mut World, numbered: &NumberedEvent) -> Result<(), Fault>
     ensures { Carries (line_happened world.old numbered.now) world.old result world.new }
 {
     match world.step(&numbered.event) {

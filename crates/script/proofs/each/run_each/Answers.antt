@@ -1,0 +1,8 @@
+use Rattle.script.proofs.Showing.{refuses_each, reports_each}
+use Rattle.script.proofs.each.run_each.Goals as goal
+
+pub returns-in-Ok-clause-report : goal.returns-in-Ok-clause-report
+returns-in-Ok-clause-report g c = reports_each _ c.as_slice.result.now _ c.answer_each.result _ _ c.as_slice.ensures.value c.in-Ok.ensures.text c.answer_each.ensures.report
+
+pub returns-in-Ok-clause-refused : goal.returns-in-Ok-clause-refused
+returns-in-Ok-clause-refused g c = refuses_each _ c.as_slice.result.now _ c.answer_each.result _ _ c.as_slice.ensures.value c.in-Ok.ensures.text c.answer_each.ensures.refused

@@ -1,0 +1,67 @@
+//! What the steps of a script are made on.
+ghost use Rattle.std.specs.Prelude.{◌≡◌, ℕ, List, Result, IfOk, string_bytes};
+ghost use Rattle.script.specs.declared.fault.Fault.{Fault};
+ghost use Rattle.script.specs.Faults.{Carries};
+
+use crate::report::print_transfer;
+use crate::world_report::print;
+use crate::world_script::happen;
+use crate::{Fault, NumberedEvent, NumberedStep, Transfer};
+use std::alloc::{AllocError, Global};
+use world::World;
+
+/// A state that steps are made on, and that has a report.
+pub(crate) trait Machine: Drop {
+    /// A step, with the number of its line.
+    type Step;
+
+    ghost stepped: { Self → Self.Step → Result Self Fault };
+
+    ghost told: { Self → List ℕ };
+
+    /// Makes a step, or returns the fault of its line.
+    fn make(&mut self, step: &Self::Step) -> Result<(), Fault>
+        ensures { Carries (stepped self.old step.now) self.old result self.new };
+
+    /// The report of the state. Fails only if memory for it ran out.
+    fn report(&self, alloc: Global) -> Result<String, AllocError>
+        ensures { IfOk result (λ text. string_bytes text ≡ told self.now) };
+}
+
+impl Machine for Transfer {
+    ghost use Rattle.script.specs.Transfers.{line_stepped};
+    ghost use Rattle.script.specs.Reports.{report};
+
+    type Step = NumberedStep;
+
+    ghost stepped = { line_stepped };
+
+    ghost told = { report };
+
+    fn make(&mut self, step: &NumberedStep) -> Result<(), Fault> {
+        self.carry_out(step)
+    }
+
+    fn report(&self, alloc: Global) -> Result<String, AllocError> {
+        print_transfer(alloc, self)
+    }
+}
+
+impl Machine for World {
+    ghost use Rattle.script.specs.Plays.{line_happened};
+    ghost use Rattle.script.specs.WorldReports.{world_report};
+
+    type Step = NumberedEvent;
+
+    ghost stepped = { line_happened };
+
+    ghost told = { world_report };
+
+    fn make(&mut self, step: &NumberedEvent) -> Result<(), Fault> {
+        happen(self, step)
+    }
+
+    fn report(&self, alloc: Global) -> Result<String, AllocError> {
+        print(alloc, self)
+    }
+}
