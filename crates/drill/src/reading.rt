@@ -112,7 +112,7 @@ fn outside(alloc: Global, text: &str) -> Result<Option<Outer>, AllocError> {
 fn network(alloc: Global, word: &str, rest: &str) -> Result<Option<Event>, AllocError> {
     let (slot, rest) = cut(rest);
     let (side_word, rest) = cut(rest);
-    let (Some(slot), Some(side)) = (number(slot), side(side_word)) else {
+    let (Some(slot), Some(side)) = (number(slot), Side::named(side_word.as_bytes())) else {
         return Ok(None);
     };
     let change = match word {
@@ -140,15 +140,7 @@ fn reported(text: &str) -> Option<(usize, Reported)> {
     match word {
         "listener" => Some((lone_poller(rest)?, Reported::Listener)),
         "waker" => Some((lone_poller(rest)?, Reported::Waker)),
-        _ => Some((0, Reported::End(number(word)?, side(rest)?))),
-    }
-}
-
-fn side(word: &str) -> Option<Side> {
-    match word {
-        "client" => Some(Side::Client),
-        "target" => Some(Side::Target),
-        _ => None,
+        _ => Some((0, Reported::End(number(word)?, Side::named(rest.as_bytes())?))),
     }
 }
 
@@ -159,21 +151,7 @@ fn wanted(text: &str) -> Option<Wanted> {
         "short" => Some(Wanted::Short(number(rest)?)),
         "full" => Some(Wanted::Full(number(rest)?)),
         "interrupted" => Some(Wanted::Interrupted),
-        "failed" => Some(Wanted::Failed(kind(rest)?)),
-        _ => None,
-    }
-}
-
-fn kind(word: &str) -> Option<Kind> {
-    match word {
-        "reset" => Some(Kind::Reset),
-        "pipe" => Some(Kind::Pipe),
-        "aborted" => Some(Kind::Aborted),
-        "refused" => Some(Kind::Refused),
-        "notconnected" => Some(Kind::NotConnected),
-        "timedout" => Some(Kind::TimedOut),
-        "zero" => Some(Kind::Zero),
-        "other" => Some(Kind::Other),
+        "failed" => Some(Wanted::Failed(Kind::named(rest.as_bytes())?)),
         _ => None,
     }
 }

@@ -2,9 +2,8 @@
 use Rattle.std.specs.Prelude.{ℕ, nat_lt, nat_le, ◌&&◌, false, true, if◌then◌else◌, List, [], ◌∷◌, length, codes, Option, Some, None, option_map, option_and_then}
 use Rattle.std.specs.Str.{bytes_eq}
 use Rattle.token.specs.declared.side.Side.{Side}
-use Rattle.token.specs.declared.side.Side.TheVariants.{Client, Target}
-use Rattle.token.specs.declared.kind.Kind.{Kind}
-use Rattle.token.specs.declared.kind.Kind.TheVariants as kind
+use Rattle.token.specs.Sides.{side_named}
+use Rattle.token.specs.Kinds.{kind_named}
 use Rattle.token.specs.declared.name.Name.{Name}
 use Rattle.token.specs.declared.name.Name.TheVariants as name
 use Rattle.kernel_model.specs.declared.reply.Reply.{Reply}
@@ -43,24 +42,6 @@ slot_of word = number_below 64 word
 abbrev pub worker_of : List ℕ → Option ℕ
 worker_of word = number_below 16 word
 
-abbrev pub side_of : List ℕ → Option Side
-side_of word =
-    if bytes_eq word (codes "client") then Some Client
-    else if bytes_eq word (codes "target") then Some Target
-    else None
-
-abbrev pub kind_of : List ℕ → Option Kind
-kind_of word =
-    if bytes_eq word (codes "reset") then Some kind.Reset
-    else if bytes_eq word (codes "pipe") then Some kind.Pipe
-    else if bytes_eq word (codes "aborted") then Some kind.Aborted
-    else if bytes_eq word (codes "refused") then Some kind.Refused
-    else if bytes_eq word (codes "notconnected") then Some kind.NotConnected
-    else if bytes_eq word (codes "timedout") then Some kind.TimedOut
-    else if bytes_eq word (codes "zero") then Some kind.Zero
-    else if bytes_eq word (codes "other") then Some kind.Other
-    else None
-
 -- the generations of a name, 1 to 2^47 - 1
 abbrev pub generation_of : List ℕ → Option ℕ
 generation_of word = option_and_then (λ n. if nat_lt 0 n && nat_le n 140737488355327 then Some n else None) (number_of word)
@@ -68,7 +49,7 @@ generation_of word = option_and_then (λ n. if nat_lt 0 n && nat_le n 1407374883
 -- `SLOT.GEN.SIDE`, by its parts
 abbrev pub end_of : List (List ℕ) → Option Name
 end_of (slot ∷ generation ∷ side ∷ []) =
-    option_and_then (λ s. option_and_then (λ g. option_map (λ d. name.End (record { slot = s; side = d; generation = g })) (side_of side)) (generation_of generation)) (slot_of slot)
+    option_and_then (λ s. option_and_then (λ g. option_map (λ d. name.End (record { slot = s; side = d; generation = g })) (side_named side)) (generation_of generation)) (slot_of slot)
 end_of _ = None
 
 -- `listener`, `waker` or the name of an end, whose parts stand between dots
@@ -131,7 +112,7 @@ abbrev pub reply_with : List ℕ → List ℕ → Option Reply
 reply_with word operand =
     if bytes_eq word (codes "read") then option_map reply.Bytes (number_of operand)
     else if bytes_eq word (codes "wrote") then option_map (λ n. reply.Wrote n false) (number_of operand)
-    else if bytes_eq word (codes "failed") then option_map reply.Failed (kind_of operand)
+    else if bytes_eq word (codes "failed") then option_map reply.Failed (kind_named operand)
     else None
 
 -- The forms of a line, by how many words follow the first
@@ -175,12 +156,12 @@ call_event worker answer = option_and_then (λ w. option_map (λ r. Plainly (eve
 abbrev pub event_with_two : List ℕ → List ℕ → List ℕ → Option Said
 event_with_two word one two =
     if bytes_eq word (codes "call") then call_event one (lone_reply two)
-    else option_and_then (λ s. option_and_then (λ d. end_event word s d) (side_of two)) (slot_of one)
+    else option_and_then (λ s. option_and_then (λ d. end_event word s d) (side_named two)) (slot_of one)
 
 abbrev pub event_with_three : List ℕ → List ℕ → List ℕ → List ℕ → Option Said
 event_with_three word one two three =
     if bytes_eq word (codes "call") then call_event one (reply_with two three)
-    else if bytes_eq word (codes "arrive") then option_and_then (λ s. option_and_then (λ d. option_map (λ bytes. Arrives s d bytes) (bytes_of three)) (side_of two)) (slot_of one)
+    else if bytes_eq word (codes "arrive") then option_and_then (λ s. option_and_then (λ d. option_map (λ bytes. Arrives s d bytes) (bytes_of three)) (side_named two)) (slot_of one)
     else None
 
 -- a write that leaves no room

@@ -1,6 +1,6 @@
 // The words after the first one in the line for an event.
 ghost use Rattle.std.specs.Prelude.{◌≡◌, IfOk, option_map};
-ghost use Rattle.script.specs.Events.{slot_of, worker_of, side_of, kind_of, generation_of, end_of, name_of, names_of, lone_who, accepting_of, act_of, lone_reply, reply_with, full_write};
+ghost use Rattle.script.specs.Events.{slot_of, worker_of, generation_of, end_of, name_of, names_of, lone_who, accepting_of, act_of, lone_reply, reply_with, full_write};
 
 use crate::limits::{MAX_SLOTS, MAX_WORKERS};
 use crate::lines::Pieces;
@@ -22,44 +22,6 @@ pub(crate) fn worker(word: &[u8]) -> Option<usize>
     ensures { result ≡ worker_of word.now }
 {
     number_below(MAX_WORKERS, word)
-}
-
-/// A side by its name.
-pub(crate) fn side(word: &[u8]) -> Option<Side>
-    ensures { result ≡ side_of word.now }
-{
-    if word == b"client".as_slice() {
-        Some(Side::Client)
-    } else if word == b"target".as_slice() {
-        Some(Side::Target)
-    } else {
-        None
-    }
-}
-
-/// A kind of failure by its name.
-pub(crate) fn kind(word: &[u8]) -> Option<Kind>
-    ensures { result ≡ kind_of word.now }
-{
-    if word == b"reset".as_slice() {
-        Some(Kind::Reset)
-    } else if word == b"pipe".as_slice() {
-        Some(Kind::Pipe)
-    } else if word == b"aborted".as_slice() {
-        Some(Kind::Aborted)
-    } else if word == b"refused".as_slice() {
-        Some(Kind::Refused)
-    } else if word == b"notconnected".as_slice() {
-        Some(Kind::NotConnected)
-    } else if word == b"timedout".as_slice() {
-        Some(Kind::TimedOut)
-    } else if word == b"zero".as_slice() {
-        Some(Kind::Zero)
-    } else if word == b"other".as_slice() {
-        Some(Kind::Other)
-    } else {
-        None
-    }
 }
 
 /// The generation in a name, 1 to 2^47 - 1.
@@ -85,7 +47,7 @@ fn end(mut parts: Pieces) -> Option<Name>
     }
     let slot = slot(slot_part)?;
     let generation = generation(generation_part)?;
-    let side = side(side_part)?;
+    let side = Side::named(side_part)?;
     match Token::pack(slot, side, generation) {
         Ok(token) => Some(Name::End(token)),
         Err(_) => None,
@@ -209,7 +171,7 @@ pub(crate) fn reply_with(word: &[u8], operand: &[u8]) -> Option<Reply>
     } else if word == b"wrote".as_slice() {
         Some(Reply::Wrote(number(operand)?, false))
     } else if word == b"failed".as_slice() {
-        Some(Reply::Failed(kind(operand)?))
+        Some(Reply::Failed(Kind::named(operand)?))
     } else {
         None
     }

@@ -3,7 +3,7 @@ ghost use Rattle.std.specs.Prelude.{◌≡◌, ◌∷◌, IfOk, option_map};
 ghost use Rattle.script.specs.Events.{said_of, lone_event, worker_event, event_with_one, end_event, call_event, event_with_two, event_with_three, event_with_four, event_of_counted, event_of, full_write};
 
 use crate::event_parts::{
-    accepting, act, full_write, lone_reply, lone_who, names, reply_with, side, slot, worker,
+    accepting, act, full_write, lone_reply, lone_who, names, reply_with, slot, worker,
 };
 use crate::lines::Pieces;
 use crate::values::{bytes, number};
@@ -107,7 +107,7 @@ fn event_with_two(word: &[u8], one: &[u8], two: &[u8]) -> Option<Event>
         call_event(one, lone_reply(two))
     } else {
         let slot = slot(one)?;
-        end_event(word, slot, side(two)?)
+        end_event(word, slot, Side::named(two)?)
     }
 }
 
@@ -154,7 +154,7 @@ fn event_with_three(
     if word != b"arrive".as_slice() {
         return Ok(None);
     }
-    let (Some(slot), Some(side)) = (slot(one), side(two)) else {
+    let (Some(slot), Some(side)) = (slot(one), Side::named(two)) else {
         return Ok(None);
     };
     match bytes(alloc, three)? {

@@ -1,11 +1,12 @@
 //! The forms of a script's lines: which words may follow the first one.
 
-use crate::event_parts::{accepting, kind, lone_who, name, side, slot, worker};
+use crate::event_parts::{accepting, lone_who, name, slot, worker};
 use crate::header::{generation, idle, ring, size};
 use crate::limits::{MAX_BUDGET, MAX_SLOTS, MAX_WORKERS};
 use crate::lines::Pieces;
 use crate::values::{is_hex_text, number};
 use kernel_model::MAX_POLLED;
+use token::{Kind, Side};
 
 /// What a word may be, at its position.
 #[derive(Clone, Copy)]
@@ -212,11 +213,11 @@ impl Part {
     /// Whether a word is what this part has, where that names nobody.
     fn takes_operand(self, word: &[u8]) -> bool {
         match self {
-            Part::Side => side(word).is_some(),
+            Part::Side => Side::named(word).is_some(),
             Part::Hex => is_hex_text(word) && word.len() % 2 == 0,
             Part::Accepting => accepting(word).is_some(),
             Part::Count => number(word).is_some(),
-            Part::Kind => kind(word).is_some(),
+            Part::Kind => Kind::named(word).is_some(),
             _ => word == b"full".as_slice(),
         }
     }

@@ -1,5 +1,6 @@
 -- The words for the kinds of a failed call. Part of the promises.
-use Rattle.std.specs.Prelude.{ℕ, List, codes}
+use Rattle.std.specs.Prelude.{ℕ, if◌then◌else◌, List, [], ◌∷◌, codes, Option, Some, None}
+use Rattle.std.specs.Str.{bytes_eq}
 use Rattle.token.specs.declared.kind.Kind.{Kind}
 use Rattle.token.specs.declared.kind.Kind.TheVariants.{Reset, Pipe, Aborted, Refused, NotConnected, TimedOut, Zero, Other}
 
@@ -12,3 +13,15 @@ kind_name NotConnected = codes "notconnected"
 kind_name TimedOut = codes "timedout"
 kind_name Zero = codes "zero"
 kind_name Other = codes "other"
+
+abbrev pub all_kinds : List Kind
+all_kinds = Reset ∷ Pipe ∷ Aborted ∷ Refused ∷ NotConnected ∷ TimedOut ∷ Zero ∷ Other ∷ []
+
+-- the first of these kinds that a word names
+abbrev pub kind_among : List Kind → List ℕ → Option Kind
+kind_among [] word = None
+kind_among (kind ∷ kinds) word = if bytes_eq word (kind_name kind) then Some kind else kind_among kinds word
+
+-- the kind that a word names
+abbrev pub kind_named : List ℕ → Option Kind
+kind_named word = kind_among all_kinds word

@@ -1,5 +1,6 @@
 -- The two sides of a connection, and the two directions in which bytes go through it. Part of the promises.
-use Rattle.std.specs.Prelude.{ℕ, List, codes}
+use Rattle.std.specs.Prelude.{ℕ, if◌then◌else◌, List, codes, Option, Some, None}
+use Rattle.std.specs.Str.{bytes_eq}
 use Rattle.token.specs.declared.side.Side.{Side}
 use Rattle.token.specs.declared.side.Side.TheVariants.{Client, Target}
 use Rattle.token.specs.declared.direction.Direction.{Direction}
@@ -14,6 +15,13 @@ other_side Target = Client
 abbrev pub side_name : Side → List ℕ
 side_name Client = codes "client"
 side_name Target = codes "target"
+
+-- the side that a word names
+abbrev pub side_named : List ℕ → Option Side
+side_named word =
+    if bytes_eq word (side_name Client) then Some Client
+    else if bytes_eq word (side_name Target) then Some Target
+    else None
 
 -- the bit that stands for a side in a number
 abbrev pub side_number : Side → ℕ

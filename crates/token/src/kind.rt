@@ -1,5 +1,7 @@
-ghost use Rattle.std.specs.Prelude.{◌≡◌};
-ghost use Rattle.token.specs.Kinds.{kind_name};
+ghost use Rattle.std.specs.Prelude.{◌≡◌, ◌≢◌, IfSome, IfNone};
+ghost use Rattle.std.specs.Str.{bytes_eq};
+ghost use Rattle.token.specs.Kinds.{kind_name, kind_named};
+ghost use Rattle.token.specs.declared.kind.Kind.{Kind};
 
 /// How a call on a socket failed: the errors of read(2), write(2), connect(2) and shutdown(2) that the relay
 /// distinguishes.
@@ -39,4 +41,40 @@ impl Kind {
             Kind::Other => "other",
         }
     }
+
+    /// The kind that a word names, if it names one.
+    pub fn named(word: &[u8]) -> Option<Kind>
+        ensures value { result ≡ kind_named word.now }
+
+        // What that comes to:
+        ensures some { IfSome result (λ kind. word.now ≡ kind_name kind) }
+        ensures none { IfNone result ((kind : Kind) → word.now ≢ kind_name kind) }
+    {
+        if names(Kind::Reset, word) {
+            Some(Kind::Reset)
+        } else if names(Kind::Pipe, word) {
+            Some(Kind::Pipe)
+        } else if names(Kind::Aborted, word) {
+            Some(Kind::Aborted)
+        } else if names(Kind::Refused, word) {
+            Some(Kind::Refused)
+        } else if names(Kind::NotConnected, word) {
+            Some(Kind::NotConnected)
+        } else if names(Kind::TimedOut, word) {
+            Some(Kind::TimedOut)
+        } else if names(Kind::Zero, word) {
+            Some(Kind::Zero)
+        } else if names(Kind::Other, word) {
+            Some(Kind::Other)
+        } else {
+            None
+        }
+    }
+}
+
+/// Whether a word is the name of a kind.
+fn names(kind: Kind, word: &[u8]) -> bool
+    ensures { result ≡ bytes_eq word.now (kind_name kind) }
+{
+    word == kind.name().as_bytes()
 }

@@ -1,5 +1,6 @@
-ghost use Rattle.std.specs.Prelude.{◌≡◌};
-ghost use Rattle.token.specs.Sides.{other_side, side_name, side_number};
+ghost use Rattle.std.specs.Prelude.{◌≡◌, ◌≢◌, IfSome, IfNone};
+ghost use Rattle.token.specs.Sides.{other_side, side_name, side_named, side_number};
+ghost use Rattle.token.specs.declared.side.Side.{Side};
 
 /// One of the two ends of a connection.
 #[derive(Clone, Copy, Debug, PartialEq, Eq)]
@@ -28,6 +29,23 @@ impl Side {
         match self {
             Side::Client => "client",
             Side::Target => "target",
+        }
+    }
+
+    /// The side that a word names, if it names one.
+    pub fn named(word: &[u8]) -> Option<Side>
+        ensures value { result ≡ side_named word.now }
+
+        // What that comes to:
+        ensures some { IfSome result (λ side. word.now ≡ side_name side) }
+        ensures none { IfNone result ((side : Side) → word.now ≢ side_name side) }
+    {
+        if word == Side::Client.name().as_bytes() {
+            Some(Side::Client)
+        } else if word == Side::Target.name().as_bytes() {
+            Some(Side::Target)
+        } else {
+            None
         }
     }
 

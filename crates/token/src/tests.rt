@@ -90,7 +90,10 @@ fn generations(rt: HostRuntime) {
 }
 
 fn is_side(side: Side, name: &str, other: Side, bit: u64) -> bool {
-    side.name() == name && side.other() == other && side.bit() == bit
+    side.name() == name
+        && Side::named(name.as_bytes()) == Some(side)
+        && side.other() == other
+        && side.bit() == bit
 }
 
 fn is_way(way: Direction, back: Direction, source: Side, destination: Side) -> bool {
@@ -121,7 +124,9 @@ static WORDS: [(Kind, &str); 8] = [
 fn words_of_kinds(rt: HostRuntime) {
     for (kind, word) in &WORDS {
         assert!(rt; kind.name() == *word, "{word}");
+        assert!(rt; Kind::named(word.as_bytes()) == Some(*kind), "{word}");
     }
+    assert!(rt; Kind::named(b"resets").is_none() && Side::named(b"").is_none());
 }
 
 fn has_text(alloc: Global, fault: TokenFault, text: &str) -> Result<bool, AllocError> {
