@@ -67,7 +67,7 @@ fn rate(nanoseconds: u128) -> u64 {
 
 /// Moves all bytes by turns of a pair.
 fn by_turns(rt: &HostRuntime, most: usize) -> io::Result<(u64, u8)> {
-    let mut pair = Pair::new(rt.alloc(), 0, 1, RING, 0)?;
+    let mut pair = Pair::new(rt.alloc(), 0, 1, RING, 0, b"")?;
     let mut client = MemoryWire::new(BYTES, RING);
     let mut target = MemoryWire::new(0, most);
     for _ in 0..BYTES {

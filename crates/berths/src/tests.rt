@@ -7,7 +7,7 @@ use std::test::Fail;
 
 /// A connection of slot 1, of this generation, whose wires are two numbers.
 fn berth(alloc: Global, generation: u64) -> Result<Berth<u8, char>, AllocError> {
-    let pair = Pair::new(alloc, 1, generation, 1, 0)?;
+    let pair = Pair::new(alloc, 1, generation, 1, 0, b"")?;
     Ok(Berth {
         pair,
         client: 7,

@@ -17,6 +17,7 @@ use Rattle.relay_core.specs.Pairs.{Relay}
 use Rattle.relay_core.specs.Order.{offer}
 use Rattle.relay_core.specs.Replies.{AnswerValue, Bytes, End, Wrote, Joined, Shut, Blocked, Interrupted, Failed, fits, after}
 use Rattle.relay_core.specs.Moved.{brought, carried}
+use Rattle.relay_core.proofs.Streams.{take-offer}
 use Rattle.engine.specs.Classes.{kind_of_error}
 use Rattle.engine.specs.Asked as ask
 use Rattle.engine.specs.Asked.{Asked, Given, Brought, Took, Refused}
@@ -65,9 +66,9 @@ brought_whole : (side : Side) (most : ℕ) (bytes : List ℕ) → brought (way_f
 brought_whole Client most bytes = refl
 brought_whole Target most bytes = refl
 
-carried_front : (p : Relay) (side : Side) (n : ℕ) → carried p (way_to side) (Write side) (Wrote n) ≡ take n (offer p side)
-carried_front p Client n = refl
-carried_front p Target n = refl
+carried_front : (p : Relay) (side : Side) (n : ℕ) → n ≤ length (offer p side) → carried p (way_to side) (Write side) (Wrote n) ≡ take n (offer p side)
+carried_front p Client n h = sym (take-offer p Client n h)
+carried_front p Target n h = sym (take-offer p Target n h)
 
 -- the count of a read is one that fits
 fitting : (n most : ℕ) (buffer : List ℕ) → 1 ≤ n → n ≤ length buffer → n ≤ most → (nat_le 1 (length (take n buffer)) && nat_le (length (take n buffer)) most) ≡ true
@@ -112,18 +113,20 @@ raised f g moved (inr rose) = rose
 -- a write took bytes
 pub bytes_out : {S : Type 0} (now : ℕ) (told : S → WireView) (does : Asked → Given → S → S → Type 0) (side : Side) (p q : Relay) (n : ℕ) (offered : List ℕ) (old new : S) → 1 ≤ n → n ≤ length offered → offered ≡ offer p side → q ≡ after now p (Write side) (Wrote n) →
     Appends (told old).written (told new).written (take n offered) → Stays (record (told old) { written = None }) (record (told new) { written = None }) → does (ask.Write offered) (Took n) old new → IsStep told does (Write side) now p q old new
-bytes_out now told does side p q n offered old new some within same run taken s did = record {
-  reply = Wrote n;
-  fit = let all : n ≤ length (offer p side) = rw same at within in rw (le-leb 1 n some, le-leb n (length (offer p side)) all) refl;
-  run = run;
-  served = record {
-    read = kept_is_read (told old).remaining (told new).remaining s.remaining;
-    written = rw (carried_front p side n, ← same) taken;
-    faults = stays_at (told old).faults (told new).faults s.faults;
-    blocks = stays_at (told old).blocks (told new).blocks s.blocks;
-    made = record { given = Took n; told = refl; did = rw same at did };
-  };
-}
+bytes_out now told does side p q n offered old new some within same run taken s did =
+    let all : n ≤ length (offer p side) = rw same at within in
+    record {
+      reply = Wrote n;
+      fit = rw (le-leb 1 n some, le-leb n (length (offer p side)) all) refl;
+      run = run;
+      served = record {
+        read = kept_is_read (told old).remaining (told new).remaining s.remaining;
+        written = rw (carried_front p side n all, ← same) taken;
+        faults = stays_at (told old).faults (told new).faults s.faults;
+        blocks = stays_at (told old).blocks (told new).blocks s.blocks;
+        made = record { given = Took n; told = refl; did = rw same at did };
+      };
+    }
 
 -- a call failed
 pub failed : {S : Type 0} (now : ℕ) (told : S → WireView) (does : Asked → Given → S → S → Type 0) (call : Call) (p q : Relay) (kind : Kind) (old new : S) → fits p call (Failed kind) ≡ true → q ≡ after now p call (Failed kind) →

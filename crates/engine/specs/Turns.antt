@@ -74,7 +74,7 @@ count_on test side now p (reply ∷ replies) =
     unwrap_or (option_map (λ (call : Call). one_if test side call reply) (next_call p)) 0
     + unwrap_or (option_map (λ (q : Relay). count_on test side now q replies) (answered now p reply)) 0
 
--- what a call asks of its wire: a write offers all bytes that are bound for its side
+-- what a call asks of its wire: a write offers all that the pair offers its side
 abbrev pub asked : Relay → Call → Asked
 asked p (call.Read side most) = ask.Read most
 asked p (call.Write side) = ask.Write (offer p side)

@@ -15,8 +15,8 @@ use relay_core::{Call, MAX_READ, Pair, Side, Verdict, laws};
 /// the pair the answers. A pair that is done or failed asks for none. It allocates no memory.
 ///
 /// The calls made on each wire are exactly those that come next along the answers, in order and once each: a read of as
-/// many bytes as the pair asks for, and a write of all bytes that are bound for that side. It invents no answer, and a
-/// failure has the kind of the error that the call gave.
+/// many bytes as the pair asks for, and a write of all that the pair offers that side ([`Pair::offer`]). It invents no
+/// answer, and a failure has the kind of the error that the call gave.
 ///
 /// All its calls are made at the second `now`. A pair that is left without a call, and that has moved nothing for
 /// `limit` seconds, fails ([`Pair::expire`]); a limit of 0 is none.

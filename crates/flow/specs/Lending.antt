@@ -1,14 +1,19 @@
--- What a stream is once the borrow of its bytes has ended. Part of the promises, for `front` alone.
-use Rattle.std.specs.Prelude.{ℕ, List, length}
+-- What a stream is once the borrow of its front has ended. Part of the promises, for `front` alone.
+use Rattle.std.specs.Prelude.{ℕ, List, [], ◌∷◌, length}
 use Rattle.std.specs.List.{refill}
 use Rattle.std.specs.Borrow.{MutBor, Fml, Lends, Array, u8}
 use Rattle.flow.specs.Stream.{Stream}
 use Rattle.flow.specs.contracts.flow.Flow.{the_row}
 
--- the ring holds whatever is now in place of its bytes
-abbrev pub with_ring : Stream → List ℕ → Stream
-with_ring s bytes = record s { ring = refill (length s.ring) s.ring bytes }
+-- with what is now in place of the bytes of a lead, or of a ring whose lead is empty
+abbrev pub with_first : List ℕ → Stream → List ℕ → Stream
+with_first [] s bytes = record s { ring = refill (length s.ring) s.ring bytes }
+with_first (byte ∷ lead) s bytes = record s { lead = refill (length s.lead) s.lead bytes }
 
--- the ring lends its bytes: nothing else changes, and they only if they are written to
-abbrev pub LendsRing : MutBor Stream → MutBor (List ℕ) → Fml
-LendsRing s lent = Lends the_row (Array u8 0) s lent (with_ring s.now)
+-- the front holds whatever is now in place of its bytes
+abbrev pub with_front : Stream → List ℕ → Stream
+with_front s bytes = with_first s.lead s bytes
+
+-- the stream lends its front: nothing else changes, and its bytes only if they are written to
+abbrev pub LendsFront : MutBor Stream → MutBor (List ℕ) → Fml
+LendsFront s lent = Lends the_row (Array u8 0) s lent (with_front s.now)

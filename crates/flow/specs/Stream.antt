@@ -1,21 +1,35 @@
 -- One direction of a connection, as the relay keeps it. Part of the promises. These are the bytes that were read at its
--- source and not yet written at its destination, oldest first, whether the source's end of input was seen, and whether
--- it was passed on by a shutdown.
-use Rattle.std.specs.Prelude.{ℕ, ◌-◌, Bool, true, false, List, [], ◌++◌, length, drop}
+-- source and not yet written at its destination, oldest first, what is left of a lead that goes out before all of them,
+-- whether the source's end of input was seen, and whether it was passed on by a shutdown.
+use Rattle.std.specs.Prelude.{ℕ, ◌-◌, Bool, true, false, List, [], ◌∷◌, ◌++◌, length, drop}
 
 pub record Stream : Type 0 where
+  pub lead : List ℕ
   pub ring : List ℕ
   pub capacity : ℕ
   pub end_seen : Bool
   pub shut : Bool
 
--- a stream that nothing has come to
-abbrev pub empty_stream : ℕ → Stream
-empty_stream capacity = record { ring = []; capacity = capacity; end_seen = false; shut = false }
+-- a stream that nothing has come to, with a lead
+abbrev pub empty_stream : ℕ → List ℕ → Stream
+empty_stream capacity lead = record { lead = lead; ring = []; capacity = capacity; end_seen = false; shut = false }
 
 -- how many bytes the ring can take in
 abbrev pub free_room : Stream → ℕ
 free_room s = s.capacity - length s.ring
+
+-- all bytes that wait, in the order in which they go out
+abbrev pub waiting : Stream → List ℕ
+waiting s = s.lead ++ s.ring
+
+-- the lead while it is not empty, and then the ring
+abbrev pub first_of : List ℕ → List ℕ → List ℕ
+first_of [] ring = ring
+first_of (byte ∷ lead) ring = byte ∷ lead
+
+-- the bytes that are offered to the next write
+abbrev pub front : Stream → List ℕ
+front s = first_of s.lead s.ring
 
 -- the bytes went in behind all others
 abbrev pub taken_in : Stream → List ℕ → Stream
@@ -23,7 +37,7 @@ taken_in s bytes = record s { ring = s.ring ++ bytes }
 
 -- the n oldest bytes left
 abbrev pub dropped : Stream → ℕ → Stream
-dropped s n = record s { ring = drop n s.ring }
+dropped s n = record s { lead = drop n s.lead; ring = drop (n - length s.lead) s.ring }
 
 -- the source's end of input was seen
 abbrev pub ended : Stream → Stream

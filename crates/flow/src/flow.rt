@@ -1,17 +1,18 @@
 ghost use Rattle.std.specs.Prelude.{◌≡◌, ℕ, ◌+◌, ◌-◌, ◌^◌, ◌<◌, ◌≤◌, [], length, true, false, IsTrue, ◌↔◌, IfOk, slice_index, drop};
 ghost use Rattle.circular_buffer.specs.Buffer.{buffer};
-ghost use Rattle.flow.specs.Stream.{empty_stream, free_room, taken_in, dropped, ended, closed};
+ghost use Rattle.flow.specs.Stream.{empty_stream, free_room, waiting, front, taken_in, dropped, ended, closed};
 
 use circular_buffer::HeapCircularBuffer;
 use std::alloc::{AllocError, Global};
 use std::marker::Model;
 
-/// One direction's ring of bytes, with its end of input and its shutdown.
+/// One direction's ring of bytes, with a lead that goes out before them, its end of input and its shutdown.
 ///
 /// The buffer never wraps, so that the whole ring can be offered to one write(2). Bytes that have left stay in it until
 /// others take their place: overwriting bytes is a single copy, but the buffer appends bytes in a loop.
 #[derive(Drop)]
 pub struct Flow {
+    lead: Vec<u8>,
     bytes: HeapCircularBuffer<u8>,
     // How many of these have left. The ring is the rest.
     gone: usize,
@@ -25,28 +26,33 @@ impl Model for Flow {
 
     ghost Value = { Stream };
 
-    ghost view = { λ f. record { ring = drop f.gone f.bytes.items; capacity = f.bytes.capacity; end_seen = f.end_seen; shut = f.shut } };
+    ghost view = { λ f. record { lead = f.lead.items; ring = drop f.gone f.bytes.items; capacity = f.bytes.capacity; end_seen = f.end_seen; shut = f.shut } };
 
     ghost invariant = { λ f. f.gone ≤ length f.bytes.items };
 }
 
 impl Flow {
     ghost use Rattle.std.specs.Borrow.{sem};
-    ghost use Rattle.flow.specs.Lending.{with_ring, LendsRing};
+    ghost use Rattle.flow.specs.Lending.{with_front, LendsFront};
 
     /// The maximum capacity of a ring, in bytes.
     pub const MAX: usize = 65_536;
 
-    /// An empty ring for at most `capacity` bytes, 1 to 65,536. This allocates all the memory that the ring will ever
-    /// use.
+    /// The most bytes that a lead has.
+    pub const MAX_LEAD: usize = 107;
+
+    /// An empty ring for at most `capacity` bytes, 1 to 65,536, behind a lead of 0 to 107 bytes. This allocates all the
+    /// memory that the ring and the lead will ever use.
     ///
-    /// Fails only if there is not enough memory; then no ring is made.
-    pub fn new(alloc: Global, capacity: usize) -> Result<Flow, AllocError>
+    /// Fails only if there is not enough memory; then nothing is made.
+    pub fn new(alloc: Global, capacity: usize, lead: &[u8]) -> Result<Flow, AllocError>
         requires least { 1 ≤ capacity }
         requires most { capacity ≤ 65536 }
-        ensures { IfOk result (λ flow. flow ≡ empty_stream capacity) }
+        requires short { length lead.now ≤ 107 }
+        ensures { IfOk result (λ flow. flow ≡ empty_stream capacity lead.now) }
     {
         Ok(Flow {
+            lead: Vec::from_slice(alloc, lead)?,
             bytes: HeapCircularBuffer::with_capacity(alloc, capacity)?,
             gone: 0,
             end_seen: false,
@@ -54,18 +60,44 @@ impl Flow {
         })
     }
 
-    /// How many bytes wait in the ring.
+    /// How many bytes wait in the ring; those of the lead are not counted.
     pub fn len(&self) -> usize
         ensures { result ≡ length self.now.ring }
     {
         self.bytes.len() - self.gone
     }
 
-    /// Whether no byte waits.
-    pub fn is_empty(&self) -> bool
-        ensures { IsTrue result ↔ (self.now.ring ≡ []) }
+    /// Whether no byte waits, neither of the lead nor in the ring.
+    pub fn is_drained(&self) -> bool
+        ensures { IsTrue result ↔ (waiting self.now ≡ []) }
     {
-        self.len() == 0
+        self.lead.is_empty() && self.len() == 0
+    }
+
+    /// How many bytes are left of the lead.
+    pub fn lead_len(&self) -> usize
+        ensures { result ≡ length self.now.lead }
+    {
+        self.lead.len()
+    }
+
+    /// The byte at index `i` of what is left of the lead, 0 for the next one to go out.
+    pub fn lead_byte(&self, i: usize) -> u8
+        requires { i < length self.now.lead }
+        ensures { result ≡ slice_index self.now.lead i }
+    {
+        self.lead[i]
+    }
+
+    /// How many bytes [`Flow::front`] offers.
+    pub fn front_len(&self) -> usize
+        ensures { result ≡ length (front self.now) }
+    {
+        if self.lead.is_empty() {
+            self.len()
+        } else {
+            self.lead.len()
+        }
     }
 
     /// How many more bytes the ring can take in.
@@ -76,19 +108,22 @@ impl Flow {
         self.bytes.capacity() - self.len()
     }
 
-    /// All bytes that wait, oldest first: what is offered to the destination's next write(2). They are lent to be read:
-    /// if nothing is written into them, the ring stays as it was.
+    /// What is offered to the destination's next write(2): what is left of the lead, or if that is nothing, all bytes of
+    /// the ring, oldest first. They are lent to be read: if nothing is written into them, the flow stays as it was.
     pub fn front(&mut self) -> &mut [u8]
-        ensures* lends { sem 𝓛 (LendsRing self.entry result) }
-        ensures value { result.now ≡ self.old.ring }
-        ensures unwritten { with_ring self.old self.old.ring ≡ self.old }
+        ensures* lends { sem 𝓛 (LendsFront self.entry result) }
+        ensures value { result.now ≡ front self.old }
+        ensures unwritten { with_front self.old (front self.old) ≡ self.old }
     {
+        if !self.lead.is_empty() {
+            return self.lead.as_mut_slice();
+        }
         drop_first(&mut self.bytes, self.gone);
         self.gone = 0;
         self.bytes.make_contiguous()
     }
 
-    /// A copy of all bytes that wait, oldest first. Fails only if there is no memory for it.
+    /// A copy of all bytes of the ring, oldest first. Fails only if there is no memory for it.
     pub fn to_vec(&self, alloc: Global) -> Result<Vec<u8>, AllocError>
         ensures { IfOk result (λ bytes. bytes.items ≡ self.now.ring) }
     {
@@ -98,7 +133,7 @@ impl Flow {
         Ok(bytes)
     }
 
-    /// The byte at index `i`, 0 for the oldest.
+    /// The byte of the ring at index `i`, 0 for the oldest.
     pub fn byte(&self, i: usize) -> u8
         requires { i < length self.now.ring }
         ensures { result ≡ slice_index self.now.ring i }
@@ -116,7 +151,7 @@ impl Flow {
         requires open { self.old.end_seen ≡ false }
         ensures { self.new ≡ taken_in self.old bytes.now }
     {
-        if self.is_empty() {
+        if self.len() == 0 {
             replace(&mut self.bytes, bytes);
         } else {
             drop_first(&mut self.bytes, self.gone);
@@ -125,11 +160,15 @@ impl Flow {
         self.gone = 0;
     }
 
-    /// Drops the `n` oldest bytes, which the destination took.
+    /// Drops the `n` first bytes of the front, which the destination took.
     pub fn drop_front(&mut self, n: usize)
-        requires { n ≤ length self.old.ring }
+        requires { n ≤ length (front self.old) }
         ensures { self.new ≡ dropped self.old n }
     {
+        if !self.lead.is_empty() {
+            self.drop_lead(n);
+            return;
+        }
         let left = self.len() - n;
         self.gone = self.bytes.len() - left;
     }
@@ -149,10 +188,10 @@ impl Flow {
     }
 
     /// Marks the end as passed on to the destination, by shutdown(2) with `SHUT_WR`. This is allowed only once the
-    /// source has ended and every byte has left.
+    /// source has ended and every byte has left, those of the lead too.
     pub fn mark_shut(&mut self)
         requires after_end { self.old.end_seen ≡ true }
-        requires after_bytes { self.old.ring ≡ [] }
+        requires after_bytes { waiting self.old ≡ [] }
         ensures { self.new ≡ closed self.old }
     {
         self.shut = true;
@@ -163,6 +202,16 @@ impl Flow {
         ensures { result ≡ self.now.shut }
     {
         self.shut
+    }
+
+    /// Drops the `n` first bytes of the lead.
+    fn drop_lead(&mut self, n: usize)
+        requires { n ≤ length self.old.lead }
+        ensures { self.new ≡ record self.old { lead = drop n self.old.lead } }
+    {
+        let left = self.lead.len() - n;
+        self.lead.copy_within(n.., 0);
+        self.lead.truncate(left);
     }
 }
 

@@ -5,7 +5,7 @@ use Rattle.token.specs.declared.side.Side.{Side}
 use Rattle.token.specs.declared.side.Side.TheVariants.{Client, Target}
 use Rattle.token.specs.declared.direction.Direction.{Direction}
 use Rattle.token.specs.declared.direction.Direction.TheVariants.{Up, Down}
-use Rattle.flow.specs.Stream.{Stream}
+use Rattle.flow.specs.Stream.{Stream, waiting}
 use Rattle.relay_core.specs.declared.call.Call.{Call}
 use Rattle.relay_core.specs.Calls.{side_of, direction_of}
 use Rattle.relay_core.specs.Pairs.{Flags, Relay, stream_of, with_stream, with_flags, mark_joined, with_sent, noted}
@@ -128,10 +128,10 @@ expired_to true p q e = cc
 expired_to false p q e = absurd (cc)
 
 -- an event that leaves a direction's stream moves nothing there
-unmoved : (p q : Relay) (d : Direction) → stream_of q d ≡ stream_of p d → (stream_of p d).ring ++ [] ≡ [] ++ (stream_of q d).ring
-unmoved p q d same = append-nil (stream_of p d).ring ∙ sym (ap (λ (s : Stream). s.ring) same)
+unmoved : (p q : Relay) (d : Direction) → stream_of q d ≡ stream_of p d → waiting (stream_of p d) ++ [] ≡ [] ++ waiting (stream_of q d)
+unmoved p q d same = append-nil (waiting (stream_of p d)) ∙ sym (ap (λ (s : Stream). waiting s) same)
 
-event_order : (p q : Relay) (event : Event) (d : Direction) → happened p event ≡ Some q → (stream_of p d).ring ++ brought_by p d event ≡ carried_by p d event ++ (stream_of q d).ring
+event_order : (p q : Relay) (event : Event) (d : Direction) → happened p event ≡ Some q → waiting (stream_of p d) ++ brought_by p d event ≡ carried_by p d event ++ waiting (stream_of q d)
 event_order p q (Answered now reply) d e =
     let s : Step now p reply q = step_of now p reply q e in
     rw s.next (order_kept now p s.call reply q s.is d)
@@ -163,15 +163,15 @@ event_place p q (Expired now limit) e = rw (expired_to (is_overdue now limit p) 
 -- a list of them
 
 more_order : (p q : Relay) (event : Event) (events : List Event) (d : Direction) →
-    ((m : Relay) → through m events ≡ Some q → (stream_of m d).ring ++ ever_brought m d events ≡ ever_carried m d events ++ (stream_of q d).ring) →
+    ((m : Relay) → through m events ≡ Some q → waiting (stream_of m d) ++ ever_brought m d events ≡ ever_carried m d events ++ waiting (stream_of q d)) →
     (o : Option Relay) → happened p event ≡ o → option_and_then (λ (m : Relay). through m events) o ≡ Some q →
-    (stream_of p d).ring ++ ever_brought p d (event ∷ events) ≡ ever_carried p d (event ∷ events) ++ (stream_of q d).ring
+    waiting (stream_of p d) ++ ever_brought p d (event ∷ events) ≡ ever_carried p d (event ∷ events) ++ waiting (stream_of q d)
 more_order p q event events d rest None e h = absurd (cc)
 more_order p q event events d rest (Some m) e h =
-    rw e (seam (stream_of p d).ring (brought_by p d event) (ever_brought m d events) (carried_by p d event) (ever_carried m d events) (stream_of m d).ring (stream_of q d).ring (event_order p m event d e) (rest m h))
+    rw e (seam (waiting (stream_of p d)) (brought_by p d event) (ever_brought m d events) (carried_by p d event) (ever_carried m d events) (waiting (stream_of m d)) (waiting (stream_of q d)) (event_order p m event d e) (rest m h))
 
-run_order : (p q : Relay) (d : Direction) (events : List Event) → through p events ≡ Some q → (stream_of p d).ring ++ ever_brought p d events ≡ ever_carried p d events ++ (stream_of q d).ring
-run_order p q d [] h = let same : p ≡ q = cc in append-nil (stream_of p d).ring ∙ ap (λ (x : Relay). (stream_of x d).ring) same
+run_order : (p q : Relay) (d : Direction) (events : List Event) → through p events ≡ Some q → waiting (stream_of p d) ++ ever_brought p d events ≡ ever_carried p d events ++ waiting (stream_of q d)
+run_order p q d [] h = let same : p ≡ q = cc in append-nil (waiting (stream_of p d)) ∙ ap (λ (x : Relay). waiting (stream_of x d)) same
 run_order p q d (event ∷ events) h = more_order p q event events d (λ m e. run_order m q d events e) (happened p event) refl h
 
 pub runs_keep_order : RunsKeepOrder
@@ -197,11 +197,11 @@ runs_pass_end_last p q events c h =
     let kept : KeepsEndLast q = run_kept KeepsEndLast event_closed p q events h c in
     record {
       kept = kept;
-      last = λ d shut. all_left (stream_of p d).ring (ever_brought p d events) (ever_carried p d events) (stream_of q d).ring (run_order p q d events h) ((kept d).empty shut);
+      last = λ d shut. all_left (waiting (stream_of p d)) (ever_brought p d events) (ever_carried p d events) (waiting (stream_of q d)) (run_order p q d events h) ((kept d).empty shut);
     }
 
 pub fresh_pairs_keep_end_last : FreshPairsKeepEndLast
-fresh_pairs_keep_end_last slot generation capacity now d = fresh_closed slot generation capacity now d
+fresh_pairs_keep_end_last slot generation capacity now lead d = fresh_closed slot generation capacity now lead d
 
 pub runs_keep_place : RunsKeepPlace
 runs_keep_place p q events h = run_kept (λ (x : Relay). place_of x ≡ place_of p) (λ a b e step same. event_place a b e step ∙ same) p q events h refl

@@ -56,6 +56,6 @@ seam r b1 b2 c1 c2 s t first rest =
     ∙ (ap (λ (xs : List ℕ). c1 ++ xs) rest
     ∙ sym (append_assoc c1 c2 t))))
 
-pub fresh_closed : (slot generation capacity now : ℕ) (d : Direction) → IsClosedLast (stream_of (fresh slot generation capacity now) d)
-fresh_closed slot generation capacity now Up = record { ended = λ h. absurd (cc); empty = λ h. absurd (cc) }
-fresh_closed slot generation capacity now Down = record { ended = λ h. absurd (cc); empty = λ h. absurd (cc) }
+pub fresh_closed : (slot generation capacity now : ℕ) (lead : List ℕ) (d : Direction) → IsClosedLast (stream_of (fresh slot generation capacity now lead) d)
+fresh_closed slot generation capacity now lead Up = record { ended = λ h. absurd (cc); empty = λ h. absurd (cc) }
+fresh_closed slot generation capacity now lead Down = record { ended = λ h. absurd (cc); empty = λ h. absurd (cc) }

@@ -8,7 +8,8 @@ use Rattle.std.proofs.lemmas.Bool.Decides.{nat_tests}
 use Rattle.std.proofs.lemmas.List.{nil_from_length}
 use Rattle.token.specs.declared.direction.Direction.{Direction}
 use Rattle.token.specs.declared.direction.Direction.TheVariants.{Up, Down}
-use Rattle.flow.specs.Stream.{Stream, free_room}
+use Rattle.flow.specs.Stream.{Stream, free_room, waiting, front}
+use Rattle.flow.proofs.Front.{front_offers}
 use Rattle.relay_core.specs.declared.call.Call.{Call}
 use Rattle.relay_core.specs.declared.call.Call.TheVariants.{Write, Join, Shut, Read}
 use Rattle.relay_core.specs.Calls.{direction_of}
@@ -33,11 +34,11 @@ from_not : (b : Bool) → not b ≡ true → b ≡ false
 from_not true h = absurd (cc)
 from_not false h = refl
 
-waits : (s : Stream) (b : Bool) → (is_waiting s && b) ≡ true → 1 ≤ length s.ring
-waits s b h = ltb-true 0 (length s.ring) (first_so (is_waiting s) b h)
+waits : (s : Stream) (b : Bool) → (is_waiting s && b) ≡ true → 1 ≤ length (front s)
+waits s b h = front_offers s (ltb-true 0 (length (waiting s)) (first_so (is_waiting s) b h))
 
-emptied : (s : Stream) → not (is_waiting s) ≡ true → s.ring ≡ []
-emptied s h = nil_from_length s.ring (let e : nat_lt 0 (length s.ring) ≡ false = from_not (is_waiting s) h in grind (arith, nat_tests))
+emptied : (s : Stream) → not (is_waiting s) ≡ true → waiting s ≡ []
+emptied s h = nil_from_length (waiting s) (let e : nat_lt 0 (length (waiting s)) ≡ false = from_not (is_waiting s) h in grind (arith, nat_tests))
 
 pub drained : (s : Stream) → is_drained s ≡ true → IsDrained s
 drained s h =

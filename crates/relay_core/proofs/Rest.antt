@@ -6,7 +6,7 @@ use Rattle.std.proofs.lemmas.Bool.Decides.{nat_tests}
 use Rattle.token.specs.declared.direction.Direction.{Direction}
 use Rattle.token.specs.declared.direction.Direction.TheVariants.{Up, Down}
 use Rattle.token.specs.Sides.{opposite, source, destination}
-use Rattle.flow.specs.Stream.{Stream, free_room}
+use Rattle.flow.specs.Stream.{Stream, free_room, waiting}
 use Rattle.relay_core.specs.declared.call.Call.{Call}
 use Rattle.relay_core.specs.Pairs.{Relay, stream_of, flags_of, is_joined, verdict, is_live}
 use Rattle.relay_core.specs.Order.{is_waiting, is_drained, is_open, call_for}
@@ -44,7 +44,7 @@ idle p d e =
     let third : ((is_drained (stream_of p d) && is_joined p (destination d)) ≡ false) × (_ ≡ None) = none_of_if _ _ _ second.1 in
     let fourth : ((is_open (stream_of p d) && (flags_of p (source d)).read) ≡ false) × (_ ≡ None) = none_of_if _ _ _ third.1 in
     record {
-      waiting = λ h. other_test _ _ first.0 (above_zero (length (stream_of p d).ring) h);
+      waits = λ h. other_test _ _ first.0 (above_zero (length (waiting (stream_of p d))) h);
       unjoined = λ h. other_test _ _ third.0 (drained_so (stream_of p d) h);
       unasked = λ h. other_test _ _ second.0 (drained_joined_so (stream_of p d) (is_joined p (destination d)) h (other_test _ _ third.0 (drained_so (stream_of p d) h)));
       unread = λ unseen room. other_test _ _ fourth.0 (open_so (stream_of p d) unseen room);

@@ -1,16 +1,17 @@
 -- What an answer does to the stream of one direction.
-use Rattle.std.proofs.Common.{◌≡◌, ℕ, ◌≤◌, length, Bool, true, false, List, [], ◌++◌, take, Some, refl, ap, ◌∙◌, sym, append-nil, take-append-drop, inl, inr, ◌⊎◌}
+use Rattle.std.proofs.Common.{◌≡◌, ℕ, ◌≤◌, length, Bool, true, false, List, [], ◌++◌, take, drop, Some, refl, ap, ◌∙◌, sym, append-nil, append_assoc, take-append-drop, inl, inr, ◌⊎◌}
 use Rattle.std.specs.Prelude.{if◌then◌else◌}
 use Rattle.token.specs.declared.side.Side.{Side}
 use Rattle.token.specs.declared.side.Side.TheVariants.{Client, Target}
 use Rattle.token.specs.declared.direction.Direction.{Direction}
 use Rattle.token.specs.declared.direction.Direction.TheVariants.{Up, Down}
-use Rattle.token.specs.Sides.{opposite}
-use Rattle.flow.specs.Stream.{Stream, free_room, taken_in, dropped, ended, closed}
+use Rattle.token.specs.Sides.{opposite, inward}
+use Rattle.flow.specs.Stream.{Stream, free_room, waiting, taken_in, dropped, ended, closed}
+use Rattle.flow.proofs.Front.{waiting-dropped, take-front}
 use Rattle.relay_core.specs.declared.call.Call.{Call}
 use Rattle.relay_core.specs.Calls.{side_of, direction_of}
 use Rattle.relay_core.specs.Pairs.{Flags, Relay, stream_of, with_stream, with_flags, flags_of, mark_joined, with_sent}
-use Rattle.relay_core.specs.Order.{next_call}
+use Rattle.relay_core.specs.Order.{next_call, offer}
 use Rattle.relay_core.specs.Replies.{AnswerValue, Bytes, End, Wrote, Joined, Shut, Blocked, Interrupted, Failed, fits, change_stream, without_flag, effect, after}
 use Rattle.relay_core.specs.Moved.{same_way, carried}
 use Rattle.relay_core.specs.Laws.{IsDrained, IsClosedLast, PassesEndLast, KeepsOrder}
@@ -93,32 +94,38 @@ stream_after now p d call (Failed kind) =
     failed_keeps Down = refl
 
 -- the order of bytes, by what the answer does
-read_order : (b : Bool) (s : Stream) (bytes : List ℕ) → s.ring ++ (if b then bytes else []) ≡ (if b then taken_in s bytes else s).ring
-read_order true s bytes = refl
-read_order false s bytes = append-nil s.ring
+read_order : (b : Bool) (s : Stream) (bytes : List ℕ) → waiting s ++ (if b then bytes else []) ≡ waiting (if b then taken_in s bytes else s)
+read_order true s bytes = append_assoc s.lead s.ring bytes
+read_order false s bytes = append-nil (waiting s)
 
-written_order : (b : Bool) (s : Stream) (n : ℕ) → s.ring ++ [] ≡ (if b then take n s.ring else []) ++ (if b then dropped s n else s).ring
-written_order true s n = append-nil s.ring ∙ sym (take-append-drop n s.ring)
-written_order false s n = append-nil s.ring
+written_order : (b : Bool) (s : Stream) (n : ℕ) → waiting s ++ [] ≡ (if b then take n (waiting s) else []) ++ waiting (if b then dropped s n else s)
+written_order true s n =
+    append-nil (waiting s)
+    ∙ sym (ap (λ (rest : List ℕ). take n (waiting s) ++ rest) (waiting-dropped s n) ∙ take-append-drop n (waiting s))
+written_order false s n = append-nil (waiting s)
 
-same_order : (b : Bool) (s t : Stream) → t.ring ≡ s.ring → s.ring ++ [] ≡ (if b then t else s).ring
-same_order true s t e = append-nil s.ring ∙ sym e
-same_order false s t e = append-nil s.ring
+same_order : (b : Bool) (s t : Stream) → waiting t ≡ waiting s → waiting s ++ [] ≡ waiting (if b then t else s)
+same_order true s t e = append-nil (waiting s) ∙ sym e
+same_order false s t e = append-nil (waiting s)
 
-ring_after : (now : ℕ) (p : Relay) (d : Direction) (call : Call) (reply : AnswerValue) → (if same_way (direction_of call) d then served reply (stream_of p d) else stream_of p d).ring ≡ (stream_of (after now p call reply) d).ring
-ring_after now p d call reply = sym (ap (λ (s : Stream). s.ring) (stream_after now p d call reply))
+waiting_after : (now : ℕ) (p : Relay) (d : Direction) (call : Call) (reply : AnswerValue) → waiting (if same_way (direction_of call) d then served reply (stream_of p d) else stream_of p d) ≡ waiting (stream_of (after now p call reply) d)
+waiting_after now p d call reply = sym (ap (λ (s : Stream). waiting s) (stream_after now p d call reply))
 
 pub after_keeps_order : (now : ℕ) (p : Relay) (call : Call) (reply : AnswerValue) → KeepsOrder p call reply (after now p call reply)
-after_keeps_order now p call (Bytes bytes) = λ d. read_order (same_way (direction_of call) d) (stream_of p d) bytes ∙ ring_after now p d call (Bytes bytes)
-after_keeps_order now p call End = λ d. same_order (same_way (direction_of call) d) (stream_of p d) (ended (stream_of p d)) refl ∙ ring_after now p d call End
+after_keeps_order now p call (Bytes bytes) = λ d. read_order (same_way (direction_of call) d) (stream_of p d) bytes ∙ waiting_after now p d call (Bytes bytes)
+after_keeps_order now p call End = λ d. same_order (same_way (direction_of call) d) (stream_of p d) (ended (stream_of p d)) refl ∙ waiting_after now p d call End
 after_keeps_order now p call (Wrote n) = λ d.
     written_order (same_way (direction_of call) d) (stream_of p d) n
-    ∙ ap (λ (ring : List ℕ). carried p d call (Wrote n) ++ ring) (ring_after now p d call (Wrote n))
-after_keeps_order now p call Joined = λ d. same_order (same_way (direction_of call) d) (stream_of p d) (stream_of p d) refl ∙ ring_after now p d call Joined
-after_keeps_order now p call Shut = λ d. same_order (same_way (direction_of call) d) (stream_of p d) (closed (stream_of p d)) refl ∙ ring_after now p d call Shut
-after_keeps_order now p call Blocked = λ d. same_order (same_way (direction_of call) d) (stream_of p d) (stream_of p d) refl ∙ ring_after now p d call Blocked
-after_keeps_order now p call Interrupted = λ d. same_order (same_way (direction_of call) d) (stream_of p d) (stream_of p d) refl ∙ ring_after now p d call Interrupted
-after_keeps_order now p call (Failed kind) = λ d. same_order (same_way (direction_of call) d) (stream_of p d) (stream_of p d) refl ∙ ring_after now p d call (Failed kind)
+    ∙ ap (λ (rest : List ℕ). carried p d call (Wrote n) ++ rest) (waiting_after now p d call (Wrote n))
+after_keeps_order now p call Joined = λ d. same_order (same_way (direction_of call) d) (stream_of p d) (stream_of p d) refl ∙ waiting_after now p d call Joined
+after_keeps_order now p call Shut = λ d. same_order (same_way (direction_of call) d) (stream_of p d) (closed (stream_of p d)) refl ∙ waiting_after now p d call Shut
+after_keeps_order now p call Blocked = λ d. same_order (same_way (direction_of call) d) (stream_of p d) (stream_of p d) refl ∙ waiting_after now p d call Blocked
+after_keeps_order now p call Interrupted = λ d. same_order (same_way (direction_of call) d) (stream_of p d) (stream_of p d) refl ∙ waiting_after now p d call Interrupted
+after_keeps_order now p call (Failed kind) = λ d. same_order (same_way (direction_of call) d) (stream_of p d) (stream_of p d) refl ∙ waiting_after now p d call (Failed kind)
+
+-- what a write takes of its offer are the first bytes that wait
+pub take-offer : (p : Relay) (side : Side) (n : ℕ) → n ≤ length (offer p side) → take n (offer p side) ≡ take n (waiting (stream_of p (inward side)))
+take-offer p side n h = take-front (stream_of p (inward side)) n h
 
 -- bytes leave in the order in which they came
 pub order_kept : (now : ℕ) (p : Relay) (call : Call) (reply : AnswerValue) (q : Relay) → q ≡ after now p call reply → KeepsOrder p call reply q
@@ -172,7 +179,7 @@ closed_last : (b : Bool) (reply : AnswerValue) (s : Stream) → (b ≡ true → 
 closed_last false reply s open_end drained c = c
 closed_last true (Bytes bytes) s open_end drained c = record { ended = c.ended; empty = λ h. let seen : s.end_seen ≡ true = c.ended h in let unseen : s.end_seen ≡ false = open_end refl bytes refl in absurd (cc) }
 closed_last true End s open_end drained c = record { ended = λ h. refl; empty = c.empty }
-closed_last true (Wrote n) s open_end drained c = record { ended = c.ended; empty = λ h. rw (c.empty h) (drop-nil n) }
+closed_last true (Wrote n) s open_end drained c = record { ended = c.ended; empty = λ h. waiting-dropped s n ∙ (ap (λ (bytes : List ℕ). drop n bytes) (c.empty h) ∙ drop-nil n) }
 closed_last true Shut s open_end drained c = record { ended = λ h. (drained refl refl).ended; empty = λ h. (drained refl refl).empty }
 closed_last true Joined s open_end drained c = c
 closed_last true Blocked s open_end drained c = c

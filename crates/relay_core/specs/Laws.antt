@@ -2,7 +2,7 @@
 use Rattle.std.specs.Prelude.{◌≡◌, ◌↔◌, ℕ, ◌-◌, ◌≤◌, ◌⊎◌, true, false, List, [], ◌++◌, length, map, Some, None}
 use Rattle.token.specs.declared.direction.Direction.{Direction}
 use Rattle.token.specs.Sides.{source, destination, inward, outward}
-use Rattle.flow.specs.Stream.{Stream, free_room}
+use Rattle.flow.specs.Stream.{Stream, free_room, waiting}
 use Rattle.relay_core.specs.declared.call.Call.{Call}
 use Rattle.relay_core.specs.declared.call.Call.TheVariants.{Write, Join, Shut, Read}
 use Rattle.token.specs.declared.kind.Kind.{Kind}
@@ -21,7 +21,7 @@ use Rattle.relay_core.specs.Events.{Event, Answered, through, ever_brought, ever
 -- the end of input came, every byte before it has left, and it is still to be passed on
 pub record IsDrained (stream : Stream) : Type 0 where
   pub ended : stream.end_seen ≡ true
-  pub empty : stream.ring ≡ []
+  pub empty : waiting stream ≡ []
   pub kept : stream.shut ≡ false
 
 -- there is room for what a read asks for, and no end of input came before
@@ -42,7 +42,7 @@ IsPossible p (Read side most) = HasRoomFor (stream_of p (outward side)) most
 -- where the end of input was passed on, it was seen, and no byte waits or can come
 pub record IsClosedLast (stream : Stream) : Type 0 where
   pub ended : stream.shut ≡ true → stream.end_seen ≡ true
-  pub empty : stream.shut ≡ true → stream.ring ≡ []
+  pub empty : stream.shut ≡ true → waiting stream ≡ []
 
 -- in one direction: the end of input is passed on only after every byte, and for good
 pub record PassesEndLast (old new : Stream) : Type 0 where
@@ -53,7 +53,7 @@ pub record PassesEndLast (old new : Stream) : Type 0 where
 -- in each direction: what was there and what came in is what went out and what is there now, in order
 abbrev pub KeepsOrder : Relay → Call → AnswerValue → Relay → Type 0
 KeepsOrder old call reply new =
-    (d : Direction) → (stream_of old d).ring ++ brought d call reply ≡ carried old d call reply ++ (stream_of new d).ring
+    (d : Direction) → waiting (stream_of old d) ++ brought d call reply ≡ carried old d call reply ++ waiting (stream_of new d)
 
 -- the call failed, and the fault tells of this call and how it failed
 pub record TellsOf (made : Call) (reply : AnswerValue) (fault : Fault) : Type 0 where
@@ -83,7 +83,7 @@ place_of p = record { slot = p.slot; generation = p.generation; up_capacity = p.
 -- no call serves this direction: bytes that wait have no writable destination, an end that is to be passed
 -- on has one that neither is connected nor can be asked, and a ring with room has no readable source
 pub record IsAtRest (p : Relay) (d : Direction) : Type 0 where
-  pub waiting : 1 ≤ length (stream_of p d).ring → (flags_of p (destination d)).write ≡ false
+  pub waits : 1 ≤ length (waiting (stream_of p d)) → (flags_of p (destination d)).write ≡ false
   pub unjoined : IsDrained (stream_of p d) → is_joined p (destination d) ≡ false
   pub unasked : IsDrained (stream_of p d) → (flags_of p (destination d)).write ≡ false
   pub unread : (stream_of p d).end_seen ≡ false → 1 ≤ free_room (stream_of p d) → (flags_of p (source d)).read ≡ false
@@ -168,20 +168,20 @@ ExpiriesChangeVerdictAlone = (now limit : ℕ) (p : Relay) → expired now limit
 abbrev pub RunsKeepOrder : Type 0
 RunsKeepOrder =
     (p q : Relay) (events : List Event) → through p events ≡ Some q →
-    (d : Direction) → (stream_of p d).ring ++ ever_brought p d events ≡ ever_carried p d events ++ (stream_of q d).ring
+    (d : Direction) → waiting (stream_of p d) ++ ever_brought p d events ≡ ever_carried p d events ++ waiting (stream_of q d)
 
 -- a pair that passed on no end before its bytes goes on so, and one on which an end was passed on has
 -- passed on every byte that it ever had or read
 pub record RunPassesEndLast (p q : Relay) (events : List Event) : Type 0 where
   pub kept : KeepsEndLast q
-  pub last : (d : Direction) → (stream_of q d).shut ≡ true → ever_carried p d events ≡ (stream_of p d).ring ++ ever_brought p d events
+  pub last : (d : Direction) → (stream_of q d).shut ≡ true → ever_carried p d events ≡ waiting (stream_of p d) ++ ever_brought p d events
 
 abbrev pub RunsPassEndLast : Type 0
 RunsPassEndLast =
     (p q : Relay) (events : List Event) → KeepsEndLast p → through p events ≡ Some q → RunPassesEndLast p q events
 
 abbrev pub FreshPairsKeepEndLast : Type 0
-FreshPairsKeepEndLast = (slot generation capacity now : ℕ) → KeepsEndLast (fresh slot generation capacity now)
+FreshPairsKeepEndLast = (slot generation capacity now : ℕ) (lead : List ℕ) → KeepsEndLast (fresh slot generation capacity now lead)
 
 abbrev pub RunsKeepPlace : Type 0
 RunsKeepPlace = (p q : Relay) (events : List Event) → through p events ≡ Some q → place_of q ≡ place_of p

@@ -5,14 +5,14 @@ use Rattle.token.specs.declared.direction.Direction.{Direction}
 use Rattle.token.specs.declared.side.Side.{Side}
 use Rattle.token.specs.Sides.{inward}
 use Rattle.flow.specs.Stream.{Stream}
-use Rattle.flow.specs.Lending.{with_ring}
+use Rattle.flow.specs.Lending.{with_front}
 use Rattle.flow.specs.contracts.flow.Flow as flow
 use Rattle.relay_core.specs.Pairs.{Relay, stream_of, with_stream}
 use Rattle.relay_core.specs.contracts.pair.Pair.{the_row}
 
--- the ring of what is bound for a side holds what now stands in the place of its bytes
+-- the front of what is bound for a side holds what now stands in the place of its bytes
 abbrev pub with_offer : Relay → Side → List ℕ → Relay
-with_offer p side bytes = with_stream p (inward side) (with_ring (stream_of p (inward side)) bytes)
+with_offer p side bytes = with_stream p (inward side) (with_front (stream_of p (inward side)) bytes)
 
 -- the pair lends the bytes that are bound for a side: nothing else changes, and they only if they are
 -- written to

@@ -10,3 +10,4 @@ pub mod Moved
 pub mod Events
 pub mod Laws
 pub mod Lending
+pub mod Proxy

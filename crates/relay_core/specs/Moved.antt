@@ -2,6 +2,7 @@
 use Rattle.std.specs.Prelude.{ℕ, Bool, true, false, if◌then◌else◌, List, [], ◌∷◌, ◌++◌, take, Option, option_map, unwrap_or}
 use Rattle.token.specs.declared.direction.Direction.{Direction}
 use Rattle.token.specs.declared.direction.Direction.TheVariants.{Up, Down}
+use Rattle.flow.specs.Stream.{waiting}
 use Rattle.relay_core.specs.declared.call.Call.{Call}
 use Rattle.relay_core.specs.Calls.{direction_of}
 use Rattle.relay_core.specs.Pairs.{Relay, stream_of}
@@ -20,9 +21,9 @@ abbrev pub brought : Direction → Call → AnswerValue → List ℕ
 brought d call (Bytes bytes) = if same_way (direction_of call) d then bytes else []
 brought d call reply = []
 
--- the bytes that an answer takes out
+-- the bytes that an answer takes out, which are the first of an offer
 abbrev pub carried : Relay → Direction → Call → AnswerValue → List ℕ
-carried p d call (Wrote n) = if same_way (direction_of call) d then take n (stream_of p d).ring else []
+carried p d call (Wrote n) = if same_way (direction_of call) d then take n (waiting (stream_of p d)) else []
 carried p d call reply = []
 
 -- nothing, where there is no call

@@ -4,14 +4,14 @@ use Rattle.std.specs.Option.{option_or}
 use Rattle.token.specs.declared.side.Side.{Side}
 use Rattle.token.specs.declared.direction.Direction.{Direction}
 use Rattle.token.specs.Sides.{source, destination, opposite, inward}
-use Rattle.flow.specs.Stream.{Stream, free_room}
+use Rattle.flow.specs.Stream.{Stream, free_room, waiting, front}
 use Rattle.relay_core.specs.declared.call.Call.{Call}
 use Rattle.relay_core.specs.declared.call.Call.TheVariants.{Write, Join, Shut, Read}
 use Rattle.relay_core.specs.Pairs.{Relay, stream_of, flags_of, is_joined, verdict, is_live}
 
--- bytes wait in the ring
+-- bytes wait, of the lead or in the ring
 abbrev pub is_waiting : Stream → Bool
-is_waiting stream = nat_lt 0 (length stream.ring)
+is_waiting stream = nat_lt 0 (length (waiting stream))
 
 -- every byte has left after the end of input, and the end itself is still to be passed on
 abbrev pub is_drained : Stream → Bool
@@ -39,6 +39,6 @@ call_for p d =
 abbrev pub next_call : Relay → Option Call
 next_call p = if is_live (verdict p) then option_or (call_for p p.turn) (call_for p (opposite p.turn)) else None
 
--- the bytes that are bound for a side: a write offers them all
+-- what a write to a side offers: the lead of what is bound for it while that is not empty, and then the ring
 abbrev pub offer : Relay → Side → List ℕ
-offer p side = (stream_of p (inward side)).ring
+offer p side = front (stream_of p (inward side))

@@ -1,6 +1,6 @@
 -- One connection, as the relay keeps it. Part of the promises. That is a stream of bytes for each direction, and for
 -- each side's socket what the relay believes of its readiness.
-use Rattle.std.specs.Prelude.{ℕ, Bool, true, false, ◌&&◌, Option, Some, None}
+use Rattle.std.specs.Prelude.{ℕ, Bool, true, false, ◌&&◌, List, [], Option, Some, None}
 use Rattle.token.specs.declared.side.Side.{Side}
 use Rattle.token.specs.declared.side.Side.TheVariants.{Client, Target}
 use Rattle.token.specs.declared.direction.Direction.{Direction}
@@ -34,13 +34,13 @@ pub record Relay : Type 0 where
 abbrev pub ready : Flags
 ready = record { read = true; write = true }
 
--- a connection that was made at the second `now`
-abbrev pub fresh : ℕ → ℕ → ℕ → ℕ → Relay
-fresh slot generation capacity now = record {
+-- a connection that was made at the second `now`, with a lead for the target
+abbrev pub fresh : ℕ → ℕ → ℕ → ℕ → List ℕ → Relay
+fresh slot generation capacity now lead = record {
   slot = slot;
   generation = generation;
-  up = empty_stream capacity;
-  down = empty_stream capacity;
+  up = empty_stream capacity lead;
+  down = empty_stream capacity [];
   client = ready;
   target = ready;
   joined = false;

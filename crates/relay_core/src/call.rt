@@ -6,7 +6,7 @@ use token::{Direction, Side};
 /// A call on one of a connection's two sockets. It never waits.
 #[derive(Clone, Copy, Debug, PartialEq, Eq)]
 pub enum Call {
-    /// write(2) to this side, offering all bytes that are bound for it.
+    /// write(2) to this side, offering the rest of its lead, or else all bytes in the ring that are bound for it.
     Write(Side),
     /// Asks whether this side's connect(2) has completed, so that shutdown(2) is not called on a socket that is still
     /// connecting.

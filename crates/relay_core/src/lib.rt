@@ -4,7 +4,7 @@
 //! A [`Pair`] is one connection. It makes no calls itself. Its owner asks for the [`Pair::next`] call, makes it, and
 //! gives the [`Answer`] back:
 //!
-//! - a write offers all bytes that are bound for a side ([`Pair::offer`]);
+//! - a write offers the rest of the lead, or else all bytes in the ring that are bound for a side ([`Pair::offer`]);
 //! - once a source has ended and every byte has left, sending is shut down on the destination's socket, so a
 //!   half-closed connection continues in the other direction; if no call has shown yet that the destination is
 //!   connected, it is asked first;
@@ -14,13 +14,16 @@
 //! block", and only that answer, never a short count, keeps it from being tried again before the next report
 //! ([`Pair::note`], epoll(7)). When nothing is left to try, `next` is none.
 //!
+//! A pair may be made with a lead: bytes that the target is sent before the client's own. [`proxy_line`] makes such a lead,
+//! which tells the target who its client is.
+//!
 //! The pair knows the second at which it last moved ([`Answer::moves`]), since its owner says at which second an answer
 //! came. A pair that moved nothing for a limit, and has nothing left to try, can be failed ([`Pair::expire`]).
 //!
 //! The definitions are in `specs/`: the pair and its verdict in `Pairs.antt`, the order of work in `Order.antt`, what
 //! each answer does in `Replies.antt`, lists of answers in `Runs.antt`, the bytes that they move in `Moved.antt`, the
-//! idle limit in `Idle.antt`, answers, reports and expiries in `Events.antt`, what an offer lends in `Lending.antt`, and
-//! what follows from all this in `Laws.antt`. [`laws`] states each law about all pairs as the contract of a function.
+//! idle limit in `Idle.antt`, answers, reports and expiries in `Events.antt`, what an offer lends in `Lending.antt`, the
+//! line in `Proxy.antt`, and what follows from all this in `Laws.antt`. [`laws`] states each law about all pairs as the contract of a function.
 #![tactic(auto)]
 
 mod answer;
@@ -28,6 +31,7 @@ mod call;
 mod flags;
 pub mod laws;
 mod pair;
+mod proxy;
 #[cfg(test)]
 mod tests;
 mod verdict;
@@ -36,5 +40,6 @@ pub use answer::Answer;
 pub use call::{Call, CallKind};
 pub use flags::Flags;
 pub use pair::{MAX_READ, Pair};
+pub use proxy::proxy_line;
 pub use token::{Direction, Kind, Side};
 pub use verdict::{Fault, Verdict};

@@ -52,25 +52,28 @@ impl Pair {
     ghost use Rattle.relay_core.specs.Lending.{with_offer, LendsOffer, LendsStream};
 
     /// A new connection, in a slot that has been opened `generation` times, with a ring of `capacity` bytes, 1 to
-    /// 65,536, for each direction, made at the second `now`. This allocates all the memory that the pair will ever use.
+    /// 65,536, for each direction, made at the second `now`. The target is sent `lead`, 0 to 107 bytes, before the client's
+    /// own bytes. This allocates all the memory that the pair will ever use.
     ///
-    /// Fails only if there is no memory for one of the two rings; then no pair is made.
+    /// Fails only if there is no memory for a ring or the lead; then no pair is made.
     pub fn new(
         alloc: Global,
         slot: usize,
         generation: u64,
         capacity: usize,
         now: u64,
+        lead: &[u8],
     ) -> Result<Pair, AllocError>
         requires least { 1 ≤ capacity }
         requires most { capacity ≤ 65536 }
-        ensures { IfOk result (λ pair. pair ≡ fresh slot generation capacity now) }
+        requires short { length lead.now ≤ 107 }
+        ensures { IfOk result (λ pair. pair ≡ fresh slot generation capacity now lead.now) }
     {
         Ok(Pair {
             slot,
             generation,
-            up: Flow::new(alloc, capacity)?,
-            down: Flow::new(alloc, capacity)?,
+            up: Flow::new(alloc, capacity, lead)?,
+            down: Flow::new(alloc, capacity, &[])?,
             client: Flags::READY,
             target: Flags::READY,
             joined: false,
@@ -98,8 +101,8 @@ impl Pair {
         }
     }
 
-    /// The bytes that are bound for a side, which a write to it offers. They are lent to be read: if nothing is written
-    /// into them, the pair stays as it was.
+    /// What a write to a side offers of the bytes that are bound for it: the rest of the lead, or if that is nothing, all
+    /// that wait in the ring. They are lent to be read: if nothing is written into them, the pair stays as it was.
     pub fn offer(&mut self, side: Side) -> &mut [u8]
         ensures* lends { sem 𝓛 (LendsOffer self.entry side result) }
         ensures value { result.now ≡ offer self.old side }
@@ -118,7 +121,7 @@ impl Pair {
         match (call, answer) {
             (_, Answer::Interrupted | Answer::Failed(_)) => true,
             (Call::Read(_, most), Answer::Bytes(bytes)) => !bytes.is_empty() && bytes.len() <= most,
-            (Call::Write(side), Answer::Wrote(n)) => n > 0 && n <= self.bound_for(side).len(),
+            (Call::Write(side), Answer::Wrote(n)) => n > 0 && n <= self.bound_for(side).front_len(),
             (Call::Read(_, _), Answer::End | Answer::Blocked)
             | (Call::Write(_), Answer::Blocked)
             | (Call::Join(_), Answer::Joined | Answer::Blocked)
@@ -181,7 +184,7 @@ impl Pair {
         }
     }
 
-    /// How many bytes writes took, up and down; each count stops at the largest `u64`.
+    /// How many bytes writes took, up and down, those of the lead among them; each count stops at the largest `u64`.
     pub fn counts(&self) -> (u64, u64)
         ensures up { result.0 ≡ self.now.sent_up }
         ensures down { result.1 ≡ self.now.sent_down }
@@ -237,14 +240,30 @@ impl Pair {
         self.turn
     }
 
-    /// How many bytes wait in one direction.
+    /// How many bytes are left of the lead of one direction. A lead is bound for the target, so that of the way down is
+    /// empty.
+    pub fn lead_len(&self, direction: Direction) -> usize
+        ensures { result ≡ length (stream_of self.now direction).lead }
+    {
+        self.flow(direction).lead_len()
+    }
+
+    /// The byte at index `i` of what is left of the lead of one direction, 0 for the next one to go out.
+    pub fn lead_byte(&self, direction: Direction, i: usize) -> u8
+        requires { i < length (stream_of self.now direction).lead }
+        ensures { result ≡ slice_index (stream_of self.now direction).lead i }
+    {
+        self.flow(direction).lead_byte(i)
+    }
+
+    /// How many bytes wait in the ring of one direction.
     pub fn ring_len(&self, direction: Direction) -> usize
         ensures { result ≡ length (stream_of self.now direction).ring }
     {
         self.flow(direction).len()
     }
 
-    /// The byte at index `i` of those that wait in one direction, 0 for the oldest.
+    /// The byte at index `i` of those that wait in the ring of one direction, 0 for the oldest.
     pub fn ring_byte(&self, direction: Direction, i: usize) -> u8
         requires { i < length (stream_of self.now direction).ring }
         ensures { result ≡ slice_index (stream_of self.now direction).ring i }
@@ -360,7 +379,7 @@ impl Pair {
         let flow = self.flow(direction);
         let source = direction.source();
         let destination = direction.destination();
-        if !flow.is_empty() && self.flags(destination).write {
+        if !flow.is_drained() && self.flags(destination).write {
             Some(Call::Write(destination))
         } else if flow.end_seen() {
             self.call_at_end(direction)
@@ -380,7 +399,7 @@ impl Pair {
     {
         let flow = self.flow(direction);
         let destination = direction.destination();
-        if !flow.is_empty() || flow.is_shut() {
+        if !flow.is_drained() || flow.is_shut() {
             None
         } else if self.joined(destination) {
             Some(Call::Shut(destination))

@@ -1,4 +1,5 @@
 mod idle;
+mod proxy;
 mod sessions;
 
 use super::*;
@@ -82,9 +83,29 @@ fn first_wrong_fit(pair: &Pair) -> Option<usize> {
 
 #[test]
 fn answers_that_fit(rt: HostRuntime) -> Result<(), Fail> {
-    let mut pair = Pair::new(rt.alloc(), 0, 1, 4, 0)?;
+    let mut pair = Pair::new(rt.alloc(), 0, 1, 4, 0, b"")?;
     assert!(rt; answered(&mut pair, Call::Read(CLIENT, 4), Answer::Bytes(b"abc")));
     assert_eq!(rt; first_wrong_fit(&pair), None);
+    Ok(())
+}
+
+/// How many bytes a write may take while two are left of the lead and three are in the ring.
+static OF_A_LEAD: [Fit; 4] = [
+    (WRITE, Answer::Wrote(1), true),
+    (WRITE, Answer::Wrote(2), true),
+    (WRITE, Answer::Wrote(3), false),
+    (WRITE, Answer::Wrote(5), false),
+];
+
+#[test]
+fn writes_take_the_lead_alone(rt: HostRuntime) -> Result<(), Fail> {
+    let mut pair = Pair::new(rt.alloc(), 0, 1, 4, 0, b"PR")?;
+    assert!(rt; answered(&mut pair, WRITE, Answer::Blocked));
+    assert!(rt; answered(&mut pair, Call::Read(TARGET, 4), Answer::Blocked));
+    assert!(rt; answered(&mut pair, Call::Read(CLIENT, 4), Answer::Bytes(b"abc")));
+    for (call, answer, want) in &OF_A_LEAD {
+        assert_eq!(rt; pair.fits(*call, *answer), *want);
+    }
     Ok(())
 }
 
@@ -103,6 +124,7 @@ fn first_call(alloc: Global, capacity: usize) -> Result<(usize, u64, Option<Call
         LAST_GENERATION,
         capacity.clamp(1, 65_536),
         0,
+        b"",
     )?;
     Ok((pair.slot(), pair.generation(), pair.next()))
 }

@@ -139,7 +139,7 @@ fn fresh_wire(
 
 fn fresh_session(alloc: Global, (up, down): Given) -> Result<Session, AllocError> {
     Ok(Session {
-        pair: Pair::new(alloc, 0, 1, 4, 0)?,
+        pair: Pair::new(alloc, 0, 1, 4, 0, b"")?,
         client: fresh_wire(alloc, true, up, down.len())?,
         target: fresh_wire(alloc, false, down, up.len())?,
     })

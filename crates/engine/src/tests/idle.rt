@@ -23,7 +23,7 @@ static ROWS: [Row; 8] = [
 
 fn opened(alloc: Global, reads: &[Cue]) -> Result<Session, AllocError> {
     let client = Part { reads, ..SILENT };
-    open(alloc, 4, &client, &SILENT)
+    open(alloc, 4, b"", &client, &SILENT)
 }
 
 /// The outcome of the turn, the second of the last movement, and whether the connection failed by being idle.

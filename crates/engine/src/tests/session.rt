@@ -1,5 +1,5 @@
 // A connection as a test plays it: a pair, and a wire on each side.
-ghost use Rattle.std.specs.Prelude.{◌≤◌};
+ghost use Rattle.std.specs.Prelude.{◌≤◌, length};
 
 use super::*;
 use relay_core::{Call, Direction, Pair, Side, Verdict};
@@ -26,13 +26,20 @@ pub struct Seen {
     pub target: (u64, u64),
 }
 
-/// A fresh connection with rings of this many bytes, over wires that play these.
-pub fn open(alloc: Global, ring: usize, client: &Part, target: &Part) -> Result<Session, AllocError>
+/// A fresh connection with rings of this many bytes and a lead for the target, over wires that play these.
+pub fn open(
+    alloc: Global,
+    ring: usize,
+    lead: &[u8],
+    client: &Part,
+    target: &Part,
+) -> Result<Session, AllocError>
     requires small { 1 ≤ ring }
     requires large { ring ≤ 65536 }
+    requires short { length lead.now ≤ 107 }
 {
     Ok(Session {
-        pair: Pair::new(alloc, 0, 1, ring, 0)?,
+        pair: Pair::new(alloc, 0, 1, ring, 0, lead)?,
         client: wire_of(alloc, client)?,
         target: wire_of(alloc, target)?,
     })
@@ -83,7 +90,7 @@ pub fn was_given(session: &Session, client: &[u8], target: &[u8]) -> bool {
     session.client.written() == client && session.target.written() == target
 }
 
-/// Whether these bytes wait in the ring towards the target.
+/// Whether the next write to the target offers these bytes.
 pub fn has_waiting(session: &mut Session, waiting: &[u8]) -> bool {
     &*session.pair.offer(Side::Target) == waiting
 }

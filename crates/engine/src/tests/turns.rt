@@ -267,7 +267,7 @@ fn play(
     requires small { 1 ≤ ring }
     requires large { ring ≤ 65536 }
 {
-    let mut session = open(alloc, ring, client, target)?;
+    let mut session = open(alloc, ring, b"", client, target)?;
     let (seen, again) = turn_seen(&mut session, budget.clamp(1, 1_024));
     let is_given = was_given(&session, client.given, target.given);
     Ok((seen, again, is_given && has_waiting(&mut session, waiting)))
@@ -347,6 +347,40 @@ fn fills_the_default_ring(rt: HostRuntime) -> Result<(), Fail> {
     for bytes in [&FULL[..1], &FULL[..16_383], &FULL[..]] {
         let played = play_through(rt.alloc(), bytes)?;
         assert_eq!(rt; played, (want, want, true));
+    }
+    Ok(())
+}
+
+/// The calls of a turn, what the target was given by its end, and what it is offered next.
+static LED: [(usize, &[u8], &[u8]); 3] = [(3, b"", b"PR"), (2, b"PR", b"abc"), (2, b"PRabc", b"")];
+
+/// A connection with a lead: three bytes come from the client while the target takes nothing, and then the target takes
+/// as many bytes as it is offered.
+fn led(alloc: Global) -> Result<Session, AllocError> {
+    let target = Part {
+        joined: false,
+        writes: &[Cue::Blocked, Cue::Take(9), Cue::Take(9)],
+        ..SILENT
+    };
+    open(alloc, 4, b"PR", &giving(&[Cue::Bytes(b"abc")]), &target)
+}
+
+/// Whether a turn after a report leaves this.
+fn leaves(session: &mut Session, budget: usize, given: &[u8], offered: &[u8]) -> bool {
+    session.pair.note();
+    take_turn(session, budget.clamp(1, 1_024));
+    was_given(session, b"", given) && has_waiting(session, offered)
+}
+
+// Each write offers what is left of the lead, or the ring, and never both.
+#[test]
+fn writes_the_lead_and_then_the_ring(rt: HostRuntime) -> Result<(), Fail> {
+    let mut session = led(rt.alloc())?;
+    for (index, (budget, given, offered)) in LED.iter().enumerate() {
+        assert!(rt;
+            leaves(&mut session, *budget, given, offered),
+            "turn {index}"
+        );
     }
     Ok(())
 }

@@ -53,7 +53,7 @@ static LIMITS: [(u64, u64, bool); 9] = [
 ];
 
 fn rested(alloc: Global) -> Result<(Pair, Option<usize>), AllocError> {
-    let mut pair = Pair::new(alloc, 0, 1, 4, 100)?;
+    let mut pair = Pair::new(alloc, 0, 1, 4, 100, b"")?;
     let wrong = first_wrong(&mut pair);
     Ok((pair, wrong))
 }

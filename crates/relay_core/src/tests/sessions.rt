@@ -1,7 +1,8 @@
 // Sessions of one connection, in stages: what the next calls are answered, and what the pair shows then.
 use super::*;
 
-/// What a pair shows: up before down, and the target's side of what is joined, since the client always is.
+/// What a pair shows: up before down, the target's side of what is joined, since the client always is, and what is left of
+/// the lead.
 #[derive(Clone, Copy)]
 struct Shown {
     next: Option<Call>,
@@ -10,6 +11,7 @@ struct Shown {
     shut: (bool, bool),
     joined: bool,
     counts: (u64, u64),
+    lead: &'static [u8],
     up: &'static [u8],
     down: &'static [u8],
 }
@@ -22,6 +24,7 @@ const STILL: Shown = Shown {
     shut: (false, false),
     joined: false,
     counts: (0, 0),
+    lead: b"",
     up: b"",
     down: b"",
 };
@@ -39,15 +42,17 @@ struct Session {
     slot: usize,
     generation: u64,
     capacity: usize,
+    lead: &'static [u8],
     stages: &'static [Stage],
 }
 
-static SESSIONS: [Session; 6] = [
+static SESSIONS: [Session; 8] = [
     Session {
         name: "the first calls",
         slot: 0,
         generation: 1,
         capacity: 4,
+        lead: b"",
         stages: &[
             Stage {
                 reported: false,
@@ -91,6 +96,7 @@ static SESSIONS: [Session; 6] = [
         slot: 7,
         generation: 3,
         capacity: 4,
+        lead: b"",
         stages: &[
             Stage {
                 reported: false,
@@ -157,6 +163,7 @@ static SESSIONS: [Session; 6] = [
         slot: 0,
         generation: 1,
         capacity: 4,
+        lead: b"",
         stages: &[
             Stage {
                 reported: false,
@@ -212,6 +219,7 @@ static SESSIONS: [Session; 6] = [
         slot: 0,
         generation: 1,
         capacity: 4,
+        lead: b"",
         stages: &[Stage {
             reported: false,
             steps: &[
@@ -234,6 +242,7 @@ static SESSIONS: [Session; 6] = [
         slot: 0,
         generation: 1,
         capacity: 8,
+        lead: b"",
         stages: &[
             Stage {
                 reported: false,
@@ -276,6 +285,7 @@ static SESSIONS: [Session; 6] = [
         slot: 0,
         generation: 1,
         capacity: 1,
+        lead: b"",
         stages: &[Stage {
             reported: false,
             steps: &[
@@ -294,6 +304,107 @@ static SESSIONS: [Session; 6] = [
             },
         }],
     },
+    // The target takes the lead byte by byte, and then the client's bytes, which came meanwhile.
+    Session {
+        name: "a lead byte by byte",
+        slot: 0,
+        generation: 1,
+        capacity: 4,
+        lead: b"PR",
+        stages: &[
+            Stage {
+                reported: false,
+                steps: &[
+                    (Call::Write(TARGET), Answer::Wrote(1)),
+                    (Call::Read(TARGET, 4), Answer::Blocked),
+                    (Call::Write(TARGET), Answer::Blocked),
+                    (Call::Read(CLIENT, 4), Answer::Bytes(b"abc")),
+                ],
+                shown: Shown {
+                    next: Some(Call::Read(CLIENT, 1)),
+                    joined: true,
+                    counts: (1, 0),
+                    lead: b"R",
+                    up: b"abc",
+                    ..STILL
+                },
+            },
+            Stage {
+                reported: true,
+                steps: &[
+                    (Call::Read(TARGET, 4), Answer::Blocked),
+                    (Call::Write(TARGET), Answer::Wrote(1)),
+                ],
+                shown: Shown {
+                    next: Some(Call::Write(TARGET)),
+                    joined: true,
+                    counts: (2, 0),
+                    up: b"abc",
+                    ..STILL
+                },
+            },
+            Stage {
+                reported: false,
+                steps: &[
+                    (Call::Write(TARGET), Answer::Wrote(3)),
+                    (Call::Read(CLIENT, 4), Answer::Blocked),
+                ],
+                shown: Shown {
+                    joined: true,
+                    counts: (5, 0),
+                    ..STILL
+                },
+            },
+        ],
+    },
+    // A client that sends nothing and closes: its end is passed on after the lead.
+    Session {
+        name: "a lead alone",
+        slot: 0,
+        generation: 1,
+        capacity: 4,
+        lead: b"PR",
+        stages: &[
+            Stage {
+                reported: false,
+                steps: &[
+                    (Call::Write(TARGET), Answer::Blocked),
+                    (Call::Read(TARGET, 4), Answer::Blocked),
+                    (Call::Read(CLIENT, 4), Answer::End),
+                ],
+                shown: Shown {
+                    ends: (true, false),
+                    lead: b"PR",
+                    ..STILL
+                },
+            },
+            Stage {
+                reported: true,
+                steps: &[
+                    (Call::Read(TARGET, 4), Answer::Blocked),
+                    (Call::Write(TARGET), Answer::Wrote(2)),
+                ],
+                shown: Shown {
+                    next: Some(Call::Shut(TARGET)),
+                    ends: (true, false),
+                    joined: true,
+                    counts: (2, 0),
+                    ..STILL
+                },
+            },
+            Stage {
+                reported: false,
+                steps: &[(Call::Shut(TARGET), Answer::Shut)],
+                shown: Shown {
+                    ends: (true, false),
+                    shut: (true, false),
+                    joined: true,
+                    counts: (2, 0),
+                    ..STILL
+                },
+            },
+        ],
+    },
 ];
 
 /// Whether the next calls are these, and the answers fit them.
@@ -306,13 +417,27 @@ fn takes(pair: &mut Pair, steps: &[(Call, Answer<'_>)]) -> bool {
     true
 }
 
-/// Whether these bytes wait in one direction.
+/// Whether these bytes wait in the ring of one direction.
 fn has_waiting(pair: &Pair, direction: Direction, bytes: &[u8]) -> bool {
     if pair.ring_len(direction) != bytes.len() {
         return false;
     }
     for i in 0..pair.ring_len(direction) {
         if bytes.get(i) != Some(&pair.ring_byte(direction, i)) {
+            return false;
+        }
+    }
+    true
+}
+
+/// Whether these bytes are left of the lead.
+fn has_lead(pair: &Pair, bytes: &[u8]) -> bool {
+    let up = Direction::Up;
+    if pair.lead_len(up) != bytes.len() || pair.lead_len(Direction::Down) != 0 {
+        return false;
+    }
+    for i in 0..pair.lead_len(up) {
+        if bytes.get(i) != Some(&pair.lead_byte(up, i)) {
             return false;
         }
     }
@@ -331,9 +456,15 @@ fn shows_flags(pair: &Pair, shown: &Shown) -> bool {
 }
 
 fn shows_bytes(pair: &mut Pair, shown: &Shown) -> bool {
-    has_waiting(pair, Direction::Up, shown.up)
+    let first = if shown.lead.is_empty() {
+        shown.up
+    } else {
+        shown.lead
+    };
+    has_lead(pair, shown.lead)
+        && has_waiting(pair, Direction::Up, shown.up)
         && has_waiting(pair, Direction::Down, shown.down)
-        && offers(pair, TARGET, shown.up)
+        && offers(pair, TARGET, first)
         && offers(pair, CLIENT, shown.down)
 }
 
@@ -361,7 +492,8 @@ fn first_wrong(pair: &mut Pair, stages: &[Stage]) -> Option<usize> {
 /// That stage, and the slot and the generation of the pair after the last one.
 fn played(alloc: Global, session: &Session) -> Result<(Option<usize>, usize, u64), AllocError> {
     let capacity = session.capacity.clamp(1, 65_536);
-    let mut pair = Pair::new(alloc, session.slot, session.generation, capacity, 0)?;
+    let lead = &session.lead[..session.lead.len().min(107)];
+    let mut pair = Pair::new(alloc, session.slot, session.generation, capacity, 0, lead)?;
     let wrong = first_wrong(&mut pair, session.stages);
     Ok((wrong, pair.slot(), pair.generation()))
 }

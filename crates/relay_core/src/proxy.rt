@@ -1,0 +1,72 @@
+ghost use Rattle.std.specs.Prelude.{◌≡◌, ◌≤◌, ◌+◌, ◌++◌, length, vec_len, decimal, IfOk, OnOk};
+ghost use Rattle.relay_core.specs.Proxy.{dotted, proxy_line};
+
+use itoa::Buffer;
+use std::alloc::{AllocError, Global};
+
+/// The longest line, in bytes.
+const LONGEST: usize = 56;
+
+/// The line that tells a target where its client's connection came from and where it was accepted, 32 to 56 bytes. It
+/// follows the PROXY protocol, version 1, for TCP over IPv4, and ends with CR LF.
+///
+/// Fails only if there is not enough memory; then no line is made. This allocates once.
+pub fn proxy_line(
+    alloc: Global,
+    source: [u8; 4],
+    source_port: u16,
+    dest: [u8; 4],
+    dest_port: u16,
+) -> Result<Vec<u8>, AllocError>
+    ensures text { IfOk result (λ line. line.items ≡ proxy_line source source_port dest dest_port) }
+    ensures least { IfOk result (λ line. 32 ≤ length line.items) }
+    ensures most { IfOk result (λ line. length line.items ≤ 56) }
+{
+    // The longest line fits, so that no append below has to allocate.
+    let mut line = Vec::with_capacity(alloc, LONGEST)?;
+    line.extend_from_slice(b"PROXY TCP4 ")?;
+    append_address(&mut line, source)?;
+    line.extend_from_slice(b" ")?;
+    append_address(&mut line, dest)?;
+    line.extend_from_slice(b" ")?;
+    append_port(&mut line, source_port)?;
+    line.extend_from_slice(b" ")?;
+    append_port(&mut line, dest_port)?;
+    line.extend_from_slice(b"\r\n")?;
+    Ok(line)
+}
+
+/// Appends an address: four decimal numbers, joined by dots.
+fn append_address(line: &mut Vec<u8>, address: [u8; 4]) -> Result<(), AllocError>
+    ensures text { OnOk result (line.new.items ≡ line.old.items ++ dotted address) }
+    ensures least { OnOk result (length line.old.items + 7 ≤ length line.new.items) }
+    ensures most { OnOk result (length line.new.items ≤ length line.old.items + 15) }
+{
+    append_number(line, address[0])?;
+    line.extend_from_slice(b".")?;
+    append_number(line, address[1])?;
+    line.extend_from_slice(b".")?;
+    append_number(line, address[2])?;
+    line.extend_from_slice(b".")?;
+    append_number(line, address[3])
+}
+
+/// Appends one number of an address, in decimal.
+#[tactic(auto, using(std::proofs::lemmas::Fmt::decimal_nonempty))]
+fn append_number(line: &mut Vec<u8>, n: u8) -> Result<(), AllocError>
+    ensures text { OnOk result (line.new.items ≡ line.old.items ++ decimal n) }
+    ensures least { OnOk result (length line.old.items + 1 ≤ length line.new.items) }
+    ensures most { OnOk result (length line.new.items ≤ length line.old.items + 3) }
+{
+    line.extend_from_slice(Buffer::new().format(n).as_bytes())
+}
+
+/// Appends a port, in decimal.
+#[tactic(auto, using(std::proofs::lemmas::Fmt::decimal_nonempty))]
+fn append_port(line: &mut Vec<u8>, port: u16) -> Result<(), AllocError>
+    ensures text { OnOk result (line.new.items ≡ line.old.items ++ decimal port) }
+    ensures least { OnOk result (length line.old.items + 1 ≤ length line.new.items) }
+    ensures most { OnOk result (length line.new.items ≤ length line.old.items + 5) }
+{
+    line.extend_from_slice(Buffer::new().format(port).as_bytes())
+}
