@@ -13,7 +13,8 @@ use Rattle.token.specs.declared.kind.Kind.{Kind}
 use Rattle.token.specs.declared.direction.Direction.{Direction}
 use Rattle.token.specs.declared.direction.Direction.TheVariants.{Up, Down}
 use Rattle.token.specs.Sides.{opposite, inward}
-use Rattle.flow.specs.Stream.{Stream, taken_in, dropped, ended, closed}
+use Rattle.flow.specs.Stream.{Stream, waiting, front, taken_in, dropped, ended, closed}
+use Rattle.flow.proofs.Front.{waiting-dropped, take-front}
 use Rattle.kernel_model.specs.declared.both.Sockets.{Sockets}
 use Rattle.kernel_model.specs.declared.reply.Reply.{Reply}
 use Rattle.kernel_model.specs.declared.reply.Reply.TheVariants as reply
@@ -90,12 +91,21 @@ some_of n most m h = ltb-true 0 n (first_so (nat_lt 0 n) (nat_le n most) (first_
 within_of : (n most m : ℕ) → (is_count n most && nat_le n m) ≡ true → n ≤ m
 within_of n most m h = leb-true n m (second_so (is_count n most) (nat_le n m) h)
 
+-- the first n bytes go into the ring, behind all that wait
+moved_in : (lead ring unread : List ℕ) (n : ℕ) → (lead ++ ring) ++ unread ≡ (lead ++ (ring ++ take n unread)) ++ drop n unread
+moved_in lead ring unread n = ap (λ (all : List ℕ). (lead ++ ring) ++ all) (sym (take-append-drop n unread))
+    ∙ (sym (append_assoc (lead ++ ring) (take n unread) (drop n unread))
+    ∙ ap (λ (all : List ℕ). all ++ drop n unread) (append_assoc lead ring (take n unread)))
+
+-- a write took no more than it was offered
+offered : (n most : ℕ) (room : Bool) → (room && is_count n most) ≡ true → n ≤ most
+offered n most room h = leb-true n most (second_so (nat_lt 0 n) (nat_le n most) (second_so room (is_count n most) h))
+
 bytes_in : (gave : List ℕ) (s : Stream) (x y : Endpoint) (n most : ℕ) → (is_count n most && nat_le n (length x.unread)) ≡ true
     → DirectionOk gave s x y → DirectionOk gave (taken_in s (take n x.unread)) (record x { unread = drop n x.unread }) y
 bytes_in gave s x y n most may ok =
     let open_end : s.end_seen ≡ true → ⊥ = λ h. not_empty n x.unread (some_of n most (length x.unread) may) (within_of n most (length x.unread) may) (ok.read h) in record {
-      bytes = ok.bytes ∙ ap (λ (all : List ℕ). y.taken ++ all)
-          (ap (λ (all : List ℕ). s.ring ++ all) (sym (take-append-drop n x.unread)) ∙ sym (append_assoc s.ring (take n x.unread) (drop n x.unread)));
+      bytes = ok.bytes ∙ ap (λ (all : List ℕ). y.taken ++ all) (moved_in s.lead s.ring x.unread n);
       ended = λ h. absurd (open_end h);
       read = λ h. absurd (open_end h);
       last = record { ended = ok.last.ended; empty = λ h. absurd (open_end (ok.last.ended h)) };
@@ -113,22 +123,31 @@ end_met gave s x y may ok = record {
   last = record { ended = λ h. refl; empty = ok.last.empty };
 }
 
-wrote_out : (gave : List ℕ) (s : Stream) (x y : Endpoint) (n : ℕ) (room : Bool) → DirectionOk gave s x y
-    → DirectionOk gave (dropped s n) x (record y { taken = y.taken ++ take n s.ring; room = room })
-wrote_out gave s x y n room ok = record {
-  bytes = ok.bytes ∙ (ap (λ (ring : List ℕ). y.taken ++ (ring ++ x.unread)) (sym (take-append-drop n s.ring))
-      ∙ (ap (λ (all : List ℕ). y.taken ++ all) (append_assoc (take n s.ring) (drop n s.ring) x.unread)
-      ∙ sym (append_assoc y.taken (take n s.ring) (drop n s.ring ++ x.unread))));
+-- all that wait, after the first n of them
+taken_out : (taken waits left unread : List ℕ) (n : ℕ) → left ≡ drop n waits → taken ++ (waits ++ unread) ≡ (taken ++ take n waits) ++ (left ++ unread)
+taken_out taken waits left unread n same = rw same
+    (ap (λ (all : List ℕ). taken ++ (all ++ unread)) (sym (take-append-drop n waits))
+    ∙ (ap (λ (all : List ℕ). taken ++ all) (append_assoc (take n waits) (drop n waits) unread)
+    ∙ sym (append_assoc taken (take n waits) (drop n waits ++ unread))))
+
+-- none wait after a write, where none did before
+none_left : (s : Stream) (n : ℕ) → waiting s ≡ [] → waiting (dropped s n) ≡ []
+none_left s n none = waiting-dropped s n ∙ (ap (λ (all : List ℕ). drop n all) none ∙ drop-nil n)
+
+wrote_out : (gave : List ℕ) (s : Stream) (x y : Endpoint) (n : ℕ) (room : Bool) → n ≤ length (front s) → DirectionOk gave s x y
+    → DirectionOk gave (dropped s n) x (record y { taken = y.taken ++ take n (front s); room = room })
+wrote_out gave s x y n room within ok = record {
+  bytes = rw (take-front s n within) (ok.bytes ∙ taken_out y.taken (waiting s) (waiting (dropped s n)) x.unread n (waiting-dropped s n));
   ended = ok.ended;
   read = ok.read;
-  last = record { ended = ok.last.ended; empty = λ h. rw (ok.last.empty h) (drop-nil n) };
+  last = record { ended = ok.last.ended; empty = λ h. none_left s n (ok.last.empty h) };
 }
 
 drained_seen : (s : Stream) → is_drained s ≡ true → s.end_seen ≡ true
 drained_seen s h = first_so s.end_seen (not (is_waiting s)) (first_so (s.end_seen && not (is_waiting s)) (not s.shut) h)
 
-drained_empty : (s : Stream) → is_drained s ≡ true → s.ring ≡ []
-drained_empty s h = unread_none s.ring (second_so s.end_seen (not (is_waiting s)) (first_so (s.end_seen && not (is_waiting s)) (not s.shut) h))
+drained_empty : (s : Stream) → is_drained s ≡ true → waiting s ≡ []
+drained_empty s h = unread_none (waiting s) (second_so s.end_seen (not (is_waiting s)) (first_so (s.end_seen && not (is_waiting s)) (not s.shut) h))
 
 passed_on : (gave : List ℕ) (s : Stream) (x y z : Endpoint) → z.taken ≡ y.taken → is_drained s ≡ true → DirectionOk gave s x y → DirectionOk gave (closed s) x z
 passed_on gave s x y z taken drained ok = record {
@@ -235,15 +254,15 @@ read_keeps now h r p ends side most reply.Shut t e up told made ok = absurd (cc)
 
 pub write_keeps : (now : ℕ) (h : Side → List ℕ) (r : Side → Bool) (p : Relay) (ends : Sockets) (side : Side) (said : Reply) (t : answer.AnswerValue) (e : Endpoint)
     → (flags_of p side).write ≡ true → plain said ≡ Some t → after_write (socket_of ends side) (offer p side) said ≡ Some e → PairOk h r p ends → Answered now h r p ends (Write side) side t e
-write_keeps now h r p ends Client (reply.Wrote n full) t e up told made ok = guarded (λ (z : Endpoint). Answered now h r p ends (Write Client) Client t z) (ends.client.room && is_count n (length p.down.ring)) (record ends.client { taken = ends.client.taken ++ take n p.down.ring; room = not full }) e made (λ may.
-    by_some (λ (u : answer.AnswerValue). Answered now h r p ends (Write Client) Client u (record ends.client { taken = ends.client.taken ++ take n p.down.ring; room = not full })) (answer.Wrote n) t told (
-    at_client h r p (after now p (Write Client) (answer.Wrote n)) ends (record ends.client { taken = ends.client.taken ++ take n p.down.ring; room = not full }) refl refl refl refl (record { read = (ok.covered Client).read; write = cover_flag p.client.write ends.client.write_armed (is_writable (record ends.client { taken = ends.client.taken ++ take n p.down.ring; room = not full })) (r Client) up }) (again (h Client) p.up ends.client ends.target (record ends.client { taken = ends.client.taken ++ take n p.down.ring; room = not full }) ends.target refl refl refl (ok.directions Up)) (wrote_out (h Target) p.down ends.target ends.client n (not full) (ok.directions Down)) ok))
+write_keeps now h r p ends Client (reply.Wrote n full) t e up told made ok = guarded (λ (z : Endpoint). Answered now h r p ends (Write Client) Client t z) (ends.client.room && is_count n (length (front p.down))) (record ends.client { taken = ends.client.taken ++ take n (front p.down); room = not full }) e made (λ may.
+    by_some (λ (u : answer.AnswerValue). Answered now h r p ends (Write Client) Client u (record ends.client { taken = ends.client.taken ++ take n (front p.down); room = not full })) (answer.Wrote n) t told (
+    at_client h r p (after now p (Write Client) (answer.Wrote n)) ends (record ends.client { taken = ends.client.taken ++ take n (front p.down); room = not full }) refl refl refl refl (record { read = (ok.covered Client).read; write = cover_flag p.client.write ends.client.write_armed (is_writable (record ends.client { taken = ends.client.taken ++ take n (front p.down); room = not full })) (r Client) up }) (again (h Client) p.up ends.client ends.target (record ends.client { taken = ends.client.taken ++ take n (front p.down); room = not full }) ends.target refl refl refl (ok.directions Up)) (wrote_out (h Target) p.down ends.target ends.client n (not full) (offered n (length (front p.down)) ends.client.room may) (ok.directions Down)) ok))
 write_keeps now h r p ends Client reply.Blocked t e up told made ok = guarded (λ (z : Endpoint). Answered now h r p ends (Write Client) Client t z) (not (is_writable ends.client)) (record ends.client { write_armed = true }) e made (λ may.
     by_some (λ (u : answer.AnswerValue). Answered now h r p ends (Write Client) Client u (record ends.client { write_armed = true })) answer.Blocked t told (
     at_client h r p (after now p (Write Client) answer.Blocked) ends (record ends.client { write_armed = true }) refl refl refl refl (record { read = (ok.covered Client).read; write = cover_armed false (is_writable ends.client) (r Client) (unready (is_writable ends.client) may) }) (again (h Client) p.up ends.client ends.target (record ends.client { write_armed = true }) ends.target refl refl refl (ok.directions Up)) (again (h Target) p.down ends.target ends.client ends.target (record ends.client { write_armed = true }) refl refl refl (ok.directions Down)) ok))
-write_keeps now h r p ends Target (reply.Wrote n full) t e up told made ok = guarded (λ (z : Endpoint). Answered now h r p ends (Write Target) Target t z) (ends.target.room && is_count n (length p.up.ring)) (record ends.target { taken = ends.target.taken ++ take n p.up.ring; room = not full }) e made (λ may.
-    by_some (λ (u : answer.AnswerValue). Answered now h r p ends (Write Target) Target u (record ends.target { taken = ends.target.taken ++ take n p.up.ring; room = not full })) (answer.Wrote n) t told (
-    at_target h r p (after now p (Write Target) (answer.Wrote n)) ends (record ends.target { taken = ends.target.taken ++ take n p.up.ring; room = not full }) refl refl refl refl (record { read = (ok.covered Target).read; write = cover_flag p.target.write ends.target.write_armed (is_writable (record ends.target { taken = ends.target.taken ++ take n p.up.ring; room = not full })) (r Target) up }) (wrote_out (h Client) p.up ends.client ends.target n (not full) (ok.directions Up)) (again (h Target) p.down ends.target ends.client (record ends.target { taken = ends.target.taken ++ take n p.up.ring; room = not full }) ends.client refl refl refl (ok.directions Down)) ok))
+write_keeps now h r p ends Target (reply.Wrote n full) t e up told made ok = guarded (λ (z : Endpoint). Answered now h r p ends (Write Target) Target t z) (ends.target.room && is_count n (length (front p.up))) (record ends.target { taken = ends.target.taken ++ take n (front p.up); room = not full }) e made (λ may.
+    by_some (λ (u : answer.AnswerValue). Answered now h r p ends (Write Target) Target u (record ends.target { taken = ends.target.taken ++ take n (front p.up); room = not full })) (answer.Wrote n) t told (
+    at_target h r p (after now p (Write Target) (answer.Wrote n)) ends (record ends.target { taken = ends.target.taken ++ take n (front p.up); room = not full }) refl refl refl refl (record { read = (ok.covered Target).read; write = cover_flag p.target.write ends.target.write_armed (is_writable (record ends.target { taken = ends.target.taken ++ take n (front p.up); room = not full })) (r Target) up }) (wrote_out (h Client) p.up ends.client ends.target n (not full) (offered n (length (front p.up)) ends.target.room may) (ok.directions Up)) (again (h Target) p.down ends.target ends.client (record ends.target { taken = ends.target.taken ++ take n (front p.up); room = not full }) ends.client refl refl refl (ok.directions Down)) ok))
 write_keeps now h r p ends Target reply.Blocked t e up told made ok = guarded (λ (z : Endpoint). Answered now h r p ends (Write Target) Target t z) (not (is_writable ends.target)) (record ends.target { write_armed = true }) e made (λ may.
     by_some (λ (u : answer.AnswerValue). Answered now h r p ends (Write Target) Target u (record ends.target { write_armed = true })) answer.Blocked t told (
     at_target h r p (after now p (Write Target) answer.Blocked) ends (record ends.target { write_armed = true }) refl refl refl refl (record { read = (ok.covered Target).read; write = cover_armed false (is_writable ends.target) (r Target) (unready (is_writable ends.target) may) }) (again (h Client) p.up ends.client ends.target ends.client (record ends.target { write_armed = true }) refl refl refl (ok.directions Up)) (again (h Target) p.down ends.target ends.client (record ends.target { write_armed = true }) ends.client refl refl refl (ok.directions Down)) ok))

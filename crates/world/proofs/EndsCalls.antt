@@ -26,7 +26,7 @@ use Rattle.world.proofs.TurnsKept.{Kept, kept_bind, kept_when, kept_at, kept_the
 use Rattle.world.proofs.EndsHeld.{History, token_at, is_pending, registered, PairOk, ConnectionOk, SlotOk, AllOk}
 use Rattle.world.proofs.EndsPairs.{with_socket}
 use Rattle.world.proofs.EndsKernel.{end_kept}
-use Rattle.world.proofs.EndsFrame.{keep_place, pair_more}
+use Rattle.world.proofs.EndsFrame.{same_before, keep_place, pair_more}
 use Rattle.world.proofs.EndsQueue.{Quiet}
 use Rattle.world.proofs.EndsNetwork.{ends_there}
 use Rattle.world.proofs.EndsAnswers.{IsAsked, asked, AnswerOk, Answered, told_read, read_keeps, write_keeps, join_keeps, shut_keeps}
@@ -107,14 +107,14 @@ call_lands past next st q s p place c line quiet here ok l table limits batch ke
     (λ i differ. record {
       history = λ g side. quiet i g side;
       table = rw table refl;
-      ring = rw limits refl;
+      limits = limits;
       ends = λ d b there of_i. rw ends (end_kept st.kernel.ends (descriptor c.ends l.side) d (registered s p.generation l.side (socket_of ok.ends l.side)) b _ (ok.there l.side) there
           (λ same. differ (let slots_of : b.token.slot ≡ s = ap (λ (n : EndName). n.slot) same in cc)));
       pending = λ side g entry h. pending (token_at i side g) h;
     })
     (rw lands (record {
       entry = rw table (slot.entry);
-      later = λ g side before. quiet s g side ∙ slot.later g side before;
+      later = λ g side younger. quiet s g side ∙ (slot.later g side younger ∙ same_before st.limits q.limits side limits);
       connection = λ b is. (let this : line.connection ≡ b = cc in subst (λ (d : Connection). ConnectionOk next q s p.generation p.notes d) this (record {
         generation = l.answered.generation ∙ ok.generation;
         up = l.answered.up ∙ (ok.up ∙ rw limits refl);

@@ -1,4 +1,5 @@
--- Of each closed connection: what was sent is a beginning of what was given, and all of it where it was done.
+-- Of each closed connection: what was sent is a beginning of the preamble and what was given, and all of it where it was
+-- done.
 -- Nothing more is given for its generation, since its slot has none of that generation any more.
 use Rattle.std.proofs.Common.{◌≡◌, ℕ, ◌<◌, ◌≤◌, Bool, true, false, ◌&&◌, ◌⊎◌, inl, inr, List, [], ◌∷◌, ◌++◌, Option, Some, None, refl, sym, ap, ◌∙◌, subst, append-nil, append_assoc, option_map, option_and_then, unwrap_or, eqb-true, eq-eqb, ne_eqb, arith, le_refl, ⊎_elim}
 use Rattle.std.specs.Prelude.{slice_get, slice_set, if◌then◌else◌, ◌==◌}
@@ -7,7 +8,7 @@ use Rattle.token.specs.declared.side.Side.{Side}
 use Rattle.token.specs.declared.direction.Direction.{Direction}
 use Rattle.token.specs.declared.direction.Direction.TheVariants.{Up, Down}
 use Rattle.token.specs.Sides.{source, destination, side_number}
-use Rattle.flow.specs.Stream.{Stream}
+use Rattle.flow.specs.Stream.{Stream, waiting}
 use Rattle.kernel_model.specs.declared.both.Sockets.{Sockets}
 use Rattle.kernel_model.specs.Ends.{Endpoint}
 use Rattle.kernel_model.specs.Outcome.{Told}
@@ -36,7 +37,8 @@ use Rattle.world.proofs.EndsLists.{Yes, No, tell, Before, ThisOne, last_of}
 use Rattle.world.proofs.EndsNetwork.{Lies, lies}
 use Rattle.world.proofs.EndsWorkers.{without_both, closes}
 use Rattle.world.proofs.EndsShapes.{Shape, Same, Changed, Opened, Ended}
-use Rattle.world.proofs.EndsSteps.{after_event, after_run, no_history, step_keeps, opening_ok}
+use Rattle.world.proofs.EndsSteps.{after_event, after_run, first_history, step_keeps, opening_ok}
+use Rattle.world.proofs.EndsTheorem.{history, all_sent, own_preamble}
 use Rattle.world.proofs.EndsFailures.{step_shape}
 
 pub record ClosedOk (past : History) (st : State) (e : Past) : Type 0 where
@@ -140,9 +142,7 @@ both_shut p done Down = second_so p.up.shut p.down.shut (done_when p.failure (p.
 
 wholly_sent : (gave : List ℕ) (s : Stream) (x y : Endpoint) → DirectionOk gave s x y → s.shut ≡ true → gave ≡ y.taken
 wholly_sent gave s x y ok shut =
-    let empty : s.ring ≡ [] = ok.last.empty shut in
-    let read : x.unread ≡ [] = ok.read (ok.last.ended shut) in
-    ok.bytes ∙ rw (empty, read) (append-nil y.taken)
+    all_sent gave (waiting s) x.unread y.taken ok.bytes (ok.last.empty shut) (ok.read (ok.last.ended shut))
 
 same_value : (x y : Told Watcher Sockets) → Some x ≡ Some y → x ≡ y
 same_value x y e = cc
@@ -161,7 +161,7 @@ ended_ok past st q s old c ends k was lying set closing slot =
     rw (ok.generation, ← are) (record {
       older = λ p here. (let is : p ≡ record old { connection = None } = stands p here in rw is (omega arith));
       over = λ p b here lies_there. (let is : p ≡ record old { connection = None } = stands p here in let none : p.connection ≡ None = ap (λ (r : Place). r.connection) is in absurd (cc));
-      beginning = λ d. ((stream_of c.pair d).ring ++ (socket_of ok.ends (source d)).unread, (ok.pair.directions d).bytes);
+      beginning = λ d. (waiting (stream_of c.pair d) ++ (socket_of ok.ends (source d)).unread, (ok.pair.directions d).bytes);
       all = λ done d. wholly_sent (past s old.generation (source d)) (stream_of c.pair d) (socket_of ok.ends (source d)) (socket_of ok.ends (destination d)) (ok.pair.directions d) (both_shut c.pair done d);
     })
 
@@ -211,10 +211,14 @@ run_closes : (laws : CoreLaws) (past : History) (st q : State) (events : List Ev
 run_closes laws past st q [] all closed ran = let same : st ≡ q = cc in subst (λ (m : State). AllClosed (after_run past st []) m) same (renamed_closed past _ st (λ s g side. append-nil (past s g side)) closed)
 run_closes laws past st q (e ∷ events) all closed ran = further_closes past st q e events (step st e) refl (λ m ok later rest. run_closes laws (after_event past st e) m q events ok later rest) all closed (step_shape laws st e) (step_keeps past st e all) ran
 
-opening_closed : (l : Limits) → AllClosed no_history (opening l)
+opening_closed : (l : Limits) → AllClosed (first_history l) (opening l)
 opening_closed l = record { each = λ i e here. absurd (cc) }
 
 pub closed_hold : (laws : CoreLaws) (l : Limits) (events : List Event) (st : State) → run (opening l) events ≡ Some st → ClosedHold (opening l) st events
 closed_hold laws l events st ran i p here =
-    let ok : ClosedOk (given (opening l) events) st p = (run_closes laws no_history (opening l) st events (opening_ok l) (opening_closed l) ran).each i p here in
-    record { beginning = ok.beginning; all = ok.all }
+    let ok : ClosedOk (history l events) st p = (run_closes laws (first_history l) (opening l) st events (opening_ok l) (opening_closed l) ran).each i p here in
+    record {
+      beginning = λ d. (let first : (rest : List ℕ) × (history l events p.slot p.generation (source d) ≡ (socket_of p.ends (destination d)).taken ++ rest) = ok.beginning d in
+          (first.0, sym (own_preamble l events p.slot p.generation d) ∙ first.1));
+      all = λ done d. sym (own_preamble l events p.slot p.generation d) ∙ ok.all done d;
+    }

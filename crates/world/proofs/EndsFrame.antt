@@ -1,5 +1,5 @@
 -- What a slot keeps while the rest of the machine changes.
-use Rattle.std.proofs.Common.{◌≡◌, ℕ, Bool, true, false, ◌||◌, List, Some, refl, sym, ◌∙◌, subst, eqb-true, eq-eqb}
+use Rattle.std.proofs.Common.{◌≡◌, ℕ, Bool, true, false, ◌||◌, List, Some, refl, sym, ap, ◌∙◌, subst, eqb-true, eq-eqb}
 use Rattle.std.specs.Prelude.{slice_get, slice_set, ◌==◌}
 use Rattle.token.specs.declared.side.Side.{Side}
 use Rattle.token.specs.Sides.{source, destination}
@@ -11,12 +11,13 @@ use Rattle.kernel_model.specs.Kernel.{Registered, end_at}
 use Rattle.relay_core.specs.Pairs.{Relay, stream_of, flags_of}
 use Rattle.kernel_model.specs.Ends.{is_nonempty}
 use Rattle.world.specs.declared.connection.Connection.{Connection}
+use Rattle.world.specs.declared.limits.Limits.{Limits}
 use Rattle.world.specs.Places.{Place}
 use Rattle.world.specs.States.{State}
 use Rattle.world.specs.Calls.{descriptor}
 use Rattle.world.specs.Headline.{socket_of}
 use Rattle.world.proofs.TurnsTotals.{get-set_same, get-set_other}
-use Rattle.world.proofs.EndsHeld.{History, token_at, is_pending, registered, PairOk, ConnectionOk, SlotOk, AllOk}
+use Rattle.world.proofs.EndsHeld.{History, before, token_at, is_pending, registered, PairOk, ConnectionOk, SlotOk, AllOk}
 use Rattle.world.proofs.EndsCovered.{end_more}
 use Rattle.world.proofs.EndsPairs.{same_gave}
 use Rattle.world.proofs.EndsLists.{Yes, No, tell}
@@ -26,7 +27,7 @@ use Rattle.world.proofs.EndsNames.{or_left, or_right, or_then}
 pub record Better (past next : History) (st q : State) (s : ℕ) : Type 0 where
   pub history : (g : ℕ) (side : Side) → next s g side ≡ past s g side
   pub table : slice_get q.table s ≡ slice_get st.table s
-  pub ring : q.limits.ring ≡ st.limits.ring
+  pub limits : q.limits ≡ st.limits
   pub ends : (d : ℕ) (r : Registered) → end_at st.kernel.ends d ≡ Some r → r.token.slot ≡ s → end_at q.kernel.ends d ≡ Some r
   pub pending : (side : Side) (g : ℕ) → slice_get st.table s ≡ Some g → is_pending st (token_at s side g) ≡ true → is_pending q (token_at s side g) ≡ true
 
@@ -51,17 +52,21 @@ connection_better : (past next : History) (st q : State) (s g : ℕ) (notes : Li
     → ConnectionOk past st s g notes c → ConnectionOk next q s g notes c
 connection_better past next st q s g notes c f entry ok = record {
   generation = ok.generation;
-  up = ok.up ∙ sym f.ring;
-  down = ok.down ∙ sym f.ring;
+  up = ok.up ∙ ap (λ (l : Limits). l.ring) (sym f.limits);
+  down = ok.down ∙ ap (λ (l : Limits). l.ring) (sym f.limits);
   ends = ok.ends;
   there = λ side. f.ends (descriptor c.ends side) (registered s g side (socket_of ok.ends side)) (ok.there side) refl;
   pair = pair_more (past s g) (next s g) _ _ c.pair ok.ends (f.history g) (λ side. or_more _ _ (is_nonempty notes) (f.pending side g entry)) ok.pair;
 }
 
+-- the same limits have the same preambles
+pub same_before : (l m : Limits) (side : Side) → m ≡ l → before l side ≡ before m side
+same_before l m side same = ap (λ (k : Limits). before k side) (sym same)
+
 pub better : (past next : History) (st q : State) (s : ℕ) (p : Place) → Better past next st q s → SlotOk past st s p → SlotOk next q s p
 better past next st q s p f ok = record {
   entry = f.table ∙ ok.entry;
-  later = λ g side before. f.history g side ∙ ok.later g side before;
+  later = λ g side younger. f.history g side ∙ (ok.later g side younger ∙ same_before st.limits q.limits side f.limits);
   connection = λ c here. connection_better past next st q s p.generation p.notes c f ok.entry (ok.connection c here);
 }
 

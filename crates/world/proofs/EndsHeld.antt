@@ -1,12 +1,14 @@
 -- What the machine keeps of each connection's two ends in the kernel, after every event.
-use Rattle.std.proofs.Common.{◌≡◌, ℕ, ◌<◌, Bool, true, ◌||◌, List, [], Some}
+use Rattle.std.proofs.Common.{◌≡◌, ℕ, ◌<◌, Bool, true, ◌||◌, List, [], ◌++◌, Some, refl}
 use Rattle.std.specs.Prelude.{slice_get}
 use Rattle.token.specs.declared.side.Side.{Side}
+use Rattle.token.specs.declared.side.Side.TheVariants.{Client, Target}
 use Rattle.token.specs.declared.direction.Direction.{Direction}
+use Rattle.token.specs.declared.direction.Direction.TheVariants.{Up, Down}
 use Rattle.token.specs.declared.name.Name.TheVariants as name
 use Rattle.token.specs.Names.{EndName}
 use Rattle.token.specs.Sides.{source, destination}
-use Rattle.flow.specs.Stream.{Stream}
+use Rattle.flow.specs.Stream.{Stream, waiting}
 use Rattle.kernel_model.specs.declared.both.Sockets.{Sockets}
 use Rattle.kernel_model.specs.Ends.{Endpoint, is_nonempty}
 use Rattle.kernel_model.specs.Names.{has}
@@ -14,19 +16,34 @@ use Rattle.kernel_model.specs.Kernel.{Registered}
 use Rattle.relay_core.specs.Pairs.{Relay, stream_of, flags_of}
 use Rattle.relay_core.specs.Laws.{IsClosedLast}
 use Rattle.world.specs.declared.connection.Connection.{Connection}
+use Rattle.world.specs.declared.limits.Limits.{Limits}
 use Rattle.world.specs.Places.{Place}
 use Rattle.world.specs.States.{State}
-use Rattle.world.specs.Headline.{KeepsBytes, socket_of, end_of}
+use Rattle.world.specs.Headline.{preamble, socket_of, end_of}
 use Rattle.world.specs.Support.{EndCovered}
 
--- the bytes that came so far, by slot, generation and side
+-- the bytes that are to go on from a side so far, by slot, generation and side: the preamble of its direction, and then
+-- those that came to it
 abbrev pub History : Type 0
 History = ℕ → ℕ → Side → List ℕ
+
+-- the preamble of the direction whose source a side is
+abbrev pub before : Limits → Side → List ℕ
+before l Client = l.lead
+before l Target = []
+
+pub preamble_is : (l : Limits) (d : Direction) → before l (source d) ≡ preamble l d
+preamble_is l Up = refl
+preamble_is l Down = refl
+
+-- these bytes are the sent bytes, then all that wait, then the unread bytes
+abbrev pub KeepsAll : List ℕ → Stream → Endpoint → Endpoint → Type 0
+KeepsAll gave stream x y = gave ≡ y.taken ++ (waiting stream ++ x.unread)
 
 -- a direction: the bytes keep their order, the end that was seen was the source's last word, and it was
 -- passed on only after every byte
 pub record DirectionOk (gave : List ℕ) (stream : Stream) (x y : Endpoint) : Type 0 where
-  pub bytes : KeepsBytes gave stream x y
+  pub bytes : KeepsAll gave stream x y
   pub ended : stream.end_seen ≡ true → x.fin ≡ true
   pub read : stream.end_seen ≡ true → x.unread ≡ []
   pub last : IsClosedLast stream
@@ -58,10 +75,10 @@ pub record ConnectionOk (past : History) (st : State) (s g : ℕ) (notes : List 
   pub there : (side : Side) → end_of st c side ≡ Some (registered s g side (socket_of ends side))
   pub pair : PairOk (past s g) (λ side. is_pending st (token_at s side g) || is_nonempty notes) c.pair ends
 
--- a slot: the poller's table tells its generation, nothing came for a later one, and its connection is in order
+-- a slot: the poller's table tells its generation, a later one has its preamble alone, and its connection is in order
 pub record SlotOk (past : History) (st : State) (s : ℕ) (p : Place) : Type 0 where
   pub entry : slice_get st.table s ≡ Some p.generation
-  pub later : (g : ℕ) (side : Side) → p.generation < g → past s g side ≡ []
+  pub later : (g : ℕ) (side : Side) → p.generation < g → past s g side ≡ before st.limits side
   pub connection : (c : Connection) → p.connection ≡ Some c → ConnectionOk past st s p.generation p.notes c
 
 pub record AllOk (past : History) (st : State) : Type 0 where

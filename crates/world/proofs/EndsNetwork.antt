@@ -68,7 +68,7 @@ others_better past next st s side bytes d r t brings here of_s i differ = record
   history = λ g other. brings i g other ∙ none_if _ (past i g other) bytes
       (and_false (s == i && side_number side == side_number other) _ (and_false (s == i) _ (ne_eqb s i (λ same. differ (sym same)))));
   table = refl;
-  ring = refl;
+  limits = refl;
   ends = λ e b there of_i. end_kept st.kernel.ends d e r b _ here there
       (λ same. differ (let slots : b.token.slot ≡ r.token.slot = ap (λ (n : EndName). n.slot) same in cc));
   pending = λ other g entry. or_then _ _ _
@@ -112,10 +112,10 @@ this_place : (past next : History) (st : State) (s : ℕ) (side : Side) (bytes :
     → SlotOk past st s p → SlotOk next (after_change st (descriptor c.ends side) (registered s p.generation side (socket_of ok.ends side)) t) s p
 this_place past next st s side bytes p c t ok brings here lying change slot = record {
   entry = slot.entry;
-  later = λ g other before. brings s g other
+  later = λ g other younger. brings s g other
       ∙ (none_if _ (past s g other) bytes (third_false (s == s && side_number side == side_number other) _
       (rw here (ne_eqb p.generation g (λ same. omega arith))))
-      ∙ slot.later g other before);
+      ∙ slot.later g other younger);
   connection = λ b is. (let same : b ≡ c = cc in rw same (record {
     generation = ok.generation;
     up = ok.up;

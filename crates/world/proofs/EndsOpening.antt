@@ -1,5 +1,5 @@
 -- A slot is opened for a fresh connection.
-use Rattle.std.proofs.Common.{◌≡◌, ℕ, ◌+◌, Bool, false, List, [], ◌∷◌, Option, Some, refl, sym, ◌∙◌, subst, arith}
+use Rattle.std.proofs.Common.{◌≡◌, ℕ, ◌+◌, Bool, List, [], ◌∷◌, ◌++◌, Option, Some, refl, sym, ◌∙◌, subst, append-nil, arith}
 use Rattle.std.specs.Prelude.{slice_get}
 use Rattle.token.specs.declared.side.Side.{Side}
 use Rattle.token.specs.declared.side.Side.TheVariants.{Client, Target}
@@ -7,14 +7,16 @@ use Rattle.token.specs.Names.{EndName}
 use Rattle.kernel_model.specs.declared.both.Sockets.{Sockets}
 use Rattle.kernel_model.specs.Ends.{opened}
 use Rattle.kernel_model.specs.Kernel.{Watcher, Registered, end_at, lowest_free, with_end, open_both}
+use Rattle.flow.specs.Stream.{empty_stream}
 use Rattle.relay_core.specs.Pairs.{fresh}
 use Rattle.world.specs.declared.connection.Connection.{Connection}
+use Rattle.world.specs.declared.limits.Limits.{Limits}
 use Rattle.world.specs.Places.{Place}
 use Rattle.world.specs.States.{State}
 use Rattle.world.specs.Steps.{token_of, opened_place, opened_world, opening_of}
 use Rattle.world.proofs.TurnsKept.{Kept, kept_bind, kept_map}
 use Rattle.world.proofs.TurnsTotals.{get-set_same, get-set_other}
-use Rattle.world.proofs.EndsHeld.{History, token_at, registered, DirectionOk, PairOk, ConnectionOk, SlotOk, AllOk}
+use Rattle.world.proofs.EndsHeld.{History, before, token_at, registered, DirectionOk, PairOk, ConnectionOk, SlotOk, AllOk}
 use Rattle.world.proofs.EndsPairs.{by_side, by_direction}
 use Rattle.world.proofs.EndsChanges.{guarded}
 use Rattle.world.proofs.EndsKernel.{lowest_is_free, opened_here, opened_other}
@@ -46,18 +48,18 @@ client_opens k s g =
 target_opens : (k : Watcher) (s g : ℕ) → end_at (with_both k s g) (lowest_free (with_client k s g)) ≡ Some (registered s g Target (opened Target))
 target_opens k s g = opened_here (with_client k s g) (lowest_free (with_client k s g)) (registered s g Target (opened Target)) (lowest_is_free (with_client k s g))
 
-fresh_direction : (gave : List ℕ) (ring : ℕ) (x y : Side) → gave ≡ [] → DirectionOk gave (record { ring = []; capacity = ring; end_seen = false; shut = false }) (opened x) (opened y)
-fresh_direction gave ring x y none = record {
-  bytes = none;
+fresh_direction : (gave : List ℕ) (ring : ℕ) (lead : List ℕ) (x y : Side) → gave ≡ lead → DirectionOk gave (empty_stream ring lead) (opened x) (opened y)
+fresh_direction gave ring lead x y same = record {
+  bytes = same ∙ sym (append-nil (lead ++ []) ∙ append-nil lead);
   ended = λ h. absurd (cc);
   read = λ h. refl;
-  last = record { ended = λ h. absurd (cc); empty = λ h. refl };
+  last = record { ended = λ h. absurd (cc); empty = λ h. absurd (cc) };
 }
 
-fresh_pair : (h : Side → List ℕ) (r : Side → Bool) (s g ring now : ℕ) → ((side : Side) → h side ≡ []) → PairOk h r (fresh s g ring now) both_opened
-fresh_pair h r s g ring now none = record {
+fresh_pair : (h : Side → List ℕ) (r : Side → Bool) (s g : ℕ) (l : Limits) (now : ℕ) → ((side : Side) → h side ≡ before l side) → PairOk h r (fresh s g l.ring now l.lead) both_opened
+fresh_pair h r s g l now same = record {
   covered = by_side _ (record { read = refl; write = refl }) (record { read = refl; write = refl });
-  directions = by_direction _ (fresh_direction (h Client) ring Client Target (none Client)) (fresh_direction (h Target) ring Target Client (none Target));
+  directions = by_direction _ (fresh_direction (h Client) l.ring l.lead Client Target (same Client)) (fresh_direction (h Target) l.ring [] Target Client (same Target));
 }
 
 -- the token of an end is its own
@@ -69,19 +71,19 @@ abbrev pub fresh_world : State → ℕ → ℕ → State
 fresh_world st s g = opened_world st s g (open_both st.kernel (token_at s Client g) (token_at s Target g))
 
 fresh_slot : (past next : History) (st : State) (s g : ℕ) (p : Place) → Quiet past next → slice_get st.table s ≡ Some g → SlotOk past st s p
-    → SlotOk next (fresh_world st s (g + 1)) s (opened_place s (g + 1) st.limits.ring st.second (record { client = lowest_free st.kernel.ends; target = lowest_free (with_client st.kernel s (g + 1)) }))
+    → SlotOk next (fresh_world st s (g + 1)) s (opened_place s (g + 1) st.limits st.second (record { client = lowest_free st.kernel.ends; target = lowest_free (with_client st.kernel s (g + 1)) }))
 fresh_slot past next st s g p quiet entry ok =
     let same : p.generation ≡ g = (let is : slice_get st.table s ≡ Some p.generation = ok.entry in cc) in record {
       entry = get-set_same st.table s g (g + 1) entry;
-      later = λ h side before. quiet s h side ∙ ok.later h side (omega arith);
-      connection = λ c here. (let is : record { pair = fresh s (g + 1) st.limits.ring st.second; ends = record { client = lowest_free st.kernel.ends; target = lowest_free (with_client st.kernel s (g + 1)) } } ≡ c = cc in
+      later = λ h side younger. quiet s h side ∙ ok.later h side (omega arith);
+      connection = λ c here. (let is : record { pair = fresh s (g + 1) st.limits.ring st.second st.limits.lead; ends = record { client = lowest_free st.kernel.ends; target = lowest_free (with_client st.kernel s (g + 1)) } } ≡ c = cc in
           subst (λ (b : Connection). ConnectionOk next (fresh_world st s (g + 1)) s (g + 1) ((g + 1) ∷ []) b) is (record {
             generation = refl;
             up = refl;
             down = refl;
             ends = both_opened;
             there = by_side _ (client_opens st.kernel s (g + 1)) (target_opens st.kernel s (g + 1));
-            pair = fresh_pair (next s (g + 1)) _ s (g + 1) st.limits.ring st.second (λ side. quiet s (g + 1) side ∙ ok.later (g + 1) side (omega arith));
+            pair = fresh_pair (next s (g + 1)) _ s (g + 1) st.limits st.second (λ side. quiet s (g + 1) side ∙ ok.later (g + 1) side (omega arith));
           }));
     }
 
@@ -91,7 +93,7 @@ fresh_keeps past next st s g p quiet here entry all = keep_place past next st (f
     (λ i differ. record {
       history = λ h side. quiet i h side;
       table = get-set_other st.table s i (g + 1) (λ same. differ (sym same));
-      ring = refl;
+      limits = refl;
       ends = λ d b there of_i. others_open st.kernel s (g + 1) d b there;
       pending = λ side h there k. k;
     })

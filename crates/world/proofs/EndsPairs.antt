@@ -5,7 +5,7 @@ use Rattle.token.specs.declared.side.Side.TheVariants.{Client, Target}
 use Rattle.token.specs.declared.direction.Direction.{Direction}
 use Rattle.token.specs.declared.direction.Direction.TheVariants.{Up, Down}
 use Rattle.token.specs.Sides.{other_side}
-use Rattle.flow.specs.Stream.{Stream}
+use Rattle.flow.specs.Stream.{Stream, waiting}
 use Rattle.kernel_model.specs.declared.both.Sockets.{Sockets}
 use Rattle.kernel_model.specs.Outcome.{Told}
 use Rattle.kernel_model.specs.Ends.{Endpoint}
@@ -13,7 +13,7 @@ use Rattle.relay_core.specs.declared.flags.Flags.{Flags}
 use Rattle.relay_core.specs.Pairs.{Relay}
 use Rattle.world.specs.Headline.{socket_of}
 use Rattle.world.specs.Support.{EndCovered}
-use Rattle.world.proofs.EndsHeld.{DirectionOk, PairOk}
+use Rattle.world.proofs.EndsHeld.{KeepsAll, DirectionOk, PairOk}
 use Rattle.world.proofs.EndsCovered.{end_more}
 use Rattle.world.proofs.EndsNames.{or_then}
 
@@ -37,10 +37,10 @@ pub record IsChange (bytes : List ℕ) (e : Endpoint) (t : Told Endpoint Bool) :
   pub none : e.fin ≡ true → bytes ≡ []
   pub covered : (flags : Flags) (r : Bool) → EndCovered flags e r → EndCovered flags t.value (r || t.told)
 
-arrived : (gave bytes : List ℕ) (stream : Stream) (x y z : Endpoint) → z.unread ≡ x.unread ++ bytes → gave ≡ y.taken ++ (stream.ring ++ x.unread)
-    → gave ++ bytes ≡ y.taken ++ (stream.ring ++ z.unread)
+arrived : (gave bytes : List ℕ) (stream : Stream) (x y z : Endpoint) → z.unread ≡ x.unread ++ bytes → KeepsAll gave stream x y
+    → KeepsAll (gave ++ bytes) stream z y
 arrived gave bytes stream x y z more kept = rw (kept, more)
-    (append_assoc y.taken (stream.ring ++ x.unread) bytes ∙ ap (λ (all : List ℕ). y.taken ++ all) (append_assoc stream.ring x.unread bytes))
+    (append_assoc y.taken (waiting stream ++ x.unread) bytes ∙ ap (λ (all : List ℕ). y.taken ++ all) (append_assoc (waiting stream) x.unread bytes))
 
 -- at the source of a direction
 pub source_changed : (gave bytes : List ℕ) (stream : Stream) (x y : Endpoint) (t : Told Endpoint Bool) → IsChange bytes x t

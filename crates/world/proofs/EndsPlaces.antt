@@ -11,6 +11,7 @@ use Rattle.kernel_model.specs.Names.{has, same}
 use Rattle.relay_core.specs.Pairs.{noted}
 use Rattle.kernel_model.specs.Ends.{is_nonempty}
 use Rattle.world.specs.declared.connection.Connection.{Connection}
+use Rattle.world.specs.declared.limits.Limits.{Limits}
 use Rattle.world.specs.Places.{Place}
 use Rattle.world.specs.States.{State}
 use Rattle.world.specs.Steps.{with_note, posted, post_at, delivered_at, delivered, deliver, heard, noted_place}
@@ -20,13 +21,13 @@ use Rattle.world.proofs.EndsLists.{Yes, No, tell}
 use Rattle.world.proofs.EndsChanges.{nonempty_more}
 use Rattle.world.proofs.EndsNames.{or_left, or_right, or_then, same_end_is}
 use Rattle.world.proofs.EndsPairs.{by_side, by_direction}
-use Rattle.world.proofs.EndsFrame.{Better, better, keep_place, pair_more, pending_more}
+use Rattle.world.proofs.EndsFrame.{Better, better, same_before, keep_place, pair_more, pending_more}
 use Rattle.world.proofs.EndsQueue.{Quiet, rests_keep}
 
 -- no end changes, and no report that counts is lost
 pub record Steady (st q : State) (s : ℕ) : Type 0 where
   pub table : slice_get q.table s ≡ slice_get st.table s
-  pub ring : q.limits.ring ≡ st.limits.ring
+  pub limits : q.limits ≡ st.limits
   pub ends : q.kernel.ends ≡ st.kernel.ends
   pub pending : (side : Side) (g : ℕ) → slice_get st.table s ≡ Some g → is_pending st (token_at s side g) ≡ true → is_pending q (token_at s side g) ≡ true
 
@@ -34,7 +35,7 @@ pub steady_better : (past next : History) (st q : State) (s : ℕ) → Quiet pas
 steady_better past next st q s quiet r = record {
   history = λ g side. quiet s g side;
   table = r.table;
-  ring = r.ring;
+  limits = r.limits;
   ends = λ d e here of_i. rw (r.ends) here;
   pending = r.pending;
 }
@@ -48,15 +49,15 @@ place_keeps past next st q s old p quiet was set steady f all = keep_place past 
 some_notes : (notes : List ℕ) (g : ℕ) → is_nonempty (notes ++ g ∷ []) ≡ true
 some_notes notes g = nonempty_more notes (g ∷ []) refl
 
-pub note_keeps : (past next : History) (st q : State) (s : ℕ) (p : Place) (g : ℕ) → Quiet past next → slice_get q.table s ≡ slice_get st.table s → q.limits.ring ≡ st.limits.ring → q.kernel.ends ≡ st.kernel.ends
+pub note_keeps : (past next : History) (st q : State) (s : ℕ) (p : Place) (g : ℕ) → Quiet past next → slice_get q.table s ≡ slice_get st.table s → q.limits ≡ st.limits → q.kernel.ends ≡ st.kernel.ends
     → SlotOk past st s p → SlotOk next q s (with_note p g)
-note_keeps past next st q s p g quiet table ring ends ok = record {
+note_keeps past next st q s p g quiet table limits ends ok = record {
   entry = table ∙ ok.entry;
-  later = λ h side before. quiet s h side ∙ ok.later h side before;
+  later = λ h side younger. quiet s h side ∙ (ok.later h side younger ∙ same_before st.limits q.limits side limits);
   connection = λ c here. (let k : ConnectionOk past st s p.generation p.notes c = ok.connection c here in record {
     generation = k.generation;
-    up = k.up ∙ sym ring;
-    down = k.down ∙ sym ring;
+    up = k.up ∙ ap (λ (l : Limits). l.ring) (sym limits);
+    down = k.down ∙ ap (λ (l : Limits). l.ring) (sym limits);
     ends = k.ends;
     there = λ side. rw ends (k.there side);
     pair = pair_more (past s p.generation) (next s p.generation) _ _ c.pair k.ends (λ side. quiet s p.generation side) (λ side h. or_right (is_pending q (token_at s side p.generation)) (is_nonempty (p.notes ++ g ∷ [])) (some_notes p.notes g)) k.pair;
@@ -90,7 +91,7 @@ left_behind : (past next : History) (st q : State) (m : Name) → Quiet past nex
 left_behind past next st q m quiet first apart slots table limits kernel batch all = rests_keep past next st q quiet (record {
   slots = slots;
   table = table;
-  ring = rw limits refl;
+  limits = limits;
   ends = rw kernel refl;
   pending = λ i side g entry h. pending_more st q (token_at i side g) (λ k. rw kernel k)
       (λ k. rw batch (batch_left (name.End (token_at i side g)) m st.batch first (apart i side g entry) k)) h;
@@ -107,7 +108,7 @@ posted_keeps past next st n p quiet first here all =
     keep_place past next st q n.slot p (with_note p n.generation) here refl
     (λ i differ. steady_better past next st q i quiet (record {
       table = refl;
-      ring = refl;
+      limits = refl;
       ends = refl;
       pending = λ side g entry h. pending_more st q (token_at i side g) (λ k. k)
           (batch_left (name.End (token_at i side g)) (name.End n) st.batch first

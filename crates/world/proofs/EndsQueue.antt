@@ -44,7 +44,7 @@ Quiet past next = (i g : ℕ) (side : Side) → next i g side ≡ past i g side
 pub record Rests (st q : State) : Type 0 where
   pub slots : q.slots ≡ st.slots
   pub table : q.table ≡ st.table
-  pub ring : q.limits.ring ≡ st.limits.ring
+  pub limits : q.limits ≡ st.limits
   pub ends : q.kernel.ends ≡ st.kernel.ends
   pub pending : (i : ℕ) (side : Side) (g : ℕ) → slice_get st.table i ≡ Some g → is_pending st (token_at i side g) ≡ true → is_pending q (token_at i side g) ≡ true
 
@@ -52,7 +52,7 @@ pub rests_keep : (past next : History) (st q : State) → Quiet past next → Re
 rests_keep past next st q quiet r all = keep_all past next st q r.slots (λ i. record {
   history = λ g side. quiet i g side;
   table = rw (r.table) refl;
-  ring = r.ring;
+  limits = r.limits;
   ends = λ d e here of_i. rw (r.ends) here;
   pending = λ side g entry h. r.pending i side g entry h;
 }) all
@@ -71,7 +71,7 @@ pub queue_rests : (st : State) (names : List Name) → ((n : EndName) → has (n
 queue_rests st names more = record {
   slots = refl;
   table = refl;
-  ring = refl;
+  limits = refl;
   ends = refl;
   pending = λ i side g entry h. or_then _ _ _ (λ k. or_left _ _ (more (token_at i side g) k)) (λ k. or_right _ _ k) h;
 }
@@ -134,7 +134,7 @@ vanish_end past next st s side c quiet at_s all =
     (λ i differ. record {
       history = λ g t. quiet i g t;
       table = refl;
-      ring = refl;
+      limits = refl;
       ends = λ d e here of_i. here;
       pending = λ t g entry h. or_then _ _ _
           (λ k. or_left _ _ (has_without (name.End (token_at i t g)) (name.End n) st.kernel.queue (other_slot n (token_at i t g) (λ e. differ (sym e))) k))
@@ -142,7 +142,7 @@ vanish_end past next st s side c quiet at_s all =
     })
     (λ p here. let is : p ≡ l.place = (let was : slice_get st.slots s ≡ Some l.place = l.there in cc) in rw is (record {
       entry = slot.entry;
-      later = λ g t before. quiet s g t ∙ slot.later g t before;
+      later = λ g t younger. quiet s g t ∙ slot.later g t younger;
       connection = λ b lying. (let same : b ≡ c = (let was : l.place.connection ≡ Some c = l.connection in cc) in rw same (record {
         generation = ok.generation;
         up = ok.up;
@@ -178,20 +178,20 @@ pub listen_keeps : (past next : History) (st : State) (l : Listening) → Quiet 
 listen_keeps past next st listening.Connect quiet all = over_guard (AllOk next) st _ _ (λ may. rests_keep past next st _ quiet (record {
   slots = refl;
   table = refl;
-  ring = refl;
+  limits = refl;
   ends = refl;
   pending = λ i side g entry h. or_then _ _ _ (λ k. or_left _ _ (has_reported (name.End (token_at i side g)) name.Listener st.kernel.armed st.kernel.queue k)) (λ k. or_right _ _ k) h;
 }) all)
 listen_keeps past next st (listening.Accept Accepted) quiet all = kept_when (may_accept st) _ (λ may.
-    over_guard (AllOk next) (record st { accepted = true }) _ _ (λ some. rests_keep past next st _ quiet (record { slots = refl; table = refl; ring = refl; ends = refl; pending = λ i side g entry h. h }) all))
+    over_guard (AllOk next) (record st { accepted = true }) _ _ (λ some. rests_keep past next st _ quiet (record { slots = refl; table = refl; limits = refl; ends = refl; pending = λ i side g entry h. h }) all))
 listen_keeps past next st (listening.Accept Blocked) quiet all = kept_when (may_accept st) _ (λ may.
-    over_guard (AllOk next) (record st { flag = false }) _ _ (λ none. rests_keep past next st _ quiet (record { slots = refl; table = refl; ring = refl; ends = refl; pending = λ i side g entry h. h }) all))
+    over_guard (AllOk next) (record st { flag = false }) _ _ (λ none. rests_keep past next st _ quiet (record { slots = refl; table = refl; limits = refl; ends = refl; pending = λ i side g entry h. h }) all))
 listen_keeps past next st (listening.Accept Again) quiet all = kept_when (may_accept st) _ (λ may.
-    record { kept = rests_keep past next st _ quiet (record { slots = refl; table = refl; ring = refl; ends = refl; pending = λ i side g entry h. h }) all })
+    record { kept = rests_keep past next st _ quiet (record { slots = refl; table = refl; limits = refl; ends = refl; pending = λ i side g entry h. h }) all })
 listen_keeps past next st (listening.Accept Starved) quiet all = kept_when (may_accept st) _ (λ may.
-    record { kept = rests_keep past next st _ quiet (record { slots = refl; table = refl; ring = refl; ends = refl; pending = λ i side g entry h. h }) all })
+    record { kept = rests_keep past next st _ quiet (record { slots = refl; table = refl; limits = refl; ends = refl; pending = λ i side g entry h. h }) all })
 listen_keeps past next st listening.Drop quiet all = kept_guard st.accepted _ (λ some.
-    rests_keep past next st _ quiet (record { slots = refl; table = refl; ring = refl; ends = refl; pending = λ i side g entry h. h }) all)
+    rests_keep past next st _ quiet (record { slots = refl; table = refl; limits = refl; ends = refl; pending = λ i side g entry h. h }) all)
 
 -- A poll
 
@@ -204,7 +204,7 @@ batched_keeps past next st names quiet all = kept_when (length st.batch == 0) _ 
     over_guard (AllOk next) (record st { batch = names }) _ _ (λ may. rests_keep past next st _ quiet (record {
       slots = refl;
       table = refl;
-      ring = refl;
+      limits = refl;
       ends = refl;
       pending = λ i side g entry h. or_then _ _ _
           (λ k. has_polled (name.End (token_at i side g)) names st.kernel.queue k)

@@ -106,8 +106,8 @@ put_by_poller_shape : (st : State) (e : Event) (hand : List Ticket) → Kept (Sh
 put_by_poller_shape st e [] = record { kept = tt }
 put_by_poller_shape st e (t ∷ rest) = record { kept = Same refl refl (record { limits = refl; second = le_refl _ }) }
 
-fresh_is_live : (st : State) (s g ring : ℕ) (ends : Descriptors) (c : Connection) → Some (record { pair = fresh s g ring st.second; ends = ends }) ≡ Some c → IsFresh st c
-fresh_is_live st s g ring ends c is = let same : record { pair = fresh s g ring st.second; ends = ends } ≡ c = cc in subst (λ (b : Connection). IsFresh st b) same (record { live = refl; moved = refl })
+fresh_is_live : (st : State) (s g : ℕ) (ends : Descriptors) (c : Connection) → Some (record { pair = fresh s g st.limits.ring st.second st.limits.lead; ends = ends }) ≡ Some c → IsFresh st c
+fresh_is_live st s g ends c is = let same : record { pair = fresh s g st.limits.ring st.second st.limits.lead; ends = ends } ≡ c = cc in subst (λ (b : Connection). IsFresh st b) same (record { live = refl; moved = refl })
 
 open_shape : (st : State) (e : Event) (s : ℕ) → Kept (Shape st e) (Steps.opening_of st s)
 open_shape st e s =
@@ -115,7 +115,7 @@ open_shape st e s =
     kept_bind _ (slice_get st.table s) (λ g entry.
     kept_bind _ (token_of s Client (g + 1)) (λ client is_client.
     kept_map _ (token_of s Target (g + 1)) (λ target is_target.
-    Opened s g p _ here entry refl refl (record { limits = refl; second = le_refl _ }) refl (λ c is. fresh_is_live st s (g + 1) st.limits.ring _ c is)))))
+    Opened s g p _ here entry refl refl (record { limits = refl; second = le_refl _ }) refl (λ c is. fresh_is_live st s (g + 1) _ c is)))))
 
 pub polled_shape : (st : State) (e : Event) (p : Polling) → Kept (Shape st e) (Steps.polled st p)
 polled_shape st e polling.Open = kept_when st.accepted _ (λ some. kept_bind _ (slice_get st.free 0) (λ s first. open_shape st e s))

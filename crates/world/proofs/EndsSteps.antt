@@ -22,7 +22,7 @@ use Rattle.world.specs.Runs.{run}
 use Rattle.world.specs.Given.{has_generation, brought, given}
 use Rattle.world.proofs.TurnsKept.{Kept, kept_bind, kept_when}
 use Rattle.world.proofs.TurnsTotals.{get-replicate, get_beside}
-use Rattle.world.proofs.EndsHeld.{History, SlotOk, AllOk}
+use Rattle.world.proofs.EndsHeld.{History, before, SlotOk, AllOk}
 use Rattle.world.proofs.EndsChanges.{arrival_changes, finish_changes, failure_changes, room_changes}
 use Rattle.world.proofs.EndsNetwork.{BringsTo, network_keeps}
 use Rattle.world.proofs.EndsQueue.{Quiet, rests_keep, spurious_keeps, vanish_keeps, listen_keeps, batched_keeps}
@@ -100,7 +100,7 @@ abbrev pub after_run : History → State → List Event → History
 after_run past st events = λ s g side. past s g side ++ given st events s g side
 
 renamed : (past next : History) (st : State) → Quiet past next → AllOk past st → AllOk next st
-renamed past next st quiet all = rests_keep past next st st quiet (record { slots = refl; table = refl; ring = refl; ends = refl; pending = λ i side g entry h. h }) all
+renamed past next st quiet all = rests_keep past next st st quiet (record { slots = refl; table = refl; limits = refl; ends = refl; pending = λ i side g entry h. h }) all
 
 further : (past : History) (st q : State) (e : Event) (events : List Event) (o : Option State)
     → ((m : State) → AllOk (after_event past st e) m → run m events ≡ Some q → AllOk (after_run (after_event past st e) m events) q)
@@ -116,14 +116,15 @@ run_keeps past st q (e ∷ events) all ran = further past st q e events (step st
 
 -- The opening world
 
-abbrev pub no_history : History
-no_history = λ s g side. []
+-- each connection is to send its preamble, and nothing came yet
+abbrev pub first_history : Limits → History
+first_history l = λ s g side. before l side
 
-pub opening_ok : (l : Limits) → AllOk no_history (opening l)
+pub opening_ok : (l : Limits) → AllOk (first_history l) (opening l)
 opening_ok l = record {
-  each = λ s p here. subst (λ (place : Place). SlotOk no_history (opening l) s place) (get-replicate l.slots s (unused l.generation) p here) (record {
+  each = λ s p here. subst (λ (place : Place). SlotOk (first_history l) (opening l) s place) (get-replicate l.slots s (unused l.generation) p here) (record {
     entry = get_beside l.slots s (unused l.generation) p l.generation here;
-    later = λ g side before. refl;
+    later = λ g side younger. refl;
     connection = λ c is. absurd (cc);
   });
 }

@@ -27,7 +27,7 @@ use Rattle.world.proofs.EndsPairs.{by_side, by_direction}
 use Rattle.world.proofs.EndsHeld.{History, token_at, registered, ConnectionOk, SlotOk, AllOk}
 use Rattle.world.proofs.EndsNames.{has_without, other_slot}
 use Rattle.world.proofs.EndsKernel.{end_kept}
-use Rattle.world.proofs.EndsFrame.{Better, keep_place, pending_more}
+use Rattle.world.proofs.EndsFrame.{Better, same_before, keep_place, pending_more}
 use Rattle.world.proofs.EndsQueue.{Quiet, rests_keep}
 use Rattle.world.proofs.EndsPlaces.{Steady, place_keeps, note_keeps, take_ok}
 
@@ -35,15 +35,15 @@ use Rattle.world.proofs.EndsPlaces.{Steady, place_keeps, note_keeps, take_ok}
 
 pub put_by_poller_keeps : (past next : History) (st : State) (hand : List Ticket) → Quiet past next → AllOk past st → Kept (AllOk next) (put_by_poller st hand)
 put_by_poller_keeps past next st [] quiet all = record { kept = tt }
-put_by_poller_keeps past next st (t ∷ rest) quiet all = record { kept = rests_keep past next st _ quiet (record { slots = refl; table = refl; ring = refl; ends = refl; pending = λ i side g entry h. h }) all }
+put_by_poller_keeps past next st (t ∷ rest) quiet all = record { kept = rests_keep past next st _ quiet (record { slots = refl; table = refl; limits = refl; ends = refl; pending = λ i side g entry h. h }) all }
 
 pub put_by_worker_keeps : (past next : History) (st : State) (w : ℕ) (k : Actor) (hand : List Ticket) → Quiet past next → AllOk past st → Kept (AllOk next) (put_by_worker st w k hand)
 put_by_worker_keeps past next st w k [] quiet all = record { kept = tt }
-put_by_worker_keeps past next st w k (t ∷ rest) quiet all = record { kept = rests_keep past next st _ quiet (record { slots = refl; table = refl; ring = refl; ends = refl; pending = λ i side g entry h. h }) all }
+put_by_worker_keeps past next st w k (t ∷ rest) quiet all = record { kept = rests_keep past next st _ quiet (record { slots = refl; table = refl; limits = refl; ends = refl; pending = λ i side g entry h. h }) all }
 
 popped_keeps : (past next : History) (st : State) (w : ℕ) (k : Actor) (ready : List Ticket) → Quiet past next → AllOk past st → Kept (AllOk next) (popped st w k ready)
 popped_keeps past next st w k [] quiet all = record { kept = tt }
-popped_keeps past next st w k (t ∷ rest) quiet all = record { kept = rests_keep past next st _ quiet (record { slots = refl; table = refl; ring = refl; ends = refl; pending = λ i side g entry h. h }) all }
+popped_keeps past next st w k (t ∷ rest) quiet all = record { kept = rests_keep past next st _ quiet (record { slots = refl; table = refl; limits = refl; ends = refl; pending = λ i side g entry h. h }) all }
 
 pub pop_keeps : (past next : History) (st : State) (w : ℕ) (k : Actor) (d : Doing) → Quiet past next → AllOk past st → Kept (AllOk next) (pop st w k d)
 pop_keeps past next st w k Idle quiet all = kept_when (length k.hand == 0) _ (λ none. popped_keeps past next st w k st.ready quiet all)
@@ -57,7 +57,7 @@ pop_keeps past next st w k (Retired s) quiet all = record { kept = tt }
 steady : (st q : State) → q.table ≡ st.table → q.limits ≡ st.limits → q.kernel ≡ st.kernel → q.batch ≡ st.batch → (i : ℕ) → Steady st q i
 steady st q table limits kernel batch i = record {
   table = rw table refl;
-  ring = rw limits refl;
+  limits = limits;
   ends = rw kernel refl;
   pending = λ side g entry h. pending_more st q (token_at i side g) (λ k. rw kernel k) (λ k. rw batch k) h;
 }
@@ -72,7 +72,7 @@ either_way P false q r this that = that
 pub claim_keeps : (past next : History) (st : State) (w : ℕ) (k : Actor) (d : Doing) → Quiet past next → AllOk past st → Kept (AllOk next) (claim st w k d)
 claim_keeps past next st w k (Tries t) quiet all = kept_map _ (slice_get st.slots t.slot) (λ p here.
     either_way (AllOk next) (is_held p.holder) _ _
-    (rests_keep past next st _ quiet (record { slots = refl; table = refl; ring = refl; ends = refl; pending = λ i side g entry h. h }) all)
+    (rests_keep past next st _ quiet (record { slots = refl; table = refl; limits = refl; ends = refl; pending = λ i side g entry h. h }) all)
     (place_keeps past next st _ t.slot p _ quiet here refl (steady st _ refl refl refl refl) (held_by next _ t.slot p _) all))
 claim_keeps past next st w k Idle quiet all = record { kept = tt }
 claim_keeps past next st w k (Holds s left) quiet all = record { kept = tt }
@@ -129,7 +129,7 @@ sweep_keeps past next st s quiet all = kept_when (is_limited st) _ (λ limited. 
 
 -- time passes
 pub tick_keeps : (past next : History) (st : State) (n : ℕ) → Quiet past next → AllOk past st → Kept (AllOk next) (tick st n)
-tick_keeps past next st n quiet all = kept_guard _ (record st { second = st.second + n }) (λ may. rests_keep past next st _ quiet (record { slots = refl; table = refl; ring = refl; ends = refl; pending = λ i side g entry h. h }) all)
+tick_keeps past next st n quiet all = kept_guard _ (record st { second = st.second + n }) (λ may. rests_keep past next st _ quiet (record { slots = refl; table = refl; limits = refl; ends = refl; pending = λ i side g entry h. h }) all)
 
 pub post_keeps : (past next : History) (st : State) (d : Doing) → Quiet past next → AllOk past st → Kept (AllOk next) (post st d)
 post_keeps past next st (Holds s left) quiet all = kept_bind _ (slice_get st.slots s) (λ p here.
@@ -162,7 +162,7 @@ retire_keeps past next st w k (Retired s) quiet all = record { kept = tt }
 
 pub free_keeps : (past next : History) (st : State) (w : ℕ) (k : Actor) (d : Doing) → Quiet past next → AllOk past st → Kept (AllOk next) (free st w k d)
 free_keeps past next st w k (Retired s) quiet all = kept_map _ (slice_get st.slots s) (λ p here.
-    rests_keep past next st _ quiet (record { slots = refl; table = refl; ring = refl; ends = refl; pending = λ i side g entry h. h }) all)
+    rests_keep past next st _ quiet (record { slots = refl; table = refl; limits = refl; ends = refl; pending = λ i side g entry h. h }) all)
 free_keeps past next st w k Idle quiet all = record { kept = tt }
 free_keeps past next st w k (Tries t) quiet all = record { kept = tt }
 free_keeps past next st w k (Holds s left) quiet all = record { kept = tt }
@@ -190,7 +190,7 @@ others_closed : (past next : History) (st q : State) (s g : ℕ) (notes : List �
 others_closed past next st q s g notes c quiet ok table limits batch kernel i differ = record {
   history = λ h side. quiet i h side;
   table = rw table refl;
-  ring = rw limits refl;
+  limits = limits;
   ends = λ d b here of_i. rw kernel (
       let apart : (side : Side) → b.token ≡ token_at s side g → ⊥ = λ side same. differ (let slots : b.token.slot ≡ s = ap (λ (n : EndName). n.slot) same in cc) in
       let first : end_at (slice_set st.kernel.ends c.ends.client None) d ≡ Some b = end_kept st.kernel.ends c.ends.client d (registered s g Client ok.ends.client) b None (ok.there Client) here (apart Client) in
@@ -205,10 +205,10 @@ others_closed past next st q s g notes c quiet ok table limits batch kernel i di
       (λ taken. rw batch taken) k;
 }
 
-vacated : (past next : History) (st q : State) (s : ℕ) (p : Place) → Quiet past next → q.table ≡ st.table → SlotOk past st s p → SlotOk next q s (record p { connection = None })
-vacated past next st q s p quiet table ok = record {
+vacated : (past next : History) (st q : State) (s : ℕ) (p : Place) → Quiet past next → q.table ≡ st.table → q.limits ≡ st.limits → SlotOk past st s p → SlotOk next q s (record p { connection = None })
+vacated past next st q s p quiet table limits ok = record {
   entry = rw table (ok.entry);
-  later = λ g side before. quiet s g side ∙ ok.later g side before;
+  later = λ g side younger. quiet s g side ∙ (ok.later g side younger ∙ same_before st.limits q.limits side limits);
   connection = λ c here. absurd (cc);
 }
 
@@ -218,7 +218,7 @@ closed_keeps past next st w k s p c quiet here ok all =
     let q : State = closed_world st w k s p c (record { value = without_both st.kernel s p.generation c; told = ok.ends }) in
     keep_place past next st q s p (record p { connection = None }) here refl
     (others_closed past next st q s p.generation p.notes c quiet ok refl refl refl refl)
-    (vacated past next st q s p quiet refl (all.each s p here)) all
+    (vacated past next st q s p quiet refl refl (all.each s p here)) all
 
 pub close_keeps : (past next : History) (st : State) (w : ℕ) (k : Actor) (d : Doing) → Quiet past next → AllOk past st → Kept (AllOk next) (close st w k d)
 close_keeps past next st w k (Holds s left) quiet all = kept_bind _ (slice_get st.slots s) (λ p here.

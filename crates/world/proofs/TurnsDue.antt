@@ -9,7 +9,7 @@ use Rattle.token.specs.declared.name.Name.{Name}
 use Rattle.token.specs.declared.name.Name.TheVariants.{Listener, Waker, End}
 use Rattle.token.specs.Names.{EndName}
 use Rattle.token.specs.Sides.{side_number, source, destination}
-use Rattle.flow.specs.Stream.{Stream}
+use Rattle.flow.specs.Stream.{Stream, waiting}
 use Rattle.kernel_model.specs.Names.{same, has}
 use Rattle.kernel_model.specs.Ends.{is_readable, is_writable, is_nonempty}
 use Rattle.kernel_model.specs.Kernel.{Registered}
@@ -165,18 +165,18 @@ comes_in st s p c d r edges place ready =
 
 goes_out : (st : State) (s : ℕ) (p : Place) (c : Connection) (d : Direction) → Rests st s p c → EdgesHold st → is_waiting (stream_of c.pair d) ≡ true → takes (end_of st c (destination d)) ≡ true → is_reported st s c.pair.generation ≡ true
 goes_out st s p c d r edges wait ready =
-    let some : 0 < length (stream_of c.pair d).ring = ltb-true 0 (length (stream_of c.pair d).ring) wait in
-    writes_due st s p c (destination d) r edges ((r.rest d).waiting (omega arith)) ready
+    let some : 0 < length (waiting (stream_of c.pair d)) = ltb-true 0 (length (waiting (stream_of c.pair d))) wait in
+    writes_due st s p c (destination d) r edges ((r.rest d).waits (omega arith)) ready
 
-empty_ring : (xs : List ℕ) → not (nat_lt 0 (length xs)) ≡ true → xs ≡ []
-empty_ring [] h = refl
-empty_ring (x ∷ xs) h = absurd (let most : length (x ∷ xs) ≤ 0 = ltb-false 0 (length (x ∷ xs)) (unseen (nat_lt 0 (length (x ∷ xs))) h) in omega arith)
+none_wait : (xs : List ℕ) → not (nat_lt 0 (length xs)) ≡ true → xs ≡ []
+none_wait [] h = refl
+none_wait (x ∷ xs) h = absurd (let most : length (x ∷ xs) ≤ 0 = ltb-false 0 (length (x ∷ xs)) (unseen (nat_lt 0 (length (x ∷ xs))) h) in omega arith)
 
 drained : (s : Stream) → is_drained s ≡ true → IsDrained s
 drained s h =
     let parts : ((s.end_seen && not (is_waiting s)) ≡ true) × (not s.shut ≡ true) = and_parts (s.end_seen && not (is_waiting s)) (not s.shut) h in
     let seen : (s.end_seen ≡ true) × (not (is_waiting s) ≡ true) = and_parts s.end_seen (not (is_waiting s)) parts.0 in
-    record { ended = seen.0; empty = empty_ring s.ring seen.1; kept = unseen s.shut parts.1 }
+    record { ended = seen.0; empty = none_wait (waiting s) seen.1; kept = unseen s.shut parts.1 }
 
 passes_on : (st : State) (s : ℕ) (p : Place) (c : Connection) (d : Direction) → Rests st s p c → EdgesHold st → IsDrained (stream_of c.pair d) → (is_joined c.pair (destination d) ≡ true) ⊎ (takes (end_of st c (destination d)) ≡ true) → is_reported st s c.pair.generation ≡ true
 passes_on st s p c d r edges dry (inl joined) = absurd (let un : is_joined c.pair (destination d) ≡ false = (r.rest d).unjoined dry in (cc))

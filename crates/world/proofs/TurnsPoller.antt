@@ -226,9 +226,9 @@ first_free st s p there first turns =
       gone = omega arith;
     }
 
-opened_connection : (st : State) (s g : ℕ) (ends : Descriptors) (f : Facts) (c : Connection) → f.slot ≡ s → f.ring ≡ st.limits.ring → (opened_place s g st.limits.ring st.second ends).connection ≡ Some c → ConnectionOk f (opened_place s g st.limits.ring st.second ends) c
+opened_connection : (st : State) (s g : ℕ) (ends : Descriptors) (f : Facts) (c : Connection) → f.slot ≡ s → f.ring ≡ st.limits.ring → (opened_place s g st.limits st.second ends).connection ≡ Some c → ConnectionOk f (opened_place s g st.limits st.second ends) c
 opened_connection st s g ends f c slot ring is =
-    let same : record { pair = fresh s g st.limits.ring st.second; ends = ends } ≡ c = (cc) in
+    let same : record { pair = fresh s g st.limits.ring st.second st.limits.lead; ends = ends } ≡ c = (cc) in
     rw (← same) (record {
       stands = rw (slot, ring) refl;
       live = λ nobody. refl;
@@ -245,7 +245,7 @@ opened_turns st s g p t there first turns =
     let this : one (s == s) ≡ 1 = one_same s in
     let this_right : names s g (record { slot = s; generation = g }) ≡ 1 = names_own s g in
     let none : tickets st s ≡ 0 = free.tickets in
-    keep_others st (opened_world st s g t) s p (opened_place s g st.limits.ring st.second t.told) there refl (λ j q apart other. record {
+    keep_others st (opened_world st s g t) s p (opened_place s g st.limits st.second t.told) there refl (λ j q apart other. record {
       ring = refl;
       slot = refl;
       entry = sym (get-set_other st.table s j g apart);

@@ -183,7 +183,7 @@ opened_words st e s g p t made there first turns =
     let more : total (of_slot s) (st.hand ++ record { slot = s; generation = g } ∷ []) ≡ total (of_slot s) st.hand + one (s == s) = total_push (of_slot s) st.hand _ in
     let this : one (s == s) ≡ 1 = one_same s in
     let woken : wakes (words.adopt ∷ words.take ∷ words.post ∷ words.release ∷ []) (word_at p) ≡ 1 = rw (f.held, f.free) refl in
-    touched st (opened_world st s g t) e s p (opened_place s g st.limits.ring st.second t.told) (words.adopt ∷ words.take ∷ words.post ∷ words.release ∷ []) there refl made refl (rw woken (omega arith)) (λ i apart.
+    touched st (opened_world st s g t) e s p (opened_place s g st.limits st.second t.told) (words.adopt ∷ words.take ∷ words.post ∷ words.release ∷ []) there refl made refl (rw woken (omega arith)) (λ i apart.
     let other : one (s == i) ≡ 0 = one_other s i apart in
     let same : total (of_slot i) (st.hand ++ record { slot = s; generation = g } ∷ []) ≡ total (of_slot i) st.hand + one (s == i) = total_push (of_slot i) st.hand _ in
     omega arith)

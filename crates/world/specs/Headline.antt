@@ -6,6 +6,7 @@ use Rattle.token.specs.declared.kind.Kind.{Kind}
 use Rattle.token.specs.declared.side.Side.{Side}
 use Rattle.token.specs.declared.side.Side.TheVariants.{Client, Target}
 use Rattle.token.specs.declared.direction.Direction.{Direction}
+use Rattle.token.specs.declared.direction.Direction.TheVariants.{Up, Down}
 use Rattle.token.specs.declared.name.Name.TheVariants as name
 use Rattle.token.specs.Sides.{source, destination}
 use Rattle.flow.specs.Stream.{Stream}
@@ -43,29 +44,37 @@ use Rattle.world.specs.Due.{movable, due}
 abbrev pub end_of : State → Connection → Side → Option Registered
 end_of st c side = end_at st.kernel.ends (descriptor c.ends side)
 
--- Bytes and ends, for a direction: `gave` are the bytes that were given to its source x, and y is its destination
+-- Bytes and ends, for a direction: `gave` are the bytes that were given to its source x, and y is its destination. The
+-- preamble `before` is sent before them
 
--- the arrived bytes are the sent bytes, then the ring, then the unread bytes
-abbrev pub KeepsBytes : List ℕ → Stream → Endpoint → Endpoint → Type 0
-KeepsBytes gave stream x y = gave ≡ y.taken ++ (stream.ring ++ x.unread)
+-- what the target is sent before the client's bytes; the client is sent nothing before the target's
+abbrev pub preamble : Limits → Direction → List ℕ
+preamble l Up = l.lead
+preamble l Down = []
+
+-- the preamble and then the arrived bytes are the sent bytes, then the rest of the preamble, then the ring, then the
+-- unread bytes
+abbrev pub KeepsBytes : List ℕ → List ℕ → Stream → Endpoint → Endpoint → Type 0
+KeepsBytes before gave stream x y = before ++ gave ≡ y.taken ++ (stream.lead ++ (stream.ring ++ x.unread))
 
 -- an end that was passed on came last: the source is at its end of input, and every byte was sent
-pub record EndCameLast (gave : List ℕ) (stream : Stream) (x y : Endpoint) : Type 0 where
+pub record EndCameLast (before gave : List ℕ) (stream : Stream) (x y : Endpoint) : Type 0 where
   pub ended : x.fin ≡ true
   pub read : x.unread ≡ []
+  pub gone : stream.lead ≡ []
   pub empty : stream.ring ≡ []
-  pub sent : gave ≡ y.taken
+  pub sent : before ++ gave ≡ y.taken
 
 -- both clauses of one direction
-pub record DirectionHolds (gave : List ℕ) (stream : Stream) (x y : Endpoint) : Type 0 where
-  pub bytes : KeepsBytes gave stream x y
-  pub last : stream.shut ≡ true → EndCameLast gave stream x y
+pub record DirectionHolds (before gave : List ℕ) (stream : Stream) (x y : Endpoint) : Type 0 where
+  pub bytes : KeepsBytes before gave stream x y
+  pub last : stream.shut ≡ true → EndCameLast before gave stream x y
 
 -- in each direction of the connection in a slot; both of its ends are open
 pub record ConnectionHolds (first st : State) (events : List Event) (s : ℕ) (c : Connection) : Type 0 where
   pub open_ends : (side : Side) → IsSome (end_of st c side)
   pub directions : (d : Direction) (x y : Registered) → end_of st c (source d) ≡ Some x → end_of st c (destination d) ≡ Some y
-      → DirectionHolds (given first events s c.pair.generation (source d)) (stream_of c.pair d) x.socket y.socket
+      → DirectionHolds (preamble first.limits d) (given first events s c.pair.generation (source d)) (stream_of c.pair d) x.socket y.socket
 
 abbrev pub BytesAndEndsHold : State → State → List Event → Type 0
 BytesAndEndsHold first st events = (s : ℕ) (c : Connection) → connection_at st s ≡ Some c → ConnectionHolds first st events s c
@@ -75,10 +84,14 @@ abbrev pub socket_of : Sockets → Side → Endpoint
 socket_of ends Client = ends.client
 socket_of ends Target = ends.target
 
--- of a closed connection: what was sent is a beginning of what was given, and all of it where it was done
+-- the preamble of a direction, and then the bytes that were given to its source
+abbrev pub all_to_send : State → List Event → ℕ → ℕ → Direction → List ℕ
+all_to_send first events s g d = preamble first.limits d ++ given first events s g (source d)
+
+-- of a closed connection: what was sent is a beginning of the preamble and what was given, and all of it where it was done
 pub record ClosedHolds (first : State) (events : List Event) (p : Past) : Type 0 where
-  pub beginning : (d : Direction) → (rest : List ℕ) × (given first events p.slot p.generation (source d) ≡ (socket_of p.ends (destination d)).taken ++ rest)
-  pub all : p.verdict ≡ Done → (d : Direction) → given first events p.slot p.generation (source d) ≡ (socket_of p.ends (destination d)).taken
+  pub beginning : (d : Direction) → (rest : List ℕ) × (all_to_send first events p.slot p.generation d ≡ (socket_of p.ends (destination d)).taken ++ rest)
+  pub all : p.verdict ≡ Done → (d : Direction) → all_to_send first events p.slot p.generation d ≡ (socket_of p.ends (destination d)).taken
 
 abbrev pub ClosedHold : State → State → List Event → Type 0
 ClosedHold first st events = (i : ℕ) (p : Past) → slice_get st.past i ≡ Some p → ClosedHolds first events p

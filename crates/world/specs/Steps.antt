@@ -22,6 +22,7 @@ use Rattle.relay_core.specs.Pairs.{fresh, noted, verdict, is_live}
 use Rattle.relay_core.specs.Order.{next_call}
 use Rattle.relay_core.specs.Idle.{is_overdue, timed_out}
 use Rattle.world.specs.declared.connection.Connection.{Connection}
+use Rattle.world.specs.declared.limits.Limits.{Limits}
 use Rattle.world.specs.declared.actors.Ticket.{Ticket}
 use Rattle.world.specs.declared.actors.Holder.TheVariants.{Nobody, By, Free as IsFree}
 use Rattle.world.specs.declared.actors.Doing.{Doing}
@@ -110,9 +111,9 @@ listen st listening.Drop = guard st.accepted (record st { accepted = false })
 abbrev pub token_of : ℕ → Side → ℕ → Option EndName
 token_of s side g = guard (nat_le s 32767 && (nat_le 1 g && nat_le g 140737488355327)) (record { slot = s; side = side; generation = g })
 
--- a slot with the fresh connection of this second, and the note of its opening
-abbrev pub opened_place : ℕ → ℕ → ℕ → ℕ → Descriptors → Place
-opened_place s g ring now ends = record { generation = g; connection = Some (record { pair = fresh s g ring now; ends = ends }); holder = Nobody; notes = g ∷ [] }
+-- a slot with the fresh connection of this second, made as the limits say, and the note of its opening
+abbrev pub opened_place : ℕ → ℕ → Limits → ℕ → Descriptors → Place
+opened_place s g l now ends = record { generation = g; connection = Some (record { pair = fresh s g l.ring now l.lead; ends = ends }); holder = Nobody; notes = g ∷ [] }
 
 -- the world once both ends are open
 abbrev pub opened_world : State → ℕ → ℕ → Told Watcher Descriptors → State
@@ -122,7 +123,7 @@ opened_world st s g t = record st {
   table = slice_set st.table s g;
   hand = st.hand ++ record { slot = s; generation = g } ∷ [];
   free = drop 1 st.free;
-  slots = slice_set st.slots s (opened_place s g st.limits.ring st.second t.told);
+  slots = slice_set st.slots s (opened_place s g st.limits st.second t.told);
 }
 
 -- a slot is opened for the generation after the table's; its old notes are thrown away

@@ -109,11 +109,11 @@ fn has_place(ring: usize, pair: &Pair, direction: Direction) -> bool
     !pair.end_seen(direction) && pair.ring_len(direction) < ring
 }
 
-/// Whether bytes wait in the ring of one direction.
+/// Whether bytes wait in one direction, of the lead or in the ring.
 fn is_waiting(pair: &Pair, direction: Direction) -> bool
     ensures { result ≡ is_waiting (stream_of pair.now direction) }
 {
-    pair.ring_len(direction) > 0
+    pair.lead_len(direction) > 0 || pair.ring_len(direction) > 0
 }
 
 /// Whether the end of one direction is still to be passed on, and every byte before it has left.

@@ -84,7 +84,14 @@ impl World {
         requires inside_table { slot < length self.old.table }
         ensures { Meets (Some (opened_world self.old slot generation (open_both self.old.kernel client target))) self.old self.new result }
     {
-        let pair = Pair::new(self.alloc, slot, generation, self.limits.ring, self.second)?;
+        let pair = Pair::new(
+            self.alloc,
+            slot,
+            generation,
+            self.limits.ring,
+            self.second,
+            self.limits.lead.as_slice(),
+        )?;
         let notes = vec![in self.alloc; generation; 1]?;
         self.hand.reserve(1)?;
         let ends = self.kernel.open_both(client, target)?;

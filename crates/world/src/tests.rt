@@ -37,7 +37,9 @@ struct Shown {
     notes: usize,
     is_due: bool,
     is_movable: bool,
-    /// How many bytes wait for the target.
+    /// How many bytes are left of the lead.
+    lead: usize,
+    /// How many bytes wait for the target in the ring.
     ring: usize,
     doing: Doing,
     hand: usize,
@@ -56,6 +58,7 @@ const REST: Shown = Shown {
     notes: 0,
     is_due: false,
     is_movable: false,
+    lead: 0,
     ring: 0,
     doing: Doing::Idle,
     hand: 0,
@@ -124,7 +127,7 @@ fn add(alloc: Global, events: &mut Vec<Event>, plays: &[Play]) -> Result<(), Ref
     Ok(())
 }
 
-/// One slot and one worker, and no idle limit.
+/// One slot and one worker, no idle limit, and no lead.
 const SMALL: Limits = Limits {
     slots: 1,
     workers: 1,
@@ -132,6 +135,7 @@ const SMALL: Limits = Limits {
     budget: 64,
     generation: 0,
     idle: 0,
+    lead: Lead::NONE,
 };
 
 /// The world of one slot and one worker after a connection was opened, and these plays; or the index of the
@@ -175,8 +179,9 @@ fn played_within(
 fn replayed(alloc: Global, limits: Limits, events: &[Event]) -> Result<World, (usize, Refusal)>
     requires { IsWithinLimits limits }
 {
+    let again = limits;
     match replay(alloc, limits, events) {
-        Err((_, Refusal::NoMemory)) => replay(alloc, limits, events),
+        Err((_, Refusal::NoMemory)) => replay(alloc, again, events),
         told => told,
     }
 }
@@ -190,6 +195,10 @@ fn read(world: &World) -> Option<Shown> {
         notes: slot.notes().len(),
         is_due: world.due(0),
         is_movable: world.movable(0),
+        lead: match world.connection(0) {
+            Some(connection) => connection.pair.lead_len(Direction::Up),
+            None => 0,
+        },
         ring: match world.connection(0) {
             Some(connection) => connection.pair.ring_len(Direction::Up),
             None => 0,
@@ -537,6 +546,110 @@ fn the_event_that_fails_is_told(rt: HostRuntime) -> Result<(), Fail> {
     Ok(())
 }
 
+/// The world after a connection was opened with these bytes as its lead, and these plays; or the index of the play that
+/// failed.
+fn played_with_lead(
+    alloc: Global,
+    bytes: &[u8],
+    plays: &[Play],
+) -> Result<Result<World, usize>, Refusal> {
+    let Some(lead) = Lead::new(bytes) else {
+        return Err(Refusal::NotAllowed);
+    };
+    played_within(alloc, Limits { lead, ..SMALL }, plays)
+}
+
+// Of each row: the lead, what happens, what is shown then, and the bytes that the target took.
+#[test]
+fn the_lead_goes_out_first(rt: HostRuntime) -> Result<(), Fail> {
+    let led = Shown {
+        holder: Holder::By(0),
+        is_due: true,
+        is_movable: true,
+        lead: 1,
+        doing: Doing::Holds(0, 62),
+        ..REST
+    };
+    let rows: [(&[u8], &[Play], Shown, &[u8]); 3] = [
+        (
+            b"PR",
+            &[
+                Play::Arrive(b"abc"),
+                Play::Room(TARGET),
+                Play::Call(Reply::Wrote(1, false)),
+                BLOCKED,
+            ],
+            led,
+            b"P",
+        ),
+        (
+            b"PR",
+            &[
+                Play::Arrive(b"abc"),
+                Play::Room(TARGET),
+                Play::Call(Reply::Wrote(1, false)),
+                BLOCKED,
+                Play::Call(Reply::Wrote(1, false)),
+                Play::Call(Reply::Bytes(3)),
+                Play::Call(Reply::Wrote(3, false)),
+                BLOCKED,
+                RELEASE,
+            ],
+            REST,
+            b"PRabc",
+        ),
+        (
+            b"",
+            &[
+                Play::Arrive(b"abc"),
+                Play::Room(TARGET),
+                Play::Call(Reply::Bytes(3)),
+                BLOCKED,
+                Play::Call(Reply::Wrote(3, false)),
+                BLOCKED,
+                RELEASE,
+            ],
+            REST,
+            b"abc",
+        ),
+    ];
+    for (lead, plays, wanted, bytes) in rows {
+        match played_with_lead(rt.alloc(), lead, plays)? {
+            Ok(world) => {
+                assert_eq!(rt; read(&world), Some(wanted), "{plays:?}");
+                assert_eq!(rt; sent(&world), bytes, "{plays:?}");
+            }
+            Err(_) => return Err(Fail::from(Refusal::NotAllowed)),
+        }
+    }
+    Ok(())
+}
+
+// The ring has bytes already, and a write still takes those of the lead alone.
+#[test]
+fn a_write_ends_with_the_lead(rt: HostRuntime) -> Result<(), Fail> {
+    let plays = [
+        Play::Arrive(b"abc"),
+        BLOCKED,
+        BLOCKED,
+        Play::Call(Reply::Bytes(3)),
+        Play::Room(TARGET),
+        Play::Poll(TARGET),
+        Play::Deliver,
+        Play::Work(Act::Take),
+        BLOCKED,
+        Play::Call(Reply::Wrote(3, false)),
+    ];
+    match played_with_lead(rt.alloc(), b"PR", &plays)? {
+        Ok(_) => return Err(Fail::from(Refusal::NotAllowed)),
+        Err(index) => assert_eq!(rt; index, 16),
+    }
+    assert_eq!(rt; Lead::new(&[7; 107]).is_some(), true);
+    assert_eq!(rt; Lead::new(&[7; 108]), None);
+    assert_eq!(rt; Lead::NONE.as_slice().len(), 0);
+    Ok(())
+}
+
 /// A connection at rest, some seconds later: a worker claims its slot and finds no call to make.
 fn swept(seconds: u64) -> [Play; 11] {
     [
@@ -619,6 +732,7 @@ fn a_world_without_connections(rt: HostRuntime) -> Result<(), Fail> {
         budget: 64,
         generation: 0,
         idle: 0,
+        lead: Lead::NONE,
     };
     let mut world = World::new(rt.alloc(), limits)?;
     assert_eq!(rt; world.free_slots(), [0, 1].as_slice());

@@ -1,0 +1,11 @@
+use Rattle.std.proofs.Common.{◌-◌, Some, length, ap, arith}
+use Rattle.std.specs.Prelude.{replicate}
+use Rattle.std.proofs.Math.Seq.{take-append_seam}
+use Rattle.world.specs.LeadLaws.{is_padded}
+use Rattle.world.proofs.lead.Lead.new.Goals as goal
+
+pub invariant_of-result : goal.invariant_of-result
+invariant_of-result c = rw c.padded.ensures (is_padded c.args.bytes.now (omega arith))
+
+pub returns-clause-short : goal.returns-clause-short
+returns-clause-short c = λ within. rw c.padded.ensures (ap Some (take-append_seam c.args.bytes.now (replicate (107 - length c.args.bytes.now) 0)))

@@ -1,0 +1,76 @@
+// The bytes that a target is sent before the client's.
+ghost use Rattle.std.specs.Prelude.{◌≡◌, ◌<◌, ◌≤◌, length, Some, None};
+ghost use Rattle.world.specs.Leads.{padded};
+
+use flow::Flow;
+use std::marker::Model;
+
+/// The most bytes that a lead has.
+const MAX: usize = Flow::MAX_LEAD;
+
+/// The bytes that the target of each connection is sent before the client's own: 0 to 107. Contracts see a lead as the
+/// list of its bytes.
+#[derive(Clone, Copy, Debug, PartialEq, Eq)]
+pub struct Lead {
+    bytes: [u8; MAX],
+    len: usize,
+}
+
+impl Model for Lead {
+    ghost use Rattle.std.specs.Prelude.{ℕ, List, length, take};
+
+    ghost Value = { List ℕ };
+
+    ghost use Rattle.world.specs.Leads.{IsPadded, padded};
+
+    ghost view = { λ l. take l.len l.bytes };
+
+    ghost invariant = { λ l. IsPadded l.len l.bytes };
+
+    ghost inverse = { λ bytes. record { bytes = padded bytes; len = length bytes } };
+
+    ghost use Rattle.world.specs.LeadLaws.{given_back};
+
+    ghost inverse_ok = { λ l h. given_back l.len l.bytes h };
+}
+
+impl Lead {
+    /// No bytes.
+    pub const NONE: Lead = Lead {
+        bytes: [0; MAX],
+        len: 0,
+    };
+
+    /// The lead that has these bytes, or `None` if there are more than 107.
+    pub fn new(bytes: &[u8]) -> Option<Lead>
+        ensures short { length bytes.now ≤ 107 → result ≡ Some bytes.now }
+        ensures long { 107 < length bytes.now → result ≡ None }
+    {
+        if bytes.len() > MAX {
+            return None;
+        }
+        Some(Lead {
+            bytes: padded(bytes),
+            len: bytes.len(),
+        })
+    }
+
+    /// Its bytes.
+    pub fn as_slice(&self) -> &[u8]
+        ensures bytes { result.now ≡ self.now }
+        ensures short { length result.now ≤ 107 }
+    {
+        &self.bytes[..self.len]
+    }
+}
+
+/// The bytes, and then zeros up to the length of the array.
+#[tactic(auto, using(crate::specs::LeadLaws::written_over))]
+fn padded(bytes: &[u8]) -> [u8; MAX]
+    requires { length bytes.now ≤ 107 }
+    ensures { result ≡ padded bytes.now }
+{
+    let mut padded = [0; MAX];
+    padded[..bytes.len()].copy_from_slice(bytes);
+    padded
+}
