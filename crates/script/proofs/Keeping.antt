@@ -1,9 +1,11 @@
 -- Every step keeps the bytes in order and whole, and the end behind them.
-use Rattle.std.proofs.Common.{◌≡◌, ℕ, List, [], ◌∷◌, ◌++◌, Bool, true, false, not, ◌&&◌, ◌||◌, cond, Option, Some, None, Ok, take, drop, refl, sym, ◌∙◌, ap, arith, append_assoc, append-nil, subst, length, nat_le, ◌⊎◌, inl, inr}
+use Rattle.std.proofs.Common.{◌≡◌, ℕ, List, [], ◌∷◌, ◌++◌, Bool, true, false, not, ◌&&◌, ◌||◌, cond, Option, Some, None, Ok, take, drop, refl, sym, ◌∙◌, ap, arith, append_assoc, append-nil, subst, length, nat_lt, nat_le, ◌≤◌, ◌⊎◌, inl, inr}
 use Rattle.std.specs.Prelude.{IfSome}
 use Rattle.std.proofs.lemmas.List.{take-append-drop, nil_from_length}
 use Rattle.std.proofs.Math.Seq.{drop-nil}
-use Rattle.std.proofs.lemmas.Bool.{ltb-false}
+use Rattle.std.proofs.lemmas.Bool.{ltb-false, leb-true}
+use Rattle.flow.specs.Stream.{waiting, front, dropped}
+use Rattle.flow.proofs.Front.{waiting-dropped, take-front, waiting_ends}
 use Rattle.kernel_model.specs.Ends.{is_nonempty}
 use Rattle.kernel_model.specs.Replies.{is_count}
 use Rattle.script.specs.declared.step.Step.{Step}
@@ -17,9 +19,10 @@ use Rattle.script.specs.Transfers.{opening, stepped, read_size, line_stepped}
 use Rattle.script.specs.Laws.{brought, given, is_fin, has_ended, KeepsBytes, KeepsEnd}
 
 pub record Sound (t : Transfer) : Type 0 where
-  pub bytes : t.source.arrived ≡ t.destination.taken ++ (t.flow.ring ++ t.source.unread)
+  pub bytes : t.source.arrived ≡ t.destination.taken ++ (waiting t.flow ++ t.source.unread)
   pub ended : t.flow.end_seen ≡ true → (t.source.fin ≡ true) × (t.source.unread ≡ [])
-  pub shut : t.flow.shut ≡ true → (t.flow.end_seen ≡ true) × (t.flow.ring ≡ [])
+  pub shut : t.flow.shut ≡ true → (t.flow.end_seen ≡ true) × (waiting t.flow ≡ [])
+  pub leadless : t.flow.lead ≡ []
 
 -- what a step does to what came so far
 pub record Goes (t : Transfer) (s : Step) (u : Transfer) : Type 0 where
@@ -71,10 +74,11 @@ arrives : (t : Transfer) (bytes : List ℕ) → Sound t → t.source.fin ≡ fal
     → Goes t (Arrive bytes) (record t { source = record t.source { arrived = t.source.arrived ++ bytes; unread = t.source.unread ++ bytes; read_armed = false } })
 arrives t bytes z open_ = record {
   sound = record {
-    bytes = ap (λ (xs : List ℕ). xs ++ bytes) z.bytes ∙ append_assoc t.destination.taken (t.flow.ring ++ t.source.unread) bytes
-        ∙ ap (λ (xs : List ℕ). t.destination.taken ++ xs) (append_assoc t.flow.ring t.source.unread bytes);
+    bytes = ap (λ (xs : List ℕ). xs ++ bytes) z.bytes ∙ append_assoc t.destination.taken (waiting t.flow ++ t.source.unread) bytes
+        ∙ ap (λ (xs : List ℕ). t.destination.taken ++ xs) (append_assoc (waiting t.flow) t.source.unread bytes);
     ended = λ seen. both t.source.fin open_ (z.ended seen).0;
     shut = z.shut;
+    leadless = z.leadless;
   };
   came = refl;
   finished = true_or t.source.fin;
@@ -82,14 +86,14 @@ arrives t bytes z open_ = record {
 
 finishes : (t : Transfer) → Sound t → Goes t Fin (record t { source = record t.source { fin = true; read_armed = false } })
 finishes t z = record {
-  sound = record { bytes = z.bytes; ended = λ seen. (refl, (z.ended seen).1); shut = z.shut };
+  sound = record { bytes = z.bytes; ended = λ seen. (refl, (z.ended seen).1); shut = z.shut; leadless = z.leadless };
   came = sym (append-nil t.source.arrived);
   finished = or_true t.source.fin;
 }
 
 makes_room : (t : Transfer) → Sound t → Goes t Room (record t { destination = record t.destination { room = true; write_armed = false } })
 makes_room t z = record {
-  sound = record { bytes = z.bytes; ended = z.ended; shut = z.shut };
+  sound = record { bytes = z.bytes; ended = z.ended; shut = z.shut; leadless = z.leadless };
   came = sym (append-nil t.source.arrived);
   finished = true_or t.source.fin;
 }
@@ -99,10 +103,12 @@ reads : (t : Transfer) (n : ℕ) → Sound t → t.flow.end_seen ≡ false
 reads t n z open_ = record {
   sound = record {
     bytes = z.bytes ∙ ap (λ (xs : List ℕ). t.destination.taken ++ xs)
-        (ap (λ (xs : List ℕ). t.flow.ring ++ xs) (sym (take-append-drop n t.source.unread))
-        ∙ sym (append_assoc t.flow.ring (take n t.source.unread) (drop n t.source.unread)));
+        (ap (λ (xs : List ℕ). waiting t.flow ++ xs) (sym (take-append-drop n t.source.unread))
+        ∙ sym (append_assoc (waiting t.flow) (take n t.source.unread) (drop n t.source.unread))
+        ∙ ap (λ (xs : List ℕ). xs ++ drop n t.source.unread) (append_assoc t.flow.lead t.flow.ring (take n t.source.unread)));
     ended = λ seen. both t.flow.end_seen open_ seen;
     shut = λ closed. both t.flow.end_seen open_ (z.shut closed).0;
+    leadless = z.leadless;
   };
   came = sym (append-nil t.source.arrived);
   finished = true_or t.source.fin;
@@ -110,29 +116,32 @@ reads t n z open_ = record {
 
 ends : (t : Transfer) → Sound t → t.source.fin ≡ true → t.source.unread ≡ [] → t.flow.end_seen ≡ false → Goes t End (record t { flow = record t.flow { end_seen = true } })
 ends t z fin none open_ = record {
-  sound = record { bytes = z.bytes; ended = λ seen. (fin, none); shut = λ closed. both t.flow.end_seen open_ (z.shut closed).0 };
+  sound = record { bytes = z.bytes; ended = λ seen. (fin, none); shut = λ closed. both t.flow.end_seen open_ (z.shut closed).0; leadless = z.leadless };
   came = sym (append-nil t.source.arrived);
   finished = true_or t.source.fin;
 }
 
-writes : (t : Transfer) (n : ℕ) (full : Bool) → Sound t
-    → Goes t (Wrote n full) (record t { destination = record t.destination { taken = t.destination.taken ++ take n t.flow.ring; room = not full }; flow = record t.flow { ring = drop n t.flow.ring } })
-writes t n full z = record {
+writes : (t : Transfer) (n : ℕ) (full : Bool) → n ≤ length (front t.flow) → Sound t
+    → Goes t (Wrote n full) (record t { destination = record t.destination { taken = t.destination.taken ++ take n (front t.flow); room = not full }; flow = dropped t.flow n })
+writes t n full within z = record {
   sound = record {
-    bytes = z.bytes ∙ ap (λ (xs : List ℕ). t.destination.taken ++ (xs ++ t.source.unread)) (sym (take-append-drop n t.flow.ring))
-        ∙ ap (λ (xs : List ℕ). t.destination.taken ++ xs) (append_assoc (take n t.flow.ring) (drop n t.flow.ring) t.source.unread)
-        ∙ sym (append_assoc t.destination.taken (take n t.flow.ring) (drop n t.flow.ring ++ t.source.unread));
+    bytes = z.bytes ∙ ap (λ (xs : List ℕ). t.destination.taken ++ (xs ++ t.source.unread)) (sym (take-append-drop n (waiting t.flow)))
+        ∙ ap (λ (xs : List ℕ). t.destination.taken ++ xs) (append_assoc (take n (waiting t.flow)) (drop n (waiting t.flow)) t.source.unread)
+        ∙ sym (append_assoc t.destination.taken (take n (waiting t.flow)) (drop n (waiting t.flow) ++ t.source.unread))
+        ∙ ap (λ (xs : List ℕ). (t.destination.taken ++ xs) ++ (drop n (waiting t.flow) ++ t.source.unread)) (sym (take-front t.flow n within))
+        ∙ ap (λ (xs : List ℕ). (t.destination.taken ++ take n (front t.flow)) ++ (xs ++ t.source.unread)) (sym (waiting-dropped t.flow n));
     ended = z.ended;
-    shut = λ closed. ((z.shut closed).0, ap (drop n) (z.shut closed).1 ∙ drop-nil n);
+    shut = λ closed. ((z.shut closed).0, waiting-dropped t.flow n ∙ ap (drop n) (z.shut closed).1 ∙ drop-nil n);
+    leadless = ap (drop n) z.leadless ∙ drop-nil n;
   };
   came = sym (append-nil t.source.arrived);
   finished = true_or t.source.fin;
 }
 
-shuts : (t : Transfer) → Sound t → t.flow.end_seen ≡ true → t.flow.ring ≡ []
+shuts : (t : Transfer) → Sound t → t.flow.end_seen ≡ true → waiting t.flow ≡ []
     → Goes t Shut (record t { destination = record t.destination { shut = true }; flow = record t.flow { shut = true } })
 shuts t z seen none = record {
-  sound = record { bytes = z.bytes; ended = z.ended; shut = λ closed. (seen, none) };
+  sound = record { bytes = z.bytes; ended = z.ended; shut = λ closed. (seen, none); leadless = z.leadless };
   came = sym (append-nil t.source.arrived);
   finished = true_or t.source.fin;
 }
@@ -160,12 +169,16 @@ goes t End z = unless (Goes t End) t.flow.end_seen _ (λ open_.
       | inr other ↦ rw other tt
     ])
 goes t (Wrote n full) z =
-    elim (tell (t.destination.room && is_count n (length t.flow.ring))) [ inl y ↦ rw y (writes t n full z) | inr other ↦ rw other tt ]
+    elim (tell (t.destination.room && is_count n (length (front t.flow)))) [
+      | inl y ↦ rw y (writes t n full (leb-true n (length (front t.flow)) (second_part (nat_lt 0 n) (nat_le n (length (front t.flow)))
+          (second_part t.destination.room (is_count n (length (front t.flow))) y))) z)
+      | inr other ↦ rw other tt
+    ]
 goes t Shut z =
-    elim (tell (t.flow.end_seen && (not (is_nonempty t.flow.ring) && not t.flow.shut))) [
-      | inl y ↦ rw y (shuts t z (first_part t.flow.end_seen (not (is_nonempty t.flow.ring) && not t.flow.shut) y)
-          (is_empty_list t.flow.ring (first_part (not (is_nonempty t.flow.ring)) (not t.flow.shut)
-          (second_part t.flow.end_seen (not (is_nonempty t.flow.ring) && not t.flow.shut) y))))
+    elim (tell (t.flow.end_seen && (not (is_nonempty (waiting t.flow)) && not t.flow.shut))) [
+      | inl y ↦ rw y (shuts t z (first_part t.flow.end_seen (not (is_nonempty (waiting t.flow)) && not t.flow.shut) y)
+          (is_empty_list (waiting t.flow) (first_part (not (is_nonempty (waiting t.flow))) (not t.flow.shut)
+          (second_part t.flow.end_seen (not (is_nonempty (waiting t.flow)) && not t.flow.shut) y))))
       | inr other ↦ rw other tt
     ]
 
@@ -201,22 +214,22 @@ comes t (s ∷ ss) v z is = step_on t s ss v (stepped t s.step) (goes t s.step z
 
 -- at the opening nothing has come
 opening_sound : (ring : ℕ) → Sound (opening ring)
-opening_sound ring = record { bytes = refl; ended = λ seen. absurd (cc); shut = λ closed. absurd (cc) }
+opening_sound ring = record { bytes = refl; ended = λ seen. absurd (cc); shut = λ closed. absurd (cc); leadless = refl }
 
 pub keeps_bytes : (plan : FlowPlan) → KeepsBytes plan
 keeps_bytes plan t is =
     let all = comes (opening plan.ring) plan.steps t (opening_sound plan.ring) is in
-    sym all.came ∙ all.sound.bytes
+    sym all.came ∙ all.sound.bytes ∙ ap (λ (xs : List ℕ). t.destination.taken ++ ((xs ++ t.flow.ring) ++ t.source.unread)) all.sound.leadless
 
 pub keeps_end : (plan : FlowPlan) → KeepsEnd plan
 keeps_end plan t is closed =
     let all = comes (opening plan.ring) plan.steps t (opening_sound plan.ring) is in
     let left = all.sound.shut closed in
     let seen = all.sound.ended left.0 in
-    let none : t.flow.ring ++ t.source.unread ≡ [] = ap (λ (xs : List ℕ). xs ++ t.source.unread) left.1 ∙ seen.1 in
+    let none : waiting t.flow ++ t.source.unread ≡ [] = ap (λ (xs : List ℕ). xs ++ t.source.unread) left.1 ∙ seen.1 in
     record {
       ended = sym all.finished ∙ seen.0;
       unread = seen.1;
-      ring = left.1;
+      ring = (waiting_ends t.flow left.1).1;
       sent = sym (append-nil t.destination.taken) ∙ ap (λ (xs : List ℕ). t.destination.taken ++ xs) (sym none) ∙ sym all.sound.bytes ∙ all.came;
     }

@@ -1,6 +1,7 @@
 pub mod Cuts
 pub mod Digits
 pub mod Forms
+pub mod Leads
 pub mod Playing
 pub mod Keeping
 pub mod Telling

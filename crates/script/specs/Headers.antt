@@ -1,13 +1,13 @@
 -- The header of a script, which says what the script covers, and its sizes. Part of the promises. It is the first line
 -- that is not skipped.
-use Rattle.std.specs.Prelude.{ℕ, ◌≤◌, nat_lt, nat_le, ◌&&◌, if◌then◌else◌, List, [], ◌∷◌, codes, Option, Some, None, option_map, option_and_then}
+use Rattle.std.specs.Prelude.{ℕ, ◌≤◌, nat_lt, nat_le, ◌&&◌, if◌then◌else◌, List, [], ◌∷◌, codes, length, Option, Some, None, option_map, option_and_then}
 use Rattle.std.specs.Str.{bytes_eq}
 use Rattle.world.specs.declared.limits.Limits.{Limits}
 use Rattle.world.specs.States.{IsWithinLimits}
 use Rattle.script.specs.declared.header.Extras.{Extras}
 use Rattle.script.specs.declared.header.Header.{Header}
 use Rattle.script.specs.declared.header.Header.TheVariants.{Flow, World}
-use Rattle.script.specs.Texts.{NumberedLine, words_of, value_after}
+use Rattle.script.specs.Texts.{NumberedLine, words_of, value_after, bytes_after}
 
 -- `KEY=N` with N from 1 to the most
 abbrev pub size_of : List ℕ → ℕ → List ℕ → Option ℕ
@@ -34,27 +34,47 @@ abbrev pub IsWithin : Header → Type 0
 IsWithin (Flow ring) = IsRing ring
 IsWithin (World limits) = IsWithinLimits limits
 
--- what may stand behind the sizes: the generation that the slots have had, 0 where it is not given, and the idle
--- limit, 0 for none
-abbrev pub behind : ℕ → ℕ → Extras
-behind generation idle = record { generation = generation; idle = idle }
+-- these bytes, if a lead may have so many
+abbrev pub short_enough : List ℕ → Option (List ℕ)
+short_enough bytes = if nat_le (length bytes) 107 then Some bytes else None
 
-abbrev pub either_extra : Option ℕ → Option ℕ → Option Extras
-either_extra (Some g) idle = Some (behind g 0)
-either_extra None idle = option_map (λ n. behind 0 n) idle
+-- `lead=HEX`, the bytes that each target is sent before those of its client, 1 to 107 of them
+abbrev pub lead_of : List ℕ → Option (List ℕ)
+lead_of word = option_and_then short_enough (bytes_after (codes "lead=") word)
 
--- nothing, ` gen=G`, ` idle=L`, or both in this order
+-- what a word says that may be left out, and the words behind it
+pub record Told (X : Type 0) : Type 0 where
+  pub value : X
+  pub words : List (List ℕ)
+
+-- what the first word says; if it does not say such a thing, it is left, and the value is another
+abbrev pub told_or : {X : Type 0} → X → List ℕ → List (List ℕ) → Option X → Told X
+told_or otherwise word words (Some x) = record { value = x; words = words }
+told_or otherwise word words None = record { value = otherwise; words = word ∷ words }
+
+abbrev pub optional : {X : Type 0} → (List ℕ → Option X) → X → List (List ℕ) → Told X
+optional read otherwise [] = record { value = otherwise; words = [] }
+optional read otherwise (word ∷ words) = told_or otherwise word words (read word)
+
+-- a value, if no word is left
+abbrev pub if_last : {X : Type 0} → X → List (List ℕ) → Option X
+if_last x [] = Some x
+if_last x (word ∷ words) = None
+
+-- What may stand behind the sizes, each at most once and in this order: ` gen=G`, the generation that the slots have had,
+-- 0 where it is not given; ` idle=L`, the idle limit, 0 for none; ` lead=HEX`, the lead, empty for none.
 abbrev pub extras_of : List (List ℕ) → Option Extras
-extras_of [] = Some (behind 0 0)
-extras_of (word ∷ []) = either_extra (generation_of word) (idle_of word)
-extras_of (generation ∷ idle ∷ []) = option_and_then (λ g. option_map (λ n. behind g n) (idle_of idle)) (generation_of generation)
-extras_of _ = None
+extras_of words =
+    let generation = optional generation_of 0 words in
+    let idle = optional idle_of 0 generation.words in
+    let lead = optional lead_of [] idle.words in
+    if_last (record { generation = generation.value; idle = idle.value; lead = lead.value }) lead.words
 
 -- `slots=S workers=W ring=R budget=B`, with what stands behind
 abbrev pub limits_with : Extras → List ℕ → List ℕ → List ℕ → List ℕ → Option Limits
 limits_with extras slots workers ring budget =
     option_and_then (λ s. option_and_then (λ w. option_and_then (λ r. option_map (λ b.
-    record { slots = s; workers = w; ring = r; budget = b; generation = extras.generation; idle = extras.idle })
+    record { slots = s; workers = w; ring = r; budget = b; generation = extras.generation; idle = extras.idle; lead = extras.lead })
     (size_of (codes "budget=") 1024 budget)) (ring_of ring)) (size_of (codes "workers=") 16 workers)) (size_of (codes "slots=") 64 slots)
 
 abbrev pub limits_of : List (List ℕ) → Option Limits

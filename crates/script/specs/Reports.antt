@@ -16,19 +16,18 @@ shown_bytes bytes = if is_nonempty bytes then encode_lower bytes else codes "-"
 abbrev pub yes_or_no : Bool → List ℕ
 yes_or_no is_so = if is_so then codes "yes" else codes "no"
 
--- one direction: the bytes that were sent, those in the ring, those that wait unread; whether the end was
--- read, and whether it was passed on
-abbrev pub stream_text : List ℕ → List ℕ → List ℕ → Bool → Bool → List ℕ
-stream_text sent ring unread ended shut =
-    codes " sent=" ++ (shown_bytes sent
-    ++ (codes " ring=" ++ (shown_bytes ring
+-- what is told of one direction behind the bytes that were sent, and a lead: the bytes in the ring, those that wait unread;
+-- whether the end was read, and whether it was passed on
+abbrev pub stream_text : List ℕ → List ℕ → Bool → Bool → List ℕ
+stream_text ring unread ended shut =
+    codes " ring=" ++ (shown_bytes ring
     ++ (codes " unread=" ++ (shown_bytes unread
     ++ (codes " end=" ++ (yes_or_no ended
-    ++ (codes " shut=" ++ (yes_or_no shut ++ newline)))))))))
+    ++ (codes " shut=" ++ (yes_or_no shut ++ newline)))))))
 
 -- sent is what the destination took, unread what waits at the source
 abbrev pub report : Transfer → List ℕ
-report t = codes "up" ++ stream_text t.destination.taken t.flow.ring t.source.unread t.flow.end_seen t.flow.shut
+report t = codes "up sent=" ++ (shown_bytes t.destination.taken ++ stream_text t.flow.ring t.source.unread t.flow.end_seen t.flow.shut)
 
 abbrev pub fault_line : Fault → List ℕ
 fault_line fault = fault_text fault ++ newline

@@ -80,3 +80,7 @@ is_hex_text text = nat_lt 0 (length text) && (nat_le (length text) 2048 && list_
 -- the bytes that a text is in lower-case hexadecimal, 1 to 1,024 of them
 abbrev pub bytes_of : List ℕ → Option (List ℕ)
 bytes_of text = if is_hex_text text then result_ok (decode_of text) else None
+
+-- the bytes after a key, which ends with its =
+abbrev pub bytes_after : List ℕ → List ℕ → Option (List ℕ)
+bytes_after key word = if bytes_eq (take (length key) word) key then bytes_of (drop (length key) word) else None

@@ -1,8 +1,8 @@
 -- One direction as a machine. Part of the promises. It has a source, a ring and a destination; here is what each step
 -- of a script does to them.
-use Rattle.std.specs.Prelude.{ℕ, min, Bool, true, false, not, ◌&&◌, if◌then◌else◌, take, Option, None, option_map, Result}
+use Rattle.std.specs.Prelude.{ℕ, min, Bool, true, false, not, ◌&&◌, if◌then◌else◌, [], take, Option, None, option_map, Result}
 use Rattle.token.specs.declared.side.Side.TheVariants.{Client, Target}
-use Rattle.flow.specs.Stream.{Stream, empty_stream, free_room, taken_in, dropped, ended, closed}
+use Rattle.flow.specs.Stream.{Stream, empty_stream, free_room, waiting, front, taken_in, dropped, ended, closed}
 use Rattle.kernel_model.specs.Ends.{opened, is_nonempty, arrival, finish, new_room}
 use Rattle.kernel_model.specs.Replies.{after_read, after_write, after_shut}
 use Rattle.kernel_model.specs.declared.reply.Reply.TheVariants as reply
@@ -15,9 +15,9 @@ use Rattle.script.specs.Steps.{word_of}
 use Rattle.script.specs.Plans.{FlowPlan}
 use Rattle.script.specs.Faults.{or_not_allowed, played}
 
--- nothing has come; the source is connected, and the destination has no room yet
+-- nothing has come, and there is no lead; the source is connected, and the destination has no room yet
 abbrev pub opening : ℕ → Transfer
-opening ring = record { source = opened Client; flow = empty_stream ring; destination = opened Target }
+opening ring = record { source = opened Client; flow = empty_stream ring []; destination = opened Target }
 
 -- the most bytes that the next read asks for
 abbrev pub read_size : Stream → ℕ
@@ -36,9 +36,9 @@ stepped t End =
     if t.flow.end_seen then None
     else option_map (λ e. record t { source = e; flow = ended t.flow }) (after_read t.source (read_size t.flow) reply.End)
 stepped t (Wrote n full) =
-    option_map (λ e. record t { destination = e; flow = dropped t.flow n }) (after_write t.destination t.flow.ring (reply.Wrote n full))
+    option_map (λ e. record t { destination = e; flow = dropped t.flow n }) (after_write t.destination (front t.flow) (reply.Wrote n full))
 stepped t Shut =
-    if t.flow.end_seen && (not (is_nonempty t.flow.ring) && not t.flow.shut)
+    if t.flow.end_seen && (not (is_nonempty (waiting t.flow)) && not t.flow.shut)
     then option_map (λ e. record t { destination = e; flow = closed t.flow }) (after_shut t.destination reply.Shut)
     else None
 

@@ -1,14 +1,15 @@
 // The header: the first line of a script that is not skipped.
-ghost use Rattle.std.specs.Prelude.{◌≡◌, ◌≤◌, ◌<◌, IfSome};
+ghost use Rattle.std.specs.Prelude.{◌≡◌, ◌≤◌, ◌<◌, [], IfSome, option_and_then};
 ghost use Rattle.world.specs.States.{IsWithinLimits};
-ghost use Rattle.script.specs.Headers.{size_of, generation_of, ring_of, idle_of, either_extra, extras_of, limits_with, limits_of, lone_ring, header_of, IsRing, IsWithin};
+ghost use Rattle.script.specs.Headers.{size_of, generation_of, ring_of, idle_of, lead_of, short_enough, optional, extras_of, limits_with, limits_of, lone_ring, header_of, IsRing, IsWithin};
+ghost use Rattle.script.specs.Texts.{bytes_of};
 
 use crate::limits::{MAX_BUDGET, MAX_IDLE, MAX_SLOTS, MAX_WORKERS};
 use crate::lines::Pieces;
-use crate::values::value_after;
+use crate::values::{is_hex_text, value_after};
 use flow::Flow;
 use token::MAX_GENERATION;
-use world::Limits;
+use world::{Lead, Limits};
 
 /// What a script covers, and its sizes.
 #[derive(Clone, Copy)]
@@ -26,6 +27,8 @@ struct Extras {
     generation: u64,
     /// The idle limit in seconds; 0 for none.
     idle: u64,
+    /// What each target is sent first; empty for nothing.
+    lead: Lead,
 }
 
 /// The header that a line stands for, if any.
@@ -56,7 +59,7 @@ fn lone_ring(mut words: Pieces) -> Option<usize>
     ring(word)
 }
 
-/// The sizes of a world: `slots=S workers=W ring=R budget=B`, perhaps `gen=G`, and perhaps `idle=L`.
+/// The sizes of a world: `slots=S workers=W ring=R budget=B`, perhaps `gen=G`, perhaps `idle=L`, and perhaps `lead=HEX`.
 fn limits(mut words: Pieces) -> Option<Limits>
     ensures value { result ≡ limits_of words.entry }
     ensures range { IfSome result IsWithinLimits }
@@ -66,40 +69,56 @@ fn limits(mut words: Pieces) -> Option<Limits>
     limits_with(read_extras(words)?, slots, workers, ring, budget)
 }
 
-/// Nothing, `gen=G`, `idle=L`, or both in this order.
+/// What stands behind the sizes: `gen=G`, `idle=L` and `lead=HEX` in this order, each of which may be left out.
 fn read_extras(mut words: Pieces) -> Option<Extras>
     ensures value { result ≡ extras_of words.entry }
     ensures range { IfSome result (λ extras. extras.generation < 140737488355327) }
 {
-    match (words.next(), words.next(), words.next()) {
-        (None, _, _) => Some(Extras {
-            generation: 0,
-            idle: 0,
+    let generation = optional_generation(&mut words);
+    let idle = optional_idle(&mut words);
+    let lead = optional_lead(&mut words);
+    match words.next() {
+        None => Some(Extras {
+            generation,
+            idle,
+            lead,
         }),
-        (Some(word), None, _) => either_extra(word),
-        (Some(first), Some(second), None) => Some(Extras {
-            generation: generation(first)?,
-            idle: idle(second)?,
-        }),
-        (Some(_), Some(_), Some(_)) => None,
+        Some(_) => None,
     }
 }
 
-/// `gen=G` or `idle=L`.
-fn either_extra(word: &[u8]) -> Option<Extras>
-    ensures value { result ≡ either_extra (generation_of word.now) (idle_of word.now) }
-    ensures range { IfSome result (λ extras. extras.generation < 140737488355327) }
+/// The generation that the first word says; if it says none, it stays, and the answer is 0.
+fn optional_generation(words: &mut Pieces) -> u64
+    ensures value { optional generation_of 0 words.old ≡ record { value = result; words = words.new } }
+    ensures range { result < 140737488355327 }
 {
-    match generation(word) {
-        Some(generation) => Some(Extras {
-            generation,
-            idle: 0,
-        }),
-        None => Some(Extras {
-            generation: 0,
-            idle: idle(word)?,
-        }),
-    }
+    let Some(generation) = words.peek().and_then(generation) else {
+        return 0;
+    };
+    words.next();
+    generation
+}
+
+/// The idle limit that the first word says; if it says none, it stays, and the answer is 0.
+fn optional_idle(words: &mut Pieces) -> u64
+    ensures { optional idle_of 0 words.old ≡ record { value = result; words = words.new } }
+{
+    let Some(idle) = words.peek().and_then(idle) else {
+        return 0;
+    };
+    words.next();
+    idle
+}
+
+/// The lead that the first word says; if it says none, it stays, and the answer is the empty one.
+fn optional_lead(words: &mut Pieces) -> Lead
+    ensures { optional lead_of [] words.old ≡ record { value = result; words = words.new } }
+{
+    let Some(lead) = words.peek().and_then(lead) else {
+        return Lead::NONE;
+    };
+    words.next();
+    lead
 }
 
 /// The sizes of a world, with what stands behind them.
@@ -121,6 +140,7 @@ fn limits_with(
         budget: size(b"budget=", MAX_BUDGET, budget)?,
         generation: extras.generation,
         idle: extras.idle,
+        lead: extras.lead,
     })
 }
 
@@ -164,4 +184,28 @@ pub(crate) fn idle(word: &[u8]) -> Option<u64>
 {
     let idle = size(b"idle=", MAX_IDLE, word)?;
     Some(idle as u64)
+}
+
+/// `lead=HEX`, 1 to 107 bytes.
+pub(crate) fn lead(word: &[u8]) -> Option<Lead>
+    ensures { result ≡ lead_of word.now }
+{
+    short_bytes(word.strip_prefix(b"lead=")?)
+}
+
+/// The lead whose bytes a text stands for in lower-case hexadecimal.
+#[tactic(auto, using(crate::proofs::Leads::too_long))]
+fn short_bytes(text: &[u8]) -> Option<Lead>
+    ensures { result ≡ option_and_then short_enough (bytes_of text.now) }
+{
+    if !is_hex_text(text) {
+        return None;
+    }
+    let length = text.len() / 2;
+    if length > Flow::MAX_LEAD {
+        return None;
+    }
+    let mut room = [0; Flow::MAX_LEAD];
+    hex::decode_to_slice(text, &mut room[..length]).ok()?;
+    Lead::new(&room[..length])
 }

@@ -1,4 +1,4 @@
-ghost use Rattle.std.specs.Prelude.{◌≡◌, ◌∷◌, ◌+◌, ◌<◌, ◌^◌, [], length, MatchOption, position, ◌==◌};
+ghost use Rattle.std.specs.Prelude.{◌≡◌, ◌∷◌, ◌+◌, ◌<◌, ◌^◌, [], length, drop, MatchOption, position, ◌==◌};
 ghost use Rattle.std.specs.Option.{option_copied};
 ghost use Rattle.script.specs.Texts.{pieces_of, pieces_left, lines_of, says_nothing, telling_lines};
 
@@ -30,6 +30,14 @@ impl<'a> Pieces<'a> {
             rest: Some(text),
             separator,
         }
+    }
+
+    /// The next piece, if one is left, which stays.
+    pub(crate) fn peek(&self) -> Option<&'a [u8]>
+        ensures { MatchOption result (self.now ≡ []) (λ piece. self.now ≡ piece.now ∷ drop 1 self.now) }
+    {
+        let (piece, _rest) = cut(self.rest?, self.separator);
+        Some(piece)
     }
 
     /// The next piece, if one is left.

@@ -1,7 +1,7 @@
 //! The forms of a script's lines: which words may follow the first one.
 
 use crate::event_parts::{accepting, lone_who, name, slot, worker};
-use crate::header::{generation, idle, ring, size};
+use crate::header::{generation, idle, lead, ring, size};
 use crate::limits::{MAX_BUDGET, MAX_SLOTS, MAX_WORKERS};
 use crate::lines::Pieces;
 use crate::values::{is_hex_text, number};
@@ -19,10 +19,12 @@ pub(crate) enum Part {
     Ring,
     /// `budget=B`.
     Budget,
-    /// `gen=G`, `idle=L`, or nothing.
+    /// `gen=G`, `idle=L`, `lead=HEX`, or nothing.
     Generation,
-    /// `idle=L`, or nothing.
+    /// `idle=L`, `lead=HEX`, or nothing.
     Idle,
+    /// `lead=HEX`, or nothing.
+    Lead,
     /// The number of a slot.
     Slot,
     /// The name of a side.
@@ -187,7 +189,7 @@ impl Part {
     fn takes(self, word: &[u8]) -> bool {
         match self {
             Part::Slots | Part::Workers | Part::Ring => self.takes_size(word),
-            Part::Budget | Part::Generation | Part::Idle => self.takes_size(word),
+            Part::Budget | Part::Generation | Part::Idle | Part::Lead => self.takes_size(word),
             Part::Slot => slot(word).is_some(),
             Part::Worker => worker(word).is_some(),
             Part::Actor => word == b"poller".as_slice() || worker(word).is_some(),
@@ -198,15 +200,16 @@ impl Part {
         }
     }
 
-    /// Whether a word is this one of the sizes in a header.
+    /// Whether a word is this one of the sizes in a header, or what may stand behind them.
     fn takes_size(self, word: &[u8]) -> bool {
         match self {
             Part::Slots => size(b"slots=", MAX_SLOTS, word).is_some(),
             Part::Workers => size(b"workers=", MAX_WORKERS, word).is_some(),
             Part::Ring => ring(word).is_some(),
             Part::Budget => size(b"budget=", MAX_BUDGET, word).is_some(),
-            Part::Idle => idle(word).is_some(),
-            _ => generation(word).is_some() || idle(word).is_some(),
+            Part::Lead => lead(word).is_some(),
+            Part::Idle => idle(word).is_some() || lead(word).is_some(),
+            _ => generation(word).is_some() || idle(word).is_some() || lead(word).is_some(),
         }
     }
 
@@ -227,6 +230,7 @@ impl Part {
         match self {
             Part::Name => &[Part::Name],
             Part::Generation if generation(word).is_some() => &[Part::Idle],
+            Part::Generation | Part::Idle if idle(word).is_some() => &[Part::Lead],
             Part::Reported if slot(word).is_some() => &[Part::Side],
             Part::Reply => match REPLIES.row(word) {
                 Some((_, parts)) => parts,
@@ -239,7 +243,7 @@ impl Part {
     /// What is wrong if the line ends before a word of this kind.
     fn missing(self) -> Option<Wrong<'static>> {
         match self {
-            Part::Generation | Part::Idle | Part::Name | Part::Full => None,
+            Part::Generation | Part::Idle | Part::Lead | Part::Name | Part::Full => None,
             _ => Some(Wrong {
                 word: None,
                 wanted: self.wanted(),
@@ -256,9 +260,14 @@ impl Part {
             Part::Ring => "ring=1 to ring=65536 is wanted",
             Part::Budget => "budget=1 to budget=1024 is wanted",
             Part::Generation => {
-                "gen=0 to gen=140737488355326, idle=1 to idle=86400, or the end of the line, is wanted"
+                "gen=0 to gen=140737488355326, idle=1 to idle=86400, lead= and 1 to 107 bytes as pairs of lower-case hexadecimal digits, or the end of the line, is wanted"
             }
-            Part::Idle => "idle=1 to idle=86400, or the end of the line, is wanted",
+            Part::Idle => {
+                "idle=1 to idle=86400, lead= and 1 to 107 bytes as pairs of lower-case hexadecimal digits, or the end of the line, is wanted"
+            }
+            Part::Lead => {
+                "lead= and 1 to 107 bytes as pairs of lower-case hexadecimal digits, or the end of the line, is wanted"
+            }
             Part::Slot => "the number of a slot, 0 to 63, is wanted",
             Part::Side => "client or target is wanted",
             Part::Hex => "1 to 1024 bytes as pairs of lower-case hexadecimal digits are wanted",

@@ -39,10 +39,10 @@ pub(crate) fn step_reason(transfer: &Transfer, step: &Step) -> &'static str {
         Step::Read(_) | Step::End if flow.end_seen() => "the end of input was read",
         Step::Read(count) => read_reason(source, transfer.read_size(), *count),
         Step::End => end_reason(source),
-        Step::Wrote(count, _) => wrote_reason(destination, flow.len(), *count),
+        Step::Wrote(count, _) => wrote_reason(destination, flow.lead_len(), flow.len(), *count),
         Step::Shut => first_of(&[
             (!flow.end_seen(), "the end of input was not read"),
-            (!flow.is_empty(), "bytes are in the ring"),
+            (!flow.is_drained(), "bytes are in the ring"),
             (flow.is_shut(), "the destination is shut down"),
         ]),
     }
@@ -78,12 +78,13 @@ fn end_reason(end: &End) -> &'static str {
     ])
 }
 
-/// Why a write of a ring of `length` bytes does not take this many.
-fn wrote_reason(end: &End, length: usize, count: usize) -> &'static str {
+/// Why a write of what is left of a lead, or if that is nothing, of a ring, does not take this many bytes.
+fn wrote_reason(end: &End, lead: usize, ring: usize, count: usize) -> &'static str {
     first_of(&[
         (!end.has_room(), "the socket has no room"),
         (count == 0, "a write takes at least 1 byte"),
-        (length < count, "the ring has fewer bytes"),
+        (0 < lead && lead < count, "the lead has fewer bytes"),
+        (lead == 0 && ring < count, "the ring has fewer bytes"),
     ])
 }
 
@@ -325,9 +326,12 @@ fn call_reason(kernel: &Kernel, connection: &Connection, reply: Reply) -> &'stat
         (Call::Read(..), Reply::Blocked) => {
             first_of(&[(socket.is_readable(), "the socket is readable")])
         }
-        (Call::Write(_), Reply::Wrote(count, _)) => {
-            wrote_reason(socket, connection.pair.ring_len(call.direction()), count)
-        }
+        (Call::Write(_), Reply::Wrote(count, _)) => wrote_reason(
+            socket,
+            connection.pair.lead_len(call.direction()),
+            connection.pair.ring_len(call.direction()),
+            count,
+        ),
         (Call::Join(_), Reply::Joined) => first_of(&[(
             !socket.has_room(),
             "the socket has no room",

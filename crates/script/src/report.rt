@@ -24,35 +24,33 @@ impl Reached {
 pub fn print_transfer(alloc: Global, transfer: &Transfer) -> Result<String, AllocError>
     ensures { IfOk result (λ text. string_bytes text ≡ report transfer.now) }
 {
+    let sent = shown_bytes(alloc, transfer.destination.taken())?;
     let ring = transfer.flow.to_vec(alloc)?;
     let stream = stream_text(
         alloc,
-        transfer.destination.taken(),
         ring.as_slice(),
         transfer.source.unread(),
         transfer.flow.end_seen(),
         transfer.flow.is_shut(),
     )?;
-    format!(in alloc; "up{stream}")
+    format!(in alloc; "up sent={sent}{stream}")
 }
 
-/// One direction after its name: the bytes that were sent, those in the ring, those that wait unread; whether the end
-/// was read, and whether it was passed on.
+/// What is told of one direction behind the bytes that were sent, and a lead: the bytes in the ring, those that wait
+/// unread; whether the end was read, and whether it was passed on.
 pub(crate) fn stream_text(
     alloc: Global,
-    sent: &[u8],
     ring: &[u8],
     unread: &[u8],
     ended: bool,
     shut: bool,
 ) -> Result<String, AllocError>
-    ensures { IfOk result (λ text. string_bytes text ≡ stream_text sent.now ring.now unread.now ended shut) }
+    ensures { IfOk result (λ text. string_bytes text ≡ stream_text ring.now unread.now ended shut) }
 {
-    let sent = shown_bytes(alloc, sent)?;
     let ring = shown_bytes(alloc, ring)?;
     let unread = shown_bytes(alloc, unread)?;
     let (end, shut) = (yes_or_no(ended), yes_or_no(shut));
-    format!(in alloc; " sent={sent} ring={ring} unread={unread} end={end} shut={shut}\n")
+    format!(in alloc; " ring={ring} unread={unread} end={end} shut={shut}\n")
 }
 
 /// The line of a fault. Fails only if memory for it ran out.

@@ -4,7 +4,7 @@ use std::alloc::{AllocError, Global};
 use std::cell::Cell;
 use std::process::Abort;
 use std::test::Fail;
-use world::Limits;
+use world::{Lead, Limits};
 
 /// One direction from its first byte to its shutdown, with lines between that say nothing.
 const WHOLE: &[u8] =
@@ -206,6 +206,7 @@ const LIMITS: Limits = Limits {
     budget: 1_024,
     generation: 0,
     idle: 0,
+    lead: Lead::NONE,
 };
 
 #[test]
@@ -236,10 +237,19 @@ fn prints_a_world(rt: HostRuntime) -> Result<(), Fail> {
     Ok(())
 }
 
+/// A connection whose target took the first byte of a lead of two, before any byte of its client.
+const LED: &[u8] =
+    b"world slots=1 workers=1 ring=4 budget=64 idle=30 lead=50ff\nconnect\naccept ok\nopen\nput poller\npop 0\nclaim 0\ntake 0\narrive 0 client 616263\nroom 0 target\ncall 0 wrote 1\n";
+
+const LED_REPORT: &[u8] =
+    b"listener backlog=0 flag=up\nqueue\nbatch\nready\nfree\npoller\nworker 0 holds 0 left=63\nslot 0 live gen=1 fds=0,1 notes=0 holder=w0 due=yes movable=yes\n0 up sent=50 lead=ff ring=- unread=616263 end=no shut=no\n0 down sent=- ring=- unread=- end=no shut=no\n";
+
 #[test]
 fn reports_a_world_that_a_script_leads_to(rt: HostRuntime) -> Result<(), Fail> {
-    let reached = parse(rt.alloc(), SESSION)?.carry_out(rt.alloc())?;
-    assert_eq!(rt; reached.report(rt.alloc())?.as_bytes(), SESSION_REPORT);
+    for (text, report) in [(SESSION, SESSION_REPORT), (LED, LED_REPORT)] {
+        let reached = parse(rt.alloc(), text)?.carry_out(rt.alloc())?;
+        assert_eq!(rt; reached.report(rt.alloc())?.as_bytes(), report);
+    }
     Ok(())
 }
 

@@ -31,7 +31,7 @@ impl Transfer {
     {
         Ok(Transfer {
             source: End::new(alloc, Side::Client),
-            flow: Flow::new(alloc, ring)?,
+            flow: Flow::new(alloc, ring, &[])?,
             destination: End::new(alloc, Side::Target),
         })
     }
@@ -113,7 +113,7 @@ impl Transfer {
     fn shut(&mut self) -> Result<(), Refusal>
         ensures { MeetsAlways (stepped self.old Step.Shut) self.old self.new result }
     {
-        if !self.flow.end_seen() || !self.flow.is_empty() || self.flow.is_shut() {
+        if !self.flow.end_seen() || !self.flow.is_drained() || self.flow.is_shut() {
             return Err(Refusal::NotAllowed);
         }
         self.destination.shut(Reply::Shut)?;
