@@ -7,7 +7,7 @@ use Rattle.relay_core.specs.Calls.{call_name}
 use Rattle.relay_core.specs.declared.verdict.Fault.{Fault}
 use Rattle.relay_core.specs.declared.verdict.Fault.TheVariants.{Broken, Idle}
 use Rattle.relay_log.specs.declared.cause.Cause.{Cause}
-use Rattle.relay_log.specs.declared.cause.Cause.TheVariants.{Memory, Connect, Register}
+use Rattle.relay_log.specs.declared.cause.Cause.TheVariants.{Memory, Connect, Register, Address}
 
 abbrev pub open_message : ℕ → ℕ → List ℕ
 open_message slot generation = codes "open s=" ++ (decimal slot ++ (codes " g=" ++ decimal generation))
@@ -36,6 +36,7 @@ abbrev pub cause_name : Cause → List ℕ
 cause_name Memory = codes "memory"
 cause_name Connect = codes "connect"
 cause_name Register = codes "register"
+cause_name Address = codes "address"
 
 abbrev pub drop_message : Cause → List ℕ
 drop_message cause = codes "drop kind=" ++ cause_name cause

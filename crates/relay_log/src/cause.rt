@@ -10,6 +10,9 @@ pub enum Cause {
     Connect,
     /// A socket could not be registered for reports (epoll_ctl(2)).
     Register,
+    /// The client's address, or the one on which it was accepted, could not be told, or is no IPv4 address, and the target
+    /// is to be told of it (accept(2), getsockname(2)).
+    Address,
 }
 
 impl Cause {
@@ -21,6 +24,7 @@ impl Cause {
             Cause::Memory => "memory",
             Cause::Connect => "connect",
             Cause::Register => "register",
+            Cause::Address => "address",
         }
     }
 }

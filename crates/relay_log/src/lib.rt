@@ -8,6 +8,7 @@
 //! | `fail s=3 g=1 side=target call=write kind=pipe` | warn | a call on one of its sockets failed |
 //! | `fail s=3 g=1 idle` | warn | it moved nothing for the idle limit |
 //! | `drop kind=memory` | warn | an accepted connection was closed at once: memory ran out, or `connect` or `register` failed |
+//! | `drop kind=address` | warn | an accepted connection was closed at once: its addresses, which the target is to be told, are not known or not of IPv4 |
 //!
 //! A message is a value that prints itself, so passing one to a log takes no memory.
 #![tactic(auto)]

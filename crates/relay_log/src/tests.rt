@@ -33,6 +33,7 @@ fn texts(rt: HostRuntime) -> Result<(), Fail> {
         (Cause::Memory, "drop kind=memory"),
         (Cause::Connect, "drop kind=connect"),
         (Cause::Register, "drop kind=register"),
+        (Cause::Address, "drop kind=address"),
     ] {
         assert_eq!(rt; drop_text(alloc, cause)?.as_str(), text);
     }
@@ -119,10 +120,11 @@ const KINDS: [(Kind, &str); 8] = [
     (Kind::Other, "other"),
 ];
 
-const CAUSES: [(Cause, &str); 3] = [
+const CAUSES: [(Cause, &str); 4] = [
     (Cause::Memory, "memory"),
     (Cause::Connect, "connect"),
     (Cause::Register, "register"),
+    (Cause::Address, "address"),
 ];
 
 /// Logs each failure of a connection.

@@ -1,16 +1,16 @@
 -- A text has one answer: at most one setting for each key, and no settings where it has a fault.
-use Rattle.std.proofs.Common.{◌≡◌, ◌≢◌, ℕ, suc, ◌<◌, ◌^◌, ◌==◌, List, [], ◌∷◌, ◌++◌, length, get_or, Option, Some, None, MatchOption, if◌then◌else◌, pos, refl, sym, ◌∙◌, ap, subst, inl, inr, ◌⊎◌, arith}
+use Rattle.std.proofs.Common.{◌≡◌, ◌≢◌, ℕ, suc, ◌<◌, ◌^◌, ◌==◌, false, List, [], ◌∷◌, ◌++◌, length, get_or, Option, Some, None, MatchOption, if◌then◌else◌, pos, refl, sym, ◌∙◌, ap, subst, inl, inr, ◌⊎◌, arith}
 use Rattle.std.proofs.lemmas.Fmt.{decimal_injective}
 use Rattle.std.proofs.lemmas.Option.{same_Some}
 use Rattle.std.specs.Fmt.{decimal}
 use Rattle.toml.specs.Data.{Data, Members, get_member}
 use Rattle.settings.specs.Names.{key_name, level_name}
 use Rattle.settings.specs.Addresses.{SocketAddress, IsAddress, address_text}
-use Rattle.settings.specs.Table.{Setting, address, number, level, ValueKind, an_address, a_number, a_level, Row, required, optional, table}
+use Rattle.settings.specs.Table.{Setting, address, number, level, truth, ValueKind, an_address, a_number, a_level, a_truth, Row, required, optional, table}
 use Rattle.settings.specs.Document.{HasKind, Writes, Gives, GivesEach, Refuses, IsFirstFault, HasNoUnknown}
 use Rattle.settings.specs.Text.{setting, IsDocument, IsSettingsOf, IsFaultOf}
 use Rattle.settings.specs.declared.keys.Key.{Key}
-use Rattle.settings.specs.declared.keys.Key.TheVariants.{Listen, Target, Ring, Budget, Workers, Slots, StopAfter, Log, Idle}
+use Rattle.settings.specs.declared.keys.Key.TheVariants.{Listen, Target, Ring, Budget, Workers, Slots, StopAfter, Log, Idle, Proxy}
 use Rattle.settings.specs.declared.faults.SettingsFault.{SettingsFault}
 use Rattle.settings.specs.declared.faults.SettingsFault.TheVariants.{Missing}
 use Rattle.settings.specs.declared.fields.Settings.{Settings}
@@ -71,18 +71,31 @@ writes_once : (kind : ValueKind) (d : Data) (v w : Setting) → Writes kind d v 
 writes_once (an_address lowest) d (address a) (address b) p q = ap address (address_once a b p.1 q.1 (same_Some _ _ (sym p.0 ∙ q.0)))
 writes_once (a_number low high) d (number m) (number n) p q = let same : Some (pos m) ≡ Some (pos n) = sym p.0 ∙ q.0 in cc same
 writes_once a_level d (level l) (level m) p q = ap level (level_once l m (same_Some _ _ (sym p ∙ q)))
+writes_once a_truth d (truth b) (truth c) p q = ap truth (same_Some _ _ (sym p ∙ q))
 writes_once (an_address lowest) d (address a) (number n) p q = absurd q
 writes_once (an_address lowest) d (address a) (level l) p q = absurd q
+writes_once (an_address lowest) d (address a) (truth b) p q = absurd q
 writes_once (an_address lowest) d (number m) w p q = absurd p
 writes_once (an_address lowest) d (level l) w p q = absurd p
+writes_once (an_address lowest) d (truth b) w p q = absurd p
 writes_once (a_number low high) d (number m) (address a) p q = absurd q
 writes_once (a_number low high) d (number m) (level l) p q = absurd q
+writes_once (a_number low high) d (number m) (truth b) p q = absurd q
 writes_once (a_number low high) d (address a) w p q = absurd p
 writes_once (a_number low high) d (level l) w p q = absurd p
+writes_once (a_number low high) d (truth b) w p q = absurd p
 writes_once a_level d (level l) (address a) p q = absurd q
 writes_once a_level d (level l) (number n) p q = absurd q
+writes_once a_level d (level l) (truth b) p q = absurd q
 writes_once a_level d (address a) w p q = absurd p
 writes_once a_level d (number m) w p q = absurd p
+writes_once a_level d (truth b) w p q = absurd p
+writes_once a_truth d (truth b) (address a) p q = absurd q
+writes_once a_truth d (truth b) (number n) p q = absurd q
+writes_once a_truth d (truth b) (level l) p q = absurd q
+writes_once a_truth d (address a) w p q = absurd p
+writes_once a_truth d (number m) w p q = absurd p
+writes_once a_truth d (level l) w p q = absurd p
 
 gives_once_at : (found : Option Data) (kind : ValueKind) (default : Option Setting) (v w : Setting) → MatchOption found (default ≡ Some v) (λ d. Writes kind d v) → MatchOption found (default ≡ Some w) (λ d. Writes kind d w) → v ≡ w
 gives_once_at None kind default v w p q = same_Some _ _ (sym p ∙ q)
@@ -104,6 +117,7 @@ each_once doc v w p q Slots = gives_once (optional Slots (a_number 1 4096) (numb
 each_once doc v w p q StopAfter = gives_once (optional StopAfter (a_number 0 4294967295) (number 0)) doc _ _ q.1.1.1.1.1.1.0 p.1.1.1.1.1.1.0
 each_once doc v w p q Log = gives_once (optional Log a_level (level Info)) doc _ _ q.1.1.1.1.1.1.1.0 p.1.1.1.1.1.1.1.0
 each_once doc v w p q Idle = gives_once (optional Idle (a_number 0 86400) (number 0)) doc _ _ q.1.1.1.1.1.1.1.1.0 p.1.1.1.1.1.1.1.1.0
+each_once doc v w p q Proxy = gives_once (optional Proxy a_truth (truth false)) doc _ _ q.1.1.1.1.1.1.1.1.1.0 p.1.1.1.1.1.1.1.1.1.0
 
 -- any settings of a text have the same setting at each key
 pub settings_once : (text : List ℕ) (s t : Settings) → IsSettingsOf text s → IsSettingsOf text t → (k : Key) → setting t k ≡ setting s k
@@ -115,12 +129,19 @@ writes_kind : (kind : ValueKind) (d : Data) (v : Setting) → Writes kind d v �
 writes_kind (an_address lowest) d (address a) p = rw p.0
 writes_kind (an_address lowest) d (number n) p = absurd p
 writes_kind (an_address lowest) d (level l) p = absurd p
+writes_kind (an_address lowest) d (truth b) p = absurd p
 writes_kind (a_number low high) d (number n) p = rw p.0
 writes_kind (a_number low high) d (address a) p = absurd p
 writes_kind (a_number low high) d (level l) p = absurd p
+writes_kind (a_number low high) d (truth b) p = absurd p
 writes_kind a_level d (level l) p = rw p
 writes_kind a_level d (address a) p = absurd p
 writes_kind a_level d (number n) p = absurd p
+writes_kind a_level d (truth b) p = absurd p
+writes_kind a_truth d (truth b) p = rw p
+writes_kind a_truth d (address a) p = absurd p
+writes_kind a_truth d (number n) p = absurd p
+writes_kind a_truth d (level l) p = absurd p
 
 -- a key has no fault where it is set
 not_both_at : (found : Option Data) (row : Row) (fault : SettingsFault) (v : Setting) → MatchOption found (row.default ≡ Some v) (λ d. Writes row.kind d v)

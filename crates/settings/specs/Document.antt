@@ -3,32 +3,35 @@ use Rattle.std.specs.Prelude.{◌≡◌, ◌≢◌, ℕ, ◌≤◌, List, [], �
 use Rattle.std.specs.Ordering.{nat_cmp}
 use Rattle.std.specs.Cmp.Lexicographic.{slice_cmp}
 use Rattle.std.specs.declared.cmp.Ordering.TheVariants.{Greater}
-use Rattle.toml.specs.Data.{Data, Members, get_member, as_str, as_integer}
+use Rattle.toml.specs.Data.{Data, Members, get_member, as_str, as_integer, as_bool}
 use Rattle.settings.specs.Names.{key_name, level_name}
 use Rattle.settings.specs.Addresses.{IsAddress, address_text}
-use Rattle.settings.specs.Table.{Setting, address, number, level, ValueKind, an_address, a_number, a_level, Row}
+use Rattle.settings.specs.Table.{Setting, address, number, level, truth, ValueKind, an_address, a_number, a_level, a_truth, Row}
 use Rattle.settings.specs.declared.keys.Key.{Key}
 use Rattle.settings.specs.declared.faults.SettingsFault.{SettingsFault}
 use Rattle.settings.specs.declared.faults.SettingsFault.TheVariants.{Missing, WrongKind, OutOfRange, BadAddress}
 
--- the value is a text, or a whole number, as the kind asks
+-- the value is a text, a whole number or a truth value, as the kind asks
 abbrev pub HasKind : ValueKind → Data → Type 0
 HasKind (an_address lowest) d = IsSome (as_str d)
 HasKind (a_number low high) d = IsSome (as_integer d)
 HasKind a_level d = IsSome (as_str d)
+HasKind a_truth d = IsSome (as_bool d)
 
 -- the value writes this setting, which is in the range of the kind
 abbrev pub Writes : ValueKind → Data → Setting → Type 0
 Writes (an_address lowest) d (address a) = (as_str d ≡ Some (address_text a)) × IsAddress a × (lowest ≤ a.1)
 Writes (a_number low high) d (number n) = (as_integer d ≡ Some (pos n)) × (low ≤ n) × (n ≤ high)
 Writes a_level d (level l) = as_str d ≡ Some (level_name l)
+Writes a_truth d (truth b) = as_bool d ≡ Some b
 Writes _ _ _ = ⊥
 
--- the fault of a value that has the kind and writes no setting
+-- the fault of a value that has the kind and writes no setting; there is no such truth value
 abbrev pub refusal : ValueKind → Key → SettingsFault
 refusal (an_address lowest) k = BadAddress k
 refusal (a_number low high) k = OutOfRange k
 refusal a_level k = OutOfRange k
+refusal a_truth k = OutOfRange k
 
 -- the document sets the key to this: by the value that it has for the key, or else by default
 abbrev pub Gives : Row → Members → Setting → Type 0

@@ -1,7 +1,7 @@
--- The words that a settings text uses for its keys and for the levels of `log`. Part of the promises.
-use Rattle.std.specs.Prelude.{ℕ, List, codes}
+-- The words that a settings text uses for its keys, for the levels of `log` and for truth values. Part of the promises.
+use Rattle.std.specs.Prelude.{ℕ, List, Bool, if◌then◌else◌, codes}
 use Rattle.settings.specs.declared.keys.Key.{Key}
-use Rattle.settings.specs.declared.keys.Key.TheVariants.{Listen, Target, Ring, Budget, Workers, Slots, StopAfter, Log, Idle}
+use Rattle.settings.specs.declared.keys.Key.TheVariants.{Listen, Target, Ring, Budget, Workers, Slots, StopAfter, Log, Idle, Proxy}
 use Rattle.settings.specs.declared.levels.LogLevel.{LogLevel}
 use Rattle.settings.specs.declared.levels.LogLevel.TheVariants.{Off, Error, Warn, Info, Debug, Trace}
 
@@ -16,6 +16,7 @@ key_name Slots = codes "slots"
 key_name StopAfter = codes "stop_after"
 key_name Log = codes "log"
 key_name Idle = codes "idle"
+key_name Proxy = codes "proxy"
 
 -- a level as it is written
 abbrev pub level_name : LogLevel → List ℕ
@@ -25,3 +26,7 @@ level_name Warn = codes "warn"
 level_name Info = codes "info"
 level_name Debug = codes "debug"
 level_name Trace = codes "trace"
+
+-- a truth value as it is written
+abbrev pub truth_name : Bool → List ℕ
+truth_name b = if b then codes "true" else codes "false"

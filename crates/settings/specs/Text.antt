@@ -4,12 +4,12 @@ use Rattle.std.specs.Str.{IsUtf8}
 use Rattle.std.specs.Fmt.{decimal}
 use Rattle.toml.specs.Data.{Members}
 use Rattle.toml.specs.Parse.{parse_document}
-use Rattle.settings.specs.Names.{key_name, level_name}
+use Rattle.settings.specs.Names.{key_name, level_name, truth_name}
 use Rattle.settings.specs.Addresses.{address_text}
-use Rattle.settings.specs.Table.{Setting, address, number, level, Row, table}
+use Rattle.settings.specs.Table.{Setting, address, number, level, truth, Row, table}
 use Rattle.settings.specs.Document.{GivesEach, IsFirstFault, IsFirstUnknown, HasNoUnknown}
 use Rattle.settings.specs.declared.keys.Key.{Key}
-use Rattle.settings.specs.declared.keys.Key.TheVariants.{Listen, Target, Ring, Budget, Workers, Slots, StopAfter, Log, Idle}
+use Rattle.settings.specs.declared.keys.Key.TheVariants.{Listen, Target, Ring, Budget, Workers, Slots, StopAfter, Log, Idle, Proxy}
 use Rattle.settings.specs.declared.faults.SettingsFault.{SettingsFault}
 use Rattle.settings.specs.declared.faults.SettingsFault.TheVariants.{NotToml, UnknownKey}
 use Rattle.settings.specs.declared.fields.Settings.{Settings}
@@ -25,6 +25,7 @@ setting s Slots = number s.slots
 setting s StopAfter = number s.stop_after
 setting s Log = level s.log
 setting s Idle = number s.idle
+setting s Proxy = truth s.proxy
 
 -- the bytes are UTF-8, and TOML reads them as this document
 abbrev pub IsDocument : List ℕ → Members → Type 0
@@ -50,6 +51,7 @@ abbrev pub setting_text : Setting → List ℕ
 setting_text (address a) = address_text a
 setting_text (number n) = decimal n
 setting_text (level l) = level_name l
+setting_text (truth b) = truth_name b
 
 -- a line `KEY=VALUE` for each row
 abbrev pub lines_text : List Row → Settings → List ℕ

@@ -56,7 +56,7 @@ fn unknown(alloc: Global, text: &str, name: &str) -> Option<String> {
     let place = place_of(alloc, text, name).ok()?;
     let name = OneLine(name);
     format!(in alloc;
-        "{place}{name}: one of listen, target, ring, budget, workers, slots, stop_after, log and idle is wanted"
+        "{place}{name}: one of listen, target, ring, budget, workers, slots, stop_after, log, idle and proxy is wanted"
     ).ok()
 }
 
@@ -97,6 +97,8 @@ enum Wanted {
     Number(u32, u32),
     /// The name of a level.
     Level,
+    /// A truth value.
+    Truth,
 }
 
 impl Wanted {
@@ -112,6 +114,7 @@ impl Wanted {
             Key::StopAfter => Wanted::Number(STOP_AFTER.low, STOP_AFTER.high),
             Key::Log => Wanted::Level,
             Key::Idle => Wanted::Number(IDLE.low, IDLE.high),
+            Key::Proxy => Wanted::Truth,
         }
     }
 }
@@ -129,6 +132,7 @@ impl fmt::Display for Wanted {
             Wanted::Level => f.write_str(
                 "\"off\", \"error\", \"warn\", \"info\", \"debug\" or \"trace\" is wanted",
             ),
+            Wanted::Truth => f.write_str("true or false is wanted"),
         }
     }
 }

@@ -57,7 +57,7 @@ impl fmt::Display for KeyText {
 pub enum SettingsFault {
     /// The bytes are not UTF-8, or not a TOML document.
     NotToml,
-    /// A key at the top level that is not one of the nine.
+    /// A key at the top level that is not one of the ten.
     UnknownKey(KeyText),
     /// A required key that the text leaves out.
     Missing(Key),

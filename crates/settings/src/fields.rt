@@ -26,6 +26,9 @@ pub struct Settings {
     pub log: LogLevel,
     /// How many seconds a connection may move nothing before it fails, up to 86,400; 0 for no such limit.
     pub idle: u32,
+    /// Whether the target is first sent a line of the PROXY protocol's version 1, with the client's address and the one on
+    /// which the client was accepted.
+    pub proxy: bool,
     // What every reader may rely on: the ranges hold for every value of the type.
     pub ghost target_port: { 1 ≤ target.1 },
     pub ghost ring_range: { (1 ≤ ring) × (ring ≤ 65536) },
@@ -46,10 +49,10 @@ impl fmt::Display for Settings {
         let target = AddressText(self.target);
         let (ring, budget, workers) = (self.ring, self.budget, self.workers);
         let (slots, stop_after) = (self.slots, self.stop_after);
-        let (log, idle) = (self.log, self.idle);
+        let (log, idle, proxy) = (self.log, self.idle, self.proxy);
         write!(
             f,
-            "listen={listen}\ntarget={target}\nring={ring}\nbudget={budget}\nworkers={workers}\nslots={slots}\nstop_after={stop_after}\nlog={log}\nidle={idle}\n"
+            "listen={listen}\ntarget={target}\nring={ring}\nbudget={budget}\nworkers={workers}\nslots={slots}\nstop_after={stop_after}\nlog={log}\nidle={idle}\nproxy={proxy}\n"
         )
     }
 }

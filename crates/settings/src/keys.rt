@@ -25,6 +25,8 @@ pub enum Key {
     Log,
     /// How many seconds a connection may move nothing before it fails; 0 for ever.
     Idle,
+    /// Whether the target is first sent a line with the client's address.
+    Proxy,
 }
 
 impl Key {
@@ -42,6 +44,7 @@ impl Key {
             Key::StopAfter => "stop_after",
             Key::Log => "log",
             Key::Idle => "idle",
+            Key::Proxy => "proxy",
         }
     }
 
@@ -60,6 +63,7 @@ impl Key {
             "stop_after" => Some(Key::StopAfter),
             "log" => Some(Key::Log),
             "idle" => Some(Key::Idle),
+            "proxy" => Some(Key::Proxy),
             _ => None,
         }
     }

@@ -5,7 +5,7 @@ ghost use Rattle.toml.specs.Data.{get_member};
 ghost use Rattle.toml.specs.Errors.{IsBlank};
 ghost use Rattle.toml.specs.View.{view, table_view};
 ghost use Rattle.settings.specs.Names.{key_name};
-ghost use Rattle.settings.specs.Table.{an_address, a_number, a_level, address, number, level, required, optional, table};
+ghost use Rattle.settings.specs.Table.{an_address, a_number, a_level, a_truth, address, number, level, truth, required, optional, table};
 ghost use Rattle.settings.specs.Document.{Gives, GivesEach, Faults, Refuses, Writes, IsFirstFault, IsFirstUnknown, HasNoUnknown};
 ghost use Rattle.settings.specs.Text.{setting, IsSettingsOf, IsFaultOf};
 
@@ -15,8 +15,8 @@ use crate::fields::Settings;
 use crate::keys::Key;
 use crate::levels::LogLevel;
 use crate::table::{
-    AddressRow, BUDGET, IDLE, LISTEN, LOG, LevelRow, NumberRow, RING, SLOTS, STOP_AFTER, TARGET,
-    WORKERS,
+    AddressRow, BUDGET, IDLE, LISTEN, LOG, LevelRow, NumberRow, PROXY, RING, SLOTS, STOP_AFTER,
+    TARGET, TruthRow, WORKERS,
 };
 use std::alloc::Global;
 use toml::{Table, Value};
@@ -84,6 +84,7 @@ fn settings_of(document: &Table) -> Result<Settings, SettingsFault>
         stop_after: number_at(document, STOP_AFTER)?,
         log: level_at(document, LOG)?,
         idle: number_at(document, IDLE)?,
+        proxy: truth_at(document, PROXY)?,
     })
 }
 
@@ -119,6 +120,17 @@ fn level_at(document: &Table, row: LevelRow) -> Result<LogLevel, SettingsFault>
 {
     match value_at(document, row.key) {
         Some(value) => as_level(value, row.key),
+        None => Ok(row.default),
+    }
+}
+
+/// The truth value of a row's key.
+fn truth_at(document: &Table, row: TruthRow) -> Result<bool, SettingsFault>
+    ensures gives { IfOk result (λ b. Gives (optional row.key a_truth (truth row.default)) (table_view document.now) (truth b)) }
+    ensures fault { IfErr result (Faults (optional row.key a_truth (truth row.default)) (table_view document.now)) }
+{
+    match value_at(document, row.key) {
+        Some(value) => as_truth(value, row.key),
         None => Ok(row.default),
     }
 }
@@ -169,5 +181,16 @@ fn as_level(value: &Value, key: Key) -> Result<LogLevel, SettingsFault>
     match LogLevel::named(text) {
         Some(level) => Ok(level),
         None => Err(SettingsFault::OutOfRange(key)),
+    }
+}
+
+/// The truth value that a value is.
+fn as_truth(value: &Value, key: Key) -> Result<bool, SettingsFault>
+    ensures writes { IfOk result (λ b. Writes a_truth (view value.now) (truth b)) }
+    ensures fault { IfErr result (Refuses a_truth key (view value.now)) }
+{
+    match value.as_bool() {
+        Some(truth) => Ok(truth),
+        None => Err(SettingsFault::WrongKind(key)),
     }
 }

@@ -31,6 +31,13 @@ pub(crate) struct LevelRow {
     pub(crate) default: LogLevel,
 }
 
+/// A key that takes a truth value.
+#[derive(Clone, Copy)]
+pub(crate) struct TruthRow {
+    pub(crate) key: Key,
+    pub(crate) default: bool,
+}
+
 /// With port 0 the system picks a port.
 pub(crate) const LISTEN: AddressRow = AddressRow {
     key: Key::Listen,
@@ -92,4 +99,11 @@ pub(crate) const IDLE: NumberRow = NumberRow {
     low: 0,
     high: 86_400,
     default: 0,
+};
+
+/// A target that does not expect the line would take it for the client's first bytes, so it is sent only where it is asked
+/// for.
+pub(crate) const PROXY: TruthRow = TruthRow {
+    key: Key::Proxy,
+    default: false,
 };

@@ -8,7 +8,7 @@ use std::test::Fail;
 
 /// What `relayd check` prints of the two settings that are needed.
 const DEFAULTS: &[u8] =
-    b"listen=127.0.0.1:7000\ntarget=127.0.0.1:7001\nring=16384\nbudget=64\nworkers=4\nslots=1024\nstop_after=0\nlog=info\nidle=0\n";
+    b"listen=127.0.0.1:7000\ntarget=127.0.0.1:7001\nring=16384\nbudget=64\nworkers=4\nslots=1024\nstop_after=0\nlog=info\nidle=0\nproxy=false\n";
 
 /// How a run ended, by its status and what it wrote.
 #[derive(Clone, Copy, PartialEq, Eq)]

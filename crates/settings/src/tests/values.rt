@@ -5,7 +5,7 @@ use std::alloc::{AllocError, Global};
 use std::test::Fail;
 
 const DEFAULTS: &str =
-    "listen=127.0.0.1:7000\ntarget=127.0.0.1:7001\nring=16384\nbudget=64\nworkers=4\nslots=1024\nstop_after=0\nlog=info\nidle=0\n";
+    "listen=127.0.0.1:7000\ntarget=127.0.0.1:7001\nring=16384\nbudget=64\nworkers=4\nslots=1024\nstop_after=0\nlog=info\nidle=0\nproxy=false\n";
 
 #[test]
 fn fills_in_defaults(rt: HostRuntime) -> Result<(), Fail> {
@@ -18,7 +18,7 @@ fn fills_in_defaults(rt: HostRuntime) -> Result<(), Fail> {
 #[test]
 fn gives_each_field(rt: HostRuntime) -> Result<(), Fail> {
     let text =
-        "listen = \"1.2.3.4:5\"\ntarget = \"6.7.8.9:10\"\nring = 11\nbudget = 12\nworkers = 13\nslots = 14\nstop_after = 15\nlog = \"trace\"\nidle = 16\n";
+        "listen = \"1.2.3.4:5\"\ntarget = \"6.7.8.9:10\"\nring = 11\nbudget = 12\nworkers = 13\nslots = 14\nstop_after = 15\nlog = \"trace\"\nidle = 16\nproxy = true\n";
     let settings = parse(rt.alloc(), text.as_bytes())?;
     let ([a, b, c, d], port) = settings.listen;
     assert!(rt; a == 1 && b == 2 && c == 3 && d == 4 && port == 5);
@@ -30,6 +30,7 @@ fn gives_each_field(rt: HostRuntime) -> Result<(), Fail> {
     assert_eq!(rt; settings.slots, 14);
     assert_eq!(rt; settings.stop_after, 15);
     assert_eq!(rt; settings.idle, 16);
+    assert!(rt; settings.proxy);
     assert!(rt; settings.log == LogLevel::Trace);
     Ok(())
 }
@@ -45,7 +46,7 @@ fn names_a_key(alloc: Global, name: &str) -> Result<bool, AllocError> {
 
 #[test]
 fn names_keys(rt: HostRuntime) -> Result<(), Fail> {
-    for name in ["listen", "ring", "stop_after", "idle"] {
+    for name in ["listen", "ring", "stop_after", "idle", "proxy"] {
         assert!(rt; names_a_key(rt.alloc(), name)?);
     }
     Ok(())
