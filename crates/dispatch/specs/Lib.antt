@@ -3,6 +3,7 @@ pub mod Accepts
 pub mod Deliveries
 pub mod Fronts
 pub mod Hands
+pub mod Leads
 pub mod Openings
 pub mod Outgoing
 pub mod Parts

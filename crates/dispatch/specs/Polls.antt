@@ -1,6 +1,7 @@
 -- What the poller keeps between its rounds. Part of the promises.
 use Rattle.std.specs.Prelude.{◌≡◌, ◌⊎◌, ℕ, ◌+◌, ◌<◌, ◌≤◌, min, Bool, false, List, All, slice_index}
 use Rattle.dispatch.specs.declared.accepting.Accepted.{Accepted}
+use Rattle.dispatch.specs.declared.lead.Opening.{Opening}
 use Rattle.dispatch.specs.declared.part.Part.{Part}
 use Rattle.dispatch.specs.declared.accepting.Accepted.TheVariants.{Again, Blocked, Starved}
 
@@ -11,7 +12,7 @@ pub record IsIn (part : Part) (slot : ℕ) : Type 0 where
 
 -- What the front reported at the last wait, each slot's generation, the reports that this round delivers, the accept flag (whether a
 -- connection may wait to be accepted), whether accept(2) was starved at its last answer, how many tries of it the last round left,
--- the bytes of a ring, the slots in which it opens connections, how many it may open in all and how many it has opened, how many
+-- what connections are opened with, the slots in which it opens them, how many it may open in all and how many it has opened, how many
 -- slots it no longer uses, the second of the last round, that of the last sweep (at first, that at which it began), and whether it is
 -- over
 pub record PollerState : Type 0 where
@@ -21,7 +22,7 @@ pub record PollerState : Type 0 where
   pub accepting : Bool
   pub starved : Bool
   pub tries : ℕ
-  pub ring : ℕ
+  pub opening : Opening
   pub part : Part
   pub most : ℕ
   pub opened : ℕ

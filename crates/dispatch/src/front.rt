@@ -1,6 +1,7 @@
-ghost use Rattle.std.specs.Prelude.{◌≡◌, ◌≤◌, ℕ, List, [], OnErr, vec_len, vec_capacity};
+ghost use Rattle.std.specs.Prelude.{◌≡◌, ◌≤◌, ℕ, List, [], IfOk, OnErr, vec_len, vec_capacity};
 
 use crate::limits::MAX_BATCH;
+use crate::route::Route;
 use engine::Wire;
 use log::Log;
 use relay_log::Cause;
@@ -43,10 +44,24 @@ impl From<Unopened> for Cause {
     }
 }
 
+/// A connection to the target that was started, and what is told of the client's.
+#[derive(Drop)]
+pub struct Opened<T> {
+    /// The wire of the target.
+    pub target: T,
+    /// The addresses of the client's connection.
+    pub route: Route,
+}
+
 /// Where connections and reports come from: the system's sockets, or an in-memory fake.
 pub trait Front {
+    ghost use Rattle.dispatch.specs.declared.route.Route.{Route};
+
     // The numbers that the last wait for reports gave.
     ghost reported: { Self → List ℕ };
+
+    // Which addresses it may tell of a client's connection, if it says so.
+    ghost may_tell: { Self.Client → Route → Type 0 } = { λ _ _. Unit {0} };
 
     /// The wire of a client.
     type Client: Settle + Drop;
@@ -71,15 +86,17 @@ pub trait Front {
         ensures reported { reported self.new ≡ reported self.old };
 
     /// Starts the connection to the target (connect(2)), and has both sockets reported for reading and writing, each
-    /// under its token. After an error no target is left open, and the client may still be reported until it is closed.
-    /// It changes nothing that the client's wire specifies. `rt` is for the log alone.
+    /// under its token. It tells the addresses of the client's connection, if it is to tell them. After an error no target is
+    /// left open, and the client may still be reported until it is closed. It changes nothing that the client's wire
+    /// specifies. `rt` is for the log alone.
     fn open<N: Log>(
         &mut self,
         rt: &N,
         client: &mut Self::Client,
         client_token: Token,
         target_token: Token,
-    ) -> Result<Self::Target, Unopened>
+    ) -> Result<Opened<Self::Target>, Unopened>
+        ensures told { IfOk result (λ opened. may_tell client.old opened.route) }
         ensures same { Self.Client.told client.new ≡ Self.Client.told client.old }
         ensures reported { reported self.new ≡ reported self.old };
 

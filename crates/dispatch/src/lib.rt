@@ -10,6 +10,8 @@
 //! [`Part`] of the slots.
 //!
 //! - [`Front`] is where connections and reports come from: the system's sockets, or an in-memory fake.
+//! - [`Opening`] is what connections are opened with. A target may first be sent a line with the addresses of its client's
+//!   connection ([`Route`]); a connection of which one of them cannot be told is then closed, as one whose opening failed.
 //! - [`Shared`] is what all threads share, and [`Own`] what one thread owns: its seat at the claim words, its ends of
 //!   the two queues, and a [`Hand`] for what a queue refused.
 //! - [`Gate`] lets a test hold a turn back.
@@ -24,6 +26,7 @@ mod faults;
 mod front;
 mod gate;
 mod hand;
+mod lead;
 mod limits;
 mod opening;
 mod own_turns;
@@ -32,6 +35,7 @@ mod parts;
 mod poller;
 mod putting;
 mod round;
+mod route;
 mod shared;
 mod sweeping;
 mod terms;
@@ -43,9 +47,10 @@ mod worker;
 pub use clock::{Clock, Timing};
 pub use delivering::deliver;
 pub use faults::ServerFault;
-pub use front::{Front, Settle, Unopened};
+pub use front::{Front, Opened, Settle, Unopened};
 pub use gate::{Gate, OpenGate};
 pub use hand::Hand;
+pub use lead::Opening;
 pub use limits::{LISTENER, MAX_ACCEPTS, MAX_BATCH, MAX_OWN_TURNS, WAKER};
 pub use own_turns::{own_turn, share_tickets};
 pub use part::Part;
@@ -53,5 +58,6 @@ pub use parts::Parts;
 pub use poller::Poller;
 pub use putting::{give_slots, put_tickets};
 pub use round::poller_round;
+pub use route::Route;
 pub use shared::{Own, Shared};
 pub use worker::{Worked, worker_turn};

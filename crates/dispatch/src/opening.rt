@@ -1,15 +1,17 @@
 //! Opens an accepted connection, in the order in which it happens: a free slot, the names of the slot's next
-//! connection, the connection to the target, the pair, the place, and the one note that starts it.
-ghost use Rattle.std.specs.Prelude.{◌≡◌, ◌≢◌, ◌⊎◌, ◌+◌, ◌<◌, ◌≤◌, [], ◌∷◌, length, Err, IfOk, IfErr, OnOk, OnSome, IfSome, IsNone, slice_index};
+//! connection, the connection to the target, what the target is sent first, the pair, the place, and the one note that
+//! starts it.
+ghost use Rattle.std.specs.Prelude.{◌≡◌, ◌≢◌, ◌⊎◌, ◌+◌, ◌<◌, ◌≤◌, [], ◌∷◌, length, Err, Some, None, IfOk, IfErr, OnOk, OnSome, IfSome, IsNone, slice_index};
 ghost use Rattle.claims.specs.Seats.{HoldsNothing, OnlyAt};
 ghost use Rattle.relay_core.specs.Pairs.{fresh};
 ghost use Rattle.dispatch.specs.Turns.{HoldsOnly};
 ghost use Rattle.dispatch.specs.Hands.{ticket_room};
+ghost use Rattle.dispatch.specs.Leads.{LeadTold};
 ghost use Rattle.dispatch.specs.Openings.{Between, Started, Connected, AcceptDone};
 ghost use Rattle.dispatch.specs.Polls.{AreGenerations, IsIn};
 
 use crate::faults::ServerFault;
-use crate::front::Front;
+use crate::front::{Front, Opened};
 use crate::poller::Poller;
 use crate::shared::{Own, Shared};
 use berths::Berth;
@@ -88,8 +90,10 @@ pub(crate) fn next_names(table: &[u64], slot: usize) -> Option<Names>
     Some(Names { client, target })
 }
 
-/// Starts the connection to the target, and makes the pair, at the second of the round. A refusal closes the client's connection, and the target's
-/// if it had been started.
+/// Starts the connection to the target, and makes the pair, at the second of the round. If targets are sent a line with
+/// the addresses of their clients' connections, the pair begins with it on the way up. A refusal closes the client's
+/// connection, and the target's if it had been started; it is `Address` only if the line is to be sent and an address is
+/// missing.
 pub(crate) fn connect<F: Front, N: Log>(
     rt: &N,
     alloc: Global,
@@ -97,18 +101,23 @@ pub(crate) fn connect<F: Front, N: Log>(
     mut client: F::Client,
     names: Names,
 ) -> Result<Berth<F::Client, F::Target>, Cause>
-    ensures pair { IfOk result (λ berth. berth.pair ≡ fresh names.client.slot names.client.generation poller.old.ring poller.old.second) }
+    ensures pair { IfOk result (λ berth. berth.pair ≡ fresh names.client.slot names.client.generation poller.old.opening.ring poller.old.second berth.pair.up.lead) }
+    ensures lead { IfOk result (λ berth. LeadTold (F.may_tell client) poller.old.opening.proxy (Some berth.pair.up.lead)) }
+    ensures address { IfErr result (λ cause. cause ≡ Cause.Address → LeadTold (F.may_tell client) poller.old.opening.proxy None) }
     ensures same { poller.new ≡ poller.old }
 {
-    let target = poller
+    let Opened { target, route } = poller
         .front
         .open(rt, &mut client, names.client, names.target)?;
+    let opening = poller.opening();
+    let lead = opening.lead(alloc, &route)?;
     match Pair::new(
         alloc,
         names.client.slot(),
         names.client.generation(),
-        poller.ring(),
+        opening.ring,
         poller.second(),
+        lead.as_slice(),
     ) {
         Ok(pair) => Ok(Berth {
             pair,

@@ -3,6 +3,7 @@ ghost use Rattle.std.specs.Prelude.{◌≡◌, ◌+◌, ◌<◌, ◌≤◌, ◌�
 ghost use Rattle.dispatch.specs.Polls.{AreGenerations, IsIn, IsOwnTable, HasOpenedAll, counted_up};
 
 use crate::front::Front;
+use crate::lead::Opening;
 use crate::limits::{HEAVY_TICKETS, MAX_ACCEPTS, MAX_BATCH};
 use crate::part::Part;
 use ready::Ticket;
@@ -22,7 +23,7 @@ pub struct Poller<F: Front> {
     pub(crate) starved: bool,
     // How many tries of accept(2) the last round left.
     pub(crate) tries: usize,
-    ring: usize,
+    opening: Opening,
     // The slots in which it opens connections.
     part: Part,
     // Of each slot's next tickets, how many are for the workers.
@@ -44,14 +45,14 @@ impl<F: Front> Model for Poller<F> {
 
     ghost Value = { PollerState };
 
-    ghost view = { λ p. record { reported = F.reported p.front; table = p.table.items; batch = p.batch.items; accepting = p.accepting; starved = p.starved; tries = p.tries; ring = p.ring; part = p.part; most = p.most; opened = p.opened; lost = p.lost; second = p.second; swept = p.swept; over = p.over } };
+    ghost view = { λ p. record { reported = F.reported p.front; table = p.table.items; batch = p.batch.items; accepting = p.accepting; starved = p.starved; tries = p.tries; opening = p.opening; part = p.part; most = p.most; opened = p.opened; lost = p.lost; second = p.second; swept = p.swept; over = p.over } };
 
-    ghost invariant = { λ p. AreGenerations p.table.items × IsOwnTable p.part p.table.items × (256 ≤ vec_capacity p.batch) × (length p.batch.items ≤ 256) × (1 ≤ p.ring) × (p.ring ≤ 65536) };
+    ghost invariant = { λ p. AreGenerations p.table.items × IsOwnTable p.part p.table.items × (256 ≤ vec_capacity p.batch) × (length p.batch.items ≤ 256) × (1 ≤ p.opening.ring) × (p.opening.ring ≤ 65536) };
 }
 
 impl<F: Front> Poller<F> {
     /// A poller that has opened no connection yet. Its table is for `table` slots, and it opens connections in a part of
-    /// them, at most `most` in all. A ring has `ring` bytes.
+    /// them, at most `most` in all, with what `opening` says.
     ///
     /// Fails only if there is no memory for what it keeps of each slot and for the batch. A round allocates memory only for connections and
     /// log lines.
@@ -60,13 +61,13 @@ impl<F: Front> Poller<F> {
         front: F,
         table: usize,
         part: Part,
-        ring: usize,
+        opening: Opening,
         most: u64,
     ) -> Result<Poller<F>, AllocError>
     where
         F: Drop,
-        requires ring { (1 ≤ ring) × (ring ≤ 65536) }
-        ensures { IfOk result (λ poller. poller ≡ record { reported = F.reported front; table = replicate table 0; batch = []; accepting = true; starved = false; tries = 0; ring = ring; part = part; most = most; opened = 0; lost = 0; second = 0; swept = 0; over = false }) }
+        requires ring { (1 ≤ opening.ring) × (opening.ring ≤ 65536) }
+        ensures { IfOk result (λ poller. poller ≡ record { reported = F.reported front; table = replicate table 0; batch = []; accepting = true; starved = false; tries = 0; opening = opening; part = part; most = most; opened = 0; lost = 0; second = 0; swept = 0; over = false }) }
     {
         Ok(Poller {
             front,
@@ -75,7 +76,7 @@ impl<F: Front> Poller<F> {
             accepting: true,
             starved: false,
             tries: 0,
-            ring,
+            opening,
             part,
             heavy: vec![in alloc; 0; table]?,
             most,
@@ -145,13 +146,13 @@ impl<F: Front> Poller<F> {
         self.opened
     }
 
-    /// The bytes of a ring.
-    pub(crate) fn ring(&self) -> usize
-        ensures ring { result ≡ self.now.ring }
-        ensures least { 1 ≤ result }
-        ensures most { result ≤ 65536 }
+    /// What connections are opened with.
+    pub fn opening(&self) -> Opening
+        ensures opening { result ≡ self.now.opening }
+        ensures least { 1 ≤ result.ring }
+        ensures most { result.ring ≤ 65536 }
     {
-        self.ring
+        self.opening
     }
 
     /// The second of the last round.

@@ -39,7 +39,8 @@ use std::sync::Wait;
 /// at most 4 calls of accept(2).
 ///
 /// An opened connection has the slot's next generation, one note and one ticket, and is logged. A connection whose
-/// opening fails is closed and logged, and its slot is as it was, and in hand.
+/// opening fails is closed and logged, and its slot is as it was, and in hand. What connections are opened with stays the
+/// same.
 ///
 /// Refusals: `Poll` if waiting for reports failed, and `Worn` if the seat has posted 2^56 times. Then, too, the seat
 /// holds nothing.
@@ -64,6 +65,7 @@ pub fn poller_round<F: Front, C: Clock, R: Wait + Log>(
     ensures unswept { (poller.new.swept ≡ poller.old.swept) ⊎ (poller.new.swept ≡ swept_after timing.now.limit poller.new.second poller.old.swept) }
     ensures accepted { OnOk result (EndedEarly shared.now.claims.words own.new ⊎ AcceptEnded poller.new own.new) }
     ensures over { OnOk result (poller.new.over ≡ true → (poller.old.over ≡ true) ⊎ IsOver poller.new own.new) }
+    ensures opening { poller.new.opening ≡ poller.old.opening }
 {
     if !begin(rt, own, poller, shared.claims.slots()) {
         return Ok(());
@@ -198,6 +200,7 @@ fn accept_all<F: Front, R: Wait + Log>(
     ensures done { OnOk result (AcceptDone poller.old poller.new own.old own.new) }
     ensures ended { OnOk result (AcceptEnded poller.new own.new) }
     ensures over { poller.new.over ≡ poller.old.over }
+    ensures opening { poller.new.opening ≡ poller.old.opening }
     ensures reported { poller.new.reported ≡ poller.old.reported }
     ensures second { poller.new.second ≡ poller.old.second }
     ensures swept { poller.new.swept ≡ poller.old.swept }
@@ -242,6 +245,7 @@ fn accept_next<F: Front, R: Wait + Log>(
     ensures tries { poller.new.tries + 1 ≡ poller.old.tries }
     ensures starved { IfOk result (λ more. more ≡ false → poller.new.starved ≡ true) }
     ensures over { poller.new.over ≡ poller.old.over }
+    ensures opening { poller.new.opening ≡ poller.old.opening }
     ensures reported { poller.new.reported ≡ poller.old.reported }
     ensures second { poller.new.second ≡ poller.old.second }
     ensures swept { poller.new.swept ≡ poller.old.swept }

@@ -73,6 +73,15 @@ pub(crate) fn take_out<F: Front, R: Wait>(
     }
 }
 
+/// Tells a pair that something was reported, if notes waited.
+fn tell_notes(pair: &mut Pair, notes: u64)
+    ensures { pair.new ≡ noted_by notes pair.old }
+{
+    if notes > 0 {
+        pair.note();
+    }
+}
+
 /// Puts the connection back into its place. A place that is not empty, which happens in no run, keeps what it has, and
 /// the connection is closed.
 pub(crate) fn put_in<F: Front, R: Wait>(
@@ -115,9 +124,7 @@ impl<F: Front> Visit<F> {
         ensures outcome { result ≡ outcome_of self.new.berth.pair }
         ensures run { IsTurn terms.budget terms.moment.second terms.moment.limit (noted_by notes self.old.berth.pair) self.new.berth.pair (IsServed F.Client.told F.Client.does terms.moment.second self.old.berth.client self.new.berth.client) (IsServed F.Target.told F.Target.does terms.moment.second self.old.berth.target self.new.berth.target) }
     {
-        if notes > 0 {
-            self.berth.pair.note();
-        }
+        tell_notes(&mut self.berth.pair, notes);
         turn_with(
             &mut self.berth.pair,
             &mut self.berth.client,

@@ -220,7 +220,7 @@ fn play<F: Front, G: Gate>(
     outcome
 }
 
-/// Puts a connection back whose budget is spent, posts the note that keeps it due, and releases its slot.
+/// Puts a connection back whose budget is spent, and keeps it due.
 fn again<F: Front, R: Wait>(
     rt: &R,
     shared: &Shared<F>,
@@ -235,6 +235,23 @@ fn again<F: Front, R: Wait>(
 {
     let ticket = visit.ticket();
     let back = put_in(rt, shared, own, visit);
+    stay_due(rt, shared, own, ticket, back)
+}
+
+/// Posts the note that keeps a connection due, which is back in its place, and releases its slot.
+fn stay_due<F: Front, R: Wait>(
+    rt: &R,
+    shared: &Shared<F>,
+    own: &mut Own,
+    ticket: Ticket,
+    back: Back,
+) -> Result<Worked, ServerFault>
+    requires work { AtWork shared.now.claims ticket.slot own.old }
+    requires back { back ≡ ticket.slot }
+    ensures done { TurnDone ticket result own.old own.new }
+    ensures answer { IfOk result (λ worked. worked ≡ Worked.Again) }
+    ensures exchanges { own.new.seat.steps + 1 ≡ own.old.seat.steps + exchanges_left result }
+{
     // A holder's own post never answers Wake: the release does.
     let posted = shared.claims.post(&mut own.seat, ticket.slot);
     leave(rt, shared, own, ticket, back);

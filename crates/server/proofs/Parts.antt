@@ -6,6 +6,7 @@ use Rattle.std.specs.List.{range_with_len}
 use Rattle.std.proofs.lemmas.List.FromFn.{map-range_with_len_more}
 use Rattle.std.proofs.lemmas.List.{map-append}
 use Rattle.std.proofs.Math.Nat.{div-mul-le_self, lt-div-mul-add, div-lt_iff_lt-mul, mul-le-mul_right}
+use Rattle.dispatch.specs.declared.lead.Opening.{Opening}
 use Rattle.dispatch.specs.declared.part.Part.{Part}
 use Rattle.dispatch.specs.Polls.{PollerState}
 use Rattle.server.specs.Splits.{parts_of, pollers_for, HasBegun}
@@ -28,22 +29,22 @@ pub mapped_all : {A B : Type 0} (of : A → B) (f : ℕ → B) (xs : List A) (n 
 mapped_all of f xs n m all each = subst (λ (k : ℕ). map of xs ≡ map f (range_with_len 0 k)) all each
 
 -- one poller more that has opened nothing yet
-pub begun_one : (slots bytes : ℕ) (ps qs : List PollerState) {p : PollerState} {reported : List ℕ} {part : Part} {most : ℕ} → qs ≡ ps ++ p ∷ []
-    → p ≡ record { reported = reported; table = replicate slots 0; batch = []; accepting = true; starved = false; tries = 0; ring = bytes; part = part; most = most; opened = 0; lost = 0; second = 0; swept = 0; over = false }
-    → All (λ (q : PollerState). HasBegun slots bytes q) ps → All (λ (q : PollerState). HasBegun slots bytes q) qs
-begun_one slots bytes ps qs {p} more is all =
-    let one : HasBegun slots bytes p = record {
+pub begun_one : (slots : ℕ) (opening : Opening) (ps qs : List PollerState) {p : PollerState} {reported : List ℕ} {part : Part} {most : ℕ} → qs ≡ ps ++ p ∷ []
+    → p ≡ record { reported = reported; table = replicate slots 0; batch = []; accepting = true; starved = false; tries = 0; opening = opening; part = part; most = most; opened = 0; lost = 0; second = 0; swept = 0; over = false }
+    → All (λ (q : PollerState). HasBegun slots opening q) ps → All (λ (q : PollerState). HasBegun slots opening q) qs
+begun_one slots opening ps qs {p} more is all =
+    let one : HasBegun slots opening p = record {
       table = ap (λ (q : PollerState). q.table) is;
       batch = ap (λ (q : PollerState). q.batch) is;
       accepting = ap (λ (q : PollerState). q.accepting) is;
       starved = ap (λ (q : PollerState). q.starved) is;
-      ring = ap (λ (q : PollerState). q.ring) is;
+      opening = ap (λ (q : PollerState). q.opening) is;
       opened = ap (λ (q : PollerState). q.opened) is;
       lost = ap (λ (q : PollerState). q.lost) is;
       over = ap (λ (q : PollerState). q.over) is;
     } in
-    subst (λ (rs : List PollerState). All (λ (q : PollerState). HasBegun slots bytes q) rs) (sym more)
-    (All-push (λ (q : PollerState). HasBegun slots bytes q) ps p all one)
+    subst (λ (rs : List PollerState). All (λ (q : PollerState). HasBegun slots opening q) rs) (sym more)
+    (All-push (λ (q : PollerState). HasBegun slots opening q) ps p all one)
 
 -- parts of this size are as many as the pollers that they are made for
 parts_of_size : (slots pollers : ℕ) → 1 ≤ pollers → pollers * pollers ≤ slots → parts_of slots ((slots - 1) / pollers + 1) ≡ pollers

@@ -2,6 +2,7 @@
 -- what is left.
 use Rattle.std.specs.Prelude.{◌≡◌, ℕ, ◌*◌, ◌+◌, ◌-◌, ◌/◌, min, max, true, false, List, [], map, replicate}
 use Rattle.std.specs.List.{range_with_len}
+use Rattle.dispatch.specs.declared.lead.Opening.{Opening}
 use Rattle.dispatch.specs.declared.part.Part.{Part}
 use Rattle.dispatch.specs.Polls.{PollerState}
 
@@ -21,13 +22,13 @@ part_of slots size number = record { first = number * size; slots = min size (sl
 abbrev pub each_part : {A : Type 0} → ℕ → ℕ → (Part → A) → List A
 each_part slots size make = map (λ (number : ℕ). make (part_of slots size number)) (range_with_len 0 (parts_of slots size))
 
--- a poller that has opened nothing yet, with a table for so many slots, and rings of so many bytes
-pub record HasBegun (slots bytes : ℕ) (p : PollerState) : Type 0 where
+-- a poller that has opened nothing yet, with a table for so many slots, and what it opens connections with
+pub record HasBegun (slots : ℕ) (opens : Opening) (p : PollerState) : Type 0 where
   pub table : p.table ≡ replicate slots 0
   pub batch : p.batch ≡ []
   pub accepting : p.accepting ≡ true
   pub starved : p.starved ≡ false
-  pub ring : p.ring ≡ bytes
+  pub opening : p.opening ≡ opens
   pub opened : p.opened ≡ 0
   pub lost : p.lost ≡ 0
   pub over : p.over ≡ false

@@ -2,8 +2,9 @@
 //! run most turns, and with workers that run the others ([`serve`]).
 //!
 //! What a thread does in a round and in a turn is the crate `dispatch`, over parts that are lent to it; this crate hands
-//! its calls on. Here are the sockets themselves ([`Sockets`], [`SocketWire`]), and the threads: what each of them is
-//! made of, its loop, and how the fault of one ends all.
+//! its calls on. Here are the sockets themselves ([`Sockets`], [`SocketWire`]), where they connect clients and whether the
+//! addresses of clients are told ([`Forwarding`]), and the threads: what each of them is made of, its loop, and how the
+//! fault of one ends all.
 #![tactic(auto)]
 
 mod crew;
@@ -20,9 +21,10 @@ mod tests;
 mod working;
 
 pub use dispatch::{
-    Clock, Front, Gate, Hand, MAX_BATCH, OpenGate, Own, Part, Poller, ServerFault, Settle, Shared,
-    Timing, Unopened, Worked, deliver, own_turn, poller_round, share_tickets, worker_turn,
+    Clock, Front, Gate, Hand, MAX_BATCH, OpenGate, Opened, Opening, Own, Part, Poller, Route,
+    ServerFault, Settle, Shared, Timing, Unopened, Worked, deliver, own_turn, poller_round,
+    share_tickets, worker_turn,
 };
 pub use serving::serve;
-pub use sockets::{Bound, Dial, Socket, SocketWire, Sockets, Wakers, bind, open_all};
+pub use sockets::{Bound, Dial, Forwarding, Socket, SocketWire, Sockets, Wakers, bind, open_all};
 pub use split::Split;

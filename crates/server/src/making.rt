@@ -9,7 +9,7 @@ ghost use Rattle.server.specs.Splits.{each_part, part_of, parts_of, HasBegun};
 use crate::split::Split;
 use berths::Berths;
 use claims::{ClaimSeat, Claims};
-use dispatch::{Front, Parts, Poller, ServerFault, Shared};
+use dispatch::{Front, Opening, Parts, Poller, ServerFault, Shared};
 use ready::{FreeQueue, ReadyQueue};
 use settings::Settings;
 use std::alloc::{AllocError, Global};
@@ -51,7 +51,7 @@ where
     ensures ready { IfOk result (λ made. made.parts.ready.items ≡ replicate (parts_of split.slots split.size + settings.now.workers) (unused settings.now.slots)) }
     ensures free { IfOk result (λ made. map (λ ends. ends.items) made.free.items ≡ each_part split.slots split.size (λ part. filled part.first part.slots ∷ replicate settings.now.workers (unused part.slots))) }
     ensures pollers { IfOk result (λ made. map (λ poller. poller.part) made.pollers.items ≡ each_part split.slots split.size (λ part. part)) }
-    ensures begun { IfOk result (λ made. All (λ poller. HasBegun settings.now.slots settings.now.ring poller) made.pollers.items) }
+    ensures begun { IfOk result (λ made. All (λ poller. HasBegun settings.now.slots (record { ring = settings.now.ring; proxy = settings.now.proxy }) poller) made.pollers.items) }
     ensures shares { IfOk result (λ made. map (λ poller. poller.most) made.pollers.items ≡ shares_of settings.now.stop_after (parts_of split.slots split.size)) }
     ensures workers { IfOk result (λ made. (made.workers ≡ settings.now.workers) × (made.pollers_work ≡ true)) }
     ensures refused { IfErr result (λ fault. fault ≡ ServerFault.NoMemory) }
@@ -108,7 +108,7 @@ fn pollers_of<F: Front + Drop>(
 ) -> Result<Vec<Poller<F>>, AllocError>
     requires { length fronts.items ≡ parts_of split.slots split.size }
     ensures parts { IfOk result (λ all. map (λ poller. poller.part) all.items ≡ each_part split.slots split.size (λ part. part)) }
-    ensures begun { IfOk result (λ all. All (λ poller. HasBegun settings.now.slots settings.now.ring poller) all.items) }
+    ensures begun { IfOk result (λ all. All (λ poller. HasBegun settings.now.slots (record { ring = settings.now.ring; proxy = settings.now.proxy }) poller) all.items) }
     ensures shares { IfOk result (λ all. map (λ poller. poller.most) all.items ≡ shares_of settings.now.stop_after (parts_of split.slots split.size)) }
 {
     let mut pollers = Vec::with_capacity(alloc, fronts.len())?;
@@ -147,11 +147,15 @@ fn poller_of<F: Front + Drop>(
     front: F,
 ) -> Result<Poller<F>, AllocError>
     requires number { number < parts_of split.slots split.size }
-    ensures { IfOk result (λ poller. poller ≡ record { reported = F.reported front; table = replicate settings.now.slots 0; batch = []; accepting = true; starved = false; tries = 0; ring = settings.now.ring; part = part_of split.slots split.size number; most = share_of settings.now.stop_after (parts_of split.slots split.size) number; opened = 0; lost = 0; second = 0; swept = 0; over = false }) }
+    ensures { IfOk result (λ poller. poller ≡ record { reported = F.reported front; table = replicate settings.now.slots 0; batch = []; accepting = true; starved = false; tries = 0; opening = record { ring = settings.now.ring; proxy = settings.now.proxy }; part = part_of split.slots split.size number; most = share_of settings.now.stop_after (parts_of split.slots split.size) number; opened = 0; lost = 0; second = 0; swept = 0; over = false }) }
 {
     let most = share_of(settings.stop_after, split.pollers(), number);
     let part = split.part(number);
-    Poller::new(alloc, front, settings.slots, part, settings.ring, most)
+    let opening = Opening {
+        ring: settings.ring,
+        proxy: settings.proxy,
+    };
+    Poller::new(alloc, front, settings.slots, part, opening, most)
 }
 
 /// How many connections the poller with this number may open, of all that the server may: of 0, which is no limit, as

@@ -4,13 +4,13 @@ use crate::crew::Crew;
 use crate::dividing::{Rest, divide};
 use crate::fault_record::FaultRecord;
 use crate::making::{Server, build};
-use crate::sockets::{Bound, Dial, open_all};
+use crate::sockets::{Bound, Dial, Forwarding, open_all};
 use crate::split::Split;
 use dispatch::{Clock, Front, Gate, ServerFault, Timing};
 use log::{Log, error};
 use settings::Settings;
 use std::alloc::Global;
-use std::net::{Net, SocketAddr};
+use std::net::Net;
 use std::sync::atomic::AtomicUsize;
 use std::sync::{Arc, Mutex, Wait};
 use std::thread::Threads;
@@ -18,7 +18,8 @@ use std::{fmt, thread};
 
 /// Serves on the bound socket: accepts connections and forwards each one to the settings' target, with the settings'
 /// number of workers in addition to the threads that poll. There are as many of these as workers, but at most one for
-/// each 64 slots, and at least one; one of them is the calling thread. The settings' idle limit is counted by the clock. It
+/// each 64 slots, and at least one; one of them is the calling thread. The settings' idle limit is counted by the clock. If
+/// the settings' `proxy` is set, each target is first sent a line with the addresses of its client's connection. It
 /// returns once `stop_after` connections were opened and
 /// all of them are closed, or on a fault; by then every thread has ended, and every socket is closed.
 ///
@@ -34,8 +35,8 @@ pub fn serve<G: Gate + Sync, C: Clock + Sync, R: Net + Dial + Wait + Threads + L
     bound: Bound,
 ) -> Result<(), ServerFault> {
     let split = Split::new(settings.slots, settings.workers);
-    let target = SocketAddr::from(settings.target);
-    let (fronts, wakers) = open_all(rt, alloc, bound, target, split)?;
+    let forwarding = Forwarding::of(settings);
+    let (fronts, wakers) = open_all(rt, alloc, bound, forwarding, split)?;
     let server = build(rt, alloc, settings, split, fronts, wakers)?;
     let timing = Timing {
         clock,

@@ -3,6 +3,7 @@
 mod bound;
 mod delay;
 mod dial;
+mod forwarding;
 mod poll;
 mod socket;
 mod stream;
@@ -10,6 +11,7 @@ mod wire;
 
 pub use bound::{Bound, bind};
 pub use dial::Dial;
+pub use forwarding::Forwarding;
 pub use poll::{Sockets, Wakers, open_all};
 pub use socket::Socket;
 pub use wire::SocketWire;

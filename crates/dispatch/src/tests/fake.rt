@@ -2,28 +2,36 @@
 ghost use Rattle.std.specs.Prelude.{◌≡◌, ◌≤◌, [], length, vec_capacity};
 
 use super::scenes::{Scene, Settling, wire_of};
-use crate::front::{Front, Unopened};
+use crate::front::{Front, Opened, Unopened};
 use crate::limits::MAX_BATCH;
+use crate::route::Route;
 use log::Log;
 use std::alloc::{AllocError, Global};
 use std::io::{self, ErrorKind};
-use std::net::SocketAddr;
+use std::net::{Ipv4Addr, SocketAddr, SocketAddrV4};
 use std::sync::atomic::AtomicU64;
 use std::sync::atomic::Ordering::SeqCst;
 use token::Token;
 
+/// Whether a client's own address is told, and the one on which it was accepted.
+pub(crate) type Told = (bool, bool);
+
 /// What a fake plays, in order: the batches of its polls, its answers to accept, an error or a connection, and its
 /// answers to open. After the last of them a batch is empty, accept would block, and open succeeds. Each connection
-/// plays the same scene.
+/// plays the same scene. If targets are to be sent a line, there is also whether open tells the client's address and the
+/// accepted one, and after the last of them it tells both; else it tells none.
 #[derive(Clone, Copy)]
 pub(crate) struct Script<'a> {
     pub(crate) batches: &'a [&'a [u64]],
     pub(crate) accepts: &'a [Option<ErrorKind>],
     pub(crate) opens: &'a [Option<Unopened>],
+    pub(crate) proxy: bool,
+    pub(crate) told: &'a [Told],
     pub(crate) scene: Scene,
 }
 
-/// A front that plays a script. Its clients come from 192.0.2.7:50000. No call of it takes memory.
+/// A front that plays a script. Its clients come from 192.0.2.7:50000, and are accepted on 198.51.100.1:7000. No call of
+/// it takes memory.
 #[derive(Drop)]
 pub(crate) struct Fake {
     /// The wires that are left for clients and targets, the next one last.
@@ -34,6 +42,8 @@ pub(crate) struct Fake {
     last: Vec<u64>,
     accepts: Vec<Option<ErrorKind>>,
     opens: Vec<Option<Unopened>>,
+    proxy: bool,
+    told: Vec<Told>,
     /// Whether the last poll would wait for reports.
     pub(crate) waited: bool,
     /// How often accept was called.
@@ -54,6 +64,8 @@ impl Fake {
             waited: false,
             accepts: script.accepts.to_vec(alloc)?,
             opens: script.opens.to_vec(alloc)?,
+            proxy: script.proxy,
+            told: script.told.to_vec(alloc)?,
             accepted: 0,
             opened: 0,
         })
@@ -99,11 +111,19 @@ fn note(asked: &mut Vec<u64>, client: Token, target: Token) {
     let _ = asked.push(target.value());
 }
 
-/// The next answer to open, if it is a refusal.
-fn next(opens: &[Option<Unopened>], opened: &mut usize) -> Option<Unopened> {
-    let answer = opens.get(*opened).copied();
-    *opened = opened.saturating_add(1);
-    answer.unwrap_or(None)
+/// The answer to open with this number, if it is a refusal.
+fn refusal(opens: &[Option<Unopened>], number: usize) -> Option<Unopened> {
+    opens.get(number).copied().unwrap_or(None)
+}
+
+/// What the opening with this number tells.
+fn route(told: &[Told], number: usize) -> Route {
+    let (client, accepted) = told.get(number).copied().unwrap_or((true, true));
+    let (near, far) = (Ipv4Addr::new(192, 0, 2, 7), Ipv4Addr::new(198, 51, 100, 1));
+    Route {
+        client: client.then_some(SocketAddrV4::new(near, 50_000)),
+        accepted: accepted.then_some(SocketAddrV4::new(far, 7_000)),
+    }
 }
 
 impl Front for Fake {
@@ -142,12 +162,19 @@ impl Front for Fake {
         _client: &mut Settling,
         client_token: Token,
         target_token: Token,
-    ) -> Result<Settling, Unopened> {
+    ) -> Result<Opened<Settling>, Unopened> {
         note(&mut self.asked, client_token, target_token);
-        let target = self.wires.pop();
-        match next(self.opens.as_slice(), &mut self.opened) {
+        let number = self.opened;
+        self.opened = number.saturating_add(1);
+        let target = self.wires.pop().ok_or(Unopened::Connect)?;
+        let route = if self.proxy {
+            route(self.told.as_slice(), number)
+        } else {
+            Route::UNTOLD
+        };
+        match refusal(self.opens.as_slice(), number) {
             Some(unopened) => Err(unopened),
-            None => target.ok_or(Unopened::Connect),
+            None => Ok(Opened { target, route }),
         }
     }
 

@@ -177,6 +177,8 @@ fn is_as_wanted<R: Wait>(rt: &R, alloc: Global, row: &Row) -> Result<bool, Alloc
         batches: row.batches,
         accepts: row.accepts,
         opens: row.opens,
+        proxy: false,
+        told: &[],
         scene: SILENT,
     };
     let (after, lines) = run_rounds(rt, alloc, Level::Info, script)?;
@@ -194,9 +196,9 @@ fn each_round_does_what_it_says(rt: HostRuntime) -> Result<(), Fail> {
     Ok(())
 }
 
-/// Two connections, each at its own round. Answers what was seen last, and whether the log tells of an opening without
-/// memory.
-fn open_twice<R: Wait>(rt: &R, alloc: Global) -> Result<(Seen, bool), AllocError> {
+/// Two connections, each at its own round, whose targets are sent a line or none. Answers what was seen last, and whether
+/// the log tells of an opening without memory.
+fn open_twice<R: Wait>(rt: &R, alloc: Global, proxy: bool) -> Result<(Seen, bool), AllocError> {
     let script = Script {
         batches: &[&[], &[0]],
         accepts: &[
@@ -206,6 +208,8 @@ fn open_twice<R: Wait>(rt: &R, alloc: Global) -> Result<(Seen, bool), AllocError
             Some(ErrorKind::WouldBlock),
         ],
         opens: &[],
+        proxy,
+        told: &[],
         scene: SILENT,
     };
     let (after, lines) = run_rounds(rt, alloc, Level::Warn, script)?;
@@ -213,18 +217,20 @@ fn open_twice<R: Wait>(rt: &R, alloc: Global) -> Result<(Seen, bool), AllocError
     Ok((after[2], refused))
 }
 
-// At most one growth is refused. If it was an opening's, its connection is closed, and the other one gets the first slot
-// or has it.
+// At most one growth is refused. If it was an opening's, its line's or another, its connection is closed, and the other
+// one gets the first slot or has it.
 #[test]
 fn an_opening_without_memory_leaves_its_slot(rt: HostRuntime) -> Result<(), Fail> {
     let alloc = rt.alloc();
-    let (last, refused) = open_twice(&rt, alloc)?;
-    let wanted = if refused {
-        ((4, 3), 4, true)
-    } else {
-        ((4, 4), 3, true)
-    };
-    assert_eq!(rt; last, wanted);
+    for proxy in [false, true] {
+        let (last, refused) = open_twice(&rt, alloc, proxy)?;
+        let wanted = if refused {
+            ((4, 3), 4, true)
+        } else {
+            ((4, 4), 3, true)
+        };
+        assert_eq!(rt; last, wanted);
+    }
     Ok(())
 }
 
@@ -234,6 +240,8 @@ fn stopping<R: Wait + Log>(rt: &R, alloc: Global) -> Result<Stage, AllocError> {
         batches: &[],
         accepts: &[None, None, None],
         opens: &[Some(Unopened::Connect)],
+        proxy: false,
+        told: &[],
         scene: RESET,
     };
     let mut stage = staged(rt, alloc, 64, 1, script)?;

@@ -66,6 +66,19 @@ pub(crate) const STUCK: Scene = Scene {
     },
 };
 
+/// The client gives three bytes. The target takes one byte of what it is sent, and then all.
+pub(crate) const IN_PIECES: Scene = Scene {
+    client: Part {
+        joined: true,
+        reads: &[Cue::Bytes(b"abc")],
+        ..NOTHING
+    },
+    target: Part {
+        writes: &[Cue::Take(1), Cue::Take(64), Cue::Take(64)],
+        ..NOTHING
+    },
+};
+
 /// Each side gives some bytes and then its end, and takes what the other side gave: eight calls.
 pub(crate) const WHOLE: Scene = Scene {
     client: Part {

@@ -3,12 +3,13 @@ ghost use Rattle.std.specs.Prelude.{◌≡◌, ◌≤◌, length, IfOk};
 ghost use Rattle.claims.specs.Seats.{fresh_seat, HoldsNothing};
 
 use super::fake::{Fake, Script};
+use super::scenes::Settling;
 use super::ticks::Ticks;
 use crate::{
-    Gate, Hand, MAX_BATCH, Own, Part, Poller, Shared, Timing, Worked, own_turn, poller_round,
-    share_tickets, worker_turn,
+    Gate, Hand, MAX_BATCH, Opening, Own, Part, Poller, Shared, Timing, Worked, own_turn,
+    poller_round, share_tickets, worker_turn,
 };
-use berths::Berths;
+use berths::{Berth, Berths};
 use claims::{Claimed, Claims};
 use log::Log;
 use ready::{FreeQueue, ReadyQueue, Ticket};
@@ -106,6 +107,20 @@ impl Stage {
 
     /// How often each wire of the connection in a slot was settled. None where the slot has no connection.
     pub(crate) fn settled(self, rt: &impl Wait, slot: usize) -> Option<(u32, u32)> {
+        let berth = self.berth(rt, slot)?;
+        Some((berth.client.settled, berth.target.settled))
+    }
+
+    /// Whether the target of the connection in a slot got these bytes, and no others.
+    pub(crate) fn wrote(self, rt: &impl Wait, slot: usize, bytes: &[u8]) -> bool {
+        match self.berth(rt, slot) {
+            Some(berth) => berth.target.wire.written() == bytes,
+            None => false,
+        }
+    }
+
+    /// The connection in a slot.
+    fn berth(self, rt: &impl Wait, slot: usize) -> Option<Berth<Settling, Settling>> {
         let Stage {
             shared,
             mut own,
@@ -116,16 +131,13 @@ impl Stage {
         }
         match shared.claims.claim(&mut own.seat, slot) {
             Claimed::Busy => None,
-            Claimed::Held => shared
-                .berths
-                .take_out(rt, &own.seat, slot)
-                .map(|berth| (berth.client.settled, berth.target.settled)),
+            Claimed::Held => shared.berths.take_out(rt, &own.seat, slot),
         }
     }
 }
 
 /// A server whose front plays this script, and which opens at most so many connections. Rings have four bytes, its clock
-/// shows 0, and it has no idle limit.
+/// shows 0, and it has no idle limit. Targets are sent a line if the script says so.
 pub(crate) fn staged(
     rt: &impl Wait,
     alloc: Global,
@@ -142,12 +154,16 @@ pub(crate) fn staged(
         waker: AtomicU64::new(0),
         budget,
     };
+    let opening = Opening {
+        ring: 4,
+        proxy: script.proxy,
+    };
     let front = Fake::new(alloc, script)?;
     let all = Part {
         first: 0,
         slots: SLOTS,
     };
-    let poller = Poller::new(alloc, front, SLOTS, all, 4, most)?;
+    let poller = Poller::new(alloc, front, SLOTS, all, opening, most)?;
     Ok(stage_of(shared, own, poller))
 }
 

@@ -78,6 +78,8 @@ fn is_as_wanted<R: Wait>(rt: &R, alloc: Global, row: &Row) -> Result<bool, Alloc
         batches: &[],
         accepts: &[None],
         opens: &[],
+        proxy: false,
+        told: &[],
         scene: SILENT,
     };
     let sink = Memory::new(alloc);
@@ -120,6 +122,8 @@ fn run_idle<R: Wait>(rt: &R, alloc: Global) -> Result<([Seen; 3], Lines), AllocE
         batches: &[],
         accepts: &[None, None, None, Some(ErrorKind::WouldBlock)],
         opens: &[],
+        proxy: false,
+        told: &[],
         scene: SILENT,
     };
     let sink = Memory::new(alloc);

@@ -190,6 +190,8 @@ fn opened<R: Wait>(rt: &R, alloc: Global, row: &Row) -> Result<Stage, AllocError
         batches: &[],
         accepts: row.accepts,
         opens: &[],
+        proxy: false,
+        told: &[],
         scene: row.scene,
     };
     let sink = Memory::new(alloc);

@@ -1,17 +1,18 @@
 ghost use Rattle.std.specs.Prelude.{◌≡◌, ◌⊎◌, ◌+◌, ◌≤◌, ◌++◌, [], length, replicate, true, false, Some, None, IfOk, OnOk, IfErr, OnErr, vec_len, vec_capacity};
 ghost use Rattle.mio.specs.Event.{event_token};
 ghost use Rattle.mio.specs.Events.{items};
-ghost use Rattle.server.specs.SocketsFronts.{names_reading, numbers};
+ghost use Rattle.server.specs.SocketsFronts.{names_reading, numbers, v4_of, IsRoute, MayTell};
 ghost use Rattle.server.specs.Splits.{parts_of};
 ghost use Rattle.server.specs.SocketsWires.{SameButWatched, fresh_wire, under};
 
 use crate::limits::MAX_WAIT_MILLIS;
 use crate::sockets::bound::Bound;
 use crate::sockets::dial::Dial;
+use crate::sockets::forwarding::Forwarding;
 use crate::sockets::socket::Socket;
 use crate::sockets::wire::SocketWire;
 use crate::split::Split;
-use dispatch::{Front, LISTENER, MAX_BATCH, ServerFault, Settle, Unopened, WAKER};
+use dispatch::{Front, LISTENER, MAX_BATCH, Opened, Route, ServerFault, Settle, Unopened, WAKER};
 use log::{Log, debug, error};
 use mio::event::Event;
 use mio::net::TcpListener;
@@ -20,18 +21,18 @@ use readiness::{Reports, Told};
 use std::alloc::{AllocError, Global};
 use std::io;
 use std::marker::Model;
-use std::net::{Net, SocketAddr};
+use std::net::{Net, SocketAddr, SocketAddrV4};
 use std::sync::Arc;
 use std::time::Duration;
 use token::{Name, Token, unpack};
 
 /// The front of one poller over the system's sockets: the listening socket, which all pollers have, one target, and an
-/// epoll(7) instance of its own.
+/// epoll(7) instance of its own. It tells the addresses of clients only if targets are sent them.
 #[derive(Drop)]
 pub struct Sockets<'r, R> {
     rt: &'r R,
     listener: Arc<TcpListener>,
-    target: SocketAddr,
+    forwarding: Forwarding,
     // What wires are told of their sockets' reports.
     told: Arc<Reports>,
     poll: Poll,
@@ -45,7 +46,7 @@ impl<'r, R> Model for Sockets<'r, R> {
 
     ghost Value = { Watched };
 
-    ghost view = { λ s. record { target = s.target; reported = numbers (items s.events) } };
+    ghost view = { λ s. record { forwarding = s.forwarding; reported = numbers (items s.events) } };
 
     // The most reports that one wait gives, MAX_BATCH.
     ghost invariant = { λ s. events_capacity s.events ≡ 256 };
@@ -58,8 +59,8 @@ pub struct Wakers {
     each: Vec<Waker>,
 }
 
-/// A front for each part of the slots, all on one bound socket, which connect each client to this target, and the wakers
-/// for other threads. The listening socket is reported to each of them.
+/// A front for each part of the slots, all on one bound socket, which connect each client as this says, and the wakers for
+/// other threads. The listening socket is reported to each of them.
 ///
 /// Refuses with `NoMemory` if there is not enough, and with `Poll` if the system cannot report on sockets
 /// (epoll_create1(2), eventfd(2), epoll_ctl(2)). The cause was then logged, at level error. In both cases the listening
@@ -68,10 +69,10 @@ pub fn open_all<'r, R: Net + Log>(
     rt: &'r R,
     alloc: Global,
     bound: Bound,
-    target: SocketAddr,
+    forwarding: Forwarding,
     split: Split,
 ) -> Result<(Vec<Sockets<'r, R>>, Wakers), ServerFault>
-    ensures opened { IfOk result (λ made. made.0.items ≡ replicate (parts_of split.slots split.size) (record { target = target; reported = [] })) }
+    ensures opened { IfOk result (λ made. made.0.items ≡ replicate (parts_of split.slots split.size) (record { forwarding = forwarding; reported = [] })) }
     ensures wakers { IfOk result (λ made. made.1.split ≡ split) }
     ensures refused { IfErr result (λ fault. (fault ≡ ServerFault.Poll) ⊎ (fault ≡ ServerFault.NoMemory)) }
 {
@@ -84,7 +85,7 @@ pub fn open_all<'r, R: Net + Log>(
         each.push(waker)?;
     }
     let told = Arc::new(alloc, Reports::new(alloc, split.slots())?)?;
-    let fronts = fronts_of(rt, alloc, listener, &told, polls, target)?;
+    let fronts = fronts_of(rt, alloc, listener, &told, polls, forwarding)?;
     Ok((fronts, Wakers { split, each }))
 }
 
@@ -95,9 +96,9 @@ fn fronts_of<'r, R>(
     listener: TcpListener,
     told: &Arc<Reports>,
     mut polls: Vec<Poll>,
-    target: SocketAddr,
+    forwarding: Forwarding,
 ) -> Result<Vec<Sockets<'r, R>>, AllocError>
-    ensures { IfOk result (λ fronts. fronts.items ≡ replicate (vec_len polls) (record { target = target; reported = [] })) }
+    ensures { IfOk result (λ fronts. fronts.items ≡ replicate (vec_len polls) (record { forwarding = forwarding; reported = [] })) }
 {
     let listener = Arc::new(alloc, listener)?;
     let mut fronts = Vec::with_capacity(alloc, polls.len())?;
@@ -107,7 +108,7 @@ fn fronts_of<'r, R>(
             Some(poll) => fronts.push(Sockets {
                 rt,
                 listener: Arc::try_clone(&listener)?,
-                target,
+                forwarding,
                 told: Arc::try_clone(told)?,
                 poll,
                 events: Events::with_capacity(alloc, MAX_BATCH)?,
@@ -137,10 +138,10 @@ impl<R: Dial> Sockets<'_, R> {
         ensures begun { IfOk result (λ target. target.socket ≡ fresh_wire false None) }
         ensures refused { IfErr result (λ why. why ≡ Unopened.Connect) }
     {
-        match self.rt.dial(self.target) {
+        match self.rt.dial(self.forwarding.target) {
             Ok(stream) => Ok(SocketWire::connecting(Socket::new(stream))),
             Err(error) => {
-                let target = self.target;
+                let target = self.forwarding.target;
                 debug!(rt; target: "relayd", "connect: {target}: {error}");
                 Err(Unopened::Connect)
             }
@@ -162,6 +163,30 @@ impl<R: Dial> Sockets<'_, R> {
                 Err(Unopened::Register)
             }
         }
+    }
+
+    /// The addresses of a client's connection, if they are to be told. The client's own came with accept(2), and the system
+    /// is asked for the other one.
+    fn route(&self, client: &SocketWire) -> Route
+        ensures { IsRoute self.now.forwarding.proxy client.now.socket.peer result }
+    {
+        if !self.forwarding.proxy {
+            return Route::UNTOLD;
+        }
+        Route {
+            client: v4(client.peer()),
+            accepted: v4(client.stream.local().ok()),
+        }
+    }
+}
+
+/// An address, if it is told and of IPv4.
+fn v4(address: Option<SocketAddr>) -> Option<SocketAddrV4>
+    ensures { result ≡ v4_of address }
+{
+    match address {
+        Some(SocketAddr::V4(address)) => Some(address),
+        Some(SocketAddr::V6(_)) | None => None,
     }
 }
 
@@ -217,6 +242,8 @@ fn names_reading(event: &Event) -> bool
 impl<R: Dial> Front for Sockets<'_, R> {
     ghost reported = { λ s. s.reported };
 
+    ghost may_tell = { λ client route. MayTell client.socket.peer route };
+
     type Client = SocketWire;
 
     type Target = SocketWire;
@@ -229,7 +256,7 @@ impl<R: Dial> Front for Sockets<'_, R> {
         ensures capacity { vec_capacity batch.new ≡ vec_capacity batch.old }
         ensures failed { OnErr result (batch.new.items ≡ []) }
         ensures reported { batch.new.items ≡ self.new.reported }
-        ensures same { self.new.target ≡ self.old.target }
+        ensures same { self.new.forwarding ≡ self.old.forwarding }
     {
         batch.clear();
         let most = if wait { MAX_WAIT_MILLIS } else { 0 };
@@ -254,8 +281,10 @@ impl<R: Dial> Front for Sockets<'_, R> {
         client: &mut SocketWire,
         client_token: Token,
         target_token: Token,
-    ) -> Result<SocketWire, Unopened>
-        ensures opened { IfOk result (λ target. target.socket ≡ under target_token (fresh_wire false None)) }
+    ) -> Result<Opened<SocketWire>, Unopened>
+        ensures opened { IfOk result (λ opened. opened.target.socket ≡ under target_token (fresh_wire false None)) }
+        ensures route { IfOk result (λ opened. IsRoute self.old.forwarding.proxy client.old.socket.peer opened.route) }
+        ensures told { IfOk result (λ opened. MayTell client.old.socket.peer opened.route) }
         ensures client { OnOk result (client.new.socket ≡ under client_token client.old.socket) }
         ensures unopened { OnErr result (SameButWatched client.old.socket client.new.socket) }
         ensures same { client.new.socket.tally ≡ client.old.socket.tally }
@@ -264,7 +293,8 @@ impl<R: Dial> Front for Sockets<'_, R> {
         let mut target = self.begin(rt)?;
         self.watch(rt, client, client_token)?;
         self.watch(rt, &mut target, target_token)?;
-        Ok(target)
+        let route = self.route(client);
+        Ok(Opened { target, route })
     }
 
     fn wake(wakers: &Wakers, slot: usize) {

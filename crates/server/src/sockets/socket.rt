@@ -17,6 +17,11 @@ impl Socket {
     pub(crate) fn new(stream: TcpStream) -> Socket {
         Socket { stream, told: None }
     }
+
+    /// The address at this end (getsockname(2)): for a client's socket, the one on which the client was accepted.
+    pub(crate) fn local(&self) -> io::Result<SocketAddr> {
+        self.stream.local_addr()
+    }
 }
 
 impl Stream for Socket {

@@ -8,7 +8,7 @@ use crate::sockets::SocketWire;
 use crate::split::Split;
 use berths::Berths;
 use claims::Claims;
-use dispatch::{Front, Part, Parts, Poller, Shared, Unopened};
+use dispatch::{Front, Opened, Opening, Part, Parts, Poller, Shared, Unopened};
 use log::Log;
 use ready::{FreeQueue, ReadyQueue};
 use std::alloc::{AllocError, Global};
@@ -53,7 +53,7 @@ impl Front for Failing {
         _client: &mut SocketWire,
         _client_token: Token,
         _target_token: Token,
-    ) -> Result<SocketWire, Unopened> {
+    ) -> Result<Opened<SocketWire>, Unopened> {
         Err(Unopened::Connect)
     }
 
@@ -88,8 +88,13 @@ pub(crate) fn server_without_reports(
     let mut free = Vec::with_capacity(alloc, 1)?;
     free.push(FreeQueue::new(rt, alloc, 0, 1, 3)?)?;
     let all = Part { first: 0, slots: 1 };
+    let opening = Opening {
+        ring: 4,
+        proxy: false,
+    };
+    let front = Failing { kind, polled: 0 };
     let mut pollers = Vec::with_capacity(alloc, 1)?;
-    pollers.push(Poller::new(alloc, Failing { kind, polled: 0 }, 1, all, 4, u64::MAX)?)?;
+    pollers.push(Poller::new(alloc, front, 1, all, opening, u64::MAX)?)?;
     Ok(Server {
         shared,
         parts,

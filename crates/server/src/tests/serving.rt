@@ -4,7 +4,7 @@ use super::holding::Holding;
 use super::still::{NO_LIMIT, Still};
 use crate::making::build;
 use crate::serving::{run_threads, serve};
-use crate::sockets::{Bound, Dial, bind, open_all};
+use crate::sockets::{Bound, Dial, Forwarding, bind, open_all};
 use crate::split::Split;
 use dispatch::{OpenGate, ServerFault};
 use log::sink::{Discard, Locked};
@@ -37,6 +37,7 @@ fn settings(target: SocketAddr, stop_after: u32) -> Option<Settings> {
         stop_after,
         log: LogLevel::Info,
         idle: 0,
+        proxy: false,
     })
 }
 
@@ -160,8 +161,8 @@ fn serve_by_workers<R: Net + Dial + Wait + Threads + Log + Sync>(
     bound: Bound,
 ) -> Result<(), ServerFault> {
     let split = Split::new(settings.slots, settings.workers);
-    let target = SocketAddr::from(settings.target);
-    let (fronts, wakers) = open_all(rt, alloc, bound, target, split)?;
+    let forwarding = Forwarding::of(settings);
+    let (fronts, wakers) = open_all(rt, alloc, bound, forwarding, split)?;
     let mut server = build(rt, alloc, settings, split, fronts, wakers)?;
     server.pollers_work = false;
     run_threads(rt, alloc, gate, NO_LIMIT, server)

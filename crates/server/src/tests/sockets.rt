@@ -1,7 +1,9 @@
 mod fronts;
 mod wires;
 
-use crate::{Front, MAX_BATCH, Socket, SocketWire, Sockets, Split, Wakers, bind, open_all};
+use crate::{
+    Forwarding, Front, MAX_BATCH, Socket, SocketWire, Sockets, Split, Wakers, bind, open_all,
+};
 use settings::{LogLevel, Settings};
 use std::alloc::Global;
 use std::io;
@@ -24,6 +26,7 @@ fn settings(port: u16) -> Settings {
         stop_after: 0,
         log: LogLevel::Off,
         idle: 0,
+        proxy: false,
     }
 }
 
@@ -32,14 +35,22 @@ fn listener(rt: &HostRuntime) -> io::Result<TcpListener> {
     TcpListener::bind(rt, "127.0.0.1:0")
 }
 
+/// What connects clients to this target, and sends it nothing before their bytes.
+fn plain(target: SocketAddr) -> Forwarding {
+    Forwarding {
+        target,
+        proxy: false,
+    }
+}
+
 /// A front on loopback for four slots, and its own address.
 fn front(
     rt: &HostRuntime,
-    target: SocketAddr,
+    forwarding: Forwarding,
 ) -> Result<(Sockets<'_, HostRuntime>, Wakers, SocketAddr), Fail> {
     let bound = bind(rt, &settings(0))?;
     let address = bound.text();
-    let (mut fronts, wakers) = open_all(rt, rt.alloc(), bound, target, Split::new(4, 1))?;
+    let (mut fronts, wakers) = open_all(rt, rt.alloc(), bound, forwarding, Split::new(4, 1))?;
     let front = fronts.pop().ok_or("no front")?;
     Ok((front, wakers, address))
 }
@@ -74,9 +85,9 @@ struct Opened {
 /// A front to which a client has connected, the client, and its wire.
 fn accepted(
     rt: &HostRuntime,
-    target: SocketAddr,
+    forwarding: Forwarding,
 ) -> Result<(Sockets<'_, HostRuntime>, Wakers, TcpStream, SocketWire), Fail> {
-    let (mut front, waker, address) = front(rt, target)?;
+    let (mut front, waker, address) = front(rt, forwarding)?;
     let peer = TcpStream::connect(rt, address)?;
     reports(rt.alloc(), &mut front, &[0])?;
     let client = front.accept()?;
@@ -85,9 +96,9 @@ fn accepted(
 
 /// Connects to a front, and opens the connection.
 fn connected(rt: &HostRuntime, target: SocketAddr) -> Result<Opened, Fail> {
-    let (mut front, _waker, peer, mut client) = accepted(rt, target)?;
+    let (mut front, _waker, peer, mut client) = accepted(rt, plain(target))?;
     let (near, far) = (token(Side::Client)?, token(Side::Target)?);
-    let target = front.open(rt, &mut client, near, far)?;
+    let target = front.open(rt, &mut client, near, far)?.target;
     reports(rt.alloc(), &mut front, &[near.value(), far.value()])?;
     Ok(Opened {
         peer,

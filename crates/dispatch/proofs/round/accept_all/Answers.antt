@@ -14,6 +14,7 @@ loop-try-init g c = record {
   tries = ap (λ (s : PollerState). 0 + s.tries) c.reset_tries.ensures;
   done = accept_none c.args.poller.now c.reset_tries.new.self c.args.own.now (same_tries c.args.poller.now c.reset_tries.new.self 4 c.reset_tries.ensures);
   over = ap (λ (s : PollerState). s.over) c.reset_tries.ensures;
+  opening = ap (λ (s : PollerState). s.opening) c.reset_tries.ensures;
   reported = ap (λ (s : PollerState). s.reported) c.reset_tries.ensures;
   second = ap (λ (s : PollerState). s.second) c.reset_tries.ensures;
   swept = ap (λ (s : PollerState). s.swept) c.reset_tries.ensures;
@@ -32,6 +33,7 @@ loop-try-preserved g c = record {
   tries = (let left = c.in_ok-accept_next.ensures.tries in let sum = c.loop-try.invariant.tries in omega arith);
   done = accept_and_next c.loop-try.invariant.done c.may_accept.ensures.took c.in_ok-accept_next.ensures.done;
   over = c.in_ok-accept_next.ensures.over ∙ c.loop-try.invariant.over;
+  opening = c.in_ok-accept_next.ensures.opening ∙ c.loop-try.invariant.opening;
   reported = c.in_ok-accept_next.ensures.reported ∙ c.loop-try.invariant.reported;
   second = c.in_ok-accept_next.ensures.second ∙ c.loop-try.invariant.second;
   swept = c.in_ok-accept_next.ensures.swept ∙ c.loop-try.invariant.swept;

@@ -11,6 +11,7 @@ invariant-loop-try g l = record {
   tries : l._try + l.poller.tries ≡ 4;
   done : AcceptDone l.fn.poller l.poller l.fn.own l.own;
   over : l.poller.over ≡ l.fn.poller.over;
+  opening : l.poller.opening ≡ l.fn.poller.opening;
   reported : l.poller.reported ≡ l.fn.poller.reported;
   second : l.poller.second ≡ l.fn.poller.second;
   swept : l.poller.swept ≡ l.fn.poller.swept;

@@ -8,6 +8,6 @@ abbrev pub invariant-loop-number : goal.invariant-loop-number
 invariant-loop-number g l = record {
   left : length l.fronts.items + l.number ≡ parts_of l.split.slots l.split.size;
   parts : map (λ poller. poller.part) l.pollers.items ≡ map (λ (number : ℕ). part_of l.split.slots l.split.size number) (range_with_len 0 l.number);
-  begun : All (λ poller. HasBegun l.settings.slots l.settings.ring poller) l.pollers.items;
+  begun : All (λ poller. HasBegun l.settings.slots (record { ring = l.settings.ring; proxy = l.settings.proxy }) poller) l.pollers.items;
   shares : map (λ poller. poller.most) l.pollers.items ≡ map (λ (number : ℕ). share_of l.settings.stop_after (parts_of l.split.slots l.split.size) number) (range_with_len 0 l.number);
 }

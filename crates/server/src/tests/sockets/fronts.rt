@@ -1,5 +1,5 @@
 use super::*;
-use crate::{ServerFault, Unopened};
+use crate::{Route, ServerFault, Unopened};
 use log::sink::{Lines, Memory};
 use log::{Level, Logged};
 use std::alloc::AllocError;
@@ -53,7 +53,7 @@ fn fronts_share_the_listener(rt: HostRuntime) -> Result<(), Fail> {
     let bound = bind(&rt, &settings(0))?;
     let address = bound.text();
     let target = listener(&rt)?.local_addr()?;
-    let (fronts, wakers) = open_all(&rt, rt.alloc(), bound, target, Split::new(130, 4))?;
+    let (fronts, wakers) = open_all(&rt, rt.alloc(), bound, plain(target), Split::new(130, 4))?;
     assert_eq!(rt; fronts.len(), 2);
     let _peer = TcpStream::connect(&rt, address)?;
     for (mut front, slot) in fronts.into_iter().zip([64, 65]) {
@@ -67,7 +67,7 @@ fn fronts_share_the_listener(rt: HostRuntime) -> Result<(), Fail> {
 #[test]
 fn reports_listener_and_waker(rt: HostRuntime) -> Result<(), Fail> {
     let target = listener(&rt)?;
-    let (mut front, waker, peer, client) = accepted(&rt, target.local_addr()?)?;
+    let (mut front, waker, peer, client) = accepted(&rt, plain(target.local_addr()?))?;
     assert!(rt; none_waits(&mut front));
     assert_eq!(rt; client.peer(), Some(peer.local_addr()?));
     crosses(&client);
@@ -82,12 +82,32 @@ fn reports_listener_and_waker(rt: HostRuntime) -> Result<(), Fail> {
 #[test]
 fn reports_both_sockets(rt: HostRuntime) -> Result<(), Fail> {
     let target = listener(&rt)?;
-    let (mut front, _waker, mut peer, mut client) = accepted(&rt, target.local_addr()?)?;
+    let (mut front, _waker, mut peer, mut client) = accepted(&rt, plain(target.local_addr()?))?;
     let (near, far) = (token(Side::Client)?, token(Side::Target)?);
     let _target = front.open(&rt, &mut client, near, far)?;
     reports(rt.alloc(), &mut front, &[near.value(), far.value()])?;
     peer.write_all(b"a")?;
     reports(rt.alloc(), &mut front, &[near.value()])?;
+    Ok(())
+}
+
+/// What a front on loopback tells of a client's connection, the client's own address, and the one to which it connected.
+fn told(rt: &HostRuntime, proxy: bool) -> Result<(Route, SocketAddr, SocketAddr), Fail> {
+    let listener = listener(rt)?;
+    let target = listener.local_addr()?;
+    let (mut front, _waker, peer, mut client) = accepted(rt, Forwarding { target, proxy })?;
+    let (near, far) = (token(Side::Client)?, token(Side::Target)?);
+    let route = front.open(rt, &mut client, near, far)?.route;
+    Ok((route, peer.local_addr()?, peer.peer_addr()?))
+}
+
+// Both addresses of a client's connection are told, or none where targets are sent no line.
+#[test]
+fn tells_addresses(rt: HostRuntime) -> Result<(), Fail> {
+    let (route, own, accepted) = told(&rt, true)?;
+    assert_eq!(rt; route.client.map(SocketAddr::V4), Some(own));
+    assert_eq!(rt; route.accepted.map(SocketAddr::V4), Some(accepted));
+    assert_eq!(rt; told(&rt, false)?.0, Route::UNTOLD);
     Ok(())
 }
 
@@ -99,7 +119,7 @@ fn wake<F: Front>(_front: &F, waker: &F::Waker) {
 /// Why a client that is registered already cannot be opened to this target, and the line that is logged at level debug.
 fn opened_twice(rt: &HostRuntime, target: SocketAddr) -> Result<(Option<Unopened>, Lines), Fail> {
     let sink = Memory::new(rt.alloc());
-    let (mut front, _waker, _peer, mut client) = accepted(rt, target)?;
+    let (mut front, _waker, _peer, mut client) = accepted(rt, plain(target))?;
     let (near, far) = (token(Side::Client)?, token(Side::Target)?);
     let _first = front.open(rt, &mut client, near, far);
     let log = Logged::new(rt, Level::Debug, &sink);

@@ -103,7 +103,7 @@ fn blocks(wire: &mut SocketWire) -> bool {
 #[test]
 fn reads_what_is_reported(rt: HostRuntime) -> Result<(), Fail> {
     let target = listener(&rt)?;
-    let (mut front, _waker, mut peer, mut client) = accepted(&rt, target.local_addr()?)?;
+    let (mut front, _waker, mut peer, mut client) = accepted(&rt, plain(target.local_addr()?))?;
     let near = token(Side::Client)?;
     let _target = front.open(&rt, &mut client, near, token(Side::Target)?)?;
     assert!(rt; blocks(&mut client));
