@@ -27,6 +27,9 @@ class Maker:
         # An idle limit in about one script of three, and what the clock does, which is a choice of its own, too.
         self.time = random.Random(f"day {seed}")
         self.idle = self.time.randint(1, 4) if self.time.random() < 1 / 3 else None
+        # Targets get a PROXY line in about one script of five. What becomes of the line is a choice of its own, too.
+        self.line = random.Random(f"postmark {seed}")
+        self.proxy = self.line.random() < 0.2
 
     def script(self):
         """The lines: a header, and steps."""
@@ -36,6 +39,8 @@ class Maker:
                 lines.append(self.later())
             while self.random.random() < self.inside:
                 lines.append(f"{self.random.choice(['before', 'after'])} {self.inner()}")
+            if self.proxy:
+                lines += self.pieces()
             lines.append(self.large())
             if self.idle is not None:
                 lines += self.ticks()
@@ -49,7 +54,9 @@ class Maker:
             header += f" gen={LAST_GENERATION - self.left}"
         if self.idle is not None:
             header += f" idle={self.idle}"
-        return header if self.pollers == 1 else f"{header} pollers={self.pollers}"
+        if self.pollers > 1:
+            header += f" pollers={self.pollers}"
+        return f"{header} proxy" if self.proxy else header
 
     def ticks(self):
         """What the clock does between two large steps: mostly nothing, or a few seconds at once."""
@@ -58,6 +65,16 @@ class Maker:
         seconds = self.time.choices([1, 2, 3, 4, 1000, 2**32 - 1], [40, 25, 15, 10, 5, 1])[0]
         where = self.time.choices(["", "polled ", "polled 1 ", "after ", "before ", "meanwhile "], [80, 6, 3, 5, 1, 1])[0]
         return [f"{where}tick {seconds}"]
+
+    def pieces(self):
+        """What becomes of a line: mostly nothing of note, or a piece of it is taken, or an address cannot be told."""
+        what = self.line.choices(["all", "piece", "address"], [80, 18, 2])[0]
+        if what == "all":
+            return []
+        if what == "piece":
+            return [f"call {self.line.choice(['short', 'full'])} {self.line.randint(1, 40)}"]
+        poller = self.line.choice(["", " 1"]) if self.pollers > 1 else ""
+        return [f"open{poller} address {self.line.choice(['client', 'accepted'])}"]
 
     def word(self, word):
         """A word, and behind it the number of a poller if that is not the first."""

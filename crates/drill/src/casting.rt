@@ -11,7 +11,7 @@ use crate::outside::Outside;
 use crate::parts::Rest;
 use crate::sizes::{MAX_POLLERS, Sizes};
 use crate::ticks::Ticks;
-use dispatch::{Own, Part, Poller, Shared};
+use dispatch::{Opening, Own, Part, Poller, Shared};
 use ready::FreeQueue;
 use std::alloc::{AllocError, Global};
 use std::cell::RefCell;
@@ -90,8 +90,12 @@ fn poller_of(
     requires { IsServerSize sizes }
     ensures { IfOk result (λ poller. length poller.table ≡ sizes.limits.slots) }
 {
-    let (slots, ring) = (sizes.limits.slots, sizes.limits.ring);
-    let mut poller = Poller::new(alloc, front, slots, part, ring, u64::MAX)?;
+    let opening = Opening {
+        ring: sizes.limits.ring,
+        proxy: sizes.proxy,
+    };
+    let slots = sizes.limits.slots;
+    let mut poller = Poller::new(alloc, front, slots, part, opening, u64::MAX)?;
     start_all(&mut poller, sizes.limits.generation);
     Ok(poller)
 }

@@ -174,6 +174,14 @@ impl Crew<'_> {
         }
     }
 
+    /// What the log lacks of a connection that could not be opened.
+    pub fn unlogged(&self) -> Option<&'static str> {
+        match self.outside.try_borrow() {
+            Ok(outside) => outside.unlogged,
+            Err(_) => None,
+        }
+    }
+
     /// Whether this poller gets to know of the client that waits for any of them: it would try to accept it, or is told of
     /// the listener by its next poll.
     pub fn hears(&self, poller: usize) -> bool {

@@ -1,4 +1,4 @@
-// What the server logs about the ends of connections.
+// What the server logs about connections.
 use crate::outside::Outside;
 use log::kv::Source;
 use log::span::Spans;
@@ -26,7 +26,7 @@ impl Log for Diary {
             format!(in self.alloc; "{text}"),
             self.outside.try_borrow_mut(),
         ) {
-            outside.message = message;
+            outside.log(message);
         }
     }
 

@@ -3,7 +3,7 @@ ghost use Rattle.std.specs.Prelude.{◌≡◌, ◌≤◌, [], OnErr, length, vec
 
 use crate::outside::Outside;
 use crate::wire::EndWire;
-use dispatch::{Front, MAX_BATCH, Unopened};
+use dispatch::{Front, MAX_BATCH, Opened, Unopened};
 use kernel_model::Accepting;
 use log::Log;
 use std::alloc::{AllocError, Global};
@@ -128,16 +128,25 @@ impl Front for KernelFront {
         client: &mut EndWire,
         client_token: Token,
         target_token: Token,
-    ) -> Result<EndWire, Unopened> {
+    ) -> Result<Opened<EndWire>, Unopened> {
         let Ok(shared) = self.outside.clone() else {
             return Err(Unopened::Connect);
         };
         let Ok(mut outside) = self.outside.try_borrow_mut() else {
             return Err(Unopened::Connect);
         };
-        let (client_end, target_end) = outside.open(self.poller, client_token, target_token)?;
-        client.open(client_token, client_end);
-        Ok(EndWire::connecting(shared, target_token, target_end))
+        let started = outside.open(self.poller, client_token, target_token)?;
+        let target = match started.ends {
+            Some((client_end, target_end)) => {
+                client.open(client_token, client_end);
+                EndWire::connecting(shared, target_token, target_end)
+            }
+            None => EndWire::given_up(shared, self.poller),
+        };
+        Ok(Opened {
+            target,
+            route: started.route,
+        })
     }
 
     fn wake(waker: &Rc<RefCell<Outside>>, slot: usize) {

@@ -4,7 +4,7 @@ ghost use Rattle.drill.specs.Sizes.{IsServerSize};
 
 use crate::sizes::{MAX_POLLERS, Sizes};
 use token::MAX_GENERATION;
-use world::Limits;
+use world::{Lead, Limits};
 
 /// The most seconds of an idle limit.
 const MAX_IDLE: usize = 86_400;
@@ -19,13 +19,14 @@ struct Extras {
     pollers: usize,
 }
 
-/// The sizes of a header: `drill slots=S workers=W ring=R budget=B`, and perhaps ` gen=G`, ` idle=L` and ` pollers=P`, in
-/// this order. At most 64 slots and 15 workers, since a world that stands beside the server has one worker more. Every
-/// slot starts at generation G, or 0, which is below the last. The idle limit is L seconds; without it there is none.
-/// There are one or two pollers, and as many slots at least.
+/// The sizes of a header: `drill slots=S workers=W ring=R budget=B`, and perhaps ` gen=G`, ` idle=L`, ` pollers=P` and
+/// ` proxy`, in this order. At most 64 slots and 15 workers, since a world that stands beside the server has one worker
+/// more. Every slot starts at generation G, or 0, which is below the last. The idle limit is L seconds; without it there is
+/// none. There are one or two pollers, and as many slots at least. Targets get a PROXY line if the last word says so.
 pub fn read_header(line: &str) -> Option<Sizes>
     ensures { IfSome result IsServerSize }
 {
+    let (line, proxy) = cut_proxy(line);
     let mut words = line.split(' ');
     if words.next()? != "drill" {
         return None;
@@ -43,11 +44,21 @@ pub fn read_header(line: &str) -> Option<Sizes>
         budget: size("budget=", 1_024, budget)?,
         generation: extras.generation,
         idle: extras.idle,
+        lead: Lead::NONE,
     };
     Some(Sizes {
         limits,
         half: half(limits.slots, extras.pollers)?,
+        proxy,
     })
+}
+
+/// A header without ` proxy` at its end, and whether that was there.
+fn cut_proxy(line: &str) -> (&str, bool) {
+    match line.strip_suffix(" proxy") {
+        Some(rest) => (rest, true),
+        None => (line, false),
+    }
 }
 
 /// How many slots the first poller has: all, or half of them and the odd one. There is at least one for each poller.

@@ -7,11 +7,12 @@
 //! slots has to be its world's report, byte for byte.
 //!
 //! `session.rt` plays the scripts, `crew.rt` makes the steps, `outside.rt`, `station.rt` and `calls.rt` are what the
-//! server's calls get, `ticks.rt` is its clock, `tape.rt` keeps the events and the world, and `report.rt` is the server's
-//! report. `tests/drill` makes random scripts.
+//! server's calls get, `addresses.rt` has the line that targets may get first, `ticks.rt` is the clock, `tape.rt` keeps the
+//! events and the world, and `report.rt` is the server's report. `tests/drill` makes random scripts.
 #![tactic(auto)]
 
 mod actors;
+mod addresses;
 mod calls;
 mod casting;
 mod crew;

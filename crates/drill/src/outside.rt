@@ -2,14 +2,15 @@
 // next calls get.
 ghost use Rattle.drill.specs.Sizes.{IsServerSize};
 
+use crate::addresses::Addresses;
 use crate::plan::Plan;
 use crate::sizes::{MAX_POLLERS, Sizes};
 use crate::station::Station;
 use crate::step::{Later, Outer, Polled};
 use crate::ticks::Ticks;
 use crate::totals::Totals;
-use dispatch::{Clock, Unopened, Worked};
-use kernel_model::{Accepting, MAX_BACKLOG, MAX_POLLED, Watched};
+use dispatch::{Clock, Route, Unopened, Worked};
+use kernel_model::{Accepting, Descriptors, MAX_BACKLOG, MAX_POLLED, Watched};
 use std::alloc::{AllocError, Global};
 use std::rc::Rc;
 use token::{Name, Token};
@@ -35,6 +36,15 @@ pub struct Socket {
     pub descriptor: usize,
 }
 
+/// A connection that a poller started to open.
+#[derive(Clone, Copy, Debug, PartialEq, Eq)]
+pub struct Started {
+    /// Its ends, the client's first. None where it has to be given up for want of an address.
+    pub ends: Option<(Socket, Socket)>,
+    /// Its addresses.
+    pub route: Route,
+}
+
 /// What is outside of the server.
 #[derive(Drop)]
 pub struct Outside {
@@ -49,6 +59,8 @@ pub struct Outside {
     pub idle: Option<usize>,
     /// The last log message about a connection's end.
     pub message: String,
+    /// What the log still has to say of a connection that could not be opened.
+    pub unlogged: Option<&'static str>,
     pub totals: Totals,
 }
 
@@ -74,6 +86,7 @@ impl Outside {
             },
             idle: None,
             message: String::new(alloc),
+            unlogged: None,
             totals,
         })
     }
@@ -262,28 +275,38 @@ impl Outside {
         reply
     }
 
-    /// Both ends of a connection that a poller accepted are opened, the client's first, or that fails as it is planned.
+    /// Both ends of a connection that a poller accepted are opened, or that fails as it is planned. From then on the log has
+    /// to say so.
     pub fn open(
         &mut self,
         poller: usize,
         client: Token,
         target: Token,
-    ) -> Result<(Socket, Socket), Unopened> {
+    ) -> Result<Started, Unopened> {
+        let started = self.start(poller, client, target);
+        if self.unlogged.is_none() {
+            self.unlogged = drop_line(&started);
+        }
+        started
+    }
+
+    fn start(&mut self, poller: usize, client: Token, target: Token) -> Result<Started, Unopened> {
         let Some(station) = self.station_mut(poller) else {
             return Err(Unopened::Connect);
         };
-        let ends = station.open(client, target)?;
-        let (client, target) = (ends.client, ends.target);
-        Ok((
-            Socket {
-                poller,
-                descriptor: client,
-            },
-            Socket {
-                poller,
-                descriptor: target,
-            },
-        ))
+        let (ends, route) = station.open(client, target)?;
+        Ok(Started {
+            ends: ends.map(|ends| sockets_of(poller, ends)),
+            route,
+        })
+    }
+
+    /// The server logs this.
+    pub fn log(&mut self, message: String) {
+        if self.unlogged == Some(message.as_str()) {
+            self.unlogged = None;
+        }
+        self.message = message;
     }
 
     /// An end is closed.
@@ -314,6 +337,31 @@ impl Outside {
     }
 }
 
+/// Both ends of a connection in a poller's kernel, the client's first.
+fn sockets_of(poller: usize, ends: Descriptors) -> (Socket, Socket) {
+    let (client, target) = (ends.client, ends.target);
+    (
+        Socket {
+            poller,
+            descriptor: client,
+        },
+        Socket {
+            poller,
+            descriptor: target,
+        },
+    )
+}
+
+/// What the log has to say of a connection that could not be opened.
+fn drop_line(started: &Result<Started, Unopened>) -> Option<&'static str> {
+    match started {
+        Err(Unopened::Connect) => Some("drop kind=connect"),
+        Err(Unopened::Register) => Some("drop kind=register"),
+        Ok(started) if started.ends.is_none() => Some("drop kind=address"),
+        Ok(_) => None,
+    }
+}
+
 /// A station for each poller of a server of these sizes.
 fn stations_of(alloc: Global, sizes: Sizes) -> Result<Vec<Station>, AllocError>
     requires { IsServerSize sizes }
@@ -321,7 +369,8 @@ fn stations_of(alloc: Global, sizes: Sizes) -> Result<Vec<Station>, AllocError>
     let mut stations = Vec::with_capacity(alloc, MAX_POLLERS)?;
     for poller in 0..MAX_POLLERS {
         if let Some(part) = sizes.part(poller) {
-            stations.push(Station::new(alloc, sizes, part)?)?;
+            let addresses = Addresses::of(poller);
+            stations.push(Station::new(alloc, sizes, part, addresses)?)?;
         }
     }
     Ok(stations)

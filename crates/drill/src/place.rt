@@ -23,6 +23,8 @@ pub struct Standing<'k> {
     pub ring: usize,
     /// The slots of its poller.
     pub part: Part,
+    /// Whether targets get a PROXY line.
+    pub proxy: bool,
 }
 
 /// The lines of a slot, with its generation in the poller's table. It is looked at by a claim of this worker, which is
@@ -94,28 +96,51 @@ fn connection_lines(
     let (client_end, target_end) = (&client_end.socket, &target_end.socket);
     let due = yes_or_no(is_due(standing, slot, own));
     let movable = yes_or_no(is_movable(standing.ring, &berth.pair, client_end, target_end));
-    let up = way_line(alloc, &berth.pair, Direction::Up, client_end, target_end)?;
-    let down = way_line(alloc, &berth.pair, Direction::Down, target_end, client_end)?;
+    let (pair, proxy) = (&berth.pair, standing.proxy);
+    let up = way_line(alloc, pair, Direction::Up, proxy, client_end, target_end)?;
+    let down = way_line(alloc, pair, Direction::Down, false, target_end, client_end)?;
     format!(in alloc;
         "slot {local} {verdict} gen={own} fds={client},{target} notes={notes} holder=none due={due} movable={movable}\n{local} up {up}{local} down {down}"
     )
 }
 
-/// One direction after its name.
+/// One direction after its name, which has a lead or not.
 fn way_line(
     alloc: Global,
     pair: &Pair,
     direction: Direction,
+    is_led: bool,
     source: &End,
     destination: &End,
 ) -> Result<String, AllocError> {
     let sent = shown(alloc, destination.taken())?;
+    let lead = lead_text(alloc, pair, direction, is_led)?;
     let ring = ring_bytes(alloc, pair, direction)?;
     let ring = shown(alloc, ring.as_slice())?;
     let unread = shown(alloc, source.unread())?;
     let end = yes_or_no(pair.end_seen(direction));
     let shut = yes_or_no(pair.is_shut(direction));
-    format!(in alloc; "sent={sent} ring={ring} unread={unread} end={end} shut={shut}\n")
+    format!(in alloc; "sent={sent}{lead} ring={ring} unread={unread} end={end} shut={shut}\n")
+}
+
+/// What is left of the lead of one direction, with a space in front. Nothing for a direction without one; a lead that
+/// is there nevertheless is shown.
+fn lead_text(
+    alloc: Global,
+    pair: &Pair,
+    direction: Direction,
+    is_led: bool,
+) -> Result<String, AllocError> {
+    let length = pair.lead_len(direction);
+    if length == 0 && !is_led {
+        return Ok(String::new(alloc));
+    }
+    let mut bytes = Vec::with_capacity(alloc, length)?;
+    for index in 0..length {
+        bytes.push(pair.lead_byte(direction, index))?;
+    }
+    let lead = shown(alloc, bytes.as_slice())?;
+    format!(in alloc; " lead={lead}")
 }
 
 /// The bytes in the ring of one direction.
@@ -155,15 +180,16 @@ fn is_movable(ring: usize, pair: &Pair, client: &End, target: &End) -> bool {
 
 /// Whether one direction could move.
 fn moves(ring: usize, pair: &Pair, direction: Direction, source: &End, destination: &End) -> bool {
-    let waiting = pair.ring_len(direction);
+    let held = pair.ring_len(direction);
+    let waits = held > 0 || pair.lead_len(direction) > 0;
     let joined = direction.destination() == Side::Client || pair.joined(Side::Target);
-    if waiting > 0 && destination.is_writable() {
+    if waits && destination.is_writable() {
         return true;
     }
     if pair.end_seen(direction) {
-        return waiting == 0 && !pair.is_shut(direction) && (joined || destination.is_writable());
+        return !waits && !pair.is_shut(direction) && (joined || destination.is_writable());
     }
-    waiting < ring && source.is_readable()
+    held < ring && source.is_readable()
 }
 
 pub fn yes_or_no(is_so: bool) -> &'static str {

@@ -1,6 +1,5 @@
 // What the next calls get.
-use crate::step::{Fronted, Inner, Outer, Polled, Turned, Wanted};
-use dispatch::Unopened;
+use crate::step::{Fronted, Inner, Outcome, Outer, Polled, Turned, Wanted};
 use kernel_model::Accepting;
 use std::alloc::{AllocError, Global};
 use std::collections::VecDeque;
@@ -24,7 +23,7 @@ pub struct Plan {
 #[derive(Drop)]
 pub struct RoundPlan {
     accepts: VecDeque<Accepting>,
-    opens: VecDeque<Option<Unopened>>,
+    opens: VecDeque<Outcome>,
     polls: VecDeque<Polled>,
     polled: VecDeque<Outer>,
 }
@@ -95,7 +94,7 @@ impl RoundPlan {
     pub fn add(&mut self, fronted: Fronted) -> Result<(), AllocError> {
         match fronted {
             Fronted::Accept(accepting) => self.accepts.push_back(accepting)?,
-            Fronted::Open(unopened) => self.opens.push_back(unopened)?,
+            Fronted::Open(outcome) => self.opens.push_back(outcome)?,
             Fronted::Poll(polled) => self.polls.push_back(polled)?,
             Fronted::Polled(outer) => self.polled.push_back(outer)?,
         }
@@ -107,9 +106,12 @@ impl RoundPlan {
         self.accepts.pop_front()
     }
 
-    /// How the next opening fails, if it does.
-    pub fn next_open(&mut self) -> Option<Unopened> {
-        self.opens.pop_front()?
+    /// How the next opening goes.
+    pub fn next_open(&mut self) -> Outcome {
+        match self.opens.pop_front() {
+            Some(outcome) => outcome,
+            None => Outcome::Plain,
+        }
     }
 
     /// How the next poll gives its names, if not in order.

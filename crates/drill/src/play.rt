@@ -61,8 +61,9 @@ fn show<R: Wait + Print>(rt: &R, alloc: Global, crew: &Crew<'_>) -> io::Result<(
     Ok(())
 }
 
-/// Whether the server's reports are those of the worlds, each poller gets to know of a client that waits, and none ends a
-/// round while it could accept. The first difference is printed.
+/// Whether the server's reports are those of the worlds, each poller gets to know of a client that waits, none ends a
+/// round while it could accept, and the log tells of each connection that could not be opened. The first difference is
+/// printed.
 fn compare<R: Wait + Print>(rt: &R, alloc: Global, crew: &Crew<'_>) -> io::Result<Played> {
     for poller in 0..crew.leads.len() {
         if !agrees(rt, alloc, crew, poller)? {
@@ -75,6 +76,10 @@ fn compare<R: Wait + Print>(rt: &R, alloc: Global, crew: &Crew<'_>) -> io::Resul
     }
     if let Some(poller) = crew.idle() {
         println!(rt; "poller {poller} ended a round while it could accept")?;
+        return Ok(Played::Differs);
+    }
+    if let Some(line) = crew.unlogged() {
+        println!(rt; "not in the log: {line}")?;
         return Ok(Played::Differs);
     }
     Ok(Played::Agreed)

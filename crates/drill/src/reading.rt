@@ -1,5 +1,5 @@
 // The steps of a script, from its lines.
-use crate::step::{Fronted, Inner, Later, Outer, Polled, Step, Turned, Wanted};
+use crate::step::{Fronted, Inner, Later, Outcome, Outer, Polled, Step, Turned, Untold, Wanted};
 use dispatch::Unopened;
 use kernel_model::Accepting;
 use std::alloc::{AllocError, Global};
@@ -53,7 +53,7 @@ fn round_later(alloc: Global, word: &str, rest: &str) -> Result<Option<Step>, Al
     let (poller, rest) = cut_poller(rest);
     let fronted = match word {
         "accept" => accepting(rest).map(Fronted::Accept),
-        "open" => unopened(rest).map(Fronted::Open),
+        "open" => outcome(rest).map(Fronted::Open),
         "poll" => polled(rest).map(Fronted::Poll),
         _ => outside(alloc, rest)?.map(Fronted::Polled),
     };
@@ -165,11 +165,13 @@ fn accepting(word: &str) -> Option<Accepting> {
     }
 }
 
-fn unopened(word: &str) -> Option<Option<Unopened>> {
-    match word {
-        "plain" => Some(None),
-        "connect" => Some(Some(Unopened::Connect)),
-        "register" => Some(Some(Unopened::Register)),
+fn outcome(text: &str) -> Option<Outcome> {
+    match text {
+        "plain" => Some(Outcome::Plain),
+        "connect" => Some(Outcome::Fails(Unopened::Connect)),
+        "register" => Some(Outcome::Fails(Unopened::Register)),
+        "address client" => Some(Outcome::Lacks(Untold::Client)),
+        "address accepted" => Some(Outcome::Lacks(Untold::Accepted)),
         _ => None,
     }
 }

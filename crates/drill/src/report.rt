@@ -60,6 +60,7 @@ fn lead_report<R: Wait>(
         tickets: tickets.as_slice(),
         ring: crew.sizes.limits.ring,
         part,
+        proxy: crew.sizes.proxy,
     };
     let slots = slots_lines(rt, alloc, lead, &mut spare, standing)?;
     let past = station.past.lines();

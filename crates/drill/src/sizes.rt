@@ -11,10 +11,12 @@ pub const MAX_POLLERS: usize = 2;
 /// The sizes of the server of a script.
 #[derive(Clone, Copy, Debug, PartialEq, Eq)]
 pub struct Sizes {
-    /// Those of the whole server.
+    /// Those of the whole server, without a lead: each poller's world has its own.
     pub limits: Limits,
     /// So many slots are the first poller's. If there are more, those are the second one's.
     pub half: usize,
+    /// Whether targets get a PROXY line.
+    pub proxy: bool,
 }
 
 impl Sizes {

@@ -1,17 +1,18 @@
 // One poller's share of what is outside: the kernel as its epoll instance shows it, and the world beside it.
 ghost use Rattle.drill.specs.Sizes.{IsServerPart, IsServerSize};
 
+use crate::addresses::Addresses;
 use crate::past::Past;
 use crate::plan::RoundPlan;
 use crate::sizes::Sizes;
-use crate::step::Polled;
+use crate::step::{Outcome, Polled};
 use crate::sweeps::Sweeps;
 use crate::tape::Tape;
-use dispatch::{MAX_ACCEPTS, Part, Unopened};
+use dispatch::{MAX_ACCEPTS, Part, Route, Unopened};
 use kernel_model::{Accepting, Descriptors, Kernel, MAX_POLLED, Refusal, Watched};
 use std::alloc::{AllocError, Global};
 use token::{Name, Side, Token};
-use world::{Change, Event, Listening, Polling, Reported};
+use world::{Change, Event, Lead, Listening, Polling, Reported};
 
 /// The most descriptors that a kernel has: two for each slot.
 const MOST: usize = 128;
@@ -28,6 +29,10 @@ pub struct Station {
     /// The slots of this poller.
     part: Part,
     sweeps: Sweeps,
+    /// Those of this poller's connections.
+    addresses: Addresses,
+    /// Whether targets get a PROXY line.
+    proxy: bool,
     /// How often accept(2) was called since the last poll.
     tries: usize,
     /// Whether accept(2) was starved when it was last called.
@@ -35,18 +40,30 @@ pub struct Station {
 }
 
 impl Station {
-    pub fn new(alloc: Global, sizes: Sizes, part: Part) -> Result<Station, AllocError>
+    pub fn new(
+        alloc: Global,
+        sizes: Sizes,
+        part: Part,
+        addresses: Addresses,
+    ) -> Result<Station, AllocError>
         requires sizes { IsServerSize sizes }
         requires part { IsServerPart part }
     {
+        let lead = if sizes.proxy {
+            addresses.lead()
+        } else {
+            Lead::NONE
+        };
         Ok(Station {
             alloc,
             kernel: Kernel::new(alloc),
             plan: RoundPlan::new(alloc),
-            tape: Tape::new(alloc, sizes, part)?,
+            tape: Tape::new(alloc, sizes, part, lead)?,
             past: Past::new(alloc, part),
             part,
             sweeps: Sweeps::new(sizes.limits.idle),
+            addresses,
+            proxy: sizes.proxy,
             tries: 0,
             starved: false,
         })
@@ -179,15 +196,27 @@ impl Station {
         self.starved || self.tries >= MAX_ACCEPTS
     }
 
-    /// Both ends of an accepted connection are opened, or that fails: as it is planned, or for want of memory.
-    pub fn open(&mut self, client: Token, target: Token) -> Result<Descriptors, Unopened> {
-        if let Some(unopened) = self.plan.next_open() {
-            return Err(unopened);
+    /// Both ends of an accepted connection are opened, or that fails: as it is planned, or for want of memory. Answers its
+    /// addresses, too. There are no ends where a PROXY line lacks one of these: then the server has to close both at once, and
+    /// to the world the connection was never open.
+    pub fn open(
+        &mut self,
+        client: Token,
+        target: Token,
+    ) -> Result<(Option<Descriptors>, Route), Unopened> {
+        let untold = match self.plan.next_open() {
+            Outcome::Plain => None,
+            Outcome::Lacks(untold) => Some(untold),
+            Outcome::Fails(unopened) => return Err(unopened),
+        };
+        let route = self.addresses.route(untold);
+        if self.proxy && untold.is_some() {
+            return Ok((None, route));
         }
         match self.kernel.open_both(client, target) {
             Ok(ends) => {
                 self.tape.put(Event::Poll(Polling::Open));
-                Ok(ends)
+                Ok((Some(ends), route))
             }
             Err(_) => Err(Unopened::Connect),
         }

@@ -64,12 +64,32 @@ pub enum Turned {
 pub enum Fronted {
     /// accept(2) gets this; `Accepted` and `Blocked` stand for what the kernel has.
     Accept(Accepting),
-    /// An opening fails so, if at all.
-    Open(Option<Unopened>),
+    /// An opening goes so.
+    Open(Outcome),
     /// A poll gives its names so.
     Poll(Polled),
     /// This happens between a poll and the delivery of its names.
     Polled(Outer),
+}
+
+/// How an opening goes.
+#[derive(Clone, Copy, Debug, PartialEq, Eq)]
+pub enum Outcome {
+    /// As the kernel has it.
+    Plain,
+    /// It fails so.
+    Fails(Unopened),
+    /// This address of the connection cannot be told.
+    Lacks(Untold),
+}
+
+/// An address of a connection that cannot be told.
+#[derive(Clone, Copy, Debug, PartialEq, Eq)]
+pub enum Untold {
+    /// The client's own.
+    Client,
+    /// That on which the connection was accepted.
+    Accepted,
 }
 
 /// What a call of a turn gets, as far as it may.

@@ -8,7 +8,7 @@ use crate::sizes::Sizes;
 use crate::totals::Totals;
 use dispatch::{Part, Worked};
 use std::alloc::{AllocError, Global};
-use world::{Act, Doing, Event, Limits, World};
+use world::{Act, Doing, Event, Lead, Limits, World};
 
 /// A world that makes each event at once, and the script of these events.
 #[derive(Drop)]
@@ -26,8 +26,8 @@ pub struct Tape {
 
 impl Tape {
     /// The opening world of a poller with these slots, in a server of these sizes: it has one worker more, for the turns
-    /// of the poller's thread.
-    pub fn new(alloc: Global, sizes: Sizes, part: Part) -> Result<Tape, AllocError>
+    /// of the poller's thread. Its targets get this lead.
+    pub fn new(alloc: Global, sizes: Sizes, part: Part, lead: Lead) -> Result<Tape, AllocError>
         requires sizes { IsServerSize sizes }
         requires part { IsServerPart part }
     {
@@ -40,6 +40,7 @@ impl Tape {
             ..
         } = sizes.limits;
         let idle = idle_text(alloc, sizes.limits.idle)?;
+        let last = lead_text(alloc, lead.as_slice())?;
         Ok(Tape {
             alloc,
             part,
@@ -48,11 +49,12 @@ impl Tape {
                 Limits {
                     slots,
                     workers,
+                    lead,
                     ..sizes.limits
                 },
             )?,
             script: format!(in alloc;
-                "world slots={slots} workers={workers} ring={ring} budget={budget} gen={generation}{idle}\n"
+                "world slots={slots} workers={workers} ring={ring} budget={budget} gen={generation}{idle}{last}\n"
             )?,
             refused: None,
             over: false,
@@ -157,4 +159,13 @@ fn idle_text(alloc: Global, idle: u64) -> Result<String, AllocError> {
     } else {
         format!(in alloc; " idle={idle}")
     }
+}
+
+/// A lead in the header of a world's script, with a space in front; nothing for none.
+fn lead_text(alloc: Global, lead: &[u8]) -> Result<String, AllocError> {
+    if lead.is_empty() {
+        return Ok(String::new(alloc));
+    }
+    let lead = hex::encode(alloc, lead)?;
+    format!(in alloc; " lead={lead}")
 }

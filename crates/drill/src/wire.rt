@@ -14,14 +14,24 @@ use std::rc::Rc;
 use token::{Side, Token};
 use world::{Event, Listening};
 
-/// A wire over an end of the modelled kernel, which is closed with it. An accepted connection has none until it is
-/// opened.
+/// A wire over an end of the modelled kernel, which is closed with it.
 pub struct EndWire {
     outside: Rc<RefCell<Outside>>,
     /// The poller that accepted or opened it.
     poller: usize,
-    end: Option<(Token, Socket)>,
+    end: EndState,
     tally: Tally,
+}
+
+/// What a wire is over.
+#[derive(Clone, Copy, Debug, PartialEq, Eq)]
+enum EndState {
+    /// A connection that was accepted and is not open yet.
+    Accepted,
+    /// An open end, and the name under which it is reported.
+    Open(Token, Socket),
+    /// A target whose connection has to be given up.
+    Never,
 }
 
 impl EndWire {
@@ -30,7 +40,7 @@ impl EndWire {
         EndWire {
             outside,
             poller,
-            end: None,
+            end: EndState::Accepted,
             tally: Tally::new(true),
         }
     }
@@ -40,7 +50,17 @@ impl EndWire {
         EndWire {
             outside,
             poller: socket.poller,
-            end: Some((token, socket)),
+            end: EndState::Open(token, socket),
+            tally: Tally::new(false),
+        }
+    }
+
+    /// A target's end whose connection has to be given up at once. Closing it changes nothing.
+    pub fn given_up(outside: Rc<RefCell<Outside>>, poller: usize) -> EndWire {
+        EndWire {
+            outside,
+            poller,
+            end: EndState::Never,
             tally: Tally::new(false),
         }
     }
@@ -49,12 +69,15 @@ impl EndWire {
     pub fn open(&mut self, token: Token, socket: Socket)
         ensures { self.new.tally ≡ self.old.tally }
     {
-        self.end = Some((token, socket));
+        self.end = EndState::Open(token, socket);
     }
 
     /// Its end. None if it is not open.
     pub fn socket(&self) -> Option<Socket> {
-        self.end.map(|(_, socket)| socket)
+        match self.end {
+            EndState::Open(_, socket) => Some(socket),
+            EndState::Accepted | EndState::Never => None,
+        }
     }
 
     /// Counts an error of a call by its class, and gives it.
@@ -71,8 +94,9 @@ impl Drop for EndWire {
     fn drop(self) {
         if let Ok(mut outside) = self.outside.try_borrow_mut() {
             match self.end {
-                Some((token, socket)) => outside.close(socket, token),
-                None => outside.record(self.poller, Event::Listen(Listening::Drop)),
+                EndState::Open(token, socket) => outside.close(socket, token),
+                EndState::Accepted => outside.record(self.poller, Event::Listen(Listening::Drop)),
+                EndState::Never => {}
             }
         }
         let EndWire {
@@ -148,28 +172,28 @@ impl Settle for EndWire {
 
 impl EndWire {
     fn ask_read(&self, buffer: &mut [u8]) -> Result<usize, ErrorKind> {
-        let (Some((_, socket)), Ok(mut outside)) = (self.end, self.outside.try_borrow_mut()) else {
+        let (Some(socket), Ok(mut outside)) = (self.socket(), self.outside.try_borrow_mut()) else {
             return Err(ErrorKind::Other);
         };
         outside.read(socket, self.tally.joined(), buffer)
     }
 
     fn ask_write(&self, offer: &[u8]) -> Result<usize, ErrorKind> {
-        let (Some((_, socket)), Ok(mut outside)) = (self.end, self.outside.try_borrow_mut()) else {
+        let (Some(socket), Ok(mut outside)) = (self.socket(), self.outside.try_borrow_mut()) else {
             return Err(ErrorKind::Other);
         };
         outside.write(socket, self.tally.joined(), offer)
     }
 
     fn ask_join(&self) -> Result<usize, ErrorKind> {
-        let (Some((_, socket)), Ok(mut outside)) = (self.end, self.outside.try_borrow_mut()) else {
+        let (Some(socket), Ok(mut outside)) = (self.socket(), self.outside.try_borrow_mut()) else {
             return Err(ErrorKind::Other);
         };
         outside.join(socket, self.tally.joined())
     }
 
     fn ask_shut(&self) -> Result<usize, ErrorKind> {
-        let (Some((_, socket)), Ok(mut outside)) = (self.end, self.outside.try_borrow_mut()) else {
+        let (Some(socket), Ok(mut outside)) = (self.socket(), self.outside.try_borrow_mut()) else {
             return Err(ErrorKind::Other);
         };
         outside.shut(socket)
