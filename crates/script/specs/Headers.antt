@@ -43,18 +43,18 @@ abbrev pub lead_of : List ℕ → Option (List ℕ)
 lead_of word = option_and_then short_enough (bytes_after (codes "lead=") word)
 
 -- what a word says that may be left out, and the words behind it
-pub record Told (X : Type 0) : Type 0 where
+pub record Found (X : Type 0) : Type 0 where
   pub value : X
   pub words : List (List ℕ)
 
 -- what the first word says; if it does not say such a thing, it is left, and the value is another
-abbrev pub told_or : {X : Type 0} → X → List ℕ → List (List ℕ) → Option X → Told X
-told_or otherwise word words (Some x) = record { value = x; words = words }
-told_or otherwise word words None = record { value = otherwise; words = word ∷ words }
+abbrev pub found_or : {X : Type 0} → X → List ℕ → List (List ℕ) → Option X → Found X
+found_or otherwise word words (Some x) = record { value = x; words = words }
+found_or otherwise word words None = record { value = otherwise; words = word ∷ words }
 
-abbrev pub optional : {X : Type 0} → (List ℕ → Option X) → X → List (List ℕ) → Told X
+abbrev pub optional : {X : Type 0} → (List ℕ → Option X) → X → List (List ℕ) → Found X
 optional read otherwise [] = record { value = otherwise; words = [] }
-optional read otherwise (word ∷ words) = told_or otherwise word words (read word)
+optional read otherwise (word ∷ words) = found_or otherwise word words (read word)
 
 -- a value, if no word is left
 abbrev pub if_last : {X : Type 0} → X → List (List ℕ) → Option X

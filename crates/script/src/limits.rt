@@ -1,5 +1,5 @@
-//! The limits of a script. A ring's is [`Flow::MAX`](flow::Flow::MAX), a generation's `token::MAX_GENERATION`, and a
-//! poll's `kernel_model::MAX_POLLED`.
+//! The limits of a script. A ring's is [`Flow::MAX`](flow::Flow::MAX), a lead's [`Flow::MAX_LEAD`](flow::Flow::MAX_LEAD),
+//! a generation's `token::MAX_GENERATION`, and a poll's `kernel_model::MAX_POLLED`.
 
 /// The maximum number of bytes in a script.
 pub(crate) const MAX_BYTES: usize = 1_048_576;
