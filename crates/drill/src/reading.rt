@@ -140,7 +140,10 @@ fn reported(text: &str) -> Option<(usize, Reported)> {
     match word {
         "listener" => Some((lone_poller(rest)?, Reported::Listener)),
         "waker" => Some((lone_poller(rest)?, Reported::Waker)),
-        _ => Some((0, Reported::End(number(word)?, Side::named(rest.as_bytes())?))),
+        _ => Some((
+            0,
+            Reported::End(number(word)?, Side::named(rest.as_bytes())?),
+        )),
     }
 }
 
