@@ -30,14 +30,15 @@ pub fn crew_of<'s>(
     requires sized { shared.now.claims.words ≡ sizes.limits.slots }
     requires fresh { AreFresh shared.now.claims rest.parts.seats.items }
 {
+    let wanted = sizes.limits.workers;
     let Some(leads) = leads_of(alloc, outside, shared, &mut rest, sizes)? else {
         return Ok(None);
     };
     let Some(spare) = next_worker(alloc, shared, &mut rest)? else {
         return Ok(None);
     };
-    let mut workers = Vec::with_capacity(alloc, sizes.limits.workers)?;
-    for _worker in 0..sizes.limits.workers {
+    let mut workers = Vec::with_capacity(alloc, wanted)?;
+    for _worker in 0..wanted {
         let Some(worker) = next_worker(alloc, shared, &mut rest)? else {
             return Ok(None);
         };

@@ -1,7 +1,7 @@
 // The threads of the server together, and the steps that they make.
 use crate::actors::{Lead, Worker};
 use crate::gate::{Nested, Planned};
-use crate::outside::{Actor, Outside};
+use crate::outside::{Actor, Outside, Unlogged};
 use crate::sizes::Sizes;
 use crate::step::{Inner, Outer};
 use crate::ticks::Ticks;
@@ -175,7 +175,7 @@ impl Crew<'_> {
     }
 
     /// What the log lacks of a connection that could not be opened.
-    pub fn unlogged(&self) -> Option<&'static str> {
+    pub fn unlogged(&self) -> Option<Unlogged> {
         match self.outside.try_borrow() {
             Ok(outside) => outside.unlogged,
             Err(_) => None,

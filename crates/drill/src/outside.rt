@@ -45,6 +45,28 @@ pub struct Started {
     pub route: Route,
 }
 
+/// Why a connection could not be opened, which the log has to say.
+#[derive(Clone, Copy, Debug, PartialEq, Eq)]
+pub enum Unlogged {
+    /// The connection to the target could not be started.
+    Connect,
+    /// A socket could not be watched.
+    Register,
+    /// An address could not be told.
+    Address,
+}
+
+impl Unlogged {
+    /// The message that says so.
+    pub fn line(self) -> &'static str {
+        match self {
+            Unlogged::Connect => "drop kind=connect",
+            Unlogged::Register => "drop kind=register",
+            Unlogged::Address => "drop kind=address",
+        }
+    }
+}
+
 /// What is outside of the server.
 #[derive(Drop)]
 pub struct Outside {
@@ -60,7 +82,7 @@ pub struct Outside {
     /// The last log message about a connection's end.
     pub message: String,
     /// What the log still has to say of a connection that could not be opened.
-    pub unlogged: Option<&'static str>,
+    pub unlogged: Option<Unlogged>,
     pub totals: Totals,
 }
 
@@ -285,7 +307,7 @@ impl Outside {
     ) -> Result<Started, Unopened> {
         let started = self.start(poller, client, target);
         if self.unlogged.is_none() {
-            self.unlogged = drop_line(&started);
+            self.unlogged = unlogged_of(&started);
         }
         started
     }
@@ -303,7 +325,7 @@ impl Outside {
 
     /// The server logs this.
     pub fn log(&mut self, message: String) {
-        if self.unlogged == Some(message.as_str()) {
+        if is_told(self.unlogged, message.as_str()) {
             self.unlogged = None;
         }
         self.message = message;
@@ -352,13 +374,21 @@ fn sockets_of(poller: usize, ends: Descriptors) -> (Socket, Socket) {
     )
 }
 
-/// What the log has to say of a connection that could not be opened.
-fn drop_line(started: &Result<Started, Unopened>) -> Option<&'static str> {
+/// Why a connection could not be opened, if it could not.
+fn unlogged_of(started: &Result<Started, Unopened>) -> Option<Unlogged> {
     match started {
-        Err(Unopened::Connect) => Some("drop kind=connect"),
-        Err(Unopened::Register) => Some("drop kind=register"),
-        Ok(started) if started.ends.is_none() => Some("drop kind=address"),
+        Err(Unopened::Connect) => Some(Unlogged::Connect),
+        Err(Unopened::Register) => Some(Unlogged::Register),
+        Ok(started) if started.ends.is_none() => Some(Unlogged::Address),
         Ok(_) => None,
+    }
+}
+
+/// Whether a message says why a connection could not be opened.
+fn is_told(unlogged: Option<Unlogged>, message: &str) -> bool {
+    match unlogged {
+        Some(unlogged) => message == unlogged.line(),
+        None => false,
     }
 }
 

@@ -78,7 +78,8 @@ fn compare<R: Wait + Print>(rt: &R, alloc: Global, crew: &Crew<'_>) -> io::Resul
         println!(rt; "poller {poller} ended a round while it could accept")?;
         return Ok(Played::Differs);
     }
-    if let Some(line) = crew.unlogged() {
+    if let Some(unlogged) = crew.unlogged() {
+        let line = unlogged.line();
         println!(rt; "not in the log: {line}")?;
         return Ok(Played::Differs);
     }

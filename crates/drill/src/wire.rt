@@ -92,8 +92,9 @@ impl EndWire {
 
 impl Drop for EndWire {
     fn drop(self) {
+        let end = self.end;
         if let Ok(mut outside) = self.outside.try_borrow_mut() {
-            match self.end {
+            match end {
                 EndState::Open(token, socket) => outside.close(socket, token),
                 EndState::Accepted => outside.record(self.poller, Event::Listen(Listening::Drop)),
                 EndState::Never => {}
