@@ -1,5 +1,5 @@
 -- What a worker's turn does to what its thread owns, by its answer. Part of the promises.
-use Rattle.std.specs.Prelude.{◌≡◌, ◌≢◌, ◌⊎◌, ℕ, ◌+◌, ◌-◌, ◌<◌, ◌≤◌, nat_lt, if◌then◌else◌, Result, Ok, Err}
+use Rattle.std.specs.Prelude.{◌≡◌, ◌≢◌, ◌⊎◌, ℕ, ◌+◌, ◌-◌, ◌<◌, ◌≤◌, nat_lt, if◌then◌else◌, Option, Some, None, Result, Ok, Err}
 use Rattle.claims.specs.declared.view.Account.{Account}
 use Rattle.claims.specs.Seats.{SeatState, TableId, account_at, Holds, HoldsNot, HoldsNothing, OnlyAt}
 use Rattle.ready.specs.declared.ticket.Ticket.{Ticket}
@@ -9,7 +9,7 @@ use Rattle.dispatch.specs.declared.shared.Own.{Own}
 use Rattle.dispatch.specs.declared.worker.Worked.{Worked}
 use Rattle.dispatch.specs.declared.worker.Worked.TheVariants as worked
 use Rattle.dispatch.specs.Hands.{HasRoom}
-use Rattle.dispatch.specs.Outgoing.{Inserted, KeepsTicket, KeepsSlot, tickets_out, slots_out}
+use Rattle.dispatch.specs.Outgoing.{Inserted, KeepsTicket, KeepsSlot, tickets_out, slots_out, without_first}
 
 -- the seat posted this many more notes, and this many more of its exchanges obliged it to put a ticket
 pub record Rose (posts mints : ℕ) (old new : Account) : Type 0 where
@@ -94,6 +94,13 @@ pub record TurnDone (ticket : Ticket) (result : Result Worked ServerFault) (old 
   pub change : TurnChange (account_at old.seat ticket.slot) result (account_at new.seat ticket.slot)
   pub tickets : TicketsKept ticket old new
   pub slots : SlotsKept ticket result old new
+
+-- A poller's own turn with the oldest ticket in hand, by its answer: where it answers None nothing changes, and else it does to tickets
+-- and slots what a worker's turn with that ticket does, which is no longer in hand.
+abbrev pub OwnTurn : Ticket → Result (Option Worked) ServerFault → Own → Own → Type 0
+OwnTurn ticket (Ok None) old new = new ≡ old
+OwnTurn ticket (Ok (Some worked)) old new = TicketsKept ticket (without_first old) new × SlotsKept ticket (Ok worked) old new
+OwnTurn ticket (Err fault) old new = TicketsKept ticket (without_first old) new × SlotsKept ticket (Err fault) old new
 
 -- the pair, noted if there were notes
 abbrev pub noted_by : ℕ → Relay → Relay

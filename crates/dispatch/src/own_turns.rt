@@ -1,8 +1,8 @@
 //! The turns that the poller's thread runs by itself, so that no worker has to be woken for them.
 ghost use Rattle.std.specs.Prelude.{◌≡◌, ◌⊎◌, ◌<◌, [], length, slice_get, IfSome};
 ghost use Rattle.claims.specs.Seats.{HoldsNothing};
-ghost use Rattle.dispatch.specs.Outgoing.{tickets_out, without_first, Inserted, KeepsOut};
-ghost use Rattle.dispatch.specs.Turns.{TicketsKept};
+ghost use Rattle.dispatch.specs.Outgoing.{tickets_out, Inserted, KeepsOut};
+ghost use Rattle.dispatch.specs.Turns.{OwnTurn};
 
 use crate::clock::{Clock, Timing};
 use crate::faults::ServerFault;
@@ -75,7 +75,7 @@ pub fn own_turn<F: Front, G: Gate, C: Clock, R: Wait + Log>(
     ensures same { own.new.seat.table ≡ own.old.seat.table }
     ensures idle { HoldsNothing own.new.seat }
     ensures poller { poller.new ≡ poller.old }
-    ensures tickets { IfSome (slice_get own.old.hand.tickets 0) (λ ticket. (own.new ≡ own.old) ⊎ TicketsKept ticket (without_first own.old) own.new) }
+    ensures turn { IfSome (slice_get own.old.hand.tickets 0) (λ ticket. OwnTurn ticket result own.old own.new) }
     ensures none { own.old.hand.tickets ≡ [] → own.new ≡ own.old }
 {
     if !own.hand.has_slot_room() {

@@ -215,6 +215,16 @@ fn a_writer_that_fails_in_sim_each(rt: HostRuntime) -> Result<(), Fail> {
     Ok(())
 }
 
+// The line of a script's fault is flushed as a report is.
+#[test]
+fn a_writer_that_fails_at_a_fault(rt: HostRuntime) -> Result<(), Fail> {
+    let sink = Sink::failing_at_its_flush(rt.alloc(), ROOM)?;
+    let mut source = Source::whole(b"flow ring=4\nend");
+    let run = play(&rt, &[], &mut source, sink)?;
+    assert!(rt; run.is_unwritten(Some(b"line 2: not allowed: end\n")));
+    Ok(())
+}
+
 #[test]
 fn a_writer_that_fails_in_help(rt: HostRuntime) -> Result<(), Fail> {
     let arguments = arguments(rt.alloc(), "relayd --help")?;

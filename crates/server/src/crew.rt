@@ -1,5 +1,6 @@
 //! What every thread of a server is handed, and how a fault of one ends the others.
 use crate::dividing::Cast;
+use crate::ended::Ended;
 use crate::fault_record::FaultRecord;
 use crate::split::Split;
 use dispatch::{Clock, Front, Gate, ServerFault, Shared, Timing};
@@ -49,9 +50,16 @@ where
         }
     }
 
+    /// The loop of the thread with this number has ended. A fault is recorded, and ends all others.
+    pub(crate) fn end(&self, number: usize, ready: &mut ReadyQueue, ended: Ended) {
+        if let Some(fault) = ended.into_fault() {
+            self.fail(number, ready, fault);
+        }
+    }
+
     /// Records the fault of the thread with this number, and ends all others: workers that sleep are woken, and so are
     /// the pollers.
-    pub(crate) fn fail(&self, number: usize, ready: &mut ReadyQueue, fault: ServerFault) {
+    fn fail(&self, number: usize, ready: &mut ReadyQueue, fault: ServerFault) {
         self.faults.write(self.rt, number, fault);
         ready.close();
         for poller in 0..self.split.pollers() {

@@ -4,9 +4,9 @@ ghost use Rattle.std.specs.Arc.{arc_value};
 ghost use Rattle.claims.specs.Seats.{HoldsNothing};
 
 use crate::crew::Crew;
+use crate::ended::Ended;
 use dispatch::{
-    Clock, Front, Gate, MAX_OWN_TURNS, Own, Poller, ServerFault, Shared, own_turn, poller_round,
-    share_tickets,
+    Clock, Front, Gate, MAX_OWN_TURNS, Own, Poller, Shared, own_turn, poller_round, share_tickets,
 };
 use log::Log;
 use std::sync::{Arc, Wait};
@@ -32,50 +32,60 @@ where
     /// threads.
     pub(crate) fn lead<G: Gate, C: Clock, R: Wait + Log>(mut self, crew: &Crew<'_, F, G, C, R>) {
         self.poller.begin_at(crew.timing.moment().second);
-        if let Err(fault) = self.run_rounds(crew) {
-            crew.fail(self.number, &mut self.own.ready, fault);
-        }
+        let ended = self.run_rounds(crew);
+        crew.end(self.number, &mut self.own.ready, ended);
         crew.leave(&mut self.own.ready);
     }
 
     pub(crate) fn run_rounds<G: Gate, C: Clock, R: Wait + Log>(
         &mut self,
         crew: &Crew<'_, F, G, C, R>,
-    ) -> Result<(), ServerFault> {
+    ) -> Ended {
         for _round in crew.rt.forever() {
             if crew.faults.is_written() || self.poller.is_over() {
-                return Ok(());
+                return Ended::well();
             }
-            poller_round(
-                crew.rt,
-                crew.alloc,
-                &self.shared,
-                &mut self.own,
-                &mut self.poller,
-                &crew.timing,
-            )?;
-            if crew.pollers_work {
-                self.run_turns(crew)?;
+            if let Err(ended) = self.round(crew) {
+                return ended;
             }
+        }
+        Ended::well()
+    }
+
+    /// Makes a round, and runs the turns that it left to its own thread.
+    fn round<G: Gate, C: Clock, R: Wait + Log>(
+        &mut self,
+        crew: &Crew<'_, F, G, C, R>,
+    ) -> Result<(), Ended> {
+        Ended::on_fault(poller_round(
+            crew.rt,
+            crew.alloc,
+            &self.shared,
+            &mut self.own,
+            &mut self.poller,
+            &crew.timing,
+        ))?;
+        if crew.pollers_work {
+            self.run_turns(crew)?;
         }
         Ok(())
     }
 
-    /// Runs the turns that a round left to its own thread.
+    /// Runs the tickets in hand that are for its own thread.
     fn run_turns<G: Gate, C: Clock, R: Wait + Log>(
         &mut self,
         crew: &Crew<'_, F, G, C, R>,
-    ) -> Result<(), ServerFault> {
+    ) -> Result<(), Ended> {
         share_tickets(crew.rt, &mut self.own, &mut self.poller);
         for _turn in 0..MAX_OWN_TURNS {
-            let run = own_turn(
+            let run = Ended::on_fault(own_turn(
                 crew.rt,
                 &self.shared,
                 &mut self.own,
                 crew.gate,
                 &mut self.poller,
                 &crew.timing,
-            )?;
+            ))?;
             if run.is_none() {
                 return Ok(());
             }

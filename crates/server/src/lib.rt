@@ -9,6 +9,7 @@
 
 mod crew;
 mod dividing;
+mod ended;
 mod fault_record;
 mod leading;
 mod limits;

@@ -5,9 +5,8 @@ ghost use Rattle.claims.specs.Seats.{HoldsNothing};
 ghost use Rattle.dispatch.specs.Hands.{HasRoom};
 
 use crate::crew::Crew;
-use dispatch::{
-    Clock, Front, Gate, Own, ServerFault, Shared, give_slots, put_tickets, worker_turn,
-};
+use crate::ended::Ended;
+use dispatch::{Clock, Front, Gate, Own, Shared, Worked, give_slots, put_tickets, worker_turn};
 use log::Log;
 use ready::{FreeQueue, Ticket};
 use std::sync::{Arc, Wait};
@@ -34,18 +33,17 @@ where
     /// Takes tickets and runs their turns until the queue of tickets is closed and empty, or a fault is recorded. A fault
     /// of its own is recorded, and ends all other threads.
     pub(crate) fn work<G: Gate, C: Clock, R: Wait + Log>(mut self, crew: &Crew<'_, F, G, C, R>) {
-        if let Err(fault) = self.run_turns(crew) {
-            crew.fail(self.number, &mut self.own.ready, fault);
-        }
+        let ended = self.run_turns(crew);
+        crew.end(self.number, &mut self.own.ready, ended);
     }
 
     fn run_turns<G: Gate, C: Clock, R: Wait + Log>(
         &mut self,
         crew: &Crew<'_, F, G, C, R>,
-    ) -> Result<(), ServerFault> {
+    ) -> Ended {
         for _turn in crew.rt.forever() {
             if crew.faults.is_written() {
-                return Ok(());
+                return Ended::well();
             }
             if !self.own.hand.has_room() {
                 put_tickets(crew.rt, &mut self.own.ready, &mut self.own.hand);
@@ -54,11 +52,13 @@ where
                 continue;
             }
             let Some(ticket) = self.own.ready.take(crew.rt) else {
-                return Ok(());
+                return Ended::well();
             };
-            self.turn(crew, ticket)?;
+            if let Err(ended) = self.turn(crew, ticket) {
+                return ended;
+            }
         }
-        Ok(())
+        Ended::well()
     }
 
     /// Runs a turn. If its connection ends, its slot goes back to the poller that has it.
@@ -66,23 +66,22 @@ where
         &mut self,
         crew: &Crew<'_, F, G, C, R>,
         ticket: Ticket,
-    ) -> Result<(), ServerFault>
+    ) -> Result<Worked, Ended>
         requires { HasRoom self.old.own.hand }
     {
         let poller = crew.split.poller_of(ticket.slot);
         self.change_queue(poller);
-        let worked = worker_turn(
+        let worked = Ended::on_fault(worker_turn(
             crew.rt,
             &self.shared,
             &mut self.own,
             crew.gate,
             ticket,
             &crew.timing,
-        );
+        ));
         self.give_all(crew.rt);
         self.change_queue(poller);
-        worked?;
-        Ok(())
+        worked
     }
 
     /// Exchanges its end of the queue of the first poller and that of this one. Done again, each is in its place.

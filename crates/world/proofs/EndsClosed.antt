@@ -27,7 +27,7 @@ use Rattle.world.specs.Places.{Place}
 use Rattle.world.specs.States.{State, opening}
 use Rattle.world.specs.Steps.{connection_at, step}
 use Rattle.world.specs.Runs.{run}
-use Rattle.world.specs.Given.{brought, given}
+use Rattle.world.specs.Given.{given_by, given}
 use Rattle.world.specs.Headline.{socket_of, ClosedHold}
 use Rattle.world.specs.CoreLaws.{CoreLaws}
 use Rattle.world.proofs.TurnsKept.{Kept}
@@ -105,8 +105,8 @@ right_off : (a b : Bool) → b ≡ false → (a && b) ≡ false
 right_off true b h = h
 right_off false b h = refl
 
-none_brought : (past : History) (st q : State) (ev : Event) (e : Past) (side : Side) → step st ev ≡ Some q → ClosedOk past st e → brought st e.slot e.generation side ev ≡ []
-none_brought past st q (event.Network s other (Arrive bytes)) e side goes ok = elim (tell (s == e.slot)) [
+none_given : (past : History) (st q : State) (ev : Event) (e : Past) (side : Side) → step st ev ≡ Some q → ClosedOk past st e → given_by st e.slot e.generation side ev ≡ []
+none_given past st q (event.Network s other (Arrive bytes)) e side goes ok = elim (tell (s == e.slot)) [
   | Yes h ↦ (let same : s ≡ e.slot = eqb-true s e.slot h in
       let in_it : (c : Connection) × (connection_at st s ≡ Some c) = goes_in (connection_at st s) _ q goes in
       let l : Lies (slice_get st.slots s) in_it.0 = lies (slice_get st.slots s) in_it.0 in_it.1 in
@@ -115,19 +115,19 @@ none_brought past st q (event.Network s other (Arrive bytes)) e side goes ok = e
       off_if _ bytes.items (right_off (s == e.slot && side_number other == side_number side) _ (rw there (ne_eqb l.place.generation e.generation (λ is. omega arith)))))
   | No h ↦ off_if _ bytes.items (left_off (s == e.slot) _ _ h)
 ]
-none_brought past st q (event.Tick n) e side goes ok = refl
-none_brought past st q (event.Network s other Fin) e side goes ok = refl
-none_brought past st q (event.Network s other Reset) e side goes ok = refl
-none_brought past st q (event.Network s other Room) e side goes ok = refl
-none_brought past st q (event.Spurious who) e side goes ok = refl
-none_brought past st q (event.Vanish who) e side goes ok = refl
-none_brought past st q (event.Listen l) e side goes ok = refl
-none_brought past st q (event.Poll p) e side goes ok = refl
-none_brought past st q (event.Work w a) e side goes ok = refl
+none_given past st q (event.Tick n) e side goes ok = refl
+none_given past st q (event.Network s other Fin) e side goes ok = refl
+none_given past st q (event.Network s other Reset) e side goes ok = refl
+none_given past st q (event.Network s other Room) e side goes ok = refl
+none_given past st q (event.Spurious who) e side goes ok = refl
+none_given past st q (event.Vanish who) e side goes ok = refl
+none_given past st q (event.Listen l) e side goes ok = refl
+none_given past st q (event.Poll p) e side goes ok = refl
+none_given past st q (event.Work w a) e side goes ok = refl
 
 same_bytes : (past : History) (st q : State) (ev : Event) (e : Past) → step st ev ≡ Some q → ClosedOk past st e → (side : Side) → after_event past st ev e.slot e.generation side ≡ past e.slot e.generation side
 same_bytes past st q ev e goes ok side =
-    ap (λ (bytes : List ℕ). past e.slot e.generation side ++ bytes) (none_brought past st q ev e side goes ok) ∙ append-nil (past e.slot e.generation side)
+    ap (λ (bytes : List ℕ). past e.slot e.generation side ++ bytes) (none_given past st q ev e side goes ok) ∙ append-nil (past e.slot e.generation side)
 
 -- A connection is closed
 
@@ -201,10 +201,10 @@ renamed_closed past next st same closed = record { each = λ i e here. still_clo
 further_closes : (past : History) (st q : State) (e : Event) (events : List Event) (o : Option State) → step st e ≡ o
     → ((m : State) → AllOk (after_event past st e) m → AllClosed (after_event past st e) m → run m events ≡ Some q → AllClosed (after_run (after_event past st e) m events) q)
     → AllOk past st → AllClosed past st → Kept (Shape st e) o → Kept (AllOk (after_event past st e)) o → option_and_then (λ (m : State). run m events) o ≡ Some q
-    → AllClosed (λ s g side. past s g side ++ (brought st s g side e ++ unwrap_or (option_map (λ (m : State). given m events s g side) o) [])) q
+    → AllClosed (λ s g side. past s g side ++ (given_by st s g side e ++ unwrap_or (option_map (λ (m : State). given m events s g side) o) [])) q
 further_closes past st q e events None now rest all closed shape kept ran = absurd (cc)
 further_closes past st q e events (Some m) now rest all closed shape kept ran = renamed_closed (after_run (after_event past st e) m events) _ q
-    (λ s g side. sym (append_assoc (past s g side) (brought st s g side e) (given m events s g side)))
+    (λ s g side. sym (append_assoc (past s g side) (given_by st s g side e) (given m events s g side)))
     (rest m kept.kept (shape_closes past st m e now all closed shape.kept) ran)
 
 run_closes : (laws : CoreLaws) (past : History) (st q : State) (events : List Event) → AllOk past st → AllClosed past st → run st events ≡ Some q → AllClosed (after_run past st events) q

@@ -32,7 +32,7 @@ use Rattle.world.specs.Places.{Place, Actor, is_held}
 use Rattle.world.specs.States.{State}
 use Rattle.world.specs.Steps
 use Rattle.world.specs.Steps.{over_kernel, connection_at, watched_of, change_at, may_accept, after_accept, token_of, opened_world, with_note, posted, post_at, delivered_at, delivered, put_by_poller, put_by_worker, popped, heard, noted_place, is_limited, expired_place, with_place, Lodging, lodged_call, may_release, closed_world, doing, step}
-use Rattle.world.specs.Given.{brought}
+use Rattle.world.specs.Given.{given_by}
 use Rattle.world.specs.Headline.{Failure, failure, failure_by, Named, held_connection}
 use Rattle.world.proofs.TurnsKept.{Kept, kept_bind, kept_map, kept_guard, kept_when, kept_then, kept_map_map}
 use Rattle.world.proofs.TurnsExpired.{Expired, expired_so}
@@ -71,7 +71,7 @@ pub data Shape (st : State) (e : Event) (q : State) : Type 0 where
       → new.generation ≡ g + 1 → ((c : Connection) → new.connection ≡ Some c → IsFresh st c) → Shape st e q
   Ended : (s : ℕ) (old : Place) (c : Connection) (ends : Sockets) (k : Watcher) → slice_get st.slots s ≡ Some old → old.connection ≡ Some c → q.slots ≡ slice_set st.slots s (record old { connection = None })
       → q.past ≡ st.past ++ record { slot = s; generation = c.pair.generation; verdict = verdict c.pair; ends = ends } ∷ [] → Clock st q
-      → kernel.close_both st.kernel c.ends ≡ Some (record { value = k; told = ends }) → ((i g : ℕ) (side : Side) → brought st i g side e ≡ []) → Shape st e q
+      → kernel.close_both st.kernel c.ends ≡ Some (record { value = k; told = ends }) → ((i g : ℕ) (side : Side) → given_by st i g side e ≡ []) → Shape st e q
 
 same_connection : (st : State) (e : Event) (s : ℕ) (old new : Place) → new.generation ≡ old.generation → new.connection ≡ old.connection → Stays st e s old new
 same_connection st e s old new generation connection = record {
@@ -253,7 +253,7 @@ free_shape st e w k (Tries t) = record { kept = tt }
 free_shape st e w k (Holds s left) = record { kept = tt }
 free_shape st e w k (Closed s) = record { kept = tt }
 
-pub close_shape : (st : State) (e : Event) (w : ℕ) (k : Actor) (d : Doing) → ((i g : ℕ) (side : Side) → brought st i g side e ≡ []) → Kept (Shape st e) (Steps.close st w k d)
+pub close_shape : (st : State) (e : Event) (w : ℕ) (k : Actor) (d : Doing) → ((i g : ℕ) (side : Side) → given_by st i g side e ≡ []) → Kept (Shape st e) (Steps.close st w k d)
 close_shape st e w k (Holds s left) brings = kept_bind _ (slice_get st.slots s) (λ p here.
     kept_bind _ p.connection (λ c lying.
     kept_when (not (is_live (verdict c.pair))) _ (λ over.

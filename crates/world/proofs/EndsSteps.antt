@@ -19,7 +19,7 @@ use Rattle.world.specs.States.{State, opening, unused}
 use Rattle.world.specs.Calls.{when}
 use Rattle.world.specs.Steps.{over_kernel, connection_at, network, polled, acted, step, opening_of}
 use Rattle.world.specs.Runs.{run}
-use Rattle.world.specs.Given.{has_generation, brought, given}
+use Rattle.world.specs.Given.{has_generation, given_by, given}
 use Rattle.world.proofs.TurnsKept.{Kept, kept_bind, kept_when}
 use Rattle.world.proofs.TurnsTotals.{get-replicate, get_beside}
 use Rattle.world.proofs.EndsHeld.{History, before, SlotOk, AllOk}
@@ -33,7 +33,7 @@ use Rattle.world.proofs.EndsCalls.{call_keeps}
 
 -- the history with what an event brings
 abbrev pub after_event : History → State → Event → History
-after_event past st e = λ s g side. past s g side ++ brought st s g side e
+after_event past st e = λ s g side. past s g side ++ given_by st s g side e
 
 -- and with nothing
 abbrev same_history : History → History
@@ -105,10 +105,10 @@ renamed past next st quiet all = rests_keep past next st st quiet (record { slot
 further : (past : History) (st q : State) (e : Event) (events : List Event) (o : Option State)
     → ((m : State) → AllOk (after_event past st e) m → run m events ≡ Some q → AllOk (after_run (after_event past st e) m events) q)
     → Kept (AllOk (after_event past st e)) o → option_and_then (λ (m : State). run m events) o ≡ Some q
-    → AllOk (λ s g side. past s g side ++ (brought st s g side e ++ unwrap_or (option_map (λ (m : State). given m events s g side) o) [])) q
+    → AllOk (λ s g side. past s g side ++ (given_by st s g side e ++ unwrap_or (option_map (λ (m : State). given m events s g side) o) [])) q
 further past st q e events None rest kept ran = absurd (cc)
 further past st q e events (Some m) rest kept ran = renamed (after_run (after_event past st e) m events) _ q
-    (λ s g side. sym (append_assoc (past s g side) (brought st s g side e) (given m events s g side))) (rest m kept.kept ran)
+    (λ s g side. sym (append_assoc (past s g side) (given_by st s g side e) (given m events s g side))) (rest m kept.kept ran)
 
 pub run_keeps : (past : History) (st q : State) (events : List Event) → AllOk past st → run st events ≡ Some q → AllOk (after_run past st events) q
 run_keeps past st q [] all ran = let same : st ≡ q = cc in subst (λ (m : State). AllOk (after_run past st []) m) same (renamed past (same_history past) st (quiet past) all)

@@ -26,7 +26,7 @@ use Rattle.kernel_model.specs.declared.accepting.Accepting.{Accepting}
 use Rattle.kernel_model.specs.declared.accepting.Accepting.TheVariants.{Accepted, Blocked, Again, Starved}
 use Rattle.world.specs.Places.{Place, Actor, is_held, is_by_worker}
 use Rattle.world.specs.States.{State}
-use Rattle.world.specs.Steps.{connection_at, over_kernel, is_limited, tick, sweep, network, watched_of, spurious, vanish, may_accept, after_accept, listen, with_note, wakes, with_ticket, posted, post_at, delivered_at, delivered, deliver, put_by_poller, batched, opened_place, opened_world, opening_of, token_of, polled}
+use Rattle.world.specs.Steps.{connection_at, over_kernel, is_limited, tick, sweep, network, watched_of, spurious, vanish, may_accept, after_accept, listen, with_note, brings_ticket, with_ticket, posted, post_at, delivered_at, delivered, deliver, put_by_poller, batched, opened_place, opened_world, opening_of, token_of, polled}
 use Rattle.world.specs.Support.{one, total, of_slot, tried, worker_tickets, tickets}
 use Rattle.world.proofs.TurnsTotals.{total_push, total_moved, total_le, get-set_same, get-set_other}
 use Rattle.world.proofs.TurnsKept.{Kept, kept_some, kept_none, kept_bind, kept_map, kept_when, kept_guard, kept_if, kept_then}
@@ -115,15 +115,15 @@ hand_own f false s g hand this = omega arith
 posted_turns : (st : State) (s : ℕ) (p : Place) → slice_get st.slots s ≡ Some p → Turns st → Turns (posted st s p.generation p)
 posted_turns st s p there turns =
     let sv : SlotOk (facts st s p.generation) p = turns.each s p there in
-    let more : total (of_slot s) (with_ticket (wakes p) s p.generation st.hand) ≡ total (of_slot s) st.hand + one (wakes p) = hand_own (of_slot s) (wakes p) s p.generation st.hand (one_same s) in
-    let more_right : total (names s p.generation) (with_ticket (wakes p) s p.generation st.hand) ≡ total (names s p.generation) st.hand + one (wakes p) = hand_own (names s p.generation) (wakes p) s p.generation st.hand (names_own s p.generation) in
-    let made : tickets (posted st s p.generation p) s ≡ tickets st s + one (wakes p) = omega arith in
+    let more : total (of_slot s) (with_ticket (brings_ticket p) s p.generation st.hand) ≡ total (of_slot s) st.hand + one (brings_ticket p) = hand_own (of_slot s) (brings_ticket p) s p.generation st.hand (one_same s) in
+    let more_right : total (names s p.generation) (with_ticket (brings_ticket p) s p.generation st.hand) ≡ total (names s p.generation) st.hand + one (brings_ticket p) = hand_own (names s p.generation) (brings_ticket p) s p.generation st.hand (names_own s p.generation) in
+    let made : tickets (posted st s p.generation p) s ≡ tickets st s + one (brings_ticket p) = omega arith in
     keep_others st (posted st s p.generation p) s p (with_note p p.generation) there refl (λ j q apart other. record {
       ring = refl;
       slot = refl;
       entry = refl;
-      tickets = let same : total (of_slot j) (with_ticket (wakes p) s p.generation st.hand) ≡ total (of_slot j) st.hand = hand_other (of_slot j) (wakes p) s p.generation st.hand (one_other s j apart) in omega arith;
-      right = let same : total (names j q.generation) (with_ticket (wakes p) s p.generation st.hand) ≡ total (names j q.generation) st.hand = hand_other (names j q.generation) (wakes p) s p.generation st.hand (names_other j q.generation _ apart) in omega arith;
+      tickets = let same : total (of_slot j) (with_ticket (brings_ticket p) s p.generation st.hand) ≡ total (of_slot j) st.hand = hand_other (of_slot j) (brings_ticket p) s p.generation st.hand (one_other s j apart) in omega arith;
+      right = let same : total (names j q.generation) (with_ticket (brings_ticket p) s p.generation st.hand) ≡ total (names j q.generation) st.hand = hand_other (names j q.generation) (brings_ticket p) s p.generation st.hand (names_other j q.generation _ apart) in omega arith;
       holding = refl;
       closing = refl;
       gone = omega arith;

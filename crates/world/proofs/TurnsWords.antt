@@ -31,10 +31,10 @@ use Rattle.world.specs.declared.event.Polling.TheVariants as polling
 use Rattle.world.specs.declared.event.Act.{Act}
 use Rattle.world.specs.declared.event.Act.TheVariants as act
 use Rattle.world.specs.Places.{Place, Actor, is_held}
-use Rattle.world.specs.States.{State}
-use Rattle.world.specs.Steps.{connection_at, over_kernel, watched_of, may_accept, after_accept, listen, with_note, wakes as wakes_place, with_ticket, posted, post_at, delivered_at, delivered, put_by_poller, batched, opened_place, opened_world, opening_of, token_of, polled, is_limited, sweep, expired_place, expire, with_worker, with_place, doing, put_by_worker, popped, pop, claim, heard, take, Lodging, lodged_call, call, post, may_release, release, closed_world, close, retire, freed, free, acted, step}
+use Rattle.world.specs.States.{State, is_entry}
+use Rattle.world.specs.Steps.{connection_at, over_kernel, watched_of, may_accept, after_accept, listen, with_note, brings_ticket, with_ticket, posted, post_at, delivered_at, delivered, put_by_poller, batched, opened_place, opened_world, opening_of, token_of, polled, is_limited, sweep, expired_place, expire, with_worker, with_place, doing, put_by_worker, popped, pop, claim, heard, take, Lodging, lodged_call, call, post, may_release, release, closed_world, close, retire, freed, free, acted, step}
 use Rattle.world.specs.Support.{one, total, of_slot, tried, worker_tickets, tickets}
-use Rattle.world.specs.Words.{word_at, after_all, is_wake, wakes, claims, at_slot, is_entry, delivery_steps, steps, WordMoves, WordsMove, WordsMoveInRuns}
+use Rattle.world.specs.Words.{word_at, after_all, is_wake, count_wakes, claims, at_slot, delivery_steps, steps, WordMoves, WordsMove, WordsMoveInRuns}
 use Rattle.claims.specs.Words as words
 use Rattle.claims.specs.Words.{StepKind, some_wait}
 use Rattle.world.specs.CoreLaws.{CoreLaws}
@@ -58,7 +58,7 @@ untouched st next e all none same s p there = record {
 }
 
 moves_at : (st next : State) (e : Event) (s i : ℕ) (p r old : Place) (kinds : List StepKind) → (s ≡ i) ⊎ (s ≢ i) → slice_get st.slots s ≡ Some p → next.slots ≡ slice_set st.slots s r → steps st e i ≡ at_slot i s kinds
-    → word_at r ≡ after_all kinds (word_at p) → tickets next s + claims kinds ≡ tickets st s + wakes kinds (word_at p) → (s ≢ i → tickets next i ≡ tickets st i)
+    → word_at r ≡ after_all kinds (word_at p) → tickets next s + claims kinds ≡ tickets st s + count_wakes kinds (word_at p) → (s ≢ i → tickets next i ≡ tickets st i)
     → slice_get st.slots i ≡ Some old → WordMoves st next e i old
 moves_at st next e s i p r old kinds (inl same) there all made word count others here =
     let was : p ≡ old = let at : slice_get st.slots s ≡ Some old = rw same here in (cc) in
@@ -80,7 +80,7 @@ moves_at st next e s i p r old kinds (inr apart) there all made word count other
 
 -- an event that makes steps at one slot
 touched : (st next : State) (e : Event) (s : ℕ) (p r : Place) (kinds : List StepKind) → slice_get st.slots s ≡ Some p → next.slots ≡ slice_set st.slots s r → ((i : ℕ) → steps st e i ≡ at_slot i s kinds)
-    → word_at r ≡ after_all kinds (word_at p) → tickets next s + claims kinds ≡ tickets st s + wakes kinds (word_at p) → ((i : ℕ) → s ≢ i → tickets next i ≡ tickets st i) → WordsMove st e next
+    → word_at r ≡ after_all kinds (word_at p) → tickets next s + claims kinds ≡ tickets st s + count_wakes kinds (word_at p) → ((i : ℕ) → s ≢ i → tickets next i ≡ tickets st i) → WordsMove st e next
 touched st next e s p r kinds there all made word count others i old here = moves_at st next e s i p r old kinds (cases_eq s i) there all (made i) word count (others i) here
 
 neither : (b : Bool) (none : List StepKind) → none ≡ (if b then none else none)
@@ -145,10 +145,10 @@ wakes_so false (suc n) = rw (lt-ltb 0 (suc n) (omega arith)) refl
 
 posted_words : (st : State) (e : Event) (s g : ℕ) (p : Place) → ((i : ℕ) → steps st e i ≡ at_slot i s (words.post ∷ [])) → slice_get st.slots s ≡ Some p → WordsMove st e (posted st s g p)
 posted_words st e s g p made there =
-    let more : total (of_slot s) (with_ticket (wakes_place p) s g st.hand) ≡ total (of_slot s) st.hand + one (wakes_place p) = hand_own (of_slot s) (wakes_place p) s g st.hand (one_same s) in
-    let woken : one (is_wake (if words.wakes (word_at p) then words.wake else words.quiet)) ≡ one (wakes_place p) = rw (wakes_so (is_held p.holder) (length p.notes)) (wake_once (wakes_place p)) in
+    let more : total (of_slot s) (with_ticket (brings_ticket p) s g st.hand) ≡ total (of_slot s) st.hand + one (brings_ticket p) = hand_own (of_slot s) (brings_ticket p) s g st.hand (one_same s) in
+    let woken : one (is_wake (if words.wakes (word_at p) then words.wake else words.quiet)) ≡ one (brings_ticket p) = rw (wakes_so (is_held p.holder) (length p.notes)) (wake_once (brings_ticket p)) in
     touched st (posted st s g p) e s p (with_note p g) (words.post ∷ []) there refl made (noted_word p g) (omega arith) (λ i apart.
-    let same : total (of_slot i) (with_ticket (wakes_place p) s g st.hand) ≡ total (of_slot i) st.hand = hand_other (of_slot i) (wakes_place p) s g st.hand (one_other s i apart) in
+    let same : total (of_slot i) (with_ticket (brings_ticket p) s g st.hand) ≡ total (of_slot i) st.hand = hand_other (of_slot i) (brings_ticket p) s g st.hand (one_other s i apart) in
     omega arith)
 
 -- a batch with one name fewer
@@ -182,7 +182,7 @@ opened_words st e s g p t made there first turns =
     let f : FirstFree st s p = first_free st s p there first turns in
     let more : total (of_slot s) (st.hand ++ record { slot = s; generation = g } ∷ []) ≡ total (of_slot s) st.hand + one (s == s) = total_push (of_slot s) st.hand _ in
     let this : one (s == s) ≡ 1 = one_same s in
-    let woken : wakes (words.adopt ∷ words.take ∷ words.post ∷ words.release ∷ []) (word_at p) ≡ 1 = rw (f.held, f.free) refl in
+    let woken : count_wakes (words.adopt ∷ words.take ∷ words.post ∷ words.release ∷ []) (word_at p) ≡ 1 = rw (f.held, f.free) refl in
     touched st (opened_world st s g t) e s p (opened_place s g st.limits st.second t.told) (words.adopt ∷ words.take ∷ words.post ∷ words.release ∷ []) there refl made refl (rw woken (omega arith)) (λ i apart.
     let other : one (s == i) ≡ 0 = one_other s i apart in
     let same : total (of_slot i) (st.hand ++ record { slot = s; generation = g } ∷ []) ≡ total (of_slot i) st.hand + one (s == i) = total_push (of_slot i) st.hand _ in

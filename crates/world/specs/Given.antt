@@ -15,12 +15,12 @@ has_generation None g = false
 has_generation (Some p) g = p.generation == g
 
 -- the bytes that one event brings to a side of a slot's connection of this generation
-abbrev pub brought : State → ℕ → ℕ → Side → Event → List ℕ
-brought st s g side (event.Network t other (Arrive bytes)) =
+abbrev pub given_by : State → ℕ → ℕ → Side → Event → List ℕ
+given_by st s g side (event.Network t other (Arrive bytes)) =
     if (t == s && side_number other == side_number side) && has_generation (slice_get st.slots s) g then bytes.items else []
-brought st s g side e = []
+given_by st s g side e = []
 
 -- all bytes that a list of events brings there, in order
 abbrev pub given : State → List Event → ℕ → ℕ → Side → List ℕ
 given st [] s g side = []
-given st (e ∷ es) s g side = brought st s g side e ++ unwrap_or (option_map (λ (q : State). given q es s g side) (step st e)) []
+given st (e ∷ es) s g side = given_by st s g side e ++ unwrap_or (option_map (λ (q : State). given q es s g side) (step st e)) []

@@ -1,6 +1,6 @@
 -- The events for which memory may run out: those that may make a list longer. Part of the promises. Any other event
 -- happens if it is allowed.
-use Rattle.std.specs.Prelude.{ℕ, ◌==◌, Bool, true, false, Option, Some, None, slice_get}
+use Rattle.std.specs.Prelude.{Bool, true, false, Option, Some, slice_get}
 use Rattle.token.specs.declared.name.Name.{Name}
 use Rattle.token.specs.declared.name.Name.TheVariants as name
 use Rattle.kernel_model.specs.Replies.{needs_memory}
@@ -12,16 +12,11 @@ use Rattle.world.specs.declared.event.Polling.{Polling}
 use Rattle.world.specs.declared.event.Polling.TheVariants as polling
 use Rattle.world.specs.declared.event.Act.{Act}
 use Rattle.world.specs.declared.event.Act.TheVariants as act
-use Rattle.world.specs.States.{State}
-
--- the table has this generation
-abbrev pub is_entry : ℕ → Option ℕ → Bool
-is_entry g (Some entry) = entry == g
-is_entry g None = false
+use Rattle.world.specs.States.{State, is_entry}
 
 -- a name that is delivered becomes a note if it is that of an end, with the generation of the table
 abbrev pub becomes_note : State → Option Name → Bool
-becomes_note st (Some (name.End n)) = is_entry n.generation (slice_get st.table n.slot)
+becomes_note st (Some (name.End n)) = is_entry (slice_get st.table n.slot) n.generation
 becomes_note st m = false
 
 -- at the listener: a report of the connection may be queued

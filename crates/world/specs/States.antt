@@ -1,5 +1,5 @@
 -- The state of the whole machine, its limits, and how it begins. Part of the promises.
-use Rattle.std.specs.Prelude.{ℕ, suc, zero, ◌<◌, ◌≤◌, Bool, true, false, List, [], ◌∷◌, ◌++◌, replicate, None}
+use Rattle.std.specs.Prelude.{ℕ, suc, zero, ◌==◌, ◌<◌, ◌≤◌, Bool, true, false, List, [], ◌∷◌, ◌++◌, replicate, Option, Some, None}
 use Rattle.token.specs.declared.name.Name.{Name}
 use Rattle.kernel_model.specs.Kernel.{Watcher, idle}
 use Rattle.world.specs.declared.limits.Limits.{Limits}
@@ -40,6 +40,11 @@ pub record IsWithinLimits (l : Limits) : Type 0 where
 abbrev pub numbers_below : ℕ → List ℕ
 numbers_below zero = []
 numbers_below (suc n) = numbers_below n ++ n ∷ []
+
+-- the entry of a table is this generation
+abbrev pub is_entry : Option ℕ → ℕ → Bool
+is_entry None g = false
+is_entry (Some entry) g = entry == g
 
 -- a slot without a connection
 abbrev pub unused : ℕ → Place

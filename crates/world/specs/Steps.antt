@@ -142,9 +142,9 @@ opening_of st s = option_and_then
 abbrev pub with_note : Place → ℕ → Place
 with_note p g = record p { notes = p.notes ++ g ∷ [] }
 
--- does a note bring a ticket: it is the first, and nobody holds the slot
-abbrev pub wakes : Place → Bool
-wakes p = not (is_held p.holder || is_nonempty p.notes)
+-- a note brings a ticket: it is the first, and nobody holds the slot
+abbrev pub brings_ticket : Place → Bool
+brings_ticket p = not (is_held p.holder || is_nonempty p.notes)
 
 -- the hand with the ticket that was made, if one was
 abbrev pub with_ticket : Bool → ℕ → ℕ → List Ticket → List Ticket
@@ -155,7 +155,7 @@ with_ticket false s g hand = hand
 abbrev pub posted : State → ℕ → ℕ → Place → State
 posted st s g p = record st {
   slots = slice_set st.slots s (with_note p g);
-  hand = with_ticket (wakes p) s g st.hand;
+  hand = with_ticket (brings_ticket p) s g st.hand;
 }
 
 abbrev pub post_at : State → ℕ → ℕ → Option State

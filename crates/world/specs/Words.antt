@@ -15,7 +15,7 @@ use Rattle.world.specs.declared.event.Act.{Act}
 use Rattle.world.specs.declared.event.Act.TheVariants as act
 use Rattle.world.specs.declared.limits.Limits.{Limits}
 use Rattle.world.specs.Places.{Place, Actor, is_held}
-use Rattle.world.specs.States.{State, opening}
+use Rattle.world.specs.States.{State, is_entry, opening}
 use Rattle.world.specs.Runs.{run}
 use Rattle.world.specs.Support.{one, tickets}
 
@@ -38,9 +38,9 @@ is_wake wake = true
 is_wake a = false
 
 -- how many of them answer that a ticket is to be made
-abbrev pub wakes : List StepKind → WordState → ℕ
-wakes [] w = 0
-wakes (k ∷ ks) w = one (is_wake (answer_of k w)) + wakes ks (word_after k w)
+abbrev pub count_wakes : List StepKind → WordState → ℕ
+count_wakes [] w = 0
+count_wakes (k ∷ ks) w = one (is_wake (answer_of k w)) + count_wakes ks (word_after k w)
 
 abbrev pub is_claim : StepKind → Bool
 is_claim claim = true
@@ -61,10 +61,6 @@ at_slot s t steps = if t == s then steps else []
 abbrev pub opening_steps : Option ℕ → ℕ → List StepKind
 opening_steps None s = []
 opening_steps (Some t) s = at_slot s t (adopt ∷ take ∷ post ∷ release ∷ [])
-
-abbrev pub is_entry : Option ℕ → ℕ → Bool
-is_entry None g = false
-is_entry (Some h) g = h == g
 
 -- a report of an end is posted where its generation is the table's
 abbrev pub delivery_steps : State → Option Name → ℕ → List StepKind
@@ -98,7 +94,7 @@ pub record WordMoves (st next : State) (e : Event) (s : ℕ) (p : Place) : Type 
   pub place : Place
   pub there : slice_get next.slots s ≡ Some place
   pub word : word_of (word_at place) ≡ word_of (after_all (steps st e s) (word_at p))
-  pub tickets : tickets next s + claims (steps st e s) ≡ tickets st s + wakes (steps st e s) (word_at p)
+  pub tickets : tickets next s + claims (steps st e s) ≡ tickets st s + count_wakes (steps st e s) (word_at p)
 
 -- in every slot
 abbrev pub WordsMove : State → Event → State → Type 0

@@ -16,7 +16,8 @@ impl World {
     ghost use Rattle.std.specs.Prelude.{◌≡◌, ◌<◌, true, length, slice_get, Some, IsErrOf, IsTrue};
     ghost use Rattle.kernel_model.specs.Outcome.{Meets};
     ghost use Rattle.kernel_model.specs.Kernel.{open_both};
-    ghost use Rattle.world.specs.Memory.{becomes_note, is_entry, polling_allocates};
+    ghost use Rattle.world.specs.Memory.{becomes_note, polling_allocates};
+    ghost use Rattle.world.specs.States.{is_entry};
     ghost use Rattle.world.specs.Steps.{opened_world, delivered, delivered_at, deliver, sweep, batched, put_by_poller, post_at, polled};
 
     /// The poller does something.
@@ -153,7 +154,7 @@ impl World {
     fn deliver_end(&mut self, token: Token) -> Result<(), Refusal>
         ensures event { Meets (delivered_at self.old token (slice_get self.old.table token.slot)) self.old self.new result }
         ensures batch { self.new.batch ≡ self.old.batch }
-        ensures memory { IsErrOf result Refusal.NoMemory → IsTrue (is_entry token.generation (slice_get self.old.table token.slot)) }
+        ensures memory { IsErrOf result Refusal.NoMemory → IsTrue (is_entry (slice_get self.old.table token.slot) token.generation) }
     {
         match self.table_entry(token.slot()) {
             Some(generation) if generation == token.generation() => {

@@ -235,6 +235,16 @@ fn leads_to(
     }
 }
 
+// Nobody was accepted. That is told of the first event, too, and is never told as a lack of memory.
+#[test]
+fn a_first_event_that_is_not_allowed(rt: HostRuntime) -> Result<(), Fail> {
+    let mut events = Vec::new(rt.alloc());
+    add(rt.alloc(), &mut events, &[Play::Open])?;
+    let told = replayed(rt.alloc(), SMALL, events.as_slice());
+    assert!(rt; matches!(told, Err((0, Refusal::NotAllowed))));
+    Ok(())
+}
+
 // Of each row: what happens, what is shown then, and the bytes that the target took. The third leaves the
 // client readable with no place for its bytes; in the fourth they are read on without a report of the client.
 #[test]

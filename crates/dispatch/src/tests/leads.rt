@@ -31,7 +31,7 @@ const SECOND: &str = "[INFO  relayd] open s=1 g=1";
 
 const LED: &[u8] = b"PROXY TCP4 192.0.2.7 198.51.100.1 50000 7000\r\nabc";
 
-const ROWS: [Row; 3] = [
+static ROWS: [Row; 3] = [
     // Only the last is opened, in the first slot and with its first generation.
     Row {
         proxy: true,

@@ -63,7 +63,7 @@ struct Row {
     after: [Seen; 3],
 }
 
-const AGAIN: [Option<ErrorKind>; 300] = [Some(ErrorKind::Interrupted); 300];
+const AGAIN: [Option<ErrorKind>; 16] = [Some(ErrorKind::Interrupted); 16];
 
 /// The third round's batch reports the listener.
 const THIRD: &[&[u64]] = &[&[], &[], &[0]];
@@ -72,7 +72,7 @@ const NO_SLOT: (u64, u64) = (3, 3);
 
 const STARVED: &str = "[ERROR relayd] accept: other error";
 
-const ROWS: [Row; 10] = [
+static ROWS: [Row; 10] = [
     // While a connection may be accepted, no round waits.
     Row {
         batches: THIRD,

@@ -19,7 +19,7 @@ struct Row {
     notes: [u64; 5],
 }
 
-const ROWS: [Row; 5] = [
+static ROWS: [Row; 5] = [
     // At the limit and not before.
     Row {
         limit: 30,
@@ -134,7 +134,7 @@ fn run_idle<R: Wait>(rt: &R, alloc: Global) -> Result<([Seen; 3], Lines), AllocE
 }
 
 /// Two turns that find nothing to do, two that end their connections, and one of the connection that came then.
-const IDLE: [Seen; 3] = [
+static IDLE: [Seen; 3] = [
     ((4, 4), [Some(Worked::Quiet), Some(Worked::Quiet)]),
     ((4, 4), [Some(Worked::Ended), Some(Worked::Ended)]),
     ((4, 7), [Some(Worked::Quiet), None]),

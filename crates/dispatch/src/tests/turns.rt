@@ -103,7 +103,7 @@ const ENDED: Outcome = Outcome {
     ..RESTED
 };
 
-const ROWS: [Row; 11] = [
+static ROWS: [Row; 11] = [
     QUIET,
     // It has moved nothing for the limit, or for one second less, or there is no limit.
     Row {
@@ -257,7 +257,7 @@ fn each_way_out_of_a_turn(rt: HostRuntime) -> Result<(), Fail> {
             continue;
         }
         let (done, logged) = run_row(&rt, alloc, row)?;
-        assert_eq!(rt; done, row.done, "in row {number}");
+        assert!(rt; done == row.done, "in row {number}");
         assert!(rt; logged, "the log in row {number}");
     }
     Ok(())

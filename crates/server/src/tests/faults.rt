@@ -4,6 +4,7 @@ use super::failing::{Failing, server_without_reports};
 use super::still::{NO_LIMIT, Still};
 use crate::crew::Crew;
 use crate::dividing::{Cast, Rest, divide};
+use crate::ended::Ended;
 use crate::fault_record::FaultRecord;
 use crate::making::Server;
 use crate::serving::run_threads;
@@ -92,7 +93,9 @@ fn fails_first<R: Wait + Log>(
     let faults = FaultRecord::new();
     {
         let crew = crew_of(rt, alloc, &faults, shared)?;
-        crew.fail(2, mine, ServerFault::Worn);
+        if let Err(ended) = Ended::on_fault::<()>(Err(ServerFault::Worn)) {
+            crew.end(2, mine, ended);
+        }
     }
     faults.write(rt, later, ServerFault::NoMemory);
     Ok(faults.into_fault())
@@ -186,7 +189,7 @@ fn rounds_after<R: Wait + Log>(rt: &R, alloc: Global) -> Result<(bool, usize), S
     let faults = FaultRecord::new();
     faults.write(rt, 2, ServerFault::Worn);
     let ended = lead.run_rounds(&crew_of(rt, alloc, &faults, &shared)?);
-    Ok((ended.is_ok(), lead.poller.front.polled))
+    Ok((ended.into_fault().is_none(), lead.poller.front.polled))
 }
 
 #[test]
