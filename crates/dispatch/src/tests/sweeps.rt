@@ -134,7 +134,7 @@ fn run_idle<R: Wait>(rt: &R, alloc: Global) -> Result<([Seen; 3], Lines), AllocE
 }
 
 /// Two turns that find nothing to do, two that end their connections, and one of the connection that came then.
-static IDLE: [Seen; 3] = [
+const IDLE: [Seen; 3] = [
     ((4, 4), [Some(Worked::Quiet), Some(Worked::Quiet)]),
     ((4, 4), [Some(Worked::Ended), Some(Worked::Ended)]),
     ((4, 7), [Some(Worked::Quiet), None]),
