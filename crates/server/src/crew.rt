@@ -1,4 +1,6 @@
 //! What every thread of a server is handed, and how a fault of one ends the others.
+ghost use Rattle.std.specs.Prelude.{◌≡◌};
+
 use crate::dividing::Cast;
 use crate::ended::Ended;
 use crate::fault_record::FaultRecord;
@@ -37,7 +39,7 @@ where
     /// The thread of a poller: the next that has not begun.
     pub(crate) fn lead(&self) {
         let next = self.cast.lock(self.rt).leads.pop();
-        if let Some(lead) = next {
+        if let Some(mut lead) = next {
             lead.lead(self);
         }
     }
@@ -45,13 +47,15 @@ where
     /// The thread of a worker: the next that has not begun.
     pub(crate) fn work(&self) {
         let next = self.cast.lock(self.rt).workers.pop();
-        if let Some(worker) = next {
+        if let Some(mut worker) = next {
             worker.work(self);
         }
     }
 
     /// The loop of the thread with this number has ended. A fault is recorded, and ends all others.
-    pub(crate) fn end(&self, number: usize, ready: &mut ReadyQueue, ended: Ended) {
+    pub(crate) fn end(&self, number: usize, ready: &mut ReadyQueue, ended: Ended)
+        ensures { ready.new ≡ ready.old }
+    {
         if let Some(fault) = ended.into_fault() {
             self.fail(number, ready, fault);
         }
@@ -59,7 +63,9 @@ where
 
     /// Records the fault of the thread with this number, and ends all others: workers that sleep are woken, and so are
     /// the pollers.
-    fn fail(&self, number: usize, ready: &mut ReadyQueue, fault: ServerFault) {
+    fn fail(&self, number: usize, ready: &mut ReadyQueue, fault: ServerFault)
+        ensures { ready.new ≡ ready.old }
+    {
         self.faults.write(self.rt, number, fault);
         ready.close();
         for poller in 0..self.split.pollers() {
@@ -69,7 +75,9 @@ where
 
     /// A poller has ended. Behind the last one, and behind a fault, the queue of tickets is closed, which ends the
     /// workers.
-    pub(crate) fn leave(&self, ready: &mut ReadyQueue) {
+    pub(crate) fn leave(&self, ready: &mut ReadyQueue)
+        ensures { ready.new ≡ ready.old }
+    {
         let left = self.polling.fetch_sub(1, SeqCst);
         if left <= 1 || self.faults.is_written() {
             ready.close();

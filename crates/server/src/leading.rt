@@ -1,12 +1,15 @@
 //! The loop of a poller's thread.
-ghost use Rattle.std.specs.Prelude.{◌≡◌, length};
+ghost use Rattle.std.specs.Prelude.{◌≡◌, ◌≢◌, length};
 ghost use Rattle.std.specs.Arc.{arc_value};
 ghost use Rattle.claims.specs.Seats.{HoldsNothing};
+ghost use Rattle.dispatch.specs.declared.faults.ServerFault.TheVariants.{Worn};
+ghost use Rattle.server.specs.Loops.{Balanced};
 
 use crate::crew::Crew;
 use crate::ended::Ended;
 use dispatch::{
-    Clock, Front, Gate, MAX_OWN_TURNS, Own, Poller, Shared, own_turn, poller_round, share_tickets,
+    Clock, Front, Gate, MAX_OWN_TURNS, Own, Poller, Shared, Worked, own_turn, poller_round,
+    share_tickets,
 };
 use log::Log;
 use std::sync::{Arc, Wait};
@@ -30,7 +33,7 @@ where
 {
     /// Makes rounds until the poller is over, or a fault is recorded. A fault of its own is recorded, and ends all other
     /// threads.
-    pub(crate) fn lead<G: Gate, C: Clock, R: Wait + Log>(mut self, crew: &Crew<'_, F, G, C, R>) {
+    pub(crate) fn lead<G: Gate, C: Clock, R: Wait + Log>(&mut self, crew: &Crew<'_, F, G, C, R>) {
         self.poller.begin_at(crew.timing.moment().second);
         let ended = self.run_rounds(crew);
         crew.end(self.number, &mut self.own.ready, ended);
@@ -57,6 +60,20 @@ where
         &mut self,
         crew: &Crew<'_, F, G, C, R>,
     ) -> Result<(), Ended> {
+        self.poll(crew)?;
+        if crew.pollers_work {
+            self.run_turns(crew)?;
+        }
+        Ok(())
+    }
+
+    /// Makes a round, and runs no turn.
+    fn poll<G: Gate, C: Clock, R: Wait + Log>(
+        &mut self,
+        crew: &Crew<'_, F, G, C, R>,
+    ) -> Result<(), Ended>
+        ensures balance { result ≢ Err (record { fault = Some Worn }) → Balanced self.old.own self.new.own }
+    {
         Ended::on_fault(poller_round(
             crew.rt,
             crew.alloc,
@@ -64,11 +81,7 @@ where
             &mut self.own,
             &mut self.poller,
             &crew.timing,
-        ))?;
-        if crew.pollers_work {
-            self.run_turns(crew)?;
-        }
-        Ok(())
+        ))
     }
 
     /// Runs the tickets in hand that are for its own thread.
@@ -78,18 +91,25 @@ where
     ) -> Result<(), Ended> {
         share_tickets(crew.rt, &mut self.own, &mut self.poller);
         for _turn in 0..MAX_OWN_TURNS {
-            let run = Ended::on_fault(own_turn(
-                crew.rt,
-                &self.shared,
-                &mut self.own,
-                crew.gate,
-                &mut self.poller,
-                &crew.timing,
-            ))?;
-            if run.is_none() {
+            if self.turn(crew)?.is_none() {
                 return Ok(());
             }
         }
         Ok(())
+    }
+
+    /// Runs the turn of the oldest ticket in hand. None if there is no ticket, or no room in hand for a slot.
+    fn turn<G: Gate, C: Clock, R: Wait + Log>(
+        &mut self,
+        crew: &Crew<'_, F, G, C, R>,
+    ) -> Result<Option<Worked>, Ended> {
+        Ended::on_fault(own_turn(
+            crew.rt,
+            &self.shared,
+            &mut self.own,
+            crew.gate,
+            &mut self.poller,
+            &crew.timing,
+        ))
     }
 }

@@ -3,6 +3,7 @@ ghost use Rattle.std.specs.Prelude.{◌≡◌, [], length};
 ghost use Rattle.std.specs.Arc.{arc_value};
 ghost use Rattle.claims.specs.Seats.{HoldsNothing};
 ghost use Rattle.dispatch.specs.Hands.{HasRoom};
+ghost use Rattle.server.specs.Loops.{Balanced};
 
 use crate::crew::Crew;
 use crate::ended::Ended;
@@ -32,15 +33,16 @@ where
 {
     /// Takes tickets and runs their turns until the queue of tickets is closed and empty, or a fault is recorded. A fault
     /// of its own is recorded, and ends all other threads.
-    pub(crate) fn work<G: Gate, C: Clock, R: Wait + Log>(mut self, crew: &Crew<'_, F, G, C, R>) {
+    pub(crate) fn work<G: Gate, C: Clock, R: Wait + Log>(&mut self, crew: &Crew<'_, F, G, C, R>)
+        ensures balance { Balanced self.old.own self.new.own }
+    {
         let ended = self.run_turns(crew);
         crew.end(self.number, &mut self.own.ready, ended);
     }
 
-    fn run_turns<G: Gate, C: Clock, R: Wait + Log>(
-        &mut self,
-        crew: &Crew<'_, F, G, C, R>,
-    ) -> Ended {
+    fn run_turns<G: Gate, C: Clock, R: Wait + Log>(&mut self, crew: &Crew<'_, F, G, C, R>) -> Ended
+        ensures balance { Balanced self.old.own self.new.own }
+    {
         for _turn in crew.rt.forever() {
             if crew.faults.is_written() {
                 return Ended::well();
@@ -68,6 +70,7 @@ where
         ticket: Ticket,
     ) -> Result<Worked, Ended>
         requires { HasRoom self.old.own.hand }
+        ensures balance { Balanced self.old.own self.new.own }
     {
         let poller = crew.split.poller_of(ticket.slot);
         self.change_queue(poller);
@@ -88,6 +91,7 @@ where
     fn change_queue(&mut self, poller: usize)
         ensures seat { self.new.own.seat ≡ self.old.own.seat }
         ensures hand { self.new.own.hand ≡ self.old.own.hand }
+        ensures ready { self.new.own.ready ≡ self.old.own.ready }
         ensures shared { self.new.shared ≡ self.old.shared }
     {
         if poller == 0 {
@@ -102,6 +106,8 @@ where
     fn give_all(&mut self, rt: &impl Wait)
         ensures seat { self.new.own.seat ≡ self.old.own.seat }
         ensures given { self.new.own.hand.slots ≡ [] }
+        ensures tickets { self.new.own.hand.tickets ≡ self.old.own.hand.tickets }
+        ensures ready { self.new.own.ready ≡ self.old.own.ready }
         ensures shared { self.new.shared ≡ self.old.shared }
     {
         for _try in rt.forever() {

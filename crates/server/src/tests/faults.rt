@@ -142,7 +142,7 @@ fn takes<R: Wait + Log>(
     };
     let shared = Arc::new(alloc, shared)?;
     let mut cast = divide(alloc, &shared, Rest { parts, free }, pollers, 1)?;
-    let Some(worker) = cast.workers.pop() else {
+    let Some(mut worker) = cast.workers.pop() else {
         return Err(ServerFault::NoMemory);
     };
     let faults = FaultRecord::new();
