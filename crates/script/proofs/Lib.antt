@@ -1,6 +1,5 @@
 pub mod Cuts
 pub mod Digits
-pub mod Forms
 pub mod Leads
 pub mod Playing
 pub mod Keeping

@@ -1,5 +1,5 @@
 -- The events of a world's script, and the lines that say them. Part of the promises.
-use Rattle.std.specs.Prelude.{ℕ, nat_lt, nat_le, ◌&&◌, false, true, if◌then◌else◌, List, [], ◌∷◌, length, codes, Option, Some, None, option_map, option_and_then}
+use Rattle.std.specs.Prelude.{ℕ, nat_lt, nat_le, ◌&&◌, if◌then◌else◌, List, [], ◌∷◌, length, codes, Option, Some, None, option_map, option_and_then}
 use Rattle.std.specs.Str.{bytes_eq}
 use Rattle.token.specs.declared.side.Side.{Side}
 use Rattle.token.specs.Sides.{side_named}
@@ -12,6 +12,7 @@ use Rattle.kernel_model.specs.declared.accepting.Accepting.{Accepting}
 use Rattle.kernel_model.specs.declared.accepting.Accepting.TheVariants as accepting
 use Rattle.world.specs.declared.event.Event.{Event}
 use Rattle.world.specs.declared.event.Event.TheVariants as event
+use Rattle.world.specs.declared.event.Change.{Change}
 use Rattle.world.specs.declared.event.Change.TheVariants as change
 use Rattle.world.specs.declared.event.Reported.{Reported}
 use Rattle.world.specs.declared.event.Reported.TheVariants as reported
@@ -20,6 +21,7 @@ use Rattle.world.specs.declared.event.Polling.TheVariants as polling
 use Rattle.world.specs.declared.event.Act.{Act}
 use Rattle.world.specs.declared.event.Act.TheVariants as act
 use Rattle.script.specs.Texts.{pieces_of, words_of, number_of, number_below, bytes_of}
+use Rattle.script.specs.Reading.{word_then, if_last, full_of}
 
 -- An event as a line says it. Two forms carry a list, of bytes or of names; each other one is an event of
 -- the machine as it stands.
@@ -67,13 +69,6 @@ all_names (word ∷ words) = option_and_then (λ n. option_map (λ ns. n ∷ ns)
 abbrev pub names_of : List (List ℕ) → Option (List Name)
 names_of words = if nat_le (length words) 256 then all_names words else None
 
--- what a report without a cause is about, where it is no end
-abbrev pub lone_who : List ℕ → Option Reported
-lone_who word =
-    if bytes_eq word (codes "listener") then Some reported.Listener
-    else if bytes_eq word (codes "waker") then Some reported.Waker
-    else None
-
 abbrev pub accepting_of : List ℕ → Option Accepting
 accepting_of word =
     if bytes_eq word (codes "ok") then Some accepting.Accepted
@@ -85,8 +80,7 @@ accepting_of word =
 -- what a worker does, where its number says all else
 abbrev pub act_of : List ℕ → Option Act
 act_of word =
-    if bytes_eq word (codes "put") then Some act.Put
-    else if bytes_eq word (codes "pop") then Some act.Pop
+    if bytes_eq word (codes "pop") then Some act.Pop
     else if bytes_eq word (codes "claim") then Some act.Claim
     else if bytes_eq word (codes "take") then Some act.Take
     else if bytes_eq word (codes "post") then Some act.Post
@@ -97,96 +91,78 @@ act_of word =
     else if bytes_eq word (codes "free") then Some act.Free
     else None
 
--- a reply of one word
-abbrev pub lone_reply : List ℕ → Option Reply
-lone_reply word =
-    if bytes_eq word (codes "end") then Some reply.End
-    else if bytes_eq word (codes "joined") then Some reply.Joined
-    else if bytes_eq word (codes "shut") then Some reply.Shut
-    else if bytes_eq word (codes "blocked") then Some reply.Blocked
-    else if bytes_eq word (codes "interrupted") then Some reply.Interrupted
+-- a reply to a call, and what it carries
+abbrev pub reply_of : List (List ℕ) → Option Reply
+reply_of [] = None
+reply_of (name ∷ words) =
+    if bytes_eq name (codes "read") then word_then number_of (λ n. if_last (reply.Bytes n)) words
+    else if bytes_eq name (codes "end") then if_last reply.End words
+    else if bytes_eq name (codes "wrote") then word_then number_of (λ n left. option_map (λ full. reply.Wrote n full) (full_of left)) words
+    else if bytes_eq name (codes "joined") then if_last reply.Joined words
+    else if bytes_eq name (codes "shut") then if_last reply.Shut words
+    else if bytes_eq name (codes "blocked") then if_last reply.Blocked words
+    else if bytes_eq name (codes "interrupted") then if_last reply.Interrupted words
+    else if bytes_eq name (codes "failed") then word_then kind_named (λ kind. if_last (reply.Failed kind)) words
     else None
 
--- a reply of two words
-abbrev pub reply_with : List ℕ → List ℕ → Option Reply
-reply_with word operand =
-    if bytes_eq word (codes "read") then option_map reply.Bytes (number_of operand)
-    else if bytes_eq word (codes "wrote") then option_map (λ n. reply.Wrote n false) (number_of operand)
-    else if bytes_eq word (codes "failed") then option_map reply.Failed (kind_named operand)
-    else None
+-- what a report without a cause is about: `listener`, `waker`, or a slot and a side
+abbrev pub reported_of : List (List ℕ) → Option Reported
+reported_of [] = None
+reported_of (who ∷ words) =
+    if bytes_eq who (codes "listener") then if_last reported.Listener words
+    else if bytes_eq who (codes "waker") then if_last reported.Waker words
+    else option_and_then (λ slot. word_then side_named (λ side. if_last (reported.End slot side)) words) (slot_of who)
 
--- The forms of a line, by how many words follow the first
+-- The words behind the first one
 
-abbrev pub lone_event : List ℕ → Option Said
-lone_event word =
-    if bytes_eq word (codes "connect") then Some (Plainly (event.Listen listening.Connect))
-    else if bytes_eq word (codes "drop") then Some (Plainly (event.Listen listening.Drop))
-    else if bytes_eq word (codes "open") then Some (Plainly (event.Poll polling.Open))
-    else if bytes_eq word (codes "deliver") then Some (Plainly (event.Poll polling.Deliver))
-    else None
+-- a slot and a side, for what happens to a socket
+abbrev pub change_event : Change → List (List ℕ) → Option Event
+change_event change = word_then slot_of (λ slot. word_then side_named (λ side. if_last (event.Network slot side change)))
 
--- an act of the worker of this number
-abbrev pub worker_event : List ℕ → List ℕ → Option Said
-worker_event word worker = option_and_then (λ a. option_map (λ w. Plainly (event.Work w a)) (worker_of worker)) (act_of word)
-
-abbrev pub event_with_one : List ℕ → List ℕ → Option Said
-event_with_one word one =
-    if bytes_eq word (codes "accept") then option_map (λ a. Plainly (event.Listen (listening.Accept a))) (accepting_of one)
-    else if bytes_eq word (codes "spurious") then option_map (λ who. Plainly (event.Spurious who)) (lone_who one)
-    else if bytes_eq word (codes "vanish") then option_map (λ who. Plainly (event.Vanish who)) (lone_who one)
-    else if bytes_eq word (codes "tick") then option_map (λ n. Plainly (event.Tick n)) (number_of one)
-    else if bytes_eq word (codes "sweep") then option_map (λ s. Plainly (event.Poll (polling.Sweep s))) (slot_of one)
-    else if bytes_eq word (codes "put") && bytes_eq one (codes "poller") then Some (Plainly (event.Poll polling.Put))
-    else worker_event word one
-
--- what happens at one end
-abbrev pub end_event : List ℕ → ℕ → Side → Option Said
-end_event word slot side =
-    if bytes_eq word (codes "fin") then Some (Plainly (event.Network slot side change.Fin))
-    else if bytes_eq word (codes "reset") then Some (Plainly (event.Network slot side change.Reset))
-    else if bytes_eq word (codes "room") then Some (Plainly (event.Network slot side change.Room))
-    else if bytes_eq word (codes "spurious") then Some (Plainly (event.Spurious (reported.End slot side)))
-    else if bytes_eq word (codes "vanish") then Some (Plainly (event.Vanish (reported.End slot side)))
-    else None
+-- `poller`, or the number of a worker
+abbrev pub put_event : List (List ℕ) → Option Event
+put_event [] = None
+put_event (who ∷ words) =
+    if bytes_eq who (codes "poller") then if_last (event.Poll polling.Put) words
+    else option_and_then (λ worker. if_last (event.Work worker act.Put) words) (worker_of who)
 
 -- the next call of the worker of this number gets this reply
-abbrev pub call_event : List ℕ → Option Reply → Option Said
-call_event worker answer = option_and_then (λ w. option_map (λ r. Plainly (event.Work w (act.Call r))) answer) (worker_of worker)
+abbrev pub call_event : List (List ℕ) → Option Event
+call_event = word_then worker_of (λ worker words. option_map (λ answer. event.Work worker (act.Call answer)) (reply_of words))
 
-abbrev pub event_with_two : List ℕ → List ℕ → List ℕ → Option Said
-event_with_two word one two =
-    if bytes_eq word (codes "call") then call_event one (lone_reply two)
-    else option_and_then (λ s. option_and_then (λ d. end_event word s d) (side_named two)) (slot_of one)
+abbrev pub act_event : Act → List (List ℕ) → Option Event
+act_event act = word_then worker_of (λ worker. if_last (event.Work worker act))
 
-abbrev pub event_with_three : List ℕ → List ℕ → List ℕ → List ℕ → Option Said
-event_with_three word one two three =
-    if bytes_eq word (codes "call") then call_event one (reply_with two three)
-    else if bytes_eq word (codes "arrive") then option_and_then (λ s. option_and_then (λ d. option_map (λ bytes. Arrives s d bytes) (bytes_of three)) (side_named two)) (slot_of one)
-    else None
+-- the events that carry no list
+abbrev pub plain_event : List ℕ → List (List ℕ) → Option Event
+plain_event name words =
+    if bytes_eq name (codes "tick") then word_then number_of (λ n. if_last (event.Tick n)) words
+    else if bytes_eq name (codes "connect") then if_last (event.Listen listening.Connect) words
+    else if bytes_eq name (codes "accept") then word_then accepting_of (λ answer. if_last (event.Listen (listening.Accept answer))) words
+    else if bytes_eq name (codes "drop") then if_last (event.Listen listening.Drop) words
+    else if bytes_eq name (codes "fin") then change_event change.Fin words
+    else if bytes_eq name (codes "reset") then change_event change.Reset words
+    else if bytes_eq name (codes "room") then change_event change.Room words
+    else if bytes_eq name (codes "spurious") then option_map event.Spurious (reported_of words)
+    else if bytes_eq name (codes "vanish") then option_map event.Vanish (reported_of words)
+    else if bytes_eq name (codes "open") then if_last (event.Poll polling.Open) words
+    else if bytes_eq name (codes "deliver") then if_last (event.Poll polling.Deliver) words
+    else if bytes_eq name (codes "sweep") then word_then slot_of (λ slot. if_last (event.Poll (polling.Sweep slot))) words
+    else if bytes_eq name (codes "put") then put_event words
+    else if bytes_eq name (codes "call") then call_event words
+    else option_and_then (λ act. act_event act words) (act_of name)
 
--- a write that leaves no room
-abbrev pub full_write : List ℕ → List ℕ → List ℕ → Option Reply
-full_write word operand mark =
-    if bytes_eq word (codes "wrote") && bytes_eq mark (codes "full") then option_map (λ n. reply.Wrote n true) (number_of operand)
-    else None
+-- a slot, a side, and the bytes that arrive there
+abbrev pub arrival : List (List ℕ) → Option Said
+arrival = word_then slot_of (λ slot. word_then side_named (λ side. word_then bytes_of (λ bytes. if_last (Arrives slot side bytes))))
 
-abbrev pub event_with_four : List ℕ → List ℕ → List ℕ → List ℕ → List ℕ → Option Said
-event_with_four word one two three four = if bytes_eq word (codes "call") then call_event one (full_write two three four) else None
-
-abbrev pub event_of_counted : List (List ℕ) → Option Said
-event_of_counted (word ∷ []) = lone_event word
-event_of_counted (word ∷ one ∷ []) = event_with_one word one
-event_of_counted (word ∷ one ∷ two ∷ []) = event_with_two word one two
-event_of_counted (word ∷ one ∷ two ∷ three ∷ []) = event_with_three word one two three
-event_of_counted (word ∷ one ∷ two ∷ three ∷ four ∷ []) = event_with_four word one two three four
-event_of_counted _ = None
-
--- only `poll` has as many words as it likes
+-- an event that carries no list is said as it stands
 abbrev pub event_of_words : List (List ℕ) → Option Said
 event_of_words [] = None
-event_of_words (word ∷ words) =
-    if bytes_eq word (codes "poll") then option_map Polls (names_of words)
-    else event_of_counted (word ∷ words)
+event_of_words (name ∷ words) =
+    if bytes_eq name (codes "arrive") then arrival words
+    else if bytes_eq name (codes "poll") then option_map Polls (names_of words)
+    else option_map said_of (plain_event name words)
 
 -- the event that a line says
 abbrev pub event_of : List ℕ → Option Said

@@ -8,6 +8,7 @@ use Rattle.script.specs.declared.header.Extras.{Extras}
 use Rattle.script.specs.declared.header.Header.{Header}
 use Rattle.script.specs.declared.header.Header.TheVariants.{Flow, World}
 use Rattle.script.specs.Texts.{NumberedLine, words_of, value_after, bytes_after}
+use Rattle.script.specs.Reading.{Found, word_then, if_last}
 
 -- `KEY=N` with N from 1 to the most
 abbrev pub size_of : List ℕ → ℕ → List ℕ → Option ℕ
@@ -42,11 +43,6 @@ short_enough bytes = if nat_le (length bytes) 107 then Some bytes else None
 abbrev pub lead_of : List ℕ → Option (List ℕ)
 lead_of word = option_and_then short_enough (bytes_after (codes "lead=") word)
 
--- what a word says that may be left out, and the words behind it
-pub record Found (X : Type 0) : Type 0 where
-  pub value : X
-  pub words : List (List ℕ)
-
 -- what the first word says; if it does not say such a thing, it is left, and the value is another
 abbrev pub found_or : {X : Type 0} → X → List ℕ → List (List ℕ) → Option X → Found X
 found_or otherwise word words (Some x) = record { value = x; words = words }
@@ -55,11 +51,6 @@ found_or otherwise word words None = record { value = otherwise; words = word �
 abbrev pub optional : {X : Type 0} → (List ℕ → Option X) → X → List (List ℕ) → Found X
 optional read otherwise [] = record { value = otherwise; words = [] }
 optional read otherwise (word ∷ words) = found_or otherwise word words (read word)
-
--- a value, if no word is left
-abbrev pub if_last : {X : Type 0} → X → List (List ℕ) → Option X
-if_last x [] = Some x
-if_last x (word ∷ words) = None
 
 -- What may stand behind the sizes, each at most once and in this order: ` gen=G`, the generation that the slots have had,
 -- 0 where it is not given; ` idle=L`, the idle limit, 0 for none; ` lead=HEX`, the lead, empty for none.
@@ -71,19 +62,14 @@ extras_of words =
     if_last (record { generation = generation.value; idle = idle.value; lead = lead.value }) lead.words
 
 -- `slots=S workers=W ring=R budget=B`, with what stands behind
-abbrev pub limits_with : Extras → List ℕ → List ℕ → List ℕ → List ℕ → Option Limits
-limits_with extras slots workers ring budget =
-    option_and_then (λ s. option_and_then (λ w. option_and_then (λ r. option_map (λ b.
-    record { slots = s; workers = w; ring = r; budget = b; generation = extras.generation; idle = extras.idle; lead = extras.lead })
-    (size_of (codes "budget=") 1024 budget)) (ring_of ring)) (size_of (codes "workers=") 16 workers)) (size_of (codes "slots=") 64 slots)
-
 abbrev pub limits_of : List (List ℕ) → Option Limits
-limits_of (slots ∷ workers ∷ ring ∷ budget ∷ words) = option_and_then (λ e. limits_with e slots workers ring budget) (extras_of words)
-limits_of _ = None
+limits_of =
+    word_then (size_of (codes "slots=") 64) (λ slots. word_then (size_of (codes "workers=") 16) (λ workers.
+    word_then ring_of (λ ring. word_then (size_of (codes "budget=") 1024) (λ budget words.
+    option_map (λ extras. record { slots = slots; workers = workers; ring = ring; budget = budget; generation = extras.generation; idle = extras.idle; lead = extras.lead }) (extras_of words)))))
 
 abbrev pub lone_ring : List (List ℕ) → Option ℕ
-lone_ring (ring ∷ []) = ring_of ring
-lone_ring _ = None
+lone_ring = word_then ring_of (λ ring. if_last ring)
 
 -- `flow ring=R`, or `world` and its limits
 abbrev pub header_of_words : List (List ℕ) → Option Header

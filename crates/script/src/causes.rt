@@ -1,11 +1,13 @@
 //! What a person is told in addition to a fault: the word that is malformed and what is expected there, or why a step
 //! is not allowed at that point.
 
+use crate::events::event;
 use crate::header::{Header, read_header};
 use crate::limits::{MAX_BYTES, MAX_SHOWN};
 use crate::lines::{Line, Lines, Pieces};
-use crate::parts::{EVENTS, Forms, HEADERS, STEPS, Wrong, first_wrong};
 use crate::reasons::{event_reason, step_reason};
+use crate::steps::step;
+use crate::wrong::{NotRead, Wrong};
 use crate::{Fault, FlowScript, Script, WorldScript, parse};
 use std::alloc::{AllocError, Global};
 
@@ -25,30 +27,24 @@ pub fn cause(alloc: Global, text: &[u8], fault: Fault) -> Option<String> {
     }
 }
 
-/// Which word of a line is malformed, and what is expected there.
+/// Which word of a line is malformed, behind the first one unless that is the wrong one, and what is expected there.
 fn malformed(alloc: Global, text: &[u8], number: u64) -> Option<String> {
-    let (line, forms) = line_and_forms(text, number)?;
+    let (line, wrong) = wrong_line(alloc, text, number)?;
     let mut cause = format!(in alloc; "line {number}: ").ok()?;
-    tell_wrong(&mut cause, Pieces::new(line, b' '), forms)?;
+    if !wrong.is_first {
+        tell_name(&mut cause, Pieces::new(line, b' ').next()?).ok()?;
+    }
+    tell_word(&mut cause, wrong.word).ok()?;
+    cause.push_str(wrong.wanted).ok()?;
     Some(cause)
 }
 
-/// Appends which of the words is wrong, behind the first one unless that is the wrong one, and what is expected.
-fn tell_wrong(cause: &mut String, mut words: Pieces, forms: Forms) -> Option<()> {
-    let first = words.next()?;
-    let wrong = match forms.row(first) {
-        None => Wrong {
-            word: Some(first),
-            wanted: forms.wanted,
-        },
-        Some((name, parts)) => {
-            cause.push_str(name).ok()?;
-            cause.push_str(": ").ok()?;
-            first_wrong(parts, words)?
-        }
-    };
-    tell_word(cause, wrong.word).ok()?;
-    cause.push_str(wrong.wanted).ok()
+/// Appends the first word of a line, where it is one that a line begins with.
+fn tell_name(cause: &mut String, name: &[u8]) -> Result<(), AllocError> {
+    for byte in name {
+        show_byte(cause, *byte)?;
+    }
+    cause.push_str(": ")
 }
 
 /// Appends the word that is wrong, or that one is missing.
@@ -81,22 +77,28 @@ fn show_byte(cause: &mut String, byte: u8) -> Result<(), AllocError> {
     }
 }
 
-/// The line with this number, and the forms that it may have: the first line is a header, which decides on the forms of
-/// the others.
-fn line_and_forms(text: &[u8], number: u64) -> Option<(&[u8], Forms)> {
+/// The line with this number, and what is wrong with it. It is read once more, as it was when its fault was found: the
+/// first line is a header, which decides on what the others are.
+fn wrong_line(alloc: Global, text: &[u8], number: u64) -> Option<(&[u8], Wrong<'_>)> {
     if text.len() > MAX_BYTES {
         return None;
     }
     let mut lines = Lines::new(text);
     let first = lines.next()?;
-    if first.number == number {
-        return Some((first.text, HEADERS));
-    }
-    let forms = match read_header(first.text)? {
-        Header::Flow(_) => STEPS,
-        Header::World(_) => EVENTS,
+    let header = match read_header(first.text) {
+        Ok(header) => header,
+        Err(wrong) if first.number == number => return Some((first.text, wrong)),
+        Err(_) => return None,
     };
-    Some((numbered(lines, number)?.text, forms))
+    let line = numbered(lines, number)?.text;
+    let not_read = match header {
+        Header::Flow(_) => step(alloc, line).err()?,
+        Header::World(_) => event(alloc, line).err()?,
+    };
+    match not_read {
+        NotRead::Malformed(wrong) => Some((line, wrong)),
+        NotRead::NoMemory => None,
+    }
 }
 
 /// The line with this number among those that are left.

@@ -1,28 +1,19 @@
-// The words after the first one in the line for an event.
-ghost use Rattle.std.specs.Prelude.{◌≡◌, IfOk, option_map};
-ghost use Rattle.script.specs.Events.{slot_of, worker_of, generation_of, end_of, name_of, names_of, lone_who, accepting_of, act_of, lone_reply, reply_with, full_write};
+// The parts of a line for an event that several words say, or one of many words.
+ghost use Rattle.std.specs.Prelude.{◌≡◌, option_map};
+ghost use Rattle.script.specs.Texts.{number_of};
+ghost use Rattle.script.specs.Reading.{word_then, if_last, full_of, Reads, ReadsBy};
+ghost use Rattle.script.specs.Events.{generation_of, end_of, name_of, names_of, act_of, reply_of, reported_of};
+ghost use Rattle.token.specs.Kinds.{kind_named};
 
-use crate::limits::{MAX_SLOTS, MAX_WORKERS};
+use crate::limits::MAX_SLOTS;
 use crate::lines::Pieces;
+use crate::readers::{count, is_full, kind, last, said, side, word};
 use crate::values::{number, number_below};
-use kernel_model::{Accepting, MAX_POLLED, Reply};
-use std::alloc::{AllocError, Global};
-use token::{Kind, MAX_GENERATION, Name, Side, Token};
+use crate::wrong::{NotRead, Wrong};
+use kernel_model::{MAX_POLLED, Reply};
+use std::alloc::Global;
+use token::{MAX_GENERATION, Name, Side, Token};
 use world::{Act, Reported};
-
-/// The number of a slot, 0 to 63.
-pub(crate) fn slot(word: &[u8]) -> Option<usize>
-    ensures { result ≡ slot_of word.now }
-{
-    number_below(MAX_SLOTS, word)
-}
-
-/// The number of a worker, 0 to 15.
-pub(crate) fn worker(word: &[u8]) -> Option<usize>
-    ensures { result ≡ worker_of word.now }
-{
-    number_below(MAX_WORKERS, word)
-}
 
 /// The generation in a name, 1 to 2^47 - 1.
 fn generation(word: &[u8]) -> Option<u64>
@@ -45,7 +36,7 @@ fn end(mut parts: Pieces) -> Option<Name>
     if more.is_some() {
         return None;
     }
-    let slot = slot(slot_part)?;
+    let slot = number_below(MAX_SLOTS, slot_part)?;
     let generation = generation(generation_part)?;
     let side = Side::named(side_part)?;
     match Token::pack(slot, side, generation) {
@@ -55,7 +46,7 @@ fn end(mut parts: Pieces) -> Option<Name>
 }
 
 /// A name as the queue has it: `listener`, `waker` or `SLOT.GEN.SIDE`.
-pub(crate) fn name(word: &[u8]) -> Option<Name>
+fn name(word: &[u8]) -> Option<Name>
     ensures { result ≡ name_of word.now }
 {
     if word == b"listener".as_slice() {
@@ -68,49 +59,39 @@ pub(crate) fn name(word: &[u8]) -> Option<Name>
 }
 
 /// The names of a poll, at most 256.
-pub(crate) fn names(alloc: Global, mut words: Pieces) -> Result<Option<Vec<Name>>, AllocError>
-    ensures { IfOk result (λ names. option_map (λ ns. ns.items) names ≡ names_of words.entry) }
+pub(crate) fn names<'a>(alloc: Global, mut words: Pieces<'a>) -> Result<Vec<Name>, NotRead<'a>>
+    ensures { ReadsBy (λ names. names.items) (names_of words.entry) result }
 {
     let mut names = Vec::new(alloc);
     while let Some(word) = words.next() {
-        let Some(name) = name(word) else {
-            return Ok(None);
-        };
         if names.len() == MAX_POLLED {
-            return Ok(None);
+            return Err(NotRead::Malformed(Wrong::malformed(word, "a poll has at most 256 names")));
         }
+        let Some(name) = name(word) else {
+            return Err(NotRead::Malformed(Wrong::malformed(
+                word,
+                "listener, waker or SLOT.GEN.SIDE, as in 0.1.client, is wanted",
+            )));
+        };
         names.push(name)?;
     }
-    Ok(Some(names))
+    Ok(names)
 }
 
-/// What a report without cause is about, if it is not an end.
-pub(crate) fn lone_who(word: &[u8]) -> Option<Reported>
-    ensures { result ≡ lone_who word.now }
+/// What a report without cause is about: `listener`, `waker`, or a slot and a side.
+pub(crate) fn reported(mut words: Pieces<'_>) -> Result<Reported, Wrong<'_>>
+    ensures { Reads (reported_of words.entry) result }
 {
-    if word == b"listener".as_slice() {
-        Some(Reported::Listener)
-    } else if word == b"waker".as_slice() {
-        Some(Reported::Waker)
+    let wanted = "listener, waker or the number of a slot, 0 to 63, is wanted";
+    let who = word(&mut words, wanted)?;
+    if who == b"listener".as_slice() {
+        last(Reported::Listener, words)
+    } else if who == b"waker".as_slice() {
+        last(Reported::Waker, words)
     } else {
-        None
-    }
-}
-
-/// What accept(2) is answered.
-pub(crate) fn accepting(word: &[u8]) -> Option<Accepting>
-    ensures { result ≡ accepting_of word.now }
-{
-    if word == b"ok".as_slice() {
-        Some(Accepting::Accepted)
-    } else if word == b"blocked".as_slice() {
-        Some(Accepting::Blocked)
-    } else if word == b"again".as_slice() {
-        Some(Accepting::Again)
-    } else if word == b"starved".as_slice() {
-        Some(Accepting::Starved)
-    } else {
-        None
+        let slot = said(number_below(MAX_SLOTS, who), who, wanted)?;
+        let side = side(&mut words)?;
+        last(Reported::End(slot, side), words)
     }
 }
 
@@ -118,9 +99,7 @@ pub(crate) fn accepting(word: &[u8]) -> Option<Accepting>
 pub(crate) fn act(word: &[u8]) -> Option<Act>
     ensures { result ≡ act_of word.now }
 {
-    if word == b"put".as_slice() {
-        Some(Act::Put)
-    } else if word == b"pop".as_slice() {
+    if word == b"pop".as_slice() {
         Some(Act::Pop)
     } else if word == b"claim".as_slice() {
         Some(Act::Claim)
@@ -143,47 +122,50 @@ pub(crate) fn act(word: &[u8]) -> Option<Act>
     }
 }
 
-/// A reply of one word.
-pub(crate) fn lone_reply(word: &[u8]) -> Option<Reply>
-    ensures { result ≡ lone_reply word.now }
+/// The answer to a call.
+pub(crate) fn reply(mut words: Pieces<'_>) -> Result<Reply, Wrong<'_>>
+    ensures { Reads (reply_of words.entry) result }
 {
-    if word == b"end".as_slice() {
-        Some(Reply::End)
-    } else if word == b"joined".as_slice() {
-        Some(Reply::Joined)
-    } else if word == b"shut".as_slice() {
-        Some(Reply::Shut)
-    } else if word == b"blocked".as_slice() {
-        Some(Reply::Blocked)
-    } else if word == b"interrupted".as_slice() {
-        Some(Reply::Interrupted)
+    let wanted = "one of blocked, end, failed, interrupted, joined, read, shut and wrote is wanted";
+    let name = word(&mut words, wanted)?;
+    if name == b"read".as_slice() {
+        read(words)
+    } else if name == b"end".as_slice() {
+        last(Reply::End, words)
+    } else if name == b"wrote".as_slice() {
+        wrote(words)
+    } else if name == b"joined".as_slice() {
+        last(Reply::Joined, words)
+    } else if name == b"shut".as_slice() {
+        last(Reply::Shut, words)
+    } else if name == b"blocked".as_slice() {
+        last(Reply::Blocked, words)
+    } else if name == b"interrupted".as_slice() {
+        last(Reply::Interrupted, words)
+    } else if name == b"failed".as_slice() {
+        failed(words)
     } else {
-        None
+        Err(Wrong::malformed(name, wanted))
     }
 }
 
-/// A reply of two words.
-pub(crate) fn reply_with(word: &[u8], operand: &[u8]) -> Option<Reply>
-    ensures { result ≡ reply_with word.now operand.now }
+fn read(mut words: Pieces<'_>) -> Result<Reply, Wrong<'_>>
+    ensures { Reads (word_then number_of (λ n. if_last (Reply.Bytes n)) words.entry) result }
 {
-    if word == b"read".as_slice() {
-        Some(Reply::Bytes(number(operand)?))
-    } else if word == b"wrote".as_slice() {
-        Some(Reply::Wrote(number(operand)?, false))
-    } else if word == b"failed".as_slice() {
-        Some(Reply::Failed(Kind::named(operand)?))
-    } else {
-        None
-    }
+    let count = count(&mut words)?;
+    last(Reply::Bytes(count), words)
 }
 
-/// A write that leaves no room.
-pub(crate) fn full_write(word: &[u8], operand: &[u8], mark: &[u8]) -> Option<Reply>
-    ensures { result ≡ full_write word.now operand.now mark.now }
+fn wrote(mut words: Pieces<'_>) -> Result<Reply, Wrong<'_>>
+    ensures { Reads (word_then number_of (λ n left. option_map (λ full. Reply.Wrote n full) (full_of left)) words.entry) result }
 {
-    if word == b"wrote".as_slice() && mark == b"full".as_slice() {
-        Some(Reply::Wrote(number(operand)?, true))
-    } else {
-        None
-    }
+    let count = count(&mut words)?;
+    Ok(Reply::Wrote(count, is_full(words)?))
+}
+
+fn failed(mut words: Pieces<'_>) -> Result<Reply, Wrong<'_>>
+    ensures { Reads (word_then kind_named (λ kind. if_last (Reply.Failed kind)) words.entry) result }
+{
+    let kind = kind(&mut words)?;
+    last(Reply::Failed(kind), words)
 }

@@ -1,175 +1,140 @@
-// The events in a script of a world: one function for each number of words.
-ghost use Rattle.std.specs.Prelude.{◌≡◌, ◌∷◌, IfOk, option_map};
-ghost use Rattle.script.specs.Events.{said_of, lone_event, worker_event, event_with_one, end_event, call_event, event_with_two, event_with_three, event_with_four, event_of_counted, event_of, full_write};
+// The events in a script of a world.
+ghost use Rattle.std.specs.Prelude.{option_map};
+ghost use Rattle.script.specs.Texts.{number_of};
+ghost use Rattle.script.specs.Reading.{word_then, if_last, Reads, ReadsBy};
+ghost use Rattle.script.specs.Events.{said_of, slot_of, accepting_of, change_event, put_event, call_event, act_event, plain_event, arrival, event_of};
 
-use crate::event_parts::{
-    accepting, act, full_write, lone_reply, lone_who, names, reply_with, slot, worker,
-};
+use crate::event_parts::{act, names, reply, reported};
+use crate::limits::MAX_WORKERS;
 use crate::lines::Pieces;
-use crate::values::{bytes, number};
-use kernel_model::Reply;
-use std::alloc::{AllocError, Global};
-use token::Side;
-use world::{Act, Change, Event, Listening, Polling, Reported};
+use crate::readers::{accepting, count, end, hex_bytes, last, said, side, slot, word, worker};
+use crate::values::number_below;
+use crate::wrong::{NotRead, Wrong};
+use std::alloc::Global;
+use world::{Act, Change, Event, Listening, Polling};
 
-/// The event that a line stands for, if any.
-pub(crate) fn event(alloc: Global, line: &[u8]) -> Result<Option<Event>, AllocError>
-    ensures { IfOk result (λ event. option_map said_of event ≡ event_of line.now) }
+/// What is wanted where a line has another first word.
+const EVENTS: &str =
+    "not a step of a world; one of accept, arrive, call, claim, close, connect, deliver, drop, fin, free, idle, open, poll, pop, post, put, release, reset, retire, room, spurious, sweep, take, tick and vanish is wanted";
+
+/// The event that a line stands for.
+pub(crate) fn event<'a>(alloc: Global, line: &'a [u8]) -> Result<Event, NotRead<'a>>
+    ensures { ReadsBy said_of (event_of line.now) result }
 {
     let mut words = Pieces::new(line, b' ');
-    let Some(word) = words.next() else {
-        return Ok(None);
-    };
-    if word == b"poll".as_slice() {
-        match names(alloc, words)? {
-            Some(names) => Ok(Some(Event::Poll(Polling::Poll(names)))),
-            None => Ok(None),
-        }
+    let name = word(&mut words, EVENTS)?;
+    if name == b"arrive".as_slice() {
+        arrive(alloc, words)
+    } else if name == b"poll".as_slice() {
+        Ok(Event::Poll(Polling::Poll(names(alloc, words)?)))
     } else {
-        event_of_counted(alloc, word, words)
+        Ok(plain_event(name, words)?)
     }
 }
 
-/// The event of a line, by its first word and by how many words follow.
-fn event_of_counted(
-    alloc: Global,
-    word: &[u8],
-    mut words: Pieces,
-) -> Result<Option<Event>, AllocError>
-    ensures { IfOk result (λ event. option_map said_of event ≡ event_of_counted (word.now ∷ words.entry)) }
+fn arrive<'a>(alloc: Global, mut words: Pieces<'a>) -> Result<Event, NotRead<'a>>
+    ensures { ReadsBy said_of (arrival words.entry) result }
 {
-    let (one, two, three) = (words.next(), words.next(), words.next());
-    match (one, two, three, words.next(), words.next()) {
-        (None, _, _, _, _) => Ok(lone_event(word)),
-        (Some(one), None, _, _, _) => Ok(event_with_one(word, one)),
-        (Some(one), Some(two), None, _, _) => Ok(event_with_two(word, one, two)),
-        (Some(one), Some(two), Some(three), None, _) => {
-            event_with_three(alloc, word, one, two, three)
-        }
-        (Some(one), Some(two), Some(three), Some(four), None) => {
-            Ok(event_with_four(word, one, two, three, four))
-        }
-        _ => Ok(None),
-    }
+    let slot = slot(&mut words)?;
+    let side = side(&mut words)?;
+    let bytes = hex_bytes(alloc, &mut words)?;
+    end(words)?;
+    Ok(Event::Network(slot, side, Change::Arrive(bytes.into_vec())))
 }
 
-/// An event of one word.
-fn lone_event(word: &[u8]) -> Option<Event>
-    ensures { option_map said_of result ≡ lone_event word.now }
+/// An event that carries no list.
+fn plain_event<'a>(name: &'a [u8], words: Pieces<'a>) -> Result<Event, Wrong<'a>>
+    ensures { Reads (plain_event name.now words.entry) result }
 {
-    if word == b"connect".as_slice() {
-        Some(Event::Listen(Listening::Connect))
-    } else if word == b"drop".as_slice() {
-        Some(Event::Listen(Listening::Drop))
-    } else if word == b"open".as_slice() {
-        Some(Event::Poll(Polling::Open))
-    } else if word == b"deliver".as_slice() {
-        Some(Event::Poll(Polling::Deliver))
+    if name == b"tick".as_slice() {
+        tick(words)
+    } else if name == b"connect".as_slice() {
+        last(Event::Listen(Listening::Connect), words)
+    } else if name == b"accept".as_slice() {
+        accept(words)
+    } else if name == b"drop".as_slice() {
+        last(Event::Listen(Listening::Drop), words)
+    } else if name == b"fin".as_slice() {
+        at_end(Change::Fin, words)
+    } else if name == b"reset".as_slice() {
+        at_end(Change::Reset, words)
+    } else if name == b"room".as_slice() {
+        at_end(Change::Room, words)
+    } else if name == b"spurious".as_slice() {
+        Ok(Event::Spurious(reported(words)?))
+    } else if name == b"vanish".as_slice() {
+        Ok(Event::Vanish(reported(words)?))
+    } else if name == b"open".as_slice() {
+        last(Event::Poll(Polling::Open), words)
+    } else if name == b"deliver".as_slice() {
+        last(Event::Poll(Polling::Deliver), words)
+    } else if name == b"sweep".as_slice() {
+        sweep(words)
+    } else if name == b"put".as_slice() {
+        put(words)
+    } else if name == b"call".as_slice() {
+        call(words)
     } else {
-        None
+        work(act(name).ok_or(Wrong::unknown(name, EVENTS))?, words)
     }
 }
 
-/// An event of two words.
-fn event_with_one(word: &[u8], one: &[u8]) -> Option<Event>
-    ensures { option_map said_of result ≡ event_with_one word.now one.now }
+fn tick(mut words: Pieces<'_>) -> Result<Event, Wrong<'_>>
+    ensures { Reads (word_then number_of (λ n. if_last (Event.Tick n)) words.entry) result }
 {
-    if word == b"accept".as_slice() {
-        Some(Event::Listen(Listening::Accept(accepting(one)?)))
-    } else if word == b"spurious".as_slice() {
-        Some(Event::Spurious(lone_who(one)?))
-    } else if word == b"vanish".as_slice() {
-        Some(Event::Vanish(lone_who(one)?))
-    } else if word == b"tick".as_slice() {
-        Some(Event::Tick(number(one)? as u64))
-    } else if word == b"sweep".as_slice() {
-        Some(Event::Poll(Polling::Sweep(slot(one)?)))
-    } else if word == b"put".as_slice() && one == b"poller".as_slice() {
-        Some(Event::Poll(Polling::Put))
+    let seconds = count(&mut words)?;
+    last(Event::Tick(seconds as u64), words)
+}
+
+fn accept(mut words: Pieces<'_>) -> Result<Event, Wrong<'_>>
+    ensures { Reads (word_then accepting_of (λ answer. if_last (Event.Listen (Listening.Accept answer))) words.entry) result }
+{
+    let answer = accepting(&mut words)?;
+    last(Event::Listen(Listening::Accept(answer)), words)
+}
+
+/// What the network does to an end.
+fn at_end(change: Change, mut words: Pieces<'_>) -> Result<Event, Wrong<'_>>
+    ensures { Reads (change_event change words.entry) result }
+{
+    let slot = slot(&mut words)?;
+    let side = side(&mut words)?;
+    last(Event::Network(slot, side, change), words)
+}
+
+fn sweep(mut words: Pieces<'_>) -> Result<Event, Wrong<'_>>
+    ensures { Reads (word_then slot_of (λ slot. if_last (Event.Poll (Polling.Sweep slot))) words.entry) result }
+{
+    let slot = slot(&mut words)?;
+    last(Event::Poll(Polling::Sweep(slot)), words)
+}
+
+/// The poller's put, or a worker's.
+fn put(mut words: Pieces<'_>) -> Result<Event, Wrong<'_>>
+    ensures { Reads (put_event words.entry) result }
+{
+    let wanted = "poller or the number of a worker, 0 to 15, is wanted";
+    let who = word(&mut words, wanted)?;
+    if who == b"poller".as_slice() {
+        last(Event::Poll(Polling::Put), words)
     } else {
-        worker_event(word, one)
+        let worker = said(number_below(MAX_WORKERS, who), who, wanted)?;
+        last(Event::Work(worker, Act::Put), words)
     }
 }
 
-/// What the worker with this number does.
-fn worker_event(word: &[u8], number: &[u8]) -> Option<Event>
-    ensures { option_map said_of result ≡ worker_event word.now number.now }
+/// The next call of a worker gets a reply.
+fn call(mut words: Pieces<'_>) -> Result<Event, Wrong<'_>>
+    ensures { Reads (call_event words.entry) result }
 {
-    let act = act(word)?;
-    Some(Event::Work(worker(number)?, act))
+    let worker = worker(&mut words)?;
+    Ok(Event::Work(worker, Act::Call(reply(words)?)))
 }
 
-/// An event of three words.
-fn event_with_two(word: &[u8], one: &[u8], two: &[u8]) -> Option<Event>
-    ensures { option_map said_of result ≡ event_with_two word.now one.now two.now }
+/// Anything else that a worker does.
+fn work(act: Act, mut words: Pieces<'_>) -> Result<Event, Wrong<'_>>
+    ensures { Reads (act_event act words.entry) result }
 {
-    if word == b"call".as_slice() {
-        call_event(one, lone_reply(two))
-    } else {
-        let slot = slot(one)?;
-        end_event(word, slot, Side::named(two)?)
-    }
-}
-
-/// What happens at one end.
-fn end_event(word: &[u8], slot: usize, side: Side) -> Option<Event>
-    ensures { option_map said_of result ≡ end_event word.now slot side }
-{
-    if word == b"fin".as_slice() {
-        Some(Event::Network(slot, side, Change::Fin))
-    } else if word == b"reset".as_slice() {
-        Some(Event::Network(slot, side, Change::Reset))
-    } else if word == b"room".as_slice() {
-        Some(Event::Network(slot, side, Change::Room))
-    } else if word == b"spurious".as_slice() {
-        Some(Event::Spurious(Reported::End(slot, side)))
-    } else if word == b"vanish".as_slice() {
-        Some(Event::Vanish(Reported::End(slot, side)))
-    } else {
-        None
-    }
-}
-
-/// The next call of the worker with this number gets a reply.
-fn call_event(number: &[u8], reply: Option<Reply>) -> Option<Event>
-    ensures { option_map said_of result ≡ call_event number.now reply }
-{
-    let worker = worker(number)?;
-    Some(Event::Work(worker, Act::Call(reply?)))
-}
-
-/// An event of four words.
-fn event_with_three(
-    alloc: Global,
-    word: &[u8],
-    one: &[u8],
-    two: &[u8],
-    three: &[u8],
-) -> Result<Option<Event>, AllocError>
-    ensures { IfOk result (λ event. option_map said_of event ≡ event_with_three word.now one.now two.now three.now) }
-{
-    if word == b"call".as_slice() {
-        return Ok(call_event(one, reply_with(two, three)));
-    }
-    if word != b"arrive".as_slice() {
-        return Ok(None);
-    }
-    let (Some(slot), Some(side)) = (slot(one), Side::named(two)) else {
-        return Ok(None);
-    };
-    match bytes(alloc, three)? {
-        Some(bytes) => Ok(Some(Event::Network(slot, side, Change::Arrive(bytes.into_vec())))),
-        None => Ok(None),
-    }
-}
-
-/// An event of five words.
-fn event_with_four(word: &[u8], one: &[u8], two: &[u8], three: &[u8], four: &[u8]) -> Option<Event>
-    ensures { option_map said_of result ≡ event_with_four word.now one.now two.now three.now four.now }
-{
-    if word == b"call".as_slice() {
-        call_event(one, full_write(two, three, four))
-    } else {
-        None
-    }
+    let worker = worker(&mut words)?;
+    last(Event::Work(worker, act), words)
 }

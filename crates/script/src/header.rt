@@ -1,12 +1,15 @@
 // The header: the first line of a script that is not skipped.
-ghost use Rattle.std.specs.Prelude.{◌≡◌, ◌≤◌, ◌<◌, [], IfSome, option_and_then};
+ghost use Rattle.std.specs.Prelude.{◌≡◌, ◌≤◌, ◌<◌, [], codes, unwrap_or, IfSome, IfOk, option_and_then};
 ghost use Rattle.world.specs.States.{IsWithinLimits};
-ghost use Rattle.script.specs.Headers.{size_of, generation_of, ring_of, idle_of, lead_of, short_enough, optional, extras_of, limits_with, limits_of, lone_ring, header_of, IsRing, IsWithin};
+ghost use Rattle.script.specs.Reading.{first_as, Reads, Takes};
+ghost use Rattle.script.specs.Headers.{size_of, generation_of, ring_of, idle_of, lead_of, short_enough, optional, extras_of, limits_of, lone_ring, header_of, IsRing, IsWithin};
 ghost use Rattle.script.specs.Texts.{bytes_of};
 
 use crate::limits::{MAX_BUDGET, MAX_IDLE, MAX_SLOTS, MAX_WORKERS};
 use crate::lines::Pieces;
+use crate::readers::{end_or, last, said, word};
 use crate::values::{is_hex_text, value_after};
+use crate::wrong::Wrong;
 use flow::Flow;
 use token::MAX_GENERATION;
 use world::{Lead, Limits};
@@ -31,129 +34,153 @@ struct Extras {
     lead: Lead,
 }
 
-/// The header that a line stands for, if any.
-pub(crate) fn read_header(line: &[u8]) -> Option<Header>
-    ensures value { result ≡ header_of line.now }
-    ensures range { IfSome result IsWithin }
+/// The header that a line stands for.
+pub(crate) fn read_header(line: &[u8]) -> Result<Header, Wrong<'_>>
+    ensures value { Reads (header_of line.now) result }
+    ensures range { IfOk result IsWithin }
 {
+    let wanted = "a script begins with flow or world";
     let mut words = Pieces::new(line, b' ');
-    let name = words.next()?;
+    let name = word(&mut words, wanted)?;
     if name == b"flow".as_slice() {
-        Some(Header::Flow(lone_ring(words)?))
+        Ok(Header::Flow(lone_ring(words)?))
     } else if name == b"world".as_slice() {
-        Some(Header::World(limits(words)?))
+        match limits(words) {
+            Ok(limits) => Ok(Header::World(limits)),
+            Err(wrong) => Err(wrong),
+        }
     } else {
-        None
+        Err(Wrong::unknown(name, wanted))
     }
 }
 
 /// `ring=R` and nothing else.
-fn lone_ring(mut words: Pieces) -> Option<usize>
-    ensures value { result ≡ lone_ring words.entry }
-    ensures range { IfSome result IsRing }
+fn lone_ring(mut words: Pieces<'_>) -> Result<usize, Wrong<'_>>
+    ensures value { Reads (lone_ring words.entry) result }
+    ensures range { IfOk result IsRing }
 {
-    let (word, more) = (words.next()?, words.next());
-    if more.is_some() {
-        return None;
-    }
-    ring(word)
+    let ring = ring(&mut words)?;
+    last(ring, words)
 }
 
 /// The sizes of a world: `slots=S workers=W ring=R budget=B`, perhaps `gen=G`, perhaps `idle=L`, and perhaps `lead=HEX`.
-fn limits(mut words: Pieces) -> Option<Limits>
-    ensures value { result ≡ limits_of words.entry }
-    ensures range { IfSome result IsWithinLimits }
+fn limits(mut words: Pieces<'_>) -> Result<Limits, Wrong<'_>>
+    ensures value { Reads (limits_of words.entry) result }
+    ensures range { IfOk result IsWithinLimits }
 {
-    let (slots, workers) = (words.next()?, words.next()?);
-    let (ring, budget) = (words.next()?, words.next()?);
-    limits_with(read_extras(words)?, slots, workers, ring, budget)
+    let slots = size(
+        &mut words,
+        b"slots=",
+        MAX_SLOTS,
+        "slots=1 to slots=64 is wanted",
+    )?;
+    let workers = size(
+        &mut words,
+        b"workers=",
+        MAX_WORKERS,
+        "workers=1 to workers=16 is wanted",
+    )?;
+    let ring = ring(&mut words)?;
+    let budget = size(
+        &mut words,
+        b"budget=",
+        MAX_BUDGET,
+        "budget=1 to budget=1024 is wanted",
+    )?;
+    match read_extras(words) {
+        Ok(extras) => Ok(Limits {
+            slots,
+            workers,
+            ring,
+            budget,
+            generation: extras.generation,
+            idle: extras.idle,
+            lead: extras.lead,
+        }),
+        Err(wrong) => Err(wrong),
+    }
 }
 
 /// What stands behind the sizes: `gen=G`, `idle=L` and `lead=HEX` in this order, each of which may be left out.
-fn read_extras(mut words: Pieces) -> Option<Extras>
-    ensures value { result ≡ extras_of words.entry }
-    ensures range { IfSome result (λ extras. extras.generation < 140737488355327) }
+fn read_extras(mut words: Pieces<'_>) -> Result<Extras, Wrong<'_>>
+    ensures value { Reads (extras_of words.entry) result }
+    ensures range { IfOk result (λ extras. extras.generation < 140737488355327) }
 {
     let generation = optional_generation(&mut words);
     let idle = optional_idle(&mut words);
     let lead = optional_lead(&mut words);
-    match words.next() {
-        None => Some(Extras {
-            generation,
-            idle,
-            lead,
-        }),
-        Some(_) => None,
-    }
-}
-
-/// The generation that the first word says; if it says none, it stays, and the answer is 0.
-fn optional_generation(words: &mut Pieces) -> u64
-    ensures value { optional generation_of 0 words.old ≡ record { value = result; words = words.new } }
-    ensures range { result < 140737488355327 }
-{
-    let Some(generation) = words.peek().and_then(generation) else {
-        return 0;
-    };
-    words.next();
-    generation
-}
-
-/// The idle limit that the first word says; if it says none, it stays, and the answer is 0.
-fn optional_idle(words: &mut Pieces) -> u64
-    ensures { optional idle_of 0 words.old ≡ record { value = result; words = words.new } }
-{
-    let Some(idle) = words.peek().and_then(idle) else {
-        return 0;
-    };
-    words.next();
-    idle
-}
-
-/// The lead that the first word says; if it says none, it stays, and the answer is the empty one.
-fn optional_lead(words: &mut Pieces) -> Lead
-    ensures { optional lead_of [] words.old ≡ record { value = result; words = words.new } }
-{
-    let Some(lead) = words.peek().and_then(lead) else {
-        return Lead::NONE;
-    };
-    words.next();
-    lead
-}
-
-/// The sizes of a world, with what stands behind them.
-fn limits_with(
-    extras: Extras,
-    slots: &[u8],
-    workers: &[u8],
-    ring_size: &[u8],
-    budget: &[u8],
-) -> Option<Limits>
-    requires { extras.generation < 140737488355327 }
-    ensures value { result ≡ limits_with extras slots.now workers.now ring_size.now budget.now }
-    ensures range { IfSome result IsWithinLimits }
-{
-    Some(Limits {
-        slots: size(b"slots=", MAX_SLOTS, slots)?,
-        workers: size(b"workers=", MAX_WORKERS, workers)?,
-        ring: ring(ring_size)?,
-        budget: size(b"budget=", MAX_BUDGET, budget)?,
-        generation: extras.generation,
-        idle: extras.idle,
-        lead: extras.lead,
+    end_or(words, behind(generation, idle, lead.is_some()))?;
+    Ok(Extras {
+        generation: generation.unwrap_or(0),
+        idle: idle.unwrap_or(0),
+        lead: lead.unwrap_or(Lead::NONE),
     })
 }
 
-/// `ring=R`, 1 to 65,536 bytes.
-pub(crate) fn ring(word: &[u8]) -> Option<usize>
-    ensures value { result ≡ ring_of word.now }
-    ensures range { IfSome result IsRing }
+/// What may stand behind these, if anything.
+fn behind(generation: Option<u64>, idle: Option<u64>, has_lead: bool) -> &'static str {
+    if has_lead {
+        "the line should end before this word"
+    } else if idle.is_some() {
+        "lead= and 1 to 107 bytes as pairs of lower-case hexadecimal digits, or the end of the line, is wanted"
+    } else if generation.is_some() {
+        "idle=1 to idle=86400, lead= and 1 to 107 bytes as pairs of lower-case hexadecimal digits, or the end of the line, is wanted"
+    } else {
+        "gen=0 to gen=140737488355326, idle=1 to idle=86400, lead= and 1 to 107 bytes as pairs of lower-case hexadecimal digits, or the end of the line, is wanted"
+    }
+}
+
+/// The generation that the first word says, or none, and the word stays.
+fn optional_generation(words: &mut Pieces) -> Option<u64>
+    ensures value { optional generation_of 0 words.old ≡ record { value = unwrap_or result 0; words = words.new } }
+    ensures range { IfSome result (λ generation. generation < 140737488355327) }
 {
-    size(b"ring=", Flow::MAX, word)
+    let generation = words.peek().and_then(generation)?;
+    words.next();
+    Some(generation)
+}
+
+/// The idle limit that the first word says, or none, and the word stays.
+fn optional_idle(words: &mut Pieces) -> Option<u64>
+    ensures { optional idle_of 0 words.old ≡ record { value = unwrap_or result 0; words = words.new } }
+{
+    let idle = words.peek().and_then(idle)?;
+    words.next();
+    Some(idle)
+}
+
+/// The lead that the first word says, or none, and the word stays.
+fn optional_lead(words: &mut Pieces) -> Option<Lead>
+    ensures { optional lead_of [] words.old ≡ record { value = unwrap_or result []; words = words.new } }
+{
+    let lead = words.peek().and_then(lead)?;
+    words.next();
+    Some(lead)
+}
+
+/// `ring=R`, 1 to 65,536 bytes.
+fn ring<'a>(words: &mut Pieces<'a>) -> Result<usize, Wrong<'a>>
+    ensures value { Takes (first_as ring_of words.old) result words.new }
+    ensures range { IfOk result IsRing }
+{
+    size(words, b"ring=", Flow::MAX, "ring=1 to ring=65536 is wanted")
 }
 
 /// `KEY=N`, from 1 to `most`. The key ends with its `=`.
-pub(crate) fn size(key: &[u8], most: usize, word: &[u8]) -> Option<usize>
+fn size<'a>(
+    words: &mut Pieces<'a>,
+    key: &[u8],
+    most: usize,
+    wanted: &'static str,
+) -> Result<usize, Wrong<'a>>
+    ensures value { Takes (first_as (size_of key.now most) words.old) result words.new }
+    ensures range { IfOk result (λ size. (1 ≤ size) × (size ≤ most)) }
+{
+    let word = word(words, wanted)?;
+    said(size_said(key, most, word), word, wanted)
+}
+
+fn size_said(key: &[u8], most: usize, word: &[u8]) -> Option<usize>
     ensures value { result ≡ size_of key.now most word.now }
     ensures range { IfSome result (λ size. (1 ≤ size) × (size ≤ most)) }
 {
@@ -166,7 +193,7 @@ pub(crate) fn size(key: &[u8], most: usize, word: &[u8]) -> Option<usize>
 }
 
 /// `gen=G`, 0 to 2^47 - 2.
-pub(crate) fn generation(word: &[u8]) -> Option<u64>
+fn generation(word: &[u8]) -> Option<u64>
     ensures value { result ≡ generation_of word.now }
     ensures range { IfSome result (λ generation. generation < 140737488355327) }
 {
@@ -179,15 +206,15 @@ pub(crate) fn generation(word: &[u8]) -> Option<u64>
 }
 
 /// `idle=L`, 1 to 86,400 seconds.
-pub(crate) fn idle(word: &[u8]) -> Option<u64>
+fn idle(word: &[u8]) -> Option<u64>
     ensures { result ≡ idle_of word.now }
 {
-    let idle = size(b"idle=", MAX_IDLE, word)?;
+    let idle = size_said(b"idle=", MAX_IDLE, word)?;
     Some(idle as u64)
 }
 
 /// `lead=HEX`, 1 to 107 bytes.
-pub(crate) fn lead(word: &[u8]) -> Option<Lead>
+fn lead(word: &[u8]) -> Option<Lead>
     ensures { result ≡ lead_of word.now }
 {
     short_bytes(word.strip_prefix(b"lead=")?)

@@ -11,9 +11,9 @@
 //! malformed and what is expected there, or why a step is not allowed. [`run`] passes text and fault to its
 //! [`Explain`].
 //!
-//! `docs/FORMATS.md` describes scripts and reports; `specs/` has the same as definitions: `Texts`, `Headers`, `Steps`,
-//! `Events` and `Scripts` for the text, `Transfers` and `Plays` for the steps, `Reports`, `WorldReports` and `Each` for
-//! what is written, and `Laws` and `Runs` for what holds for every run.
+//! `docs/FORMATS.md` describes scripts and reports; `specs/` has the same as definitions: `Texts`, `Reading`, `Headers`,
+//! `Steps`, `Events` and `Scripts` for the text, `Transfers` and `Plays` for the steps, `Reports`, `WorldReports` and
+//! `Each` for what is written, and `Laws` and `Runs` for what holds for every run.
 #![tactic(auto)]
 
 mod causes;
@@ -30,7 +30,7 @@ mod limits;
 mod lines;
 mod machine;
 mod parsing;
-mod parts;
+mod readers;
 mod reasons;
 mod report;
 mod running;
@@ -45,6 +45,7 @@ mod values;
 mod word;
 mod world_report;
 mod world_script;
+mod wrong;
 
 pub use causes::cause;
 pub use each::run_each;

@@ -7,6 +7,7 @@ use crate::header::{Header, read_header};
 use crate::limits::MAX_BYTES;
 use crate::lines::Lines;
 use crate::steps::step;
+use crate::wrong::NotRead;
 use crate::{Fault, FlowScript, NumberedEvent, NumberedStep, Script, WorldScript};
 use std::alloc::Global;
 
@@ -25,9 +26,9 @@ pub fn parse(alloc: Global, text: &[u8]) -> Result<Script, Fault>
         return Err(Fault::NoWorld);
     };
     match read_header(first.text) {
-        None => Err(Fault::Malformed(first.number)),
-        Some(Header::Flow(ring)) => Ok(Script::Flow(FlowScript::new(ring, steps(alloc, lines)?))),
-        Some(Header::World(limits)) => Ok(Script::World(WorldScript::new(
+        Err(_) => Err(Fault::Malformed(first.number)),
+        Ok(Header::Flow(ring)) => Ok(Script::Flow(FlowScript::new(ring, steps(alloc, lines)?))),
+        Ok(Header::World(limits)) => Ok(Script::World(WorldScript::new(
             limits,
             events(alloc, lines)?,
         ))),
@@ -40,8 +41,10 @@ fn steps(alloc: Global, mut lines: Lines) -> Result<Vec<NumberedStep>, Fault>
 {
     let mut steps = Vec::new(alloc);
     while let Some(line) = lines.next() {
-        let Some(step) = step(alloc, line.text)? else {
-            return Err(Fault::Malformed(line.number));
+        let step = match step(alloc, line.text) {
+            Ok(step) => step,
+            Err(NotRead::Malformed(_)) => return Err(Fault::Malformed(line.number)),
+            Err(NotRead::NoMemory) => return Err(Fault::NoMemory),
         };
         steps.push(NumberedStep {
             line: line.number,
@@ -57,8 +60,10 @@ fn events(alloc: Global, mut lines: Lines) -> Result<Vec<NumberedEvent>, Fault>
 {
     let mut events = Vec::new(alloc);
     while let Some(line) = lines.next() {
-        let Some(event) = event(alloc, line.text)? else {
-            return Err(Fault::Malformed(line.number));
+        let event = match event(alloc, line.text) {
+            Ok(event) => event,
+            Err(NotRead::Malformed(_)) => return Err(Fault::Malformed(line.number)),
+            Err(NotRead::NoMemory) => return Err(Fault::NoMemory),
         };
         events.push(NumberedEvent {
             line: line.number,

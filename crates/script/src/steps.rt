@@ -1,76 +1,71 @@
-// The steps in a script of one direction: one function for each number of words.
-ghost use Rattle.std.specs.Prelude.{◌≡◌, IfOk};
-ghost use Rattle.script.specs.Steps.{lone_step, counted_step, step_with, full_step, step_of};
+// The steps in a script of one direction.
+ghost use Rattle.std.specs.Prelude.{option_map};
+ghost use Rattle.script.specs.Texts.{number_of};
+ghost use Rattle.script.specs.Reading.{word_then, if_last, full_of, Reads, ReadsBy};
+ghost use Rattle.script.specs.Steps.{plain_step, arrive_step, step_of};
 
 use crate::Step;
 use crate::lines::Pieces;
-use crate::values::{bytes, number};
-use std::alloc::{AllocError, Global};
+use crate::readers::{count, end, hex_bytes, is_full, last, word};
+use crate::wrong::{NotRead, Wrong};
+use std::alloc::Global;
 
-/// The step that a line stands for, if any.
-pub(crate) fn step(alloc: Global, line: &[u8]) -> Result<Option<Step>, AllocError>
-    ensures { IfOk result (λ step. step ≡ step_of line.now) }
+/// What is wanted where a line has another first word.
+const STEPS: &str =
+    "not a step of a flow; one of arrive, end, fin, read, room, shut and wrote is wanted";
+
+/// The step that a line stands for.
+pub(crate) fn step<'a>(alloc: Global, line: &'a [u8]) -> Result<Step, NotRead<'a>>
+    ensures { ReadsBy (λ step. step) (step_of line.now) result }
 {
     let mut words = Pieces::new(line, b' ');
-    match (words.next(), words.next(), words.next(), words.next()) {
-        (Some(name), None, _, _) => Ok(lone_step(name)),
-        (Some(name), Some(operand), None, _) => step_with(alloc, name, operand),
-        (Some(name), Some(operand), Some(mark), None) => Ok(full_step(name, operand, mark)),
-        _ => Ok(None),
+    let name = word(&mut words, STEPS)?;
+    if name == b"arrive".as_slice() {
+        arrive(alloc, words)
+    } else {
+        Ok(plain_step(name, words)?)
     }
 }
 
-/// A step of one word.
-fn lone_step(name: &[u8]) -> Option<Step>
-    ensures { result ≡ lone_step name.now }
+fn arrive<'a>(alloc: Global, mut words: Pieces<'a>) -> Result<Step, NotRead<'a>>
+    ensures { ReadsBy (λ step. step) (arrive_step words.entry) result }
+{
+    let bytes = hex_bytes(alloc, &mut words)?;
+    end(words)?;
+    Ok(Step::Arrive(bytes))
+}
+
+/// A step that carries no bytes.
+fn plain_step<'a>(name: &'a [u8], words: Pieces<'a>) -> Result<Step, Wrong<'a>>
+    ensures { Reads (plain_step name.now words.entry) result }
 {
     if name == b"fin".as_slice() {
-        Some(Step::Fin)
+        last(Step::Fin, words)
     } else if name == b"room".as_slice() {
-        Some(Step::Room)
+        last(Step::Room, words)
+    } else if name == b"read".as_slice() {
+        read(words)
     } else if name == b"end".as_slice() {
-        Some(Step::End)
-    } else if name == b"shut".as_slice() {
-        Some(Step::Shut)
-    } else {
-        None
-    }
-}
-
-/// A step of two words.
-fn step_with(alloc: Global, name: &[u8], operand: &[u8]) -> Result<Option<Step>, AllocError>
-    ensures { IfOk result (λ step. step ≡ step_with name.now operand.now) }
-{
-    if name == b"arrive".as_slice() {
-        match bytes(alloc, operand)? {
-            Some(bytes) => Ok(Some(Step::Arrive(bytes))),
-            None => Ok(None),
-        }
-    } else {
-        Ok(counted_step(name, operand))
-    }
-}
-
-/// A step of two words, of which the second is a count.
-fn counted_step(name: &[u8], operand: &[u8]) -> Option<Step>
-    ensures { result ≡ counted_step name.now operand.now }
-{
-    if name == b"read".as_slice() {
-        Some(Step::Read(number(operand)?))
+        last(Step::End, words)
     } else if name == b"wrote".as_slice() {
-        Some(Step::Wrote(number(operand)?, false))
+        wrote(words)
+    } else if name == b"shut".as_slice() {
+        last(Step::Shut, words)
     } else {
-        None
+        Err(Wrong::unknown(name, STEPS))
     }
 }
 
-/// A step of three words.
-fn full_step(name: &[u8], operand: &[u8], mark: &[u8]) -> Option<Step>
-    ensures { result ≡ full_step name.now operand.now mark.now }
+fn read(mut words: Pieces<'_>) -> Result<Step, Wrong<'_>>
+    ensures { Reads (word_then number_of (λ n. if_last (Step.Read n)) words.entry) result }
 {
-    if name == b"wrote".as_slice() && mark == b"full".as_slice() {
-        Some(Step::Wrote(number(operand)?, true))
-    } else {
-        None
-    }
+    let count = count(&mut words)?;
+    last(Step::Read(count), words)
+}
+
+fn wrote(mut words: Pieces<'_>) -> Result<Step, Wrong<'_>>
+    ensures { Reads (word_then number_of (λ n left. option_map (λ full. Step.Wrote n full) (full_of left)) words.entry) result }
+{
+    let count = count(&mut words)?;
+    Ok(Step::Wrote(count, is_full(words)?))
 }
