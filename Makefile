@@ -1,6 +1,6 @@
 # Thin targets over the toolchain's command `rt`. See README.md.
 
-.PHONY: help build run sim test test-program test-drill growths bench bench-turn install dist
+.PHONY: help build run sim test test-program test-drill soak growths bench bench-turn install dist
 
 # The settings file of `make run`.
 CONFIG ?= examples/relayd.toml
@@ -19,6 +19,7 @@ help:
 	@echo 'make test          the gate: every proof and test from scratch, and the built program'
 	@echo 'make test-program  tests the built program as its users run it'
 	@echo 'make test-drill    plays the server beside the modelled machine'
+	@echo 'make soak          keeps a thousand connections of every kind going for ten minutes'
 	@echo 'make growths       makes each memory allocation of the built tests and program fail in turn'
 	@echo 'make bench         compares the relay with other forwarders'
 	@echo 'make bench-turn    measures how fast a turn moves bytes in memory'
@@ -49,6 +50,11 @@ test-program: build
 test-drill: build
 	@.ci/build drill
 	@tests/drill/run
+
+# Keeps a thousand connections going for ten minutes, with stalls, half-closes and resets. Not part of the gate; it needs
+# Python 3.
+soak: build
+	@tests/soak $(PROGRAM)
 
 # Makes each memory allocation fail in turn. Not part of the gate; it needs Python 3, a C compiler, and the crates'
 # tests as the gate or `rt test` builds them.
