@@ -1,6 +1,6 @@
 //! The turns that the poller's thread runs by itself, so that no worker has to be woken for them.
 ghost use Rattle.std.specs.Prelude.{◌≡◌, ◌⊎◌, ◌<◌, [], length, slice_get, IfSome};
-ghost use Rattle.claims.specs.Seats.{HoldsNothing};
+ghost use Rattle.claims.specs.Seats.{HoldsNothing, OnlyAt};
 ghost use Rattle.dispatch.specs.Outgoing.{tickets_out, Inserted, KeepsOut};
 ghost use Rattle.dispatch.specs.Turns.{OwnTurn};
 
@@ -75,6 +75,7 @@ pub fn own_turn<F: Front, G: Gate, C: Clock, R: Wait + Log>(
     ensures same { own.new.seat.table ≡ own.old.seat.table }
     ensures idle { HoldsNothing own.new.seat }
     ensures poller { poller.new ≡ poller.old }
+    ensures only { IfSome (slice_get own.old.hand.tickets 0) (λ ticket. OnlyAt ticket.slot own.old.seat own.new.seat) }
     ensures turn { IfSome (slice_get own.old.hand.tickets 0) (λ ticket. OwnTurn ticket result own.old own.new) }
     ensures none { own.old.hand.tickets ≡ [] → own.new ≡ own.old }
 {

@@ -7,7 +7,7 @@ ghost use Rattle.script.specs.Events.{said_of, slot_of, accepting_of, change_eve
 use crate::event_parts::{act, names, reply, reported};
 use crate::limits::MAX_WORKERS;
 use crate::lines::Pieces;
-use crate::readers::{accepting, count, end, hex_bytes, last, said, side, slot, word, worker};
+use crate::readers::{accepting, count, last, last_bytes, said, side, slot, word, worker};
 use crate::values::number_below;
 use crate::wrong::{NotRead, Wrong};
 use std::alloc::Global;
@@ -37,8 +37,7 @@ fn arrive<'a>(alloc: Global, mut words: Pieces<'a>) -> Result<Event, NotRead<'a>
 {
     let slot = slot(&mut words)?;
     let side = side(&mut words)?;
-    let bytes = hex_bytes(alloc, &mut words)?;
-    end(words)?;
+    let bytes = last_bytes(alloc, words)?;
     Ok(Event::Network(slot, side, Change::Arrive(bytes.into_vec())))
 }
 

@@ -4,7 +4,7 @@ ghost use Rattle.std.specs.Prelude.{◌≡◌, ◌∷◌, [], MatchResult};
 ghost use Rattle.token.specs.Sides.{side_named};
 ghost use Rattle.token.specs.Kinds.{kind_named};
 ghost use Rattle.script.specs.Texts.{number_of, bytes_of};
-ghost use Rattle.script.specs.Reading.{first_as, line_end, if_last, full_of, Reads, Takes, TakesInMemory};
+ghost use Rattle.script.specs.Reading.{first_as, word_then, line_end, if_last, full_of, Reads, ReadsBy, Takes};
 ghost use Rattle.script.specs.Events.{slot_of, worker_of, accepting_of};
 
 use crate::Bytes;
@@ -136,13 +136,17 @@ fn accepting_named(word: &[u8]) -> Option<Accepting>
     }
 }
 
-/// Bytes in hexadecimal.
-pub(crate) fn hex_bytes<'a>(alloc: Global, words: &mut Pieces<'a>) -> Result<Bytes, NotRead<'a>>
-    ensures { TakesInMemory (first_as bytes_of words.old) result words.new }
+/// Bytes in hexadecimal, behind which the line ends. A line that goes on is malformed, even if there is no memory.
+pub(crate) fn last_bytes<'a>(alloc: Global, mut words: Pieces<'a>) -> Result<Bytes, NotRead<'a>>
+    ensures { ReadsBy (λ bytes. bytes) (word_then bytes_of if_last words.entry) result }
 {
     let wanted = "1 to 1024 bytes as pairs of lower-case hexadecimal digits are wanted";
-    let word = word(words, wanted)?;
-    Ok(said(bytes(alloc, word)?, word, wanted)?)
+    let word = word(&mut words, wanted)?;
+    let Ok(bytes) = bytes(alloc, word) else {
+        end(words)?;
+        return Err(NotRead::NoMemory);
+    };
+    Ok(last(said(bytes, word, wanted)?, words)?)
 }
 
 /// Whether a write left no room, which `full` at the end of the line says.

@@ -6,7 +6,7 @@ ghost use Rattle.script.specs.Steps.{plain_step, arrive_step, step_of};
 
 use crate::Step;
 use crate::lines::Pieces;
-use crate::readers::{count, end, hex_bytes, is_full, last, word};
+use crate::readers::{count, is_full, last, last_bytes, word};
 use crate::wrong::{NotRead, Wrong};
 use std::alloc::Global;
 
@@ -27,12 +27,10 @@ pub(crate) fn step<'a>(alloc: Global, line: &'a [u8]) -> Result<Step, NotRead<'a
     }
 }
 
-fn arrive<'a>(alloc: Global, mut words: Pieces<'a>) -> Result<Step, NotRead<'a>>
+fn arrive<'a>(alloc: Global, words: Pieces<'a>) -> Result<Step, NotRead<'a>>
     ensures { ReadsBy (λ step. step) (arrive_step words.entry) result }
 {
-    let bytes = hex_bytes(alloc, &mut words)?;
-    end(words)?;
-    Ok(Step::Arrive(bytes))
+    Ok(Step::Arrive(last_bytes(alloc, words)?))
 }
 
 /// A step that carries no bytes.

@@ -1,9 +1,9 @@
 //! The loop of a poller's thread.
-ghost use Rattle.std.specs.Prelude.{◌≡◌, ◌≢◌, length};
+ghost use Rattle.std.specs.Prelude.{◌≡◌, ◌≢◌, length, Some};
 ghost use Rattle.std.specs.Arc.{arc_value};
 ghost use Rattle.claims.specs.Seats.{HoldsNothing};
 ghost use Rattle.dispatch.specs.declared.faults.ServerFault.TheVariants.{Worn};
-ghost use Rattle.server.specs.Loops.{Balanced};
+ghost use Rattle.server.specs.Loops.{Balanced, RanAtMost, RanSome};
 
 use crate::crew::Crew;
 use crate::ended::Ended;
@@ -43,7 +43,9 @@ where
     pub(crate) fn run_rounds<G: Gate, C: Clock, R: Wait + Log>(
         &mut self,
         crew: &Crew<'_, F, G, C, R>,
-    ) -> Ended {
+    ) -> Ended
+        ensures balance { result.fault ≢ Some Worn → RanSome self.old.own self.new.own }
+    {
         for _round in crew.rt.forever() {
             if crew.faults.is_written() || self.poller.is_over() {
                 return Ended::well();
@@ -59,12 +61,13 @@ where
     fn round<G: Gate, C: Clock, R: Wait + Log>(
         &mut self,
         crew: &Crew<'_, F, G, C, R>,
-    ) -> Result<(), Ended> {
-        self.poll(crew)?;
-        if crew.pollers_work {
-            self.run_turns(crew)?;
+    ) -> Result<(), Ended>
+        ensures balance { result ≢ Err (record { fault = Some Worn }) → RanAtMost 16 self.old.own self.new.own }
+    {
+        match self.poll(crew) {
+            Ok(()) if crew.pollers_work => self.run_turns(crew),
+            polled => polled,
         }
-        Ok(())
     }
 
     /// Makes a round, and runs no turn.
@@ -88,7 +91,9 @@ where
     fn run_turns<G: Gate, C: Clock, R: Wait + Log>(
         &mut self,
         crew: &Crew<'_, F, G, C, R>,
-    ) -> Result<(), Ended> {
+    ) -> Result<(), Ended>
+        ensures balance { RanAtMost 16 self.old.own self.new.own }
+    {
         share_tickets(crew.rt, &mut self.own, &mut self.poller);
         for _turn in 0..MAX_OWN_TURNS {
             if self.turn(crew)?.is_none() {
@@ -102,7 +107,9 @@ where
     fn turn<G: Gate, C: Clock, R: Wait + Log>(
         &mut self,
         crew: &Crew<'_, F, G, C, R>,
-    ) -> Result<Option<Worked>, Ended> {
+    ) -> Result<Option<Worked>, Ended>
+        ensures balance { RanAtMost 1 self.old.own self.new.own }
+    {
         Ended::on_fault(own_turn(
             crew.rt,
             &self.shared,

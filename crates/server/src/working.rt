@@ -1,9 +1,9 @@
 //! The loop of a worker's thread.
-ghost use Rattle.std.specs.Prelude.{◌≡◌, [], length};
+ghost use Rattle.std.specs.Prelude.{◌≡◌, ◌≢◌, ◌<◌, ◌-◌, [], ◌∷◌, length, slice_get, slice_set, IfSome};
 ghost use Rattle.std.specs.Arc.{arc_value};
 ghost use Rattle.claims.specs.Seats.{HoldsNothing};
 ghost use Rattle.dispatch.specs.Hands.{HasRoom};
-ghost use Rattle.server.specs.Loops.{Balanced};
+ghost use Rattle.server.specs.Loops.{Balanced, GivesToOwner};
 
 use crate::crew::Crew;
 use crate::ended::Ended;
@@ -71,6 +71,7 @@ where
     ) -> Result<Worked, Ended>
         requires { HasRoom self.old.own.hand }
         ensures balance { Balanced self.old.own self.new.own }
+        ensures gives { ticket.slot < crew.now.split.slots → GivesToOwner crew.now.split ticket.slot (self.old.own.free ∷ self.old.others.items) (self.new.own.free ∷ self.new.others.items) }
     {
         let poller = crew.split.poller_of(ticket.slot);
         self.change_queue(poller);
@@ -93,6 +94,8 @@ where
         ensures hand { self.new.own.hand ≡ self.old.own.hand }
         ensures ready { self.new.own.ready ≡ self.old.own.ready }
         ensures shared { self.new.shared ≡ self.old.shared }
+        ensures first { poller ≡ 0 → (self.new.own.free ≡ self.old.own.free) × (self.new.others.items ≡ self.old.others.items) }
+        ensures other { poller ≢ 0 → IfSome (slice_get self.old.others.items (poller - 1)) (λ other. (self.new.own.free ≡ other) × (self.new.others.items ≡ slice_set self.old.others.items (poller - 1) self.old.own.free)) }
     {
         if poller == 0 {
             return;
@@ -109,6 +112,7 @@ where
         ensures tickets { self.new.own.hand.tickets ≡ self.old.own.hand.tickets }
         ensures ready { self.new.own.ready ≡ self.old.own.ready }
         ensures shared { self.new.shared ≡ self.old.shared }
+        ensures others { self.new.others.items ≡ self.old.others.items }
     {
         for _try in rt.forever() {
             if self.own.hand.slots() == 0 {

@@ -8,4 +8,5 @@ invariant-loop-try g l = record {
   tickets : l.self.own.hand.tickets ≡ l.fn.self.own.hand.tickets;
   ready : l.self.own.ready ≡ l.fn.self.own.ready;
   shared : l.self.shared ≡ l.fn.self.shared;
+  others : l.self.others.items ≡ l.fn.self.others.items;
 }
