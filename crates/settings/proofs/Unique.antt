@@ -4,13 +4,13 @@ use Rattle.std.proofs.lemmas.Fmt.{decimal_injective}
 use Rattle.std.proofs.lemmas.Option.{same_Some}
 use Rattle.std.specs.Fmt.{decimal}
 use Rattle.toml.specs.Data.{Data, Members, get_member}
-use Rattle.settings.specs.Names.{key_name, level_name}
+use Rattle.settings.specs.Names.{level_name}
 use Rattle.settings.specs.Addresses.{SocketAddress, IsAddress, address_text}
-use Rattle.settings.specs.Table.{Setting, address, number, level, truth, ValueKind, an_address, a_number, a_level, a_truth, Row, required, optional, table}
+use Rattle.settings.specs.Table.{key_name, setting, Setting, address, number, level, truth, ValueKind, an_address, a_number, a_level, a_truth, Row, required, optional, table}
 use Rattle.settings.specs.Document.{HasKind, Writes, Gives, GivesEach, Refuses, IsFirstFault, HasNoUnknown}
-use Rattle.settings.specs.Text.{setting, IsDocument, IsSettingsOf, IsFaultOf}
-use Rattle.settings.specs.declared.keys.Key.{Key}
-use Rattle.settings.specs.declared.keys.Key.TheVariants.{Listen, Target, Ring, Budget, Workers, Slots, StopAfter, Log, Idle, Proxy}
+use Rattle.settings.specs.Text.{IsDocument, IsSettingsOf, IsFaultOf}
+use Rattle.settings.specs.declared.table.Key.{Key}
+use Rattle.settings.specs.declared.table.Key.TheVariants.{Listen, Target, Ring, Budget, Workers, Slots, StopAfter, Log, Idle, Proxy}
 use Rattle.settings.specs.declared.faults.SettingsFault.{SettingsFault}
 use Rattle.settings.specs.declared.faults.SettingsFault.TheVariants.{Missing}
 use Rattle.settings.specs.declared.fields.Settings.{Settings}

@@ -17,8 +17,8 @@ use Rattle.toml.specs.Data.{Data, Members, no_members, get_member}
 use Rattle.toml.specs.View.{members_view}
 use Rattle.toml.specs.declared.value.Value.{Value}
 use Rattle.settings.specs.Document.{IsUnknown, IsFirstUnknown, HasNoUnknown}
-use Rattle.settings.specs.Names.{key_name}
-use Rattle.settings.specs.declared.keys.Key.{Key}
+use Rattle.settings.specs.Table.{key_name}
+use Rattle.settings.specs.declared.table.Key.{Key}
 
 -- one of the texts has these bytes
 abbrev pub IsAmongTexts : List ℕ → List (String Global) → Type 0

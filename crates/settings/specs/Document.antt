@@ -4,10 +4,10 @@ use Rattle.std.specs.Ordering.{nat_cmp}
 use Rattle.std.specs.Cmp.Lexicographic.{slice_cmp}
 use Rattle.std.specs.declared.cmp.Ordering.TheVariants.{Greater}
 use Rattle.toml.specs.Data.{Data, Members, get_member, as_str, as_integer, as_bool}
-use Rattle.settings.specs.Names.{key_name, level_name}
+use Rattle.settings.specs.Names.{level_name}
 use Rattle.settings.specs.Addresses.{IsAddress, address_text}
-use Rattle.settings.specs.Table.{Setting, address, number, level, truth, ValueKind, an_address, a_number, a_level, a_truth, Row}
-use Rattle.settings.specs.declared.keys.Key.{Key}
+use Rattle.settings.specs.Table.{key_name, Setting, address, number, level, truth, ValueKind, an_address, a_number, a_level, a_truth, Row}
+use Rattle.settings.specs.declared.table.Key.{Key}
 use Rattle.settings.specs.declared.faults.SettingsFault.{SettingsFault}
 use Rattle.settings.specs.declared.faults.SettingsFault.TheVariants.{Missing, WrongKind, OutOfRange, BadAddress}
 

@@ -1,7 +1,7 @@
 -- The line for a settings fault. Part of the promises.
 use Rattle.std.specs.Prelude.{ℕ, List, ◌++◌, codes}
-use Rattle.settings.specs.Names.{key_name}
 use Rattle.settings.specs.Shown.{one_line}
+use Rattle.settings.specs.Table.{key_name}
 use Rattle.settings.specs.declared.faults.SettingsFault.{SettingsFault}
 use Rattle.settings.specs.declared.faults.SettingsFault.TheVariants.{NotToml, UnknownKey, Missing, WrongKind, OutOfRange, BadAddress, NoMemory}
 

@@ -1,22 +1,7 @@
--- The words that a settings text uses for its keys, for the levels of `log` and for truth values. Part of the promises.
+-- The words that a settings text uses for the levels of `log` and for truth values. Part of the promises.
 use Rattle.std.specs.Prelude.{ℕ, List, Bool, if◌then◌else◌, codes}
-use Rattle.settings.specs.declared.keys.Key.{Key}
-use Rattle.settings.specs.declared.keys.Key.TheVariants.{Listen, Target, Ring, Budget, Workers, Slots, StopAfter, Log, Idle, Proxy}
 use Rattle.settings.specs.declared.levels.LogLevel.{LogLevel}
 use Rattle.settings.specs.declared.levels.LogLevel.TheVariants.{Off, Error, Warn, Info, Debug, Trace}
-
--- a key as it is written
-abbrev pub key_name : Key → List ℕ
-key_name Listen = codes "listen"
-key_name Target = codes "target"
-key_name Ring = codes "ring"
-key_name Budget = codes "budget"
-key_name Workers = codes "workers"
-key_name Slots = codes "slots"
-key_name StopAfter = codes "stop_after"
-key_name Log = codes "log"
-key_name Idle = codes "idle"
-key_name Proxy = codes "proxy"
 
 -- a level as it is written
 abbrev pub level_name : LogLevel → List ℕ

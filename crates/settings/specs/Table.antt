@@ -1,10 +1,24 @@
--- The table of the settings: each key with the kind of its value, its range and its default. Part of the promises.
-use Rattle.std.specs.Prelude.{ℕ, List, [], ◌∷◌, Bool, false, Option, Some, None}
+-- The table of the settings: each key with its name, the kind of its value, its range and its default. Part of the promises.
+use Rattle.std.specs.Prelude.{ℕ, List, [], ◌∷◌, Bool, false, Option, Some, None, codes}
 use Rattle.settings.specs.Addresses.{SocketAddress}
-use Rattle.settings.specs.declared.keys.Key.{Key}
-use Rattle.settings.specs.declared.keys.Key.TheVariants.{Listen, Target, Ring, Budget, Workers, Slots, StopAfter, Log, Idle, Proxy}
+use Rattle.settings.specs.declared.table.Key.{Key}
+use Rattle.settings.specs.declared.table.Key.TheVariants.{Listen, Target, Ring, Budget, Workers, Slots, StopAfter, Log, Idle, Proxy}
+use Rattle.settings.specs.declared.fields.Settings.{Settings}
 use Rattle.settings.specs.declared.levels.LogLevel.{LogLevel}
 use Rattle.settings.specs.declared.levels.LogLevel.TheVariants.{Info}
+
+-- a key as it is written
+abbrev pub key_name : Key → List ℕ
+key_name Listen = codes "listen"
+key_name Target = codes "target"
+key_name Ring = codes "ring"
+key_name Budget = codes "budget"
+key_name Workers = codes "workers"
+key_name Slots = codes "slots"
+key_name StopAfter = codes "stop_after"
+key_name Log = codes "log"
+key_name Idle = codes "idle"
+key_name Proxy = codes "proxy"
 
 -- what a key can be set to
 pub data Setting : Type 0 where
@@ -46,3 +60,16 @@ table =
     ∷ optional Idle (a_number 0 86400) (number 0)
     ∷ optional Proxy a_truth (truth false)
     ∷ []
+
+-- the setting of a key
+abbrev pub setting : Settings → Key → Setting
+setting s Listen = address s.listen
+setting s Target = address s.target
+setting s Ring = number s.ring
+setting s Budget = number s.budget
+setting s Workers = number s.workers
+setting s Slots = number s.slots
+setting s StopAfter = number s.stop_after
+setting s Log = level s.log
+setting s Idle = number s.idle
+setting s Proxy = truth s.proxy

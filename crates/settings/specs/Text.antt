@@ -4,28 +4,13 @@ use Rattle.std.specs.Str.{IsUtf8}
 use Rattle.std.specs.Fmt.{decimal}
 use Rattle.toml.specs.Data.{Members}
 use Rattle.toml.specs.Parse.{parse_document}
-use Rattle.settings.specs.Names.{key_name, level_name, truth_name}
+use Rattle.settings.specs.Names.{level_name, truth_name}
 use Rattle.settings.specs.Addresses.{address_text}
-use Rattle.settings.specs.Table.{Setting, address, number, level, truth, Row, table}
+use Rattle.settings.specs.Table.{key_name, setting, Setting, address, number, level, truth, Row, table}
 use Rattle.settings.specs.Document.{GivesEach, IsFirstFault, IsFirstUnknown, HasNoUnknown}
-use Rattle.settings.specs.declared.keys.Key.{Key}
-use Rattle.settings.specs.declared.keys.Key.TheVariants.{Listen, Target, Ring, Budget, Workers, Slots, StopAfter, Log, Idle, Proxy}
 use Rattle.settings.specs.declared.faults.SettingsFault.{SettingsFault}
 use Rattle.settings.specs.declared.faults.SettingsFault.TheVariants.{NotToml, UnknownKey}
 use Rattle.settings.specs.declared.fields.Settings.{Settings}
-
--- the setting of a key
-abbrev pub setting : Settings → Key → Setting
-setting s Listen = address s.listen
-setting s Target = address s.target
-setting s Ring = number s.ring
-setting s Budget = number s.budget
-setting s Workers = number s.workers
-setting s Slots = number s.slots
-setting s StopAfter = number s.stop_after
-setting s Log = level s.log
-setting s Idle = number s.idle
-setting s Proxy = truth s.proxy
 
 -- the bytes are UTF-8, and TOML reads them as this document
 abbrev pub IsDocument : List ℕ → Members → Type 0

@@ -2,7 +2,7 @@
 
 use crate::addresses::address_of;
 use crate::limits::MAX_LOOKS;
-use crate::table::{BUDGET, IDLE, LISTEN, RING, SLOTS, STOP_AFTER, TARGET, WORKERS};
+use crate::table::{KEYS, TARGET, Takes};
 use crate::{Key, OneLine, SettingsFault};
 use std::alloc::{AllocError, Global};
 use std::fmt;
@@ -55,9 +55,7 @@ fn not_toml(alloc: Global, text: &str) -> Option<String> {
 fn unknown(alloc: Global, text: &str, name: &str) -> Option<String> {
     let place = place_of(alloc, text, name).ok()?;
     let name = OneLine(name);
-    format!(in alloc;
-        "{place}{name}: one of listen, target, ring, budget, workers, slots, stop_after, log, idle and proxy is wanted"
-    ).ok()
+    format!(in alloc; "{place}{name}: one of {KEYS} is wanted").ok()
 }
 
 /// A required key, and what it takes.
@@ -89,50 +87,33 @@ fn in_place_of(value: &Value, key: Key) -> Wanted {
 /// What is wanted in a settings file.
 #[derive(Clone, Copy)]
 enum Wanted {
-    /// An address, as this one.
-    Address(&'static str),
+    /// What the key takes.
+    Value(Takes),
     /// A port from this one up.
     Port(u16),
-    /// A whole number from the first to the second.
-    Number(u32, u32),
-    /// The name of a level.
-    Level,
-    /// A truth value.
-    Truth,
 }
 
 impl Wanted {
     /// What a key takes.
     fn by(key: Key) -> Wanted {
-        match key {
-            Key::Listen => Wanted::Address(LISTEN.example),
-            Key::Target => Wanted::Address(TARGET.example),
-            Key::Ring => Wanted::Number(RING.low, RING.high),
-            Key::Budget => Wanted::Number(BUDGET.low, BUDGET.high),
-            Key::Workers => Wanted::Number(WORKERS.low, WORKERS.high),
-            Key::Slots => Wanted::Number(SLOTS.low, SLOTS.high),
-            Key::StopAfter => Wanted::Number(STOP_AFTER.low, STOP_AFTER.high),
-            Key::Log => Wanted::Level,
-            Key::Idle => Wanted::Number(IDLE.low, IDLE.high),
-            Key::Proxy => Wanted::Truth,
-        }
+        Wanted::Value(Takes::of(key))
     }
 }
 
 impl fmt::Display for Wanted {
     fn fmt<W: fmt::Write>(&self, f: &mut fmt::Formatter<W>) -> fmt::Result {
         match *self {
-            Wanted::Address(example) => {
+            Wanted::Value(Takes::Address(example)) => {
                 write!(f, "four numbers and a port, as {example}, are wanted")
             }
-            Wanted::Port(lowest) => write!(f, "a port from {lowest} up is wanted"),
-            Wanted::Number(low, high) => {
+            Wanted::Value(Takes::Number(low, high)) => {
                 write!(f, "a whole number from {low} to {high} is wanted")
             }
-            Wanted::Level => f.write_str(
+            Wanted::Value(Takes::Level) => f.write_str(
                 "\"off\", \"error\", \"warn\", \"info\", \"debug\" or \"trace\" is wanted",
             ),
-            Wanted::Truth => f.write_str("true or false is wanted"),
+            Wanted::Value(Takes::Truth) => f.write_str("true or false is wanted"),
+            Wanted::Port(lowest) => write!(f, "a port from {lowest} up is wanted"),
         }
     }
 }

@@ -1,8 +1,8 @@
 //! What can be wrong in a settings text.
 ghost use Rattle.std.specs.Prelude.{◌≡◌, ℕ, List, Some, IfOk, string_bytes};
 
-use crate::keys::Key;
 use crate::one_line::OneLine;
+use crate::table::Key;
 use std::alloc::{AllocError, Global};
 use std::error::Error;
 use std::fmt;
@@ -57,7 +57,7 @@ impl fmt::Display for KeyText {
 pub enum SettingsFault {
     /// The bytes are not UTF-8, or not a TOML document.
     NotToml,
-    /// A key at the top level that is not one of the ten.
+    /// A key at the top level that is not one of the table.
     UnknownKey(KeyText),
     /// A required key that the text leaves out.
     Missing(Key),

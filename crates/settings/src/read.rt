@@ -4,19 +4,17 @@ ghost use Rattle.std.specs.Str.{IsUtf8};
 ghost use Rattle.toml.specs.Data.{get_member};
 ghost use Rattle.toml.specs.Errors.{IsBlank};
 ghost use Rattle.toml.specs.View.{view, table_view};
-ghost use Rattle.settings.specs.Names.{key_name};
-ghost use Rattle.settings.specs.Table.{an_address, a_number, a_level, a_truth, address, number, level, truth, required, optional, table};
+ghost use Rattle.settings.specs.Table.{key_name, setting, an_address, a_number, a_level, a_truth, address, number, level, truth, required, optional, table};
 ghost use Rattle.settings.specs.Document.{Gives, GivesEach, Faults, Refuses, Writes, IsFirstFault, IsFirstUnknown, HasNoUnknown};
-ghost use Rattle.settings.specs.Text.{setting, IsSettingsOf, IsFaultOf};
+ghost use Rattle.settings.specs.Text.{IsSettingsOf, IsFaultOf};
 
 use crate::addresses::{Address, address_of};
 use crate::faults::{KeyText, SettingsFault};
 use crate::fields::Settings;
-use crate::keys::Key;
 use crate::levels::LogLevel;
 use crate::table::{
-    AddressRow, BUDGET, IDLE, LISTEN, LOG, LevelRow, NumberRow, PROXY, RING, SLOTS, STOP_AFTER,
-    TARGET, TruthRow, WORKERS,
+    AddressRow, BUDGET, IDLE, Key, LISTEN, LOG, LevelRow, NumberRow, PROXY, RING, SLOTS,
+    STOP_AFTER, TARGET, TruthRow, WORKERS,
 };
 use std::alloc::Global;
 use toml::{Table, Value};

@@ -1,7 +1,86 @@
-//! The table of the keys: what each takes, and what stands for it where a text leaves it out.
+//! The table of the keys: the name of each, what it takes, and what stands for it where a text leaves it out.
+ghost use Rattle.std.specs.Prelude.{◌≡◌, ◌≢◌, Some, IfSome, IfNone};
+ghost use Rattle.settings.specs.Table.{key_name};
 
-use crate::keys::Key;
 use crate::levels::LogLevel;
+use std::fmt;
+
+/// The keys, as they are told to a person.
+pub(crate) const KEYS: &str =
+    "listen, target, ring, budget, workers, slots, stop_after, log, idle and proxy";
+
+/// A key of a settings text, in the order in which keys are read and printed.
+#[derive(Clone, Copy, Debug, PartialEq, Eq)]
+pub enum Key {
+    /// The address to which clients connect.
+    Listen,
+    /// The address to which each connection is forwarded.
+    Target,
+    /// Bytes buffered for each direction of a connection.
+    Ring,
+    /// The most calls of the core that are made for one connection before another gets its turn.
+    Budget,
+    /// Worker threads.
+    Workers,
+    /// The maximum number of connections at a time.
+    Slots,
+    /// How many connections are opened before the relay ends; 0 for no such limit.
+    StopAfter,
+    /// The level of the messages on standard error.
+    Log,
+    /// How many seconds a connection may move nothing before it fails; 0 for ever.
+    Idle,
+    /// Whether the target is first sent a line with the client's address.
+    Proxy,
+}
+
+impl Key {
+    /// The key as written in a settings text.
+    pub fn name(self) -> &'static str
+        ensures { result.now ≡ key_name self }
+    {
+        match self {
+            Key::Listen => "listen",
+            Key::Target => "target",
+            Key::Ring => "ring",
+            Key::Budget => "budget",
+            Key::Workers => "workers",
+            Key::Slots => "slots",
+            Key::StopAfter => "stop_after",
+            Key::Log => "log",
+            Key::Idle => "idle",
+            Key::Proxy => "proxy",
+        }
+    }
+
+    /// The key with this name, if there is one.
+    pub fn named(text: &str) -> Option<Key>
+        ensures named { IfSome result (λ key. text.now ≡ key_name key) }
+        ensures none { IfNone result ((key : Key) → text.now ≢ key_name key) }
+    {
+        match text {
+            "listen" => Some(Key::Listen),
+            "target" => Some(Key::Target),
+            "ring" => Some(Key::Ring),
+            "budget" => Some(Key::Budget),
+            "workers" => Some(Key::Workers),
+            "slots" => Some(Key::Slots),
+            "stop_after" => Some(Key::StopAfter),
+            "log" => Some(Key::Log),
+            "idle" => Some(Key::Idle),
+            "proxy" => Some(Key::Proxy),
+            _ => None,
+        }
+    }
+}
+
+impl fmt::Display for Key {
+    ghost output = { λ key. Some (key_name key) };
+
+    fn fmt<W: fmt::Write>(&self, f: &mut fmt::Formatter<W>) -> fmt::Result {
+        f.write_str(self.name())
+    }
+}
 
 /// A required key that takes an address.
 #[derive(Clone, Copy)]
@@ -107,3 +186,34 @@ pub(crate) const PROXY: TruthRow = TruthRow {
     key: Key::Proxy,
     default: false,
 };
+
+/// What a key takes.
+#[derive(Clone, Copy)]
+pub(crate) enum Takes {
+    /// An address, as this one.
+    Address(&'static str),
+    /// A whole number from the first to the second.
+    Number(u32, u32),
+    /// The name of a level.
+    Level,
+    /// A truth value.
+    Truth,
+}
+
+impl Takes {
+    /// By the rows of the table.
+    pub(crate) fn of(key: Key) -> Takes {
+        match key {
+            Key::Listen => Takes::Address(LISTEN.example),
+            Key::Target => Takes::Address(TARGET.example),
+            Key::Ring => Takes::Number(RING.low, RING.high),
+            Key::Budget => Takes::Number(BUDGET.low, BUDGET.high),
+            Key::Workers => Takes::Number(WORKERS.low, WORKERS.high),
+            Key::Slots => Takes::Number(SLOTS.low, SLOTS.high),
+            Key::StopAfter => Takes::Number(STOP_AFTER.low, STOP_AFTER.high),
+            Key::Log => Takes::Level,
+            Key::Idle => Takes::Number(IDLE.low, IDLE.high),
+            Key::Proxy => Takes::Truth,
+        }
+    }
+}

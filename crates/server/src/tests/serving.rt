@@ -1,6 +1,7 @@
 // A server over real sockets on loopback, with its clients and its target in the same process.
 
 use super::holding::Holding;
+use super::small;
 use super::still::{NO_LIMIT, Still};
 use crate::making::build;
 use crate::serving::{run_threads, serve};
@@ -9,7 +10,7 @@ use crate::split::Split;
 use dispatch::{OpenGate, ServerFault};
 use log::sink::{Discard, Locked};
 use log::{Level, Log, Logged};
-use settings::{LogLevel, Settings};
+use settings::Settings;
 use std::alloc::{AllocError, Global};
 use std::io::{self, Read, Write};
 use std::net::{Net, Shutdown, SocketAddr, TcpListener, TcpStream};
@@ -21,24 +22,13 @@ use std::thread::Threads;
 /// How many bytes each client sends.
 const EACH: usize = 100_000;
 
-/// Two workers and two slots, with rings of 16 bytes, on a port that the system chooses.
+/// Two workers and two slots, on a port that the system chooses.
 fn settings(target: SocketAddr, stop_after: u32) -> Option<Settings> {
     let port = target.port();
     if port == 0 {
         return None;
     }
-    Some(Settings {
-        listen: ([127, 0, 0, 1], 0),
-        target: ([127, 0, 0, 1], port),
-        ring: 16,
-        budget: 64,
-        workers: 2,
-        slots: 2,
-        stop_after,
-        log: LogLevel::Info,
-        idle: 0,
-        proxy: false,
-    })
+    Some(small(0, port, 2, stop_after))
 }
 
 /// Takes so many connections one by one, and sends back to each what it sends, to its end.

@@ -1,10 +1,11 @@
 mod fronts;
 mod wires;
 
+use super::small;
 use crate::{
     Forwarding, Front, MAX_BATCH, Socket, SocketWire, Sockets, Split, Wakers, bind, open_all,
 };
-use settings::{LogLevel, Settings};
+use settings::Settings;
 use std::alloc::Global;
 use std::io;
 use std::io::ErrorKind;
@@ -16,18 +17,7 @@ use token::{Side, Token};
 
 /// Settings of a relay on loopback at this port, where 0 has the system pick one.
 fn settings(port: u16) -> Settings {
-    Settings {
-        listen: ([127, 0, 0, 1], port),
-        target: ([127, 0, 0, 1], 1),
-        ring: 16,
-        budget: 64,
-        workers: 1,
-        slots: 1,
-        stop_after: 0,
-        log: LogLevel::Off,
-        idle: 0,
-        proxy: false,
-    }
+    small(port, 1, 1, 0)
 }
 
 /// A listening socket on loopback, for targets.
