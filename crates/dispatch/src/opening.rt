@@ -1,7 +1,7 @@
 //! Opens an accepted connection, in the order in which it happens: a free slot, the names of the slot's next
 //! connection, the connection to the target, what the target is sent first, the pair, the place, and the one note that
 //! starts it.
-ghost use Rattle.std.specs.Prelude.{◌≡◌, ◌≢◌, ◌⊎◌, ◌+◌, ◌<◌, ◌≤◌, [], ◌∷◌, length, Err, Some, None, IfOk, IfErr, OnOk, OnSome, IfSome, IsNone, slice_index};
+ghost use Rattle.std.specs.Prelude.{◌≡◌, ◌≢◌, ◌⊎◌, ◌+◌, ◌<◌, ◌≤◌, [], ◌∷◌, ◌++◌, length, Err, Some, None, IfOk, IfErr, OnOk, OnSome, IfSome, IsNone, slice_index};
 ghost use Rattle.claims.specs.Seats.{HoldsNothing, OnlyAt};
 ghost use Rattle.relay_core.specs.Pairs.{fresh};
 ghost use Rattle.dispatch.specs.Turns.{HoldsOnly};
@@ -12,6 +12,7 @@ ghost use Rattle.dispatch.specs.Polls.{AreGenerations, IsIn};
 
 use crate::faults::ServerFault;
 use crate::front::{Front, Opened};
+use crate::hand::Hand;
 use crate::poller::Poller;
 use crate::shared::{Own, Shared};
 use berths::Berth;
@@ -65,12 +66,36 @@ pub(crate) fn open<F: Front, R: Wait + Log>(
         poller.count_lost();
         return Ok(());
     };
+    match prepare(rt, alloc, &mut own.hand, poller, client, names) {
+        Some(berth) => place(rt, shared, own, poller, berth),
+        None => Ok(()),
+    }
+}
+
+/// Starts the connection to the target, and makes the pair. None if that fails: it is closed and logged, and its slot is
+/// in hand again.
+fn prepare<F: Front, N: Log>(
+    rt: &N,
+    alloc: Global,
+    hand: &mut Hand,
+    poller: &mut Poller<F>,
+    client: F::Client,
+    names: Names,
+) -> Option<Berth<F::Client, F::Target>>
+    requires { length hand.old.slots < hand.old.capacity }
+    ensures slot { IfSome result (λ berth. berth.pair.slot ≡ names.client.slot) }
+    ensures generation { IfSome result (λ berth. berth.pair.generation ≡ names.client.generation) }
+    ensures prepared { OnSome result (hand.new ≡ hand.old) }
+    ensures failed { IsNone result → hand.new ≡ record hand.old { slots = hand.old.slots ++ names.client.slot ∷ [] } }
+    ensures same { poller.new ≡ poller.old }
+{
+    let slot = names.client.slot();
     match connect(rt, alloc, poller, client, names) {
-        Ok(berth) => place(rt, shared, own, poller, berth),
+        Ok(berth) => Some(berth),
         Err(cause) => {
-            own.hand.keep_slot(slot);
+            hand.keep_slot(slot);
             log_drop(rt, cause);
-            Ok(())
+            None
         }
     }
 }
