@@ -3,6 +3,7 @@ pub mod Outgoing
 pub mod Polls
 pub mod Reports
 pub mod Shares
+pub mod Splits
 pub mod Sweeps
 pub mod Turns
 pub mod WholeRounds

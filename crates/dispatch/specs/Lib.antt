@@ -9,5 +9,6 @@ pub mod Outgoing
 pub mod Parts
 pub mod Polls
 pub mod Rounds
+pub mod Splits
 pub mod Sweeps
 pub mod Turns

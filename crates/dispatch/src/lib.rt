@@ -7,7 +7,7 @@
 //! pair are never touched by two threads, and no note is lost between them. A poller's thread makes rounds
 //! ([`poller_round`]): it puts its tickets, waits for reports, delivers them, and accepts and opens connections. Most of
 //! the tickets of a round it runs itself ([`share_tickets`], [`own_turn`]). There may be several pollers, each with a
-//! [`Part`] of the slots.
+//! [`Part`] of the slots, as [`Split`] deals them.
 //!
 //! - [`Front`] is where connections and reports come from: the system's sockets, or an in-memory fake.
 //! - [`Opening`] is what connections are opened with. A target may first be sent a line with the addresses of its client's
@@ -37,10 +37,9 @@ mod putting;
 mod round;
 mod route;
 mod shared;
+mod split;
 mod sweeping;
 mod terms;
-#[cfg(test)]
-mod tests;
 mod visit;
 mod worker;
 
@@ -60,4 +59,5 @@ pub use putting::{give_slots, put_tickets};
 pub use round::poller_round;
 pub use route::Route;
 pub use shared::{Own, Shared};
+pub use split::Split;
 pub use worker::{Worked, worker_turn};

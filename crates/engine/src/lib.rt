@@ -16,8 +16,6 @@ mod outcome;
 mod scripted;
 mod step;
 mod tally;
-#[cfg(test)]
-mod tests;
 mod turning;
 mod wire;
 

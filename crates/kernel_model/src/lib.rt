@@ -24,8 +24,6 @@ mod queue;
 mod refusal;
 mod reply;
 mod sockets;
-#[cfg(test)]
-mod tests;
 mod watched;
 
 pub use accepting::Accepting;

@@ -32,8 +32,6 @@ mod flags;
 pub mod laws;
 mod pair;
 mod proxy;
-#[cfg(test)]
-mod tests;
 mod verdict;
 
 pub use answer::Answer;

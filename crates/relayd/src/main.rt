@@ -1,31 +1,13 @@
-//! The program: it forwards connections by a settings file, checks such a file, and runs the relay's simulator on
-//! standard input and output.
-//!
-//! [`program::act`] does all that the program does: from its arguments, a reader, two writers and a closure that
-//! serves, to a status. `main` passes it the process's own, and [`program::report_arguments_fault`] reports arguments
-//! that cannot be read.
+//! The program: `program` says what it does, and `server` serves. `main` passes to [`program::act`] the process's own
+//! arguments, streams and handle, with a closure that serves.
 #![tactic(auto)]
 
-mod causes;
 mod clock;
-mod command_line;
-mod config;
-mod constants;
-mod descriptors;
-mod faults;
-mod forwarding;
-mod logging;
-mod meeting;
-mod program;
-mod starting;
-mod streams;
-#[cfg(test)]
-mod tests;
 
 use clock::MonotonicClock;
 use log::Logged;
 use log_queue::Queued;
-use logging::Errors;
+use program::logging::{self, Errors};
 use server::{Bound, OpenGate, ServerFault};
 use settings::Settings;
 use std::cell::Cell;

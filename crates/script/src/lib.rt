@@ -38,8 +38,6 @@ mod script;
 mod shown;
 mod step;
 mod steps;
-#[cfg(test)]
-mod tests;
 mod transfer;
 mod values;
 mod word;

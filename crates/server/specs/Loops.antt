@@ -7,8 +7,8 @@ use Rattle.dispatch.specs.declared.shared.Own.{Own}
 use Rattle.dispatch.specs.Deliveries.{at_slot}
 use Rattle.dispatch.specs.Outgoing.{tickets_out}
 use Rattle.dispatch.specs.Polls.{IsIn}
-use Rattle.server.specs.declared.split.Split.{Split}
-use Rattle.server.specs.Splits.{part_of}
+use Rattle.dispatch.specs.declared.split.Split.{Split}
+use Rattle.dispatch.specs.Splits.{part_of}
 
 -- at each slot as many tickets more were put or are in hand as exchanges obliged the thread to put one: none is lost, and none is put
 -- twice

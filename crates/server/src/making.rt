@@ -4,12 +4,12 @@ ghost use Rattle.claims.specs.Seats.{fresh_seat};
 ghost use Rattle.ready.specs.Steps.{unused, opened as filled};
 ghost use Rattle.dispatch.specs.Parts.{AreFresh};
 ghost use Rattle.server.specs.Limits.{share_of, shares_of};
-ghost use Rattle.server.specs.Splits.{each_part, part_of, parts_of, HasBegun};
+ghost use Rattle.dispatch.specs.Splits.{each_part, part_of, parts_of};
+ghost use Rattle.server.specs.Begins.{HasBegun};
 
-use crate::split::Split;
 use berths::Berths;
 use claims::{ClaimSeat, Claims};
-use dispatch::{Front, Opening, Parts, Poller, ServerFault, Shared};
+use dispatch::{Front, Opening, Parts, Poller, ServerFault, Shared, Split};
 use ready::{FreeQueue, ReadyQueue};
 use settings::Settings;
 use std::alloc::{AllocError, Global};

@@ -14,8 +14,6 @@ mod limits;
 mod one_line;
 mod read;
 mod table;
-#[cfg(test)]
-mod tests;
 
 pub use addresses::Address;
 pub use causes::cause;

@@ -46,8 +46,6 @@ mod readers;
 mod replaying;
 mod slot;
 mod step;
-#[cfg(test)]
-mod tests;
 mod worker;
 mod working;
 mod world;

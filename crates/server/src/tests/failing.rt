@@ -4,13 +4,12 @@ ghost use Rattle.claims.specs.Seats.{fresh_seat};
 ghost use Rattle.dispatch.specs.Parts.{AreFresh};
 
 use crate::making::Server;
-use crate::sockets::SocketWire;
-use crate::split::Split;
 use berths::Berths;
 use claims::Claims;
-use dispatch::{Front, Opened, Opening, Part, Parts, Poller, Shared, Unopened};
+use dispatch::{Front, Opened, Opening, Part, Parts, Poller, Shared, Split, Unopened};
 use log::Log;
 use ready::{FreeQueue, ReadyQueue};
+use sockets::SocketWire;
 use std::alloc::{AllocError, Global};
 use std::io::{self, ErrorKind};
 use std::net::SocketAddr;

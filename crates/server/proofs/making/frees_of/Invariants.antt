@@ -1,7 +1,7 @@
 use Rattle.std.proofs.Common.{◌≡◌, ℕ, ◌∷◌, map, replicate}
 use Rattle.std.specs.List.{range_with_len}
 use Rattle.ready.specs.Steps.{unused, opened}
-use Rattle.server.specs.Splits.{part_of}
+use Rattle.dispatch.specs.Splits.{part_of}
 use Rattle.server.proofs.making.frees_of.Given as goal
 
 abbrev pub invariant-loop-number : goal.invariant-loop-number

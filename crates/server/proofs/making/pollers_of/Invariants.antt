@@ -1,7 +1,8 @@
 use Rattle.std.proofs.Common.{◌≡◌, ℕ, ◌+◌, length, map, All}
 use Rattle.std.specs.List.{range_with_len}
 use Rattle.server.specs.Limits.{share_of}
-use Rattle.server.specs.Splits.{part_of, parts_of, HasBegun}
+use Rattle.dispatch.specs.Splits.{part_of, parts_of}
+use Rattle.server.specs.Begins.{HasBegun}
 use Rattle.server.proofs.making.pollers_of.Given as goal
 
 abbrev pub invariant-loop-number : goal.invariant-loop-number

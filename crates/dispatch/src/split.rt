@@ -1,0 +1,71 @@
+//! How the slots are dealt to the pollers.
+ghost use Rattle.std.specs.Prelude.{◌≡◌, ◌+◌, ◌<◌, ◌≤◌};
+ghost use Rattle.dispatch.specs.Polls.{IsIn};
+ghost use Rattle.dispatch.specs.Splits.{part_of, parts_of, pollers_for};
+
+use crate::limits::LEAST_PART;
+use crate::part::Part;
+
+/// The slots of a server, dealt to its pollers in parts of one size, one after the other. The last part may be smaller.
+#[derive(Clone, Copy, Debug, PartialEq, Eq)]
+pub struct Split {
+    slots: usize,
+    size: usize,
+    pub ghost most: { slots ≤ 4096 },
+    pub ghost some: { (1 ≤ slots) × (1 ≤ size) },
+    pub ghost fits: { size ≤ slots },
+    pub ghost few: { parts_of slots size ≤ 16 },
+}
+
+impl Split {
+    /// As many parts as there are workers, but at most one for each 64 slots, and at least one.
+    #[tactic(auto, using(crate::proofs::Splits::parts_are))]
+    pub fn new(slots: usize, workers: usize) -> Split
+        requires slots { (1 ≤ slots) × (slots ≤ 4096) }
+        requires workers { (1 ≤ workers) × (workers ≤ 16) }
+        ensures slots { result.slots ≡ slots }
+        ensures pollers { parts_of result.slots result.size ≡ pollers_for slots workers }
+    {
+        let pollers = (slots / LEAST_PART).min(workers).max(1);
+        Split {
+            slots,
+            size: (slots - 1) / pollers + 1,
+        }
+    }
+
+    /// How many slots there are.
+    pub fn slots(&self) -> usize
+        ensures { result ≡ self.now.slots }
+    {
+        self.slots
+    }
+
+    /// How many parts there are.
+    pub fn pollers(&self) -> usize
+        ensures parts { result ≡ parts_of self.now.slots self.now.size }
+        ensures few { result ≤ 16 }
+    {
+        (self.slots - 1) / self.size + 1
+    }
+
+    /// The slots of the poller with this number.
+    pub fn part(&self, poller: usize) -> Part
+        requires { poller < parts_of self.now.slots self.now.size }
+        ensures part { result ≡ part_of self.now.slots self.now.size poller }
+        ensures some { 1 ≤ result.slots }
+        ensures inside { result.first + result.slots ≤ self.now.slots }
+    {
+        let first = poller * self.size;
+        Part {
+            first,
+            slots: self.size.min(self.slots - first),
+        }
+    }
+
+    /// The number of the poller that has this slot.
+    pub fn poller_of(&self, slot: usize) -> usize
+        ensures { slot < self.now.slots → IsIn (part_of self.now.slots self.now.size result) slot }
+    {
+        slot / self.size
+    }
+}

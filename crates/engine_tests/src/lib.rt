@@ -1,0 +1,7 @@
+//! Tests of `engine`, a turn.
+//!
+//! They are a crate of their own since the tests of a crate are proved together with all of its functions once more.
+#![tactic(auto)]
+
+#[cfg(test)]
+mod tests;

@@ -1,0 +1,287 @@
+//! What the program does, from its arguments to its status.
+ghost use Rattle.std.specs.Prelude.{◌≡◌, ◌≢◌, ◌⊎◌, IfSome, Ok, map};
+ghost use Rattle.std.specs.Char.{to_ascii_lowercase};
+ghost use Rattle.clap.specs.Values.{kind_of};
+ghost use Rattle.log.specs.Level.{filter_name};
+ghost use Rattle.settings.specs.Names.{level_name};
+ghost use Rattle.script.specs.Each.{WritesEach, WritesEachFault};
+ghost use Rattle.script.specs.Runs.{WritesReport, WritesFault};
+
+use crate::causes::LoggedCauses;
+use crate::command_line::{Command, read_command};
+use crate::config;
+use crate::constants::{DONE, FAULT, USAGE};
+use crate::faults::{ArgumentsFault, ProgramFault};
+use crate::starting::prepare;
+use crate::streams::Stream;
+use clap::error::ErrorKind;
+use dispatch::ServerFault;
+use log::sink::Console;
+use log::{LevelFilter, Log, Logged};
+use script::Outcome;
+use settings::{LogLevel, Settings};
+use sockets::{Bound, bind};
+use std::alloc::{AllocError, Global};
+use std::env::{self, Env};
+use std::io::{Eprint, IsTerminal, Read, Write};
+use std::net::Net;
+use std::rt::Files;
+
+/// The arguments of the command line; the first is the program's own name.
+pub fn arguments<R: AllocGlobal + Env>(rt: &R) -> Result<Vec<String>, ArgumentsFault> {
+    let arguments = env::args(rt)?;
+    Ok(arguments.collect(rt.alloc())?)
+}
+
+/// Writes to `errors` why the arguments cannot be read, and returns the exit status: 1 if memory ran out, and 2, a
+/// usage error, if one is not UTF-8.
+pub fn report_arguments_fault<E: Write>(errors: &mut E, fault: ArgumentsFault) -> u8
+    ensures memory { fault ≡ ArgumentsFault.NoMemory → result ≡ 1 }
+    ensures not_text { fault ≡ ArgumentsFault.NotText → result ≡ 2 }
+{
+    match fault {
+        ArgumentsFault::NoMemory => report_fault(errors, ProgramFault::NoMemory),
+        ArgumentsFault::NotText => {
+            // If this can't be written either, only the status is left to report it.
+            let _ = writeln!(errors, "error: an argument is not UTF-8");
+            USAGE
+        }
+    }
+}
+
+/// Runs the program. `arguments` are those of the command line; the first is the program's own name.
+///
+/// | command | what it does |
+/// |---|---|
+/// | `sim`, or none | runs the script that `reader` has, and writes its report or its fault's line to `writer` |
+/// | `sim --each` | the same, but writes each step to `writer`, and below it what it changes in the report |
+/// | `check --config FILE` | reads a settings file and writes each setting to `writer` |
+/// | `forward LISTEN TARGET` | does the same as `run` with the settings of the command line |
+/// | `run --config FILE` | reads a settings file, listens, writes `listening A.B.C.D:PORT` to `writer`, and serves; log lines go to the process's own standard error |
+///
+/// Returns the exit status: 0 if the command was carried out, or help or the version printed; 1 for a fault, which is
+/// written to `errors` after `relayd: ` unless it is a fault of the script itself; 2 for a usage error, which is
+/// written to `errors`. No clause says any of this: tests of the built program show it.
+///
+/// `serve` serves on a bound socket with the process's own handle: a thread can only be started with that one.
+pub fn act<R, S, I: Read + IsTerminal, O: Write, E: Write>(
+    rt: &R,
+    arguments: &[String],
+    reader: &mut I,
+    writer: &mut O,
+    errors: &mut E,
+    serve: &S,
+) -> u8
+where
+    R: AllocGlobal + Files + Eprint + Net + Copy + Drop,
+    S: Fn(Settings, Bound) -> Result<(), ServerFault>,
+    requires { S.IsAlwaysCallable serve.now }
+{
+    let Ok(arguments) = texts(rt.alloc(), arguments) else {
+        return report_fault(errors, ProgramFault::NoMemory);
+    };
+    let log = Logged::new(*rt, LevelFilter::Error, Console(*rt));
+    let mut writer = Stream {
+        name: "output",
+        inner: writer,
+        log: &log,
+    };
+    let outcome = match read_command(rt.alloc(), arguments.as_slice()) {
+        Ok(command) => {
+            tell_if_typed(&command, reader, errors);
+            carry_out(rt, &log, command, reader, &mut writer, serve)
+        }
+        Err(error) => return answer_usage(&error, &mut writer, errors),
+    };
+    match outcome {
+        Ok(status) => status,
+        Err(fault) => report_fault(errors, fault),
+    }
+}
+
+/// Tells somebody at a terminal that a script is waited for.
+fn tell_if_typed<I: IsTerminal, E: Write>(command: &Command<'_>, reader: &I, errors: &mut E) {
+    if matches!(command, Command::Simulate { .. }) && reader.is_terminal() {
+        // If this can't be written, the script is read all the same.
+        let _ = writeln!(
+            errors,
+            "relayd: waiting for a script; Ctrl-D ends it (see relayd --help)"
+        );
+    }
+}
+
+/// The arguments as string slices, which the parser of the command line takes.
+fn texts(alloc: Global, arguments: &[String]) -> Result<Vec<&str>, AllocError> {
+    arguments
+        .iter()
+        .map(|argument| argument.as_str())
+        .collect(alloc)
+}
+
+/// Carries out a command. The causes of faults go to `log`, whatever level a settings file sets, since what it says
+/// about `log` is not yet known where it has a fault.
+fn carry_out<R, S, L: Log, I: Read, O: Write>(
+    rt: &R,
+    log: &L,
+    command: Command<'_>,
+    reader: &mut I,
+    writer: &mut O,
+    serve: &S,
+) -> Result<u8, ProgramFault>
+where
+    R: AllocGlobal + Files + Eprint + Net + Copy + Drop,
+    S: Fn(Settings, Bound) -> Result<(), ServerFault>,
+    requires { S.IsAlwaysCallable serve.now }
+{
+    match command {
+        Command::Simulate { each } => {
+            let name = "input";
+            let mut reader = Stream {
+                name,
+                inner: reader,
+                log,
+            };
+            if each {
+                simulate_each(rt.alloc(), log, &mut reader, writer)
+            } else {
+                simulate(rt.alloc(), log, &mut reader, writer)
+            }
+        }
+        Command::Check(path) => {
+            let settings = config::load(rt, log, path)?;
+            print(rt.alloc(), &settings, writer)
+        }
+        Command::Run(path, level) => {
+            let settings = config::load(rt, log, path)?;
+            let settings = config::at_level(log, rt.alloc(), settings, level)?;
+            run(rt, settings, writer, serve)
+        }
+        Command::Forward(text) => {
+            let settings = config::parse_arguments(log, rt.alloc(), text.as_bytes())?;
+            run(rt, settings, writer, serve)
+        }
+    }
+}
+
+/// Runs a script. Returns 0 if its report was written, and 1 if the line of its fault was. The cause of a fault is
+/// logged.
+fn simulate<L: Log, I: Read, O: Write>(
+    alloc: Global,
+    log: &L,
+    reader: &mut I,
+    writer: &mut O,
+) -> Result<u8, ProgramFault>
+    ensures report { result ≡ Ok 0 → IfSome (I.remaining reader.old) (λ text. WritesReport text (O.contents writer.old) (O.contents writer.new)) }
+    ensures refused { result ≡ Ok 1 → IfSome (I.remaining reader.old) (λ text. WritesFault text (O.contents writer.old) (O.contents writer.new)) }
+{
+    match script::run(alloc, reader, writer, &LoggedCauses { alloc, log }) {
+        Ok(Outcome::Report) => Ok(DONE),
+        Ok(Outcome::Refused) => Ok(FAULT),
+        Err(fault) => Err(ProgramFault::Script(fault)),
+    }
+}
+
+/// Runs a script and shows each step. Returns 0 if all of it was shown, and 1 if the line of its fault was written. The
+/// cause of a fault is logged.
+fn simulate_each<L: Log, I: Read, O: Write>(
+    alloc: Global,
+    log: &L,
+    reader: &mut I,
+    writer: &mut O,
+) -> Result<u8, ProgramFault>
+    ensures report { result ≡ Ok 0 → IfSome (I.remaining reader.old) (λ text. WritesEach text (O.contents writer.old) (O.contents writer.new)) }
+    ensures refused { result ≡ Ok 1 → IfSome (I.remaining reader.old) (λ text. WritesEachFault text (O.contents writer.old) (O.contents writer.new)) }
+{
+    match script::run_each(alloc, reader, writer, &LoggedCauses { alloc, log }) {
+        Ok(Outcome::Report) => Ok(DONE),
+        Ok(Outcome::Refused) => Ok(FAULT),
+        Err(fault) => Err(ProgramFault::Script(fault)),
+    }
+}
+
+/// Prints each setting.
+fn print(alloc: Global, settings: &Settings, writer: &mut impl Write) -> Result<u8, ProgramFault> {
+    let text = format!(in alloc; "{settings}")?;
+    write(writer, text.as_str())?;
+    Ok(DONE)
+}
+
+/// Listens as the settings say, looks at what they need, prints the address, and serves.
+fn run<R, S, O: Write>(
+    rt: &R,
+    settings: Settings,
+    writer: &mut O,
+    serve: &S,
+) -> Result<u8, ProgramFault>
+where
+    R: AllocGlobal + Files + Eprint + Net + Copy + Drop,
+    S: Fn(Settings, Bound) -> Result<(), ServerFault>,
+    requires { S.IsAlwaysCallable serve.now }
+{
+    let log = Logged::new(*rt, level_filter(settings.log), Console(*rt));
+    let bound = bind(&log, &settings).map_err(ProgramFault::Server)?;
+    let settings = prepare(rt, &log, settings);
+    announce(rt.alloc(), &bound, writer)?;
+    match serve(settings, bound) {
+        Ok(()) => Ok(DONE),
+        Err(fault) => Err(ProgramFault::Server(fault)),
+    }
+}
+
+/// Prints the address that clients can connect to.
+fn announce(alloc: Global, bound: &Bound, writer: &mut impl Write) -> Result<(), ProgramFault> {
+    let address = bound.text();
+    let line = format!(in alloc; "listening {address}\n")?;
+    write(writer, line.as_str())
+}
+
+/// The filter with the same name as a level of the settings.
+pub fn level_filter(level: LogLevel) -> LevelFilter
+    ensures { map to_ascii_lowercase (filter_name result) ≡ level_name level }
+{
+    match level {
+        LogLevel::Off => LevelFilter::Off,
+        LogLevel::Error => LevelFilter::Error,
+        LogLevel::Warn => LevelFilter::Warn,
+        LogLevel::Info => LevelFilter::Info,
+        LogLevel::Debug => LevelFilter::Debug,
+        LogLevel::Trace => LevelFilter::Trace,
+    }
+}
+
+/// Writes all of a text, and flushes it.
+fn write(writer: &mut impl Write, text: &str) -> Result<(), ProgramFault> {
+    if writer.write_all(text.as_bytes()).is_err() || writer.flush().is_err() {
+        return Err(ProgramFault::Write);
+    }
+    Ok(())
+}
+
+/// Prints a usage text: help and the version to `writer`, a usage error to `errors`. Returns the exit status.
+fn answer_usage<O: Write, E: Write>(error: &clap::Error, writer: &mut O, errors: &mut E) -> u8
+    ensures memory { kind_of error.now ≡ ErrorKind.OutOfMemory → result ≡ 1 }
+    ensures help { (kind_of error.now ≡ ErrorKind.DisplayHelp) ⊎ (kind_of error.now ≡ ErrorKind.DisplayVersion) → (result ≡ 0) ⊎ (result ≡ 1) }
+    ensures refused { kind_of error.now ≢ ErrorKind.OutOfMemory → kind_of error.now ≢ ErrorKind.DisplayHelp → kind_of error.now ≢ ErrorKind.DisplayVersion → result ≡ 2 }
+{
+    if error.kind() == ErrorKind::OutOfMemory {
+        return report_fault(errors, ProgramFault::NoMemory);
+    }
+    if error.use_stderr() {
+        // If this cannot be written either, only the status is left to report it.
+        let _ = write!(errors, "{error}");
+        return USAGE;
+    }
+    if write!(writer, "{error}").is_err() || writer.flush().is_err() {
+        return report_fault(errors, ProgramFault::Write);
+    }
+    DONE
+}
+
+/// Writes a fault to `errors`, and returns its status.
+fn report_fault(errors: &mut impl Write, fault: ProgramFault) -> u8
+    ensures { result ≡ 1 }
+{
+    // If this can't be written either, only the status is left to report it.
+    let _ = writeln!(errors, "relayd: {fault}");
+    FAULT
+}

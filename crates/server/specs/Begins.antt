@@ -1,0 +1,15 @@
+-- How a server's pollers begin. Part of the promises.
+use Rattle.std.specs.Prelude.{◌≡◌, ℕ, true, false, [], replicate}
+use Rattle.dispatch.specs.declared.lead.Opening.{Opening}
+use Rattle.dispatch.specs.Polls.{PollerState}
+
+-- a poller that has opened nothing yet, with a table for so many slots, and what it opens connections with
+pub record HasBegun (slots : ℕ) (opens : Opening) (p : PollerState) : Type 0 where
+  pub table : p.table ≡ replicate slots 0
+  pub batch : p.batch ≡ []
+  pub accepting : p.accepting ≡ true
+  pub starved : p.starved ≡ false
+  pub opening : p.opening ≡ opens
+  pub opened : p.opened ≡ 0
+  pub lost : p.lost ≡ 0
+  pub over : p.over ≡ false

@@ -1,0 +1,52 @@
+-- Where a server listens, and what is reported. Part of the promises.
+use Rattle.std.specs.Prelude.{◌≡◌, ℕ, Bool, true, false, ◌||◌, List, map, Option, Some, None}
+use Rattle.std.specs.declared.net.SocketAddr.{SocketAddr}
+use Rattle.std.specs.declared.net.SocketAddr.TheVariants.{V4, V6}
+use Rattle.std.specs.declared.net.SocketAddrV4.{SocketAddrV4}
+use Rattle.std.specs.Net.Addr.{IsV4And, ipv4_octets}
+use Rattle.std.specs.Net.Socket.{socket_ip, IsPlainSocket}
+use Rattle.settings.specs.Addresses.{SocketAddress}
+use Rattle.dispatch.specs.declared.route.Route.{Route}
+use Rattle.sockets.specs.declared.forwarding.Forwarding.{Forwarding}
+use Rattle.mio.specs.declared.event.event.Event.{Event}
+use Rattle.mio.specs.Event.{event_token, is_readable, is_error, is_read_closed, is_write_closed}
+
+-- the numbers of what is reported, in the order of the reports
+abbrev pub numbers : List Event → List ℕ
+numbers events = map (λ (event : Event). (event_token event).0) events
+
+-- an event names reading: there is something to read, or the socket has failed, or the peer has closed it (epoll_ctl(2))
+abbrev pub names_reading : Event → Bool
+names_reading event = is_readable event || (is_error event || (is_read_closed event || is_write_closed event))
+
+-- how a front's connections are forwarded, and the numbers that its last poll was told
+pub record Watched : Type 0 where
+  pub forwarding : Forwarding
+  pub reported : List ℕ
+
+-- a socket that listens: the address that the system was asked for, and the one that it told, which has its port where
+-- any port was asked for
+pub record Listens (L : Type 0) : Type 0 where
+  pub listener : L
+  pub asked : SocketAddr
+  pub address : SocketAddr
+
+-- it is this IPv4 address and port
+abbrev pub IsAt : SocketAddress → SocketAddr → Type 0
+IsAt (octets, port) address = IsV4And (socket_ip address) (λ ip. ipv4_octets ip ≡ octets) × IsPlainSocket address port
+
+-- an address, if it is told and of IPv4
+abbrev pub v4_of : Option SocketAddr → Option SocketAddrV4
+v4_of (Some (V4 address)) = Some address
+v4_of (Some (V6 address)) = None
+v4_of None = None
+
+-- What a front tells of a client's connection: no address unless targets are sent a line, and else the client's own, as it was told at
+-- accept(2). The one on which it was accepted only the system knows
+abbrev pub IsRoute : Bool → Option SocketAddr → Route → Type 0
+IsRoute false peer route = route ≡ record { client = None; accepted = None }
+IsRoute true peer route = route.client ≡ v4_of peer
+
+-- what it may tell of a client with this address
+abbrev pub MayTell : Option SocketAddr → Route → Type 0
+MayTell peer route = (proxy : Bool) × IsRoute proxy peer route

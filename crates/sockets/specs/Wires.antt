@@ -1,0 +1,161 @@
+-- What a wire over a socket knows of it, what each call on it changes, and the system calls that it makes. Part of the
+-- promises.
+use Rattle.std.specs.Prelude.{◌≡◌, ℕ, ◌==◌, Bool, true, false, if◌then◌else◌, length, Option, Some, None, Result, Ok, Err}
+use Rattle.std.specs.declared.io.Error.{Error}
+use Rattle.std.specs.declared.io.ErrorKind.TheVariants.{WouldBlock}
+use Rattle.std.specs.declared.net.SocketAddr.{SocketAddr}
+use Rattle.std.specs.IoError.{error_kind}
+use Rattle.token.specs.Names.{EndName}
+use Rattle.token.specs.declared.side.Side.TheVariants.{Target}
+use Rattle.relay_core.specs.declared.call.Call.{Call}
+use Rattle.relay_core.specs.declared.call.Call.TheVariants as call
+use Rattle.engine.specs.Asked.{Asked, Read, Write, Join, Shut, Given, Brought, Took, Done, Refused}
+use Rattle.engine.specs.declared.class.Class.{Class}
+use Rattle.engine.specs.declared.class.Class.TheVariants as class
+use Rattle.engine.specs.Classes.{class_of, pending_kind}
+use Rattle.engine.specs.Tallies.{Tallied, tally, connected, counted, fault_more}
+use Rattle.engine.specs.Wires.{call_gave}
+use Rattle.sockets.specs.Delays.{Sending, waiting, prompt, IsOffered}
+
+-- the count of its answers, when it sends, whether it reads the socket or answers "would block" to reads by itself, the
+-- address at its other end, where it was told, and the name under which it is reported, if it is
+pub record Socket : Type 0 where
+  pub tally : Tallied
+  pub sending : Sending
+  pub reads : Bool
+  pub peer : Option SocketAddr
+  pub watched : Option EndName
+
+-- a wire: the system's socket, and what is known of it
+pub record Wired (S : Type 0) : Type 0 where
+  pub stream : S
+  pub socket : Socket
+
+-- a new one, which is known to be connected or not, reads, and is not reported
+abbrev pub fresh_wire : Bool → Option SocketAddr → Socket
+fresh_wire joined peer = record { tally = tally joined 0 0; sending = waiting; reads = true; peer = peer; watched = None }
+
+-- one that sends at once
+abbrev pub promptly : Socket → Socket
+promptly socket = record socket { sending = prompt }
+
+-- one that is reported under this name
+abbrev pub under : EndName → Socket → Socket
+under name socket = record socket { watched = Some name }
+
+-- the same, but for the name under which it is reported
+abbrev pub SameButWatched : Socket → Socket → Type 0
+SameButWatched old new = new ≡ record old { watched = new.watched }
+
+-- the call that was asked for. Its class depends on no side, but for what is known of the connection
+abbrev pub call_of : Asked → Call
+call_of (Read most) = call.Read Target most
+call_of (Write offer) = call.Write Target
+call_of Join = call.Join Target
+call_of Shut = call.Shut Target
+
+-- bytes that it took show that it is connected. None of an offer that isn't empty is a fault
+abbrev pub took : ℕ → ℕ → Tallied → Tallied
+took count offered t = if count == 0 then (if offered == 0 then t else fault_more t) else connected t
+
+-- bytes, the end of input or an address show that it is connected, and a shutdown shows nothing. An error is counted
+-- by its class
+abbrev pub tally_after : Asked → Given → Tallied → Tallied
+tally_after asked (Refused kind) t = counted (class_of (call_of asked) t.joined kind) t
+tally_after (Read most) (Brought bytes) t = connected t
+tally_after (Write offer) (Took count) t = took count (length offer) t
+tally_after Join Done t = connected t
+tally_after asked given t = t
+
+-- an offer may end that it sends at once, and no other call does
+abbrev pub SendsAfter : Asked → Sending → Sending → Type 0
+SendsAfter (Write offer) old new = IsOffered (length offer) old new
+SendsAfter asked old new = new ≡ old
+
+-- a read that would block ends that the wire reads the socket, and a failure of any call begins it
+abbrev pub goes_on : Call → Class → Bool → Bool
+goes_on call class.Interrupted reads = reads
+goes_on call (class.Failed kind) reads = true
+goes_on (call.Read side most) class.Blocked reads = false
+goes_on (call.Write side) class.Blocked reads = reads
+goes_on (call.Join side) class.Blocked reads = reads
+goes_on (call.Shut side) class.Blocked reads = reads
+
+-- a write that took no byte of an offer that isn't empty is a failure
+abbrev pub goes_on_after : ℕ → ℕ → Bool → Bool
+goes_on_after count offered reads = if count == 0 then (if offered == 0 then reads else true) else reads
+
+-- whether the wire reads the socket after an answer
+abbrev pub reads_after : Asked → Given → Bool → Bool → Bool
+reads_after asked (Refused kind) joined reads = goes_on (call_of asked) (class_of (call_of asked) joined kind) reads
+reads_after (Write offer) (Took count) joined reads = goes_on_after count (length offer) reads
+reads_after asked given joined reads = reads
+
+-- any call but a read changes this by its answer alone. A read may begin with a look (`Reads`)
+abbrev pub ReadsAfter : Asked → Given → Socket → Socket → Type 0
+ReadsAfter (Read most) given old new = Unit {0}
+ReadsAfter asked given old new = new.reads ≡ reads_after asked given old.tally.joined old.reads
+
+-- all that a call changed of what is known
+pub record IsCalled (asked : Asked) (given : Given) (old new : Socket) : Type 0 where
+  pub tally : new.tally ≡ tally_after asked given old.tally
+  pub sending : SendsAfter asked old.sending new.sending
+  pub reads : ReadsAfter asked given old new
+  pub peer : new.peer ≡ old.peer
+  pub watched : new.watched ≡ old.watched
+
+-- One system call on a socket, with its answer: read(2), write(2) or shutdown(2); SO_ERROR of socket(7); getpeername(2);
+-- TCP_NODELAY of tcp(7), on or off; and epoll_ctl(2), which registered the socket under this number. And a look, which is
+-- no system call: whether a report that names reading was told since the last one
+pub data Made : Type 0 where
+  Called : Asked → Given → Made
+  Pending : Result (Option Error) Error → Made
+  Named : Result SocketAddr Error → Made
+  SentAtOnce : Bool → Made
+  Registered : ℕ → Made
+  Looked : Bool → Made
+
+-- What a system call does to a socket of the type S, only the system knows. So what follows holds for any such relation
+module _ {S : Type 0} where
+  -- the socket option is set where it is to change, and is left alone elsewhere
+  pub record Switches (did : Made → S → S → Type 0) (was is : Bool) (before after : S) : Type 0 where
+    pub on : was ≡ false → is ≡ true → did (SentAtOnce true) before after
+    pub off : was ≡ true → is ≡ false → did (SentAtOnce false) before after
+    pub kept : is ≡ was → after ≡ before
+
+  -- a pending error is a failure; without one the socket has a peer, or the question for it says why not
+  abbrev pub JoinGives : (Made → S → S → Type 0) → Result (Option Error) Error → Given → S → Type 0
+  JoinGives did (Err error) given socket = given ≡ Refused (error_kind error)
+  JoinGives did (Ok (Some error)) given socket = given ≡ Refused (pending_kind (error_kind error))
+  JoinGives did (Ok None) given socket = (named : Result SocketAddr Error) × did (Named named) socket socket × (given ≡ call_gave named)
+
+  -- A read where the wire reads is one system call, for all that was asked, and gives what it gave. Where the wire does not
+  -- read, it looks first: if it was told of something to read, it reads from then on; else it answers "would block" by
+  -- itself, without a system call
+  pub record Reads (did : Made → S → S → Type 0) (most : ℕ) (given : Given) (joined was is : Bool) (before after : S) : Type 0 where
+    pub reads : Bool
+    pub looked : S
+    pub kept : was ≡ true → (reads ≡ true) × (looked ≡ before)
+    pub look : was ≡ false → did (Looked reads) before looked
+    pub made : reads ≡ true → did (Called (Read most) given) looked after
+    pub unmade : reads ≡ false → (given ≡ Refused WouldBlock) × (after ≡ looked)
+    pub goes_on : is ≡ reads_after (Read most) given joined reads
+
+  -- a join asks for the pending error, and then for the peer
+  abbrev pub Joins : (Made → S → S → Type 0) → Given → S → S → Type 0
+  Joins did given before after =
+      (pending : Result (Option Error) Error) × did (Pending pending) before after × JoinGives did pending given after
+
+  -- The system calls of a call on the wire. A write and a shutdown are one, for all that was asked, and give what it gave.
+  -- After a write the socket option may change
+  abbrev pub Makes : (Made → S → S → Type 0) → Asked → Given → Socket → Socket → S → S → Type 0
+  Makes did (Read most) given old new before after = Reads did most given old.tally.joined old.reads new.reads before after
+  Makes did (Write offer) given old new before after =
+      (written : S) × did (Called (Write offer) given) before written × Switches did old.sending.at_once new.sending.at_once written after
+  Makes did Join given old new before after = Joins did given before after
+  Makes did Shut given old new before after = did (Called Shut given) before after
+
+  -- all that a call on the wire does
+  abbrev pub IsDone : (Made → S → S → Type 0) → Asked → Given → Wired S → Wired S → Type 0
+  IsDone did asked given old new =
+      IsCalled asked given old.socket new.socket × Makes did asked given old.socket new.socket old.stream new.stream

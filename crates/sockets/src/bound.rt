@@ -1,0 +1,104 @@
+ghost use Rattle.std.specs.Prelude.{◌≡◌, IfOk, IfErr};
+ghost use Rattle.sockets.specs.Fronts.{IsAt};
+
+use dispatch::ServerFault;
+use log::{Log, error};
+use mio::net::TcpListener;
+use settings::Settings;
+use std::io;
+use std::marker::Model;
+use std::net::{Net, SocketAddr};
+
+/// A listening socket (listen(2)), and its address.
+#[derive(Drop)]
+pub struct Bound<L = TcpListener> {
+    pub(crate) listener: L,
+    asked: SocketAddr,
+    address: SocketAddr,
+}
+
+impl<L> Model for Bound<L> {
+    ghost use Rattle.sockets.specs.Fronts.{Listens};
+
+    ghost Value = { Listens L };
+
+    ghost view = { λ b. record { listener = b.listener; asked = b.asked; address = b.address } };
+}
+
+impl<L> Bound<L> {
+    /// The address, which prints as `A.B.C.D:PORT`. If the settings ask for port 0, it has the port that the system
+    /// chose.
+    pub fn text(&self) -> SocketAddr
+        ensures { result ≡ self.now.address }
+    {
+        self.address
+    }
+}
+
+/// Listens on the settings' address and on no other, with the longest backlog that the system allows. The address of a
+/// server that ended a moment ago can be reused at once (SO_REUSEADDR of socket(7)).
+///
+/// Refuses with `Listen` if the system refuses. The cause was then logged, at level error.
+pub fn bind<R: Net + Log>(rt: &R, settings: &Settings) -> Result<Bound, ServerFault>
+    ensures asked { IfOk result (λ bound. IsAt settings.now.listen bound.asked) }
+    ensures refused { IfErr result (λ fault. fault ≡ ServerFault.Listen) }
+{
+    let address = SocketAddr::from(settings.listen);
+    match listen(rt, address) {
+        Ok(bound) => Ok(bound),
+        Err(error) => {
+            error!(rt; target: "relayd", "listen: {address}: {error}");
+            Err(ServerFault::Listen)
+        }
+    }
+}
+
+fn listen<R: Net, L: Listening + Drop>(rt: &R, asked: SocketAddr) -> io::Result<Bound<L>>
+    ensures asked { IfOk result (λ bound. bound.asked ≡ asked) }
+    ensures listens { IfOk result (λ bound. L.listens asked bound.listener) }
+    ensures told { IfOk result (λ bound. L.told bound.address bound.listener) }
+{
+    let listener = L::listen(rt, asked)?;
+    let address = listener.address()?;
+    Ok(Bound {
+        listener,
+        asked,
+        address,
+    })
+}
+
+/// A socket that the system has listen at an address.
+///
+/// Only the system knows at which addresses a socket listens, so the trait leaves that open. What is proved of any such
+/// socket says for which address the system was asked.
+trait Listening: Sized {
+    ghost use Rattle.std.specs.declared.net.SocketAddr.{SocketAddr};
+
+    // What the system makes when it is asked to listen at an address.
+    ghost listens: { SocketAddr → Self → Type 0 };
+
+    // What the system says of the address at which a socket listens.
+    ghost told: { SocketAddr → Self → Type 0 };
+
+    /// Listens at an address (socket(2), bind(2), listen(2)).
+    fn listen<R: Net>(rt: &R, address: SocketAddr) -> io::Result<Self>
+        ensures { IfOk result (λ listener. listens address listener) };
+
+    /// The address at which it listens (getsockname(2)).
+    fn address(&self) -> io::Result<SocketAddr>
+        ensures { IfOk result (λ address. told address self.now) };
+}
+
+impl Listening for TcpListener {
+    ghost listens = { λ _ _. Unit {0} };
+
+    ghost told = { λ _ _. Unit {0} };
+
+    fn listen<R: Net>(rt: &R, address: SocketAddr) -> io::Result<TcpListener> {
+        TcpListener::bind(rt, address)
+    }
+
+    fn address(&self) -> io::Result<SocketAddr> {
+        self.local_addr()
+    }
+}

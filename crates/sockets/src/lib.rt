@@ -1,0 +1,28 @@
+//! The front over the system's sockets: a listener ([`bind`]), a connection to the target for each client, and epoll(7)
+//! ([`open_all`]). All sockets are edge-triggered, and nothing waits except [`Front::poll`](dispatch::Front::poll).
+//!
+//! - [`Sockets`] is the front of one poller, and [`Forwarding`] says where it connects clients, and whether it tells their
+//!   addresses. All fronts have one listening socket ([`Bound`]), and [`Wakers`] wakes the poller of a slot.
+//! - [`SocketWire`] is one end of a connection: a socket, and what is known of it. After a read that would block it reads
+//!   again only once its front has reported something to read (`readiness`).
+#![tactic(auto)]
+
+mod bound;
+mod delay;
+mod dial;
+mod forwarding;
+mod limits;
+mod poll;
+mod socket;
+mod stream;
+#[cfg(test)]
+mod tests;
+mod wire;
+
+pub use bound::{Bound, bind};
+pub use dial::Dial;
+pub use forwarding::Forwarding;
+pub use poll::{Sockets, Wakers, open_all};
+pub use socket::Socket;
+pub use stream::Stream;
+pub use wire::SocketWire;

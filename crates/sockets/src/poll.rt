@@ -1,0 +1,312 @@
+ghost use Rattle.std.specs.Prelude.{◌≡◌, ◌⊎◌, ◌+◌, ◌≤◌, ◌++◌, [], length, replicate, true, false, Some, None, IfOk, OnOk, IfErr, OnErr, vec_len, vec_capacity};
+ghost use Rattle.mio.specs.Event.{event_token};
+ghost use Rattle.mio.specs.Events.{items};
+ghost use Rattle.sockets.specs.Fronts.{names_reading, numbers, v4_of, IsRoute, MayTell};
+ghost use Rattle.dispatch.specs.Splits.{parts_of};
+ghost use Rattle.sockets.specs.Wires.{SameButWatched, fresh_wire, under};
+
+use crate::bound::Bound;
+use crate::dial::Dial;
+use crate::forwarding::Forwarding;
+use crate::limits::MAX_WAIT_MILLIS;
+use crate::socket::Socket;
+use crate::wire::SocketWire;
+use dispatch::{
+    Front, LISTENER, MAX_BATCH, Opened, Route, ServerFault, Settle, Split, Unopened, WAKER,
+};
+use log::{Log, debug, error};
+use mio::event::Event;
+use mio::net::TcpListener;
+use mio::{Events, Interest, Poll, Waker};
+use readiness::{Reports, Told};
+use std::alloc::{AllocError, Global};
+use std::io;
+use std::marker::Model;
+use std::net::{Net, SocketAddr, SocketAddrV4};
+use std::sync::Arc;
+use std::time::Duration;
+use token::{Name, Token, unpack};
+
+/// The front of one poller over the system's sockets: the listening socket, which all pollers have, one target, and an
+/// epoll(7) instance of its own. It tells the addresses of clients only if targets are sent them.
+#[derive(Drop)]
+pub struct Sockets<'r, R> {
+    rt: &'r R,
+    listener: Arc<TcpListener>,
+    forwarding: Forwarding,
+    // What wires are told of their sockets' reports.
+    told: Arc<Reports>,
+    poll: Poll,
+    events: Events,
+}
+
+impl<'r, R> Model for Sockets<'r, R> {
+    ghost use Rattle.std.specs.Prelude.{◌≡◌};
+    ghost use Rattle.mio.specs.Events.{items, capacity as events_capacity};
+    ghost use Rattle.sockets.specs.Fronts.{Watched, numbers};
+
+    ghost Value = { Watched };
+
+    ghost view = { λ s. record { forwarding = s.forwarding; reported = numbers (items s.events) } };
+
+    // The most reports that one wait gives, MAX_BATCH.
+    ghost invariant = { λ s. events_capacity s.events ≡ 256 };
+}
+
+/// The wakers of all pollers, each for the slots of its own.
+#[derive(Drop)]
+pub struct Wakers {
+    split: Split,
+    each: Vec<Waker>,
+}
+
+/// A front for each part of the slots, all on one bound socket, which connect each client as this says, and the wakers for
+/// other threads. The listening socket is reported to each of them.
+///
+/// Refuses with `NoMemory` if there is not enough, and with `Poll` if the system cannot report on sockets
+/// (epoll_create1(2), eventfd(2), epoll_ctl(2)). The cause was then logged, at level error. In both cases the listening
+/// socket is closed.
+pub fn open_all<'r, R: Net + Log>(
+    rt: &'r R,
+    alloc: Global,
+    bound: Bound,
+    forwarding: Forwarding,
+    split: Split,
+) -> Result<(Vec<Sockets<'r, R>>, Wakers), ServerFault>
+    ensures opened { IfOk result (λ made. made.0.items ≡ replicate (parts_of split.slots split.size) (record { forwarding = forwarding; reported = [] })) }
+    ensures wakers { IfOk result (λ made. made.1.split ≡ split) }
+    ensures refused { IfErr result (λ fault. (fault ≡ ServerFault.Poll) ⊎ (fault ≡ ServerFault.NoMemory)) }
+{
+    let mut listener = bound.listener;
+    let mut polls = Vec::with_capacity(alloc, split.pollers())?;
+    let mut each = Vec::with_capacity(alloc, split.pollers())?;
+    for _poller in 0..split.pollers() {
+        let (poll, waker) = watched(rt, &mut listener)?;
+        polls.push(poll)?;
+        each.push(waker)?;
+    }
+    let told = Arc::new(alloc, Reports::new(alloc, split.slots())?)?;
+    let fronts = fronts_of(rt, alloc, listener, &told, polls, forwarding)?;
+    Ok((fronts, Wakers { split, each }))
+}
+
+/// A front for each of these, all with one listening socket.
+fn fronts_of<'r, R>(
+    rt: &'r R,
+    alloc: Global,
+    listener: TcpListener,
+    told: &Arc<Reports>,
+    mut polls: Vec<Poll>,
+    forwarding: Forwarding,
+) -> Result<Vec<Sockets<'r, R>>, AllocError>
+    ensures { IfOk result (λ fronts. fronts.items ≡ replicate (vec_len polls) (record { forwarding = forwarding; reported = [] })) }
+{
+    let listener = Arc::new(alloc, listener)?;
+    let mut fronts = Vec::with_capacity(alloc, polls.len())?;
+    polls.reverse();
+    for _front in 0..polls.len() {
+        match polls.pop() {
+            Some(poll) => fronts.push(Sockets {
+                rt,
+                listener: Arc::try_clone(&listener)?,
+                forwarding,
+                told: Arc::try_clone(told)?,
+                poll,
+                events: Events::with_capacity(alloc, MAX_BATCH)?,
+            })?,
+            None => unreachable!(),
+        }
+    }
+    Ok(fronts)
+}
+
+/// What reports on the listening socket, and the waker. Why there is none was logged.
+fn watched<R: Net + Log>(rt: &R, listener: &mut TcpListener) -> Result<(Poll, Waker), ServerFault>
+    ensures { IfErr result (λ fault. fault ≡ ServerFault.Poll) }
+{
+    match reports_on(rt, listener) {
+        Ok(made) => Ok(made),
+        Err(error) => {
+            error!(rt; target: "relayd", "poll: {error}");
+            Err(ServerFault::Poll)
+        }
+    }
+}
+
+impl<R: Dial> Sockets<'_, R> {
+    /// Starts the connection to the target.
+    fn begin<N: Log>(&self, rt: &N) -> Result<SocketWire, Unopened>
+        ensures begun { IfOk result (λ target. target.socket ≡ fresh_wire false None) }
+        ensures refused { IfErr result (λ why. why ≡ Unopened.Connect) }
+    {
+        match self.rt.dial(self.forwarding.target) {
+            Ok(stream) => Ok(SocketWire::connecting(Socket::new(stream))),
+            Err(error) => {
+                let target = self.forwarding.target;
+                debug!(rt; target: "relayd", "connect: {target}: {error}");
+                Err(Unopened::Connect)
+            }
+        }
+    }
+
+    /// Has a socket reported for reading and writing under a token.
+    fn watch<N: Log>(&self, rt: &N, wire: &mut SocketWire, token: Token) -> Result<(), Unopened>
+        ensures watched { OnOk result (wire.new.socket ≡ under token wire.old.socket) }
+        ensures unwatched { OnErr result (wire.new.socket ≡ wire.old.socket) }
+        ensures refused { IfErr result (λ why. why ≡ Unopened.Register) }
+    {
+        // A wire that could not be told of its reports always reads.
+        let told = Told::new(&self.told, token.slot(), token.side()).ok();
+        match wire.watch(self.poll.registry(), token, told) {
+            Ok(()) => Ok(()),
+            Err(error) => {
+                debug!(rt; target: "relayd", "register: {error}");
+                Err(Unopened::Register)
+            }
+        }
+    }
+
+    /// The addresses of a client's connection, if they are to be told. The client's own came with accept(2), and the system
+    /// is asked for the other one.
+    fn route(&self, client: &SocketWire) -> Route
+        ensures { IsRoute self.now.forwarding.proxy client.now.socket.peer result }
+    {
+        if !self.forwarding.proxy {
+            return Route::UNTOLD;
+        }
+        Route {
+            client: v4(client.peer()),
+            accepted: v4(client.stream.local().ok()),
+        }
+    }
+}
+
+/// An address, if it is told and of IPv4.
+fn v4(address: Option<SocketAddr>) -> Option<SocketAddrV4>
+    ensures { result ≡ v4_of address }
+{
+    match address {
+        Some(SocketAddr::V4(address)) => Some(address),
+        Some(SocketAddr::V6(_)) | None => None,
+    }
+}
+
+/// What reports on the listening socket, and the waker that ends a wait for reports.
+fn reports_on<R: Net>(rt: &R, listener: &mut TcpListener) -> io::Result<(Poll, Waker)> {
+    let poll = Poll::new(rt)?;
+    poll.registry().register(listener, mio::Token(LISTENER as usize), Interest::READABLE)?;
+    let waker = Waker::new(poll.registry(), mio::Token(WAKER as usize))?;
+    Ok((poll, waker))
+}
+
+/// Tells of the events that name reading, and appends the numbers of their tokens to the batch.
+fn put_numbers(batch: &mut Vec<u64>, events: &Events, told: &Reports)
+    requires { vec_len batch.old + length (items events.now) ≤ vec_capacity batch.old }
+    ensures numbers { batch.new.items ≡ batch.old.items ++ numbers (items events.now) }
+    ensures capacity { vec_capacity batch.new ≡ vec_capacity batch.old }
+{
+    for event in events.iter().as_slice() {
+        batch.push_reserved(tell(told, event));
+    }
+}
+
+/// Tells of an event if it names reading. Its number is given only then, so that a wire is told before the report becomes
+/// a note.
+fn tell(told: &Reports, event: &Event) -> u64
+    ensures { result ≡ (event_token event.now).0 }
+{
+    let number = event.token().0 as u64;
+    if names_reading(event) {
+        if let Some(end) = end_of(number) {
+            told.tell(end.slot(), end.side());
+        }
+    }
+    number
+}
+
+/// The end of a connection that a number names, if it names one.
+fn end_of(number: u64) -> Option<Token> {
+    match unpack(number)? {
+        Name::End(end) => Some(end),
+        Name::Listener | Name::Waker => None,
+    }
+}
+
+/// Whether an event names reading: there is something to read, or the socket has failed, or the peer has closed it, which
+/// a read finds out.
+fn names_reading(event: &Event) -> bool
+    ensures { result ≡ names_reading event.now }
+{
+    event.is_readable() || event.is_error() || event.is_read_closed() || event.is_write_closed()
+}
+
+impl<R: Dial> Front for Sockets<'_, R> {
+    ghost reported = { λ s. s.reported };
+
+    ghost may_tell = { λ client route. MayTell client.socket.peer route };
+
+    type Client = SocketWire;
+
+    type Target = SocketWire;
+
+    type Waker = Wakers;
+
+    fn poll(&mut self, batch: &mut Vec<u64>, wait: bool) -> io::Result<()>
+        requires room { MAX_BATCH ≤ vec_capacity batch.old }
+        ensures most { vec_len batch.new ≤ MAX_BATCH }
+        ensures capacity { vec_capacity batch.new ≡ vec_capacity batch.old }
+        ensures failed { OnErr result (batch.new.items ≡ []) }
+        ensures reported { batch.new.items ≡ self.new.reported }
+        ensures same { self.new.forwarding ≡ self.old.forwarding }
+    {
+        batch.clear();
+        let most = if wait { MAX_WAIT_MILLIS } else { 0 };
+        self.poll
+            .poll(&mut self.events, Some(Duration::from_millis(most)))?;
+        put_numbers(batch, &self.events, &self.told);
+        Ok(())
+    }
+
+    fn accept(&mut self) -> io::Result<SocketWire>
+        ensures accepted { IfOk result (λ client. (peer : SocketAddr) × (client.socket ≡ fresh_wire true (Some peer))) }
+        ensures same { self.new ≡ self.old }
+    {
+        let (stream, peer) = self.listener.accept()?;
+        Ok(SocketWire::accepted(Socket::new(stream), peer))
+    }
+
+    /// If it fails, the cause is logged at level debug.
+    fn open<N: Log>(
+        &mut self,
+        rt: &N,
+        client: &mut SocketWire,
+        client_token: Token,
+        target_token: Token,
+    ) -> Result<Opened<SocketWire>, Unopened>
+        ensures opened { IfOk result (λ opened. opened.target.socket ≡ under target_token (fresh_wire false None)) }
+        ensures route { IfOk result (λ opened. IsRoute self.old.forwarding.proxy client.old.socket.peer opened.route) }
+        ensures told { IfOk result (λ opened. MayTell client.old.socket.peer opened.route) }
+        ensures client { OnOk result (client.new.socket ≡ under client_token client.old.socket) }
+        ensures unopened { OnErr result (SameButWatched client.old.socket client.new.socket) }
+        ensures same { client.new.socket.tally ≡ client.old.socket.tally }
+        ensures kept { self.new ≡ self.old }
+    {
+        let mut target = self.begin(rt)?;
+        self.watch(rt, client, client_token)?;
+        self.watch(rt, &mut target, target_token)?;
+        let route = self.route(client);
+        Ok(Opened { target, route })
+    }
+
+    fn wake(wakers: &Wakers, slot: usize) {
+        if let Some(waker) = wakers.each.get(wakers.split.poller_of(slot)) {
+            let _ = waker.wake();
+        }
+    }
+
+    fn peer(client: &SocketWire) -> Option<SocketAddr>
+        ensures { result ≡ client.now.socket.peer }
+    {
+        client.peer()
+    }
+}

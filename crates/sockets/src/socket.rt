@@ -1,0 +1,66 @@
+use crate::stream::Stream;
+use mio::net::TcpStream;
+use mio::{Interest, Registry};
+use readiness::Told;
+use std::io;
+use std::net::{Shutdown, SocketAddr};
+
+/// A TCP socket of the system, and what is told of its reports.
+#[derive(Drop)]
+pub struct Socket {
+    pub(crate) stream: TcpStream,
+    told: Option<Told>,
+}
+
+impl Socket {
+    /// A socket that is not reported yet.
+    pub(crate) fn new(stream: TcpStream) -> Socket {
+        Socket { stream, told: None }
+    }
+
+    /// The address at this end (getsockname(2)): for a client's socket, the one on which the client was accepted.
+    pub(crate) fn local(&self) -> io::Result<SocketAddr> {
+        self.stream.local_addr()
+    }
+}
+
+impl Stream for Socket {
+    ghost did = { λ _ _ _. Unit {0} };
+
+    fn read(&mut self, buffer: &mut [u8]) -> io::Result<usize> {
+        io::Read::read(&mut self.stream, buffer)
+    }
+
+    fn write(&mut self, offer: &[u8]) -> io::Result<usize> {
+        io::Write::write(&mut self.stream, offer)
+    }
+
+    fn shut_write(&mut self) -> io::Result<()> {
+        self.stream.shutdown(Shutdown::Write)
+    }
+
+    fn pending(&mut self) -> io::Result<Option<io::Error>> {
+        self.stream.take_error()
+    }
+
+    fn peer(&self) -> io::Result<SocketAddr> {
+        self.stream.peer_addr()
+    }
+
+    fn send_at_once(&mut self, at_once: bool) {
+        let _ = self.stream.set_nodelay(at_once);
+    }
+
+    fn register(&mut self, registry: &Registry, number: u64, told: Option<Told>) -> io::Result<()> {
+        let both = Interest::READABLE | Interest::WRITABLE;
+        self.told = told;
+        registry.register(&mut self.stream, mio::Token(number as usize), both)
+    }
+
+    fn is_told(&mut self) -> bool {
+        match &self.told {
+            Some(told) => told.take(),
+            None => true,
+        }
+    }
+}

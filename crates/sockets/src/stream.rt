@@ -1,0 +1,56 @@
+ghost use Rattle.std.specs.Prelude.{◌≡◌, length, OnOk};
+ghost use Rattle.std.specs.Io.{WritesAtMost};
+ghost use Rattle.engine.specs.Asked as ask;
+ghost use Rattle.engine.specs.Wires.{read_gave, write_gave, call_gave};
+ghost use Rattle.sockets.specs.Wires.{Made, Called, Pending, Named, SentAtOnce, Registered, Looked};
+
+use mio::Registry;
+use readiness::Told;
+use std::io;
+use std::net::SocketAddr;
+
+/// A stream socket of the system, and what is told of its reports, as a wire uses them. Each method but `is_told` is one
+/// system call, which never waits.
+///
+/// Only the system knows what a call does, so the trait leaves that open. What is proved of a wire over any such socket
+/// therefore says which calls it makes, with all that it was asked for, and that it gives their answers unchanged.
+pub trait Stream {
+    // What a system call may do: the call with its answer, and the socket before and after.
+    ghost did: { Made → Self → Self → Type 0 };
+
+    /// read(2) into all of the buffer.
+    fn read(&mut self, buffer: &mut [u8]) -> io::Result<usize>
+        ensures most { WritesAtMost result buffer.new }
+        ensures did { did (Called (ask.Read (length buffer.old)) (read_gave result buffer.new)) self.old self.new };
+
+    /// write(2) of all that is offered.
+    fn write(&mut self, offer: &[u8]) -> io::Result<usize>
+        ensures most { WritesAtMost result offer.now }
+        ensures did { did (Called (ask.Write offer.now) (write_gave result)) self.old self.new };
+
+    /// shutdown(2) with `SHUT_WR`.
+    fn shut_write(&mut self) -> io::Result<()>
+        ensures { did (Called ask.Shut (call_gave result)) self.old self.new };
+
+    /// The error that is pending on the socket (SO_ERROR of socket(7)).
+    fn pending(&mut self) -> io::Result<Option<io::Error>>
+        ensures { did (Pending result) self.old self.new };
+
+    /// The address at the other end (getpeername(2)).
+    fn peer(&self) -> io::Result<SocketAddr>
+        ensures { did (Named result) self.now self.now };
+
+    /// Has the socket send at once, or wait for more to send along (TCP_NODELAY of tcp(7)). It stays as it was if the
+    /// system refuses.
+    fn send_at_once(&mut self, at_once: bool)
+        ensures { did (SentAtOnce at_once) self.old self.new };
+
+    /// Has the socket reported for reading and writing, edge-triggered, under a number (epoll_ctl(2)). Those of its reports
+    /// that name reading are told by `told`. Without it, each look finds that one was told.
+    fn register(&mut self, registry: &Registry, number: u64, told: Option<Told>) -> io::Result<()>
+        ensures { OnOk result (did (Registered number) self.old self.new) };
+
+    /// Whether a report that names reading was told since the last look, which this is. It is no system call.
+    fn is_told(&mut self) -> bool
+        ensures { did (Looked result) self.old self.new };
+}

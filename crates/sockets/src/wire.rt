@@ -1,0 +1,260 @@
+ghost use Rattle.std.specs.Prelude.{◌≡◌, true, false, Some, None, OnOk, OnErr};
+ghost use Rattle.std.specs.IoError.{error_kind};
+ghost use Rattle.token.specs.Names.{end_number};
+ghost use Rattle.relay_core.specs.Calls.{side_of};
+ghost use Rattle.engine.specs.Asked as ask;
+ghost use Rattle.engine.specs.Classes.{class_of, pending_kind};
+ghost use Rattle.engine.specs.Tallies.{counted};
+ghost use Rattle.engine.specs.Wires.{call_gave};
+ghost use Rattle.sockets.specs.Delays.{IsOffered};
+ghost use Rattle.sockets.specs.Wires.{Registered, Switches, Joins, fresh_wire, promptly, took, under, goes_on, goes_on_after, Looked};
+
+use crate::delay::Delay;
+use crate::socket::Socket;
+use crate::stream::Stream;
+use dispatch::Settle;
+use engine::{Class, Tally, Wire, class_of};
+use mio::Registry;
+use readiness::{Attention, Told};
+use relay_core::{Call, Side};
+use std::io;
+use std::marker::Model;
+use std::net::SocketAddr;
+use token::Token;
+
+/// The wire over one system socket. A write is one system call, which never waits, and so is a read, unless the wire knows
+/// its answer: after a read that would block, it answers "would block" by itself until it is told of a report that names
+/// reading, or a call fails.
+///
+/// It counts its answers by [`class_of`](engine::class_of). It specifies the system calls that it makes, and gives their
+/// answers unchanged. It does not specify its bytes, since only the system knows which bytes come.
+#[derive(Drop)]
+pub struct SocketWire<S = Socket> {
+    pub(crate) stream: S,
+    tally: Tally,
+    delay: Delay,
+    attention: Attention,
+    peer: Option<SocketAddr>,
+    watched: Option<Token>,
+}
+
+impl<S> Model for SocketWire<S> {
+    ghost use Rattle.sockets.specs.Wires.{Wired};
+
+    ghost Value = { Wired S };
+
+    ghost view = { λ w. record { stream = w.stream; socket = record { tally = w.tally; sending = w.delay; reads = w.attention; peer = w.peer; watched = w.watched } } };
+}
+
+impl<S: Stream> SocketWire<S> {
+    /// A client's socket, which is connected, and the client's address.
+    pub(crate) fn accepted(stream: S, peer: SocketAddr) -> SocketWire<S>
+        ensures { result ≡ record { stream = stream; socket = fresh_wire true (Some peer) } }
+    {
+        SocketWire {
+            stream,
+            tally: Tally::new(true),
+            delay: Delay::new(),
+            attention: Attention::new(),
+            peer: Some(peer),
+            watched: None,
+        }
+    }
+
+    /// A target's socket, which is connecting.
+    pub(crate) fn connecting(stream: S) -> SocketWire<S>
+        ensures { result ≡ record { stream = stream; socket = fresh_wire false None } }
+    {
+        SocketWire {
+            stream,
+            tally: Tally::new(false),
+            delay: Delay::new(),
+            attention: Attention::new(),
+            peer: None,
+            watched: None,
+        }
+    }
+
+    /// The address of the client, if the wire is a client's.
+    pub fn peer(&self) -> Option<SocketAddr>
+        ensures { result ≡ self.now.socket.peer }
+    {
+        self.peer
+    }
+
+    /// Has the socket reported for reading and writing, edge-triggered, under a token's number. Its reports that name
+    /// reading are told by `told`; without it the wire always reads.
+    pub(crate) fn watch(
+        &mut self,
+        registry: &Registry,
+        token: Token,
+        told: Option<Told>,
+    ) -> io::Result<()>
+        ensures registered { OnOk result (S.did (Registered (end_number token)) self.old.stream self.new.stream) }
+        ensures watched { OnOk result (self.new.socket ≡ under token self.old.socket) }
+        ensures unwatched { OnErr result (self.new.socket ≡ self.old.socket) }
+    {
+        self.stream.register(registry, token.value(), told)?;
+        self.watched = Some(token);
+        Ok(())
+    }
+
+    /// Whether the wire reads its socket. If it does not, it looks, and reads from now on if it was told of something to
+    /// read.
+    fn looks(&mut self) -> bool
+        ensures kept { self.old.socket.reads ≡ true → (result ≡ true) × (self.new.stream ≡ self.old.stream) }
+        ensures look { self.old.socket.reads ≡ false → S.did (Looked result) self.old.stream self.new.stream }
+        ensures reads { self.new.socket ≡ record self.old.socket { reads = result } }
+    {
+        if self.attention.reads() {
+            return true;
+        }
+        let told = self.stream.is_told();
+        self.attention.look(told);
+        told
+    }
+
+    /// Counts an error of a call by its class, and gives it. After a read that would block the wire does not read, and
+    /// after a failure it does.
+    fn refuse(&mut self, call: Call, error: io::Error) -> io::Error
+        requires { side_of call ≡ Side.Target }
+        ensures same { result ≡ error }
+        ensures counted { self.new.socket.tally ≡ counted (class_of call self.old.socket.tally.joined (error_kind error)) self.old.socket.tally }
+        ensures reads { self.new.socket.reads ≡ goes_on call (class_of call self.old.socket.tally.joined (error_kind error)) self.old.socket.reads }
+        ensures rest { self.new.socket ≡ record self.old.socket { tally = self.new.socket.tally; reads = self.new.socket.reads } }
+        ensures stream { self.new.stream ≡ self.old.stream }
+    {
+        let class = class_of(&call, error.kind(), self.tally.joined());
+        self.heed(call, class);
+        self.tally.refuse(call, error.kind());
+        error
+    }
+
+    /// Whether the wire reads its socket after an error of this class.
+    fn heed(&mut self, call: Call, class: Class)
+        ensures { self.new ≡ record self.old { socket = record self.old.socket { reads = goes_on call class self.old.socket.reads } } }
+    {
+        match class {
+            Class::Interrupted => {}
+            Class::Failed(_) => self.attention.wake(),
+            Class::Blocked => match call {
+                Call::Read(..) => self.attention.rest(),
+                Call::Write(_) | Call::Join(_) | Call::Shut(_) => {}
+            },
+        }
+    }
+
+    /// A write took `count` of the bytes that were offered.
+    fn took(&mut self, count: usize, offered: usize)
+        ensures counted { self.new.socket ≡ record self.old.socket { tally = took count offered self.old.socket.tally; reads = goes_on_after count offered self.old.socket.reads } }
+        ensures stream { self.new.stream ≡ self.old.stream }
+    {
+        if count > 0 {
+            self.tally.connect();
+        } else if offered > 0 {
+            self.attention.wake();
+            self.tally.none_taken();
+        }
+    }
+
+    /// So many bytes were offered. In bulk the socket may wait for more from now on.
+    fn offered(&mut self, bytes: usize)
+        ensures offered { IsOffered bytes self.old.socket.sending self.new.socket.sending }
+        ensures same { self.new.socket ≡ record self.old.socket { sending = self.new.socket.sending } }
+        ensures switched { Switches S.did self.old.socket.sending.at_once self.new.socket.sending.at_once self.old.stream self.new.stream }
+    {
+        if self.delay.offer(bytes) {
+            self.stream.send_at_once(false);
+        }
+    }
+}
+
+/// Whether a socket is connected: its pending error, or that it has no peer yet.
+fn stand<S: Stream>(stream: &mut S) -> io::Result<()>
+    ensures { Joins S.did (call_gave result) stream.old stream.new }
+{
+    if let Some(error) = stream.pending()? {
+        return Err(failure(error));
+    }
+    stream.peer()?;
+    Ok(())
+}
+
+/// An error that was pending on a socket, as the answer of a call. It is always a failure of the connection.
+fn failure(pending: io::Error) -> io::Error
+    ensures { error_kind result ≡ pending_kind (error_kind pending) }
+{
+    io::Error::from(engine::pending(pending.kind()))
+}
+
+impl<S: Stream> Wire for SocketWire<S> {
+    ghost use Rattle.engine.specs.Wires.{counts_alone};
+    ghost use Rattle.sockets.specs.Wires.{IsDone};
+
+    ghost told = { λ w. counts_alone w.socket.tally.faults w.socket.tally.blocks };
+
+    ghost does = { IsDone S.did };
+
+    fn read(&mut self, buffer: &mut [u8]) -> io::Result<usize> {
+        if !self.looks() {
+            let blocked = io::Error::from(io::ErrorKind::WouldBlock);
+            return Err(self.refuse(Call::Read(Side::Target, buffer.len()), blocked));
+        }
+        match self.stream.read(buffer) {
+            Ok(count) => {
+                self.tally.connect();
+                Ok(count)
+            }
+            Err(error) => Err(self.refuse(Call::Read(Side::Target, buffer.len()), error)),
+        }
+    }
+
+    fn write(&mut self, offer: &[u8]) -> io::Result<usize> {
+        let answer = self.stream.write(offer);
+        self.offered(offer.len());
+        match answer {
+            Ok(count) => {
+                self.took(count, offer.len());
+                Ok(count)
+            }
+            Err(error) => Err(self.refuse(Call::Write(Side::Target), error)),
+        }
+    }
+
+    fn shut_write(&mut self) -> io::Result<()> {
+        match self.stream.shut_write() {
+            Ok(()) => Ok(()),
+            Err(error) => Err(self.refuse(Call::Shut(Side::Target), error)),
+        }
+    }
+
+    fn joined(&mut self) -> io::Result<()> {
+        match stand(&mut self.stream) {
+            Ok(()) => {
+                self.tally.connect();
+                Ok(())
+            }
+            Err(error) => Err(self.refuse(Call::Join(Side::Target), error)),
+        }
+    }
+
+    fn faults(&self) -> u64 {
+        self.tally.faults()
+    }
+
+    fn blocks(&self) -> u64 {
+        self.tally.blocks()
+    }
+}
+
+impl<S: Stream> Settle for SocketWire<S> {
+    fn settle(&mut self)
+        ensures told { (self.new.socket.tally.faults ≡ self.old.socket.tally.faults) × (self.new.socket.tally.blocks ≡ self.old.socket.tally.blocks) }
+        ensures settled { self.new.socket ≡ promptly self.old.socket }
+        ensures switched { Switches S.did self.old.socket.sending.at_once true self.old.stream self.new.stream }
+    {
+        if self.delay.settle() {
+            self.stream.send_at_once(true);
+        }
+    }
+}
