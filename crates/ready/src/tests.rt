@@ -2,6 +2,7 @@
 use super::*;
 use crate::sleeper::Awake;
 use std::process::Abort;
+use std::sync::Wait;
 use std::test::Fail;
 
 mod threads;
@@ -17,21 +18,90 @@ fn announce(rt: &impl Abort, end: &ReadyQueue) -> Awake {
     end.idle().announce_unlooked(end.sleeper(), seen)
 }
 
+/// What is asked of an end of a queue of tickets.
+#[derive(Clone, Copy)]
+enum Ask {
+    Put(Ticket),
+    TryTake,
+    Take,
+    Close,
+}
+
+const FIRST: Ticket = Ticket {
+    slot: 3,
+    generation: 1,
+};
+
+const SECOND: Ticket = Ticket {
+    slot: 4,
+    generation: 2,
+};
+
+const THIRD: Ticket = Ticket {
+    slot: 5,
+    generation: 3,
+};
+
+/// Of a queue with room for one ticket: the number of an end, what is asked of it, and the ticket that it gives or gives
+/// back.
+static TICKETS: [(usize, Ask, Option<Ticket>); 8] = [
+    (0, Ask::TryTake, None),
+    (0, Ask::Put(FIRST), None),
+    (1, Ask::Put(SECOND), Some(SECOND)),
+    (1, Ask::TryTake, Some(FIRST)),
+    (0, Ask::Put(THIRD), None),
+    (0, Ask::Close, None),
+    (1, Ask::Take, Some(THIRD)),
+    (1, Ask::Take, None),
+];
+
+/// The ticket that an end gives, or gives back.
+fn asked(rt: &impl Wait, end: &mut ReadyQueue, ask: Ask) -> Option<Ticket> {
+    match ask {
+        Ask::Put(ticket) => match end.put(rt, ticket) {
+            Ok(()) => None,
+            Err(Full(ticket)) => Some(ticket),
+        },
+        Ask::TryTake => end.try_take(rt),
+        Ask::Take => end.take(rt),
+        Ask::Close => {
+            end.close();
+            None
+        }
+    }
+}
+
 #[test]
 fn a_full_queue_gives_the_ticket_back(rt: HostRuntime) -> Result<(), Fail> {
     let mut ends = ReadyQueue::new(rt.alloc(), 1, 2)?;
-    let (Some(mut mine), Some(mut other)) = (ends.pop(), ends.pop()) else {
-        panic!(rt; "there are not two ends")
-    };
-    assert_eq!(rt; mine.try_take(&rt), None);
-    assert_eq!(rt; mine.put(&rt, ticket(3, 1)), Ok(()));
-    assert_eq!(rt; other.put(&rt, ticket(4, 2)), Err(Full(ticket(4, 2))));
-    assert_eq!(rt; other.try_take(&rt), Some(ticket(3, 1)));
-    assert_eq!(rt; mine.put(&rt, ticket(5, 3)), Ok(()));
-    mine.close();
-    assert_eq!(rt; other.take(&rt), Some(ticket(5, 3)));
-    assert_eq!(rt; other.take(&rt), None);
+    for (row, (number, ask, wanted)) in TICKETS.iter().enumerate() {
+        let told = ends.get_mut(*number).map(|end| asked(&rt, end, *ask));
+        assert_eq!(rt; told, Some(*wanted), "in row {row}");
+    }
     Ok(())
+}
+
+/// Of a queue with the free slots 4 to 6: the slot that is given, or none where one is taken, and the slot that comes out
+/// or back.
+static SLOTS: [(Option<usize>, Option<usize>); 7] = [
+    (Some(7), Some(7)),
+    (None, Some(4)),
+    (None, Some(5)),
+    (None, Some(6)),
+    (None, None),
+    (Some(1), None),
+    (None, Some(1)),
+];
+
+/// The slot that an end gives, or gives back.
+fn exchanged(rt: &impl Wait, end: &mut FreeQueue, given: Option<usize>) -> Option<usize> {
+    match given {
+        Some(slot) => match end.give(rt, slot) {
+            Ok(()) => None,
+            Err(Full(slot)) => Some(slot),
+        },
+        None => end.try_take(rt),
+    }
 }
 
 #[test]
@@ -40,12 +110,10 @@ fn free_slots_come_in_order(rt: HostRuntime) -> Result<(), Fail> {
     let Some(mut free) = ends.pop() else {
         panic!(rt; "there is no end")
     };
-    assert_eq!(rt; free.give(&rt, 7), Err(Full(7)));
-    for slot in [Some(4), Some(5), Some(6), None] {
-        assert_eq!(rt; free.try_take(&rt), slot);
+    for (row, (given, wanted)) in SLOTS.iter().enumerate() {
+        let told = exchanged(&rt, &mut free, *given);
+        assert_eq!(rt; told, *wanted, "in row {row}");
     }
-    assert_eq!(rt; free.give(&rt, 1), Ok(()));
-    assert_eq!(rt; free.try_take(&rt), Some(1));
     Ok(())
 }
 
