@@ -57,10 +57,13 @@ fn berth(alloc: Global, generation: u64) -> Result<Berth<u8, char>, AllocError> 
     })
 }
 
-/// The generation of a berth with these wires.
-fn told(berth: Option<Berth<u8, char>>) -> Option<u64> {
-    let berth = berth?;
-    (berth.client == 7 && berth.target == 't').then_some(berth.pair.generation())
+/// The generation of a berth with these wires, and 0 of one with others.
+fn told(berth: Berth<u8, char>) -> u64 {
+    if berth.client == 7 && berth.target == 't' {
+        berth.pair.generation()
+    } else {
+        0
+    }
 }
 
 /// What a row's place answers. A seat that does not hold the slot gets 0.
@@ -78,10 +81,10 @@ fn asked(
         return Ok(Some(0));
     }
     Ok(match ask {
-        Ask::Take => told(berths.take_out(rt, seat, slot)),
+        Ask::Take => berths.take_out(rt, seat, slot).map(told),
         Ask::Put(generation) => match berths.put_in(rt, seat, slot, berth(alloc, generation)?) {
             Ok(()) => None,
-            Err(Occupied(berth)) => told(Some(berth)),
+            Err(Occupied(berth)) => Some(told(berth)),
         },
     })
 }

@@ -1,5 +1,3 @@
-ghost use Rattle.world.specs.States.{IsWithinLimits};
-
 use kernel_model::{Accepting, Refusal, Reply};
 use std::alloc::{AllocError, Global};
 use std::test::Fail;
