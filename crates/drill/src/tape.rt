@@ -119,7 +119,7 @@ impl Tape {
 
     /// The report of the world.
     pub fn report(&self) -> Result<String, AllocError> {
-        script::print(self.alloc, &self.world)
+        world_report::print(self.alloc, &self.world)
     }
 
     /// Whether the world's table has a generation over 0 for this slot of the world.

@@ -8,13 +8,13 @@ use Rattle.flow.specs.Stream.{waiting, front, dropped}
 use Rattle.flow.proofs.Front.{waiting-dropped, take-front, waiting_ends}
 use Rattle.kernel_model.specs.Ends.{is_nonempty}
 use Rattle.kernel_model.specs.Replies.{is_count}
-use Rattle.script.specs.declared.step.Step.{Step}
-use Rattle.script.specs.declared.step.Step.TheVariants.{Arrive, Fin, Room, Read, End, Wrote, Shut}
-use Rattle.script.specs.declared.step.NumberedStep.{NumberedStep}
+use Rattle.script_text.specs.declared.step.Step.{Step}
+use Rattle.script_text.specs.declared.step.Step.TheVariants.{Arrive, Fin, Room, Read, End, Wrote, Shut}
+use Rattle.script_text.specs.declared.step.NumberedStep.{NumberedStep}
 use Rattle.script.specs.declared.transfer.Transfer.{Transfer}
 use Rattle.script.specs.Faults.{and_then, or_not_allowed, played}
 use Rattle.script.specs.Plans.{FlowPlan}
-use Rattle.script.specs.Steps.{word_of}
+use Rattle.script_text.specs.Steps.{word_of}
 use Rattle.script.specs.Transfers.{opening, stepped, read_size, line_stepped}
 use Rattle.script.specs.Laws.{brought, given, is_fin, has_ended, KeepsBytes, KeepsEnd}
 

@@ -1,6 +1,3 @@
-pub mod Cuts
-pub mod Digits
-pub mod Leads
 pub mod Playing
 pub mod Keeping
 pub mod Telling

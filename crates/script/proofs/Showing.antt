@@ -17,11 +17,11 @@ use Rattle.script.specs.declared.script.Script.{Script}
 use Rattle.script.specs.declared.script.Script.TheVariants as kind
 use Rattle.script.specs.declared.script.Reached.{Reached}
 use Rattle.script.specs.declared.script.Reached.TheVariants as reached
-use Rattle.script.specs.declared.step.NumberedStep.{NumberedStep}
-use Rattle.script.specs.declared.event.NumberedEvent.{NumberedEvent}
+use Rattle.script_text.specs.declared.step.NumberedStep.{NumberedStep}
+use Rattle.script_text.specs.declared.event.NumberedEvent.{NumberedEvent}
 use Rattle.script.specs.declared.transfer.Transfer.{Transfer}
 use Rattle.script.specs.Plans.{FlowPlan, WorldPlan}
-use Rattle.script.specs.Texts.{NumberedLine, lines_of, telling_lines}
+use Rattle.script_text.specs.Texts.{NumberedLine, lines_of, telling_lines}
 use Rattle.script.specs.Faults.{Gives, GivesBy, StopsAt, and_then, played}
 use Rattle.script.specs.Faults as faults
 use Rattle.script.specs.Transfers.{line_stepped}
@@ -29,7 +29,7 @@ use Rattle.script.specs.Transfers as flow
 use Rattle.script.specs.Scripts.{MayBeScript, most_bytes, parsed, said_by}
 use Rattle.script.specs.Plays.{line_happened, reached_by}
 use Rattle.script.specs.Reports.{report, fault_line}
-use Rattle.script.specs.WorldReports.{world_report}
+use Rattle.world_report.specs.WorldReports.{world_report}
 use Rattle.script.specs.Runs.{LeadsTo}
 use Rattle.script.specs.Each.{AnswersEach, Shows, ShowsEach, ShowsFront, ShowsScript, ShowsSteps, WritesEach, WritesEachFault, first_line, shown, shown_to, told_after}
 use Rattle.script.proofs.Playing.{plays_give, played_more}

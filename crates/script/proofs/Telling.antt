@@ -12,10 +12,10 @@ use Rattle.script.specs.declared.running.Outcome.TheVariants.{Report, Refused}
 use Rattle.script.specs.declared.running.ScriptFault.{ScriptFault}
 use Rattle.script.specs.declared.script.Script.{Script}
 use Rattle.script.specs.declared.script.Reached.{Reached}
-use Rattle.script.specs.declared.header.Header.{Header}
+use Rattle.script_text.specs.declared.header.Header.{Header}
 use Rattle.script.specs.Faults.{Gives, GivesBy, and_then}
-use Rattle.script.specs.Texts.{NumberedLine, lines_of, telling_lines}
-use Rattle.script.specs.Headers.{header_of, first_header}
+use Rattle.script_text.specs.Texts.{NumberedLine, lines_of, telling_lines}
+use Rattle.script_text.specs.Headers.{header_of, first_header}
 use Rattle.script.specs.Scripts.{Plan, MayBeScript, most_bytes, or_malformed, headed, plan_of, parsed, said_by}
 use Rattle.script.specs.Plays.{reached_by}
 use Rattle.script.specs.Reports.{fault_line}

@@ -12,14 +12,15 @@ use Rattle.script.specs.declared.each.Halt.TheVariants.{Refused, Unwritten}
 use Rattle.script.specs.declared.script.Script.{Script}
 use Rattle.script.specs.declared.script.Script.TheVariants.{Flow, World}
 use Rattle.script.specs.declared.script.Reached.{Reached}
-use Rattle.script.specs.Texts.{NumberedLine, lines_of, telling_lines}
+use Rattle.script_text.specs.Texts.{NumberedLine, lines_of, telling_lines}
 use Rattle.script.specs.Faults.{StopsAt, played}
 use Rattle.script.specs.Scripts.{parsed, said_by}
 use Rattle.script.specs.Transfers.{line_stepped}
 use Rattle.script.specs.Transfers as flow
 use Rattle.script.specs.Plays.{line_happened}
-use Rattle.script.specs.Reports.{newline, report, fault_line}
-use Rattle.script.specs.WorldReports.{world_report}
+use Rattle.world_report.specs.Shown.{newline}
+use Rattle.script.specs.Reports.{report, fault_line}
+use Rattle.world_report.specs.WorldReports.{world_report}
 use Rattle.script.specs.Runs.{LeadsTo}
 
 -- The texts

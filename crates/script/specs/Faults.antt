@@ -1,42 +1,10 @@
 -- The faults of a script, and the one line that tells each. Part of the promises.
 use Rattle.std.specs.Prelude.{◌≡◌, ℕ, List, [], ◌∷◌, ◌++◌, codes, take, slice_get, Option, Some, None, Result, Ok, Err}
 use Rattle.std.specs.Fmt.{decimal}
-use Rattle.script.specs.declared.word.Word.{Word}
-use Rattle.script.specs.declared.word.Word.TheVariants.{Accept, Arrive, Call, Claim, Close, Connect, Deliver, Drop, End, Fin, Free, Idle, Open, Poll, Pop, Post, Put, Read, Release, Reset, Retire, Room, Shut, Spurious, Sweep, Take, Tick, Vanish, Wrote}
+use Rattle.script_text.specs.declared.word.Word.{Word}
+use Rattle.script_text.specs.Words.{word_text}
 use Rattle.script.specs.declared.fault.Fault.{Fault}
 use Rattle.script.specs.declared.fault.Fault.TheVariants.{TooLong, NoWorld, Malformed, NotAllowed, NoMemory}
-
--- the first word of a step or an event
-abbrev pub word_text : Word → List ℕ
-word_text Accept = codes "accept"
-word_text Arrive = codes "arrive"
-word_text Call = codes "call"
-word_text Claim = codes "claim"
-word_text Close = codes "close"
-word_text Connect = codes "connect"
-word_text Deliver = codes "deliver"
-word_text Drop = codes "drop"
-word_text End = codes "end"
-word_text Fin = codes "fin"
-word_text Free = codes "free"
-word_text Idle = codes "idle"
-word_text Open = codes "open"
-word_text Poll = codes "poll"
-word_text Pop = codes "pop"
-word_text Post = codes "post"
-word_text Put = codes "put"
-word_text Read = codes "read"
-word_text Release = codes "release"
-word_text Reset = codes "reset"
-word_text Retire = codes "retire"
-word_text Room = codes "room"
-word_text Shut = codes "shut"
-word_text Spurious = codes "spurious"
-word_text Sweep = codes "sweep"
-word_text Take = codes "take"
-word_text Tick = codes "tick"
-word_text Vanish = codes "vanish"
-word_text Wrote = codes "wrote"
 
 abbrev pub fault_text : Fault → List ℕ
 fault_text TooLong = codes "script too long"

@@ -1,8 +1,8 @@
 -- What holds of every script of one direction, in terms of its steps alone. Part of the promises.
 use Rattle.std.specs.Prelude.{◌≡◌, ℕ, Bool, true, false, ◌||◌, List, [], ◌∷◌, ◌++◌, Ok}
-use Rattle.script.specs.declared.step.Step.{Step}
-use Rattle.script.specs.declared.step.Step.TheVariants.{Arrive, Fin}
-use Rattle.script.specs.declared.step.NumberedStep.{NumberedStep}
+use Rattle.script_text.specs.declared.step.Step.{Step}
+use Rattle.script_text.specs.declared.step.Step.TheVariants.{Arrive, Fin}
+use Rattle.script_text.specs.declared.step.NumberedStep.{NumberedStep}
 use Rattle.script.specs.declared.transfer.Transfer.{Transfer}
 use Rattle.script.specs.Plans.{FlowPlan}
 use Rattle.script.specs.Transfers.{run_of}

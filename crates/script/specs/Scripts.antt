@@ -3,17 +3,17 @@ use Rattle.std.specs.Prelude.{ℕ, nat_lt, if◌then◌else◌, List, [], ◌∷
 use Rattle.world.specs.declared.limits.Limits.{Limits}
 use Rattle.script.specs.declared.fault.Fault.{Fault}
 use Rattle.script.specs.declared.fault.Fault.TheVariants.{TooLong, NoWorld, Malformed}
-use Rattle.script.specs.declared.header.Header.{Header}
-use Rattle.script.specs.declared.header.Header.TheVariants as header
+use Rattle.script_text.specs.declared.header.Header.{Header}
+use Rattle.script_text.specs.declared.header.Header.TheVariants as header
 use Rattle.script.specs.declared.script.Script.{Script}
 use Rattle.script.specs.declared.script.Script.TheVariants as script
-use Rattle.script.specs.declared.step.NumberedStep.{NumberedStep}
-use Rattle.script.specs.declared.event.NumberedEvent.{NumberedEvent}
+use Rattle.script_text.specs.declared.step.NumberedStep.{NumberedStep}
+use Rattle.script_text.specs.declared.event.NumberedEvent.{NumberedEvent}
 use Rattle.script.specs.Plans.{FlowPlan}
-use Rattle.script.specs.Texts.{NumberedLine, lines_of, telling_lines}
-use Rattle.script.specs.Headers.{header_of, first_header}
-use Rattle.script.specs.Steps.{step_of}
-use Rattle.script.specs.Events.{Said, said_of, event_of}
+use Rattle.script_text.specs.Texts.{NumberedLine, lines_of, telling_lines}
+use Rattle.script_text.specs.Headers.{header_of, first_header}
+use Rattle.script_text.specs.Steps.{step_of}
+use Rattle.script_text.specs.Events.{Said, said_of, event_of}
 use Rattle.script.specs.Faults.{and_then}
 
 -- the most bytes of a script

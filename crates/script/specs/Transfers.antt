@@ -7,11 +7,11 @@ use Rattle.kernel_model.specs.Ends.{opened, is_nonempty, arrival, finish, new_ro
 use Rattle.kernel_model.specs.Replies.{after_read, after_write, after_shut}
 use Rattle.kernel_model.specs.declared.reply.Reply.TheVariants as reply
 use Rattle.script.specs.declared.fault.Fault.{Fault}
-use Rattle.script.specs.declared.step.Step.{Step}
-use Rattle.script.specs.declared.step.Step.TheVariants.{Arrive, Fin, Room, Read, End, Wrote, Shut}
-use Rattle.script.specs.declared.step.NumberedStep.{NumberedStep}
+use Rattle.script_text.specs.declared.step.Step.{Step}
+use Rattle.script_text.specs.declared.step.Step.TheVariants.{Arrive, Fin, Room, Read, End, Wrote, Shut}
+use Rattle.script_text.specs.declared.step.NumberedStep.{NumberedStep}
 use Rattle.script.specs.declared.transfer.Transfer.{Transfer}
-use Rattle.script.specs.Steps.{word_of}
+use Rattle.script_text.specs.Steps.{word_of}
 use Rattle.script.specs.Plans.{FlowPlan}
 use Rattle.script.specs.Faults.{or_not_allowed, played}
 

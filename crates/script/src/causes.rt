@@ -1,15 +1,14 @@
 //! What a person is told in addition to a fault: the word that is malformed and what is expected there, or why a step
 //! is not allowed at that point.
 
-use crate::events::event;
-use crate::header::{Header, read_header};
 use crate::limits::{MAX_BYTES, MAX_SHOWN};
-use crate::lines::{Line, Lines, Pieces};
-use crate::reasons::{event_reason, step_reason};
-use crate::steps::step;
-use crate::wrong::{NotRead, Wrong};
+use crate::reasons::step_reason;
 use crate::{Fault, FlowScript, Script, WorldScript, parse};
+use script_text::{
+    Header, Line, Lines, NotRead, Pieces, Wrong, read_event, read_header, read_step,
+};
 use std::alloc::{AllocError, Global};
+use world_report::event_reason;
 
 /// The cause of a fault, for a person, on one line: which word is malformed and what is expected there, or why the step
 /// is not allowed. `text` is the script that has the fault. None if nothing more is known, or there is no memory for
@@ -92,8 +91,8 @@ fn wrong_line(alloc: Global, text: &[u8], number: u64) -> Option<(&[u8], Wrong<'
     };
     let line = numbered(lines, number)?.text;
     let not_read = match header {
-        Header::Flow(_) => step(alloc, line).err()?,
-        Header::World(_) => event(alloc, line).err()?,
+        Header::Flow(_) => read_step(alloc, line).err()?,
+        Header::World(_) => read_event(alloc, line).err()?,
     };
     match not_read {
         NotRead::Malformed(wrong) => Some((line, wrong)),

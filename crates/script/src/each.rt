@@ -6,11 +6,11 @@ ghost use Rattle.script.specs.Scripts.{most_bytes};
 ghost use Rattle.script.specs.Each.{AnswersEach, Shows, ShowsEach, WritesEach, WritesEachFault};
 
 use crate::limits::MAX_BYTES;
-use crate::lines::Lines;
 use crate::machine::Machine;
 use crate::running::{answer_unread, tell_fault, write};
 use crate::shown::Showing;
 use crate::{Explain, Fault, Outcome, Script, ScriptFault, parse};
+use script_text::Lines;
 use std::alloc::{AllocError, Global};
 use std::io::{Read, Write};
 

@@ -1,6 +1,6 @@
 ghost use Rattle.std.specs.Prelude.{◌≡◌, Some};
 
-use crate::Word;
+use script_text::Word;
 use std::alloc::{AllocError, AllocFailed};
 use std::error::Error;
 use std::fmt;

@@ -2,7 +2,8 @@ ghost use Rattle.std.specs.Prelude.{◌≡◌, ◌≤◌, IfOk};
 ghost use Rattle.script.specs.Faults.{Gives, Plays};
 ghost use Rattle.script.specs.Transfers.{opening, line_stepped, run_of};
 
-use crate::{Fault, NumberedStep, Transfer};
+use crate::{Fault, Transfer};
+use script_text::NumberedStep;
 use std::alloc::{AllocError, Global};
 use std::marker::Model;
 

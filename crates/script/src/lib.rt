@@ -11,43 +11,32 @@
 //! malformed and what is expected there, or why a step is not allowed. [`run`] passes text and fault to its
 //! [`Explain`].
 //!
-//! `docs/FORMATS.md` describes scripts and reports; `specs/` has the same as definitions: `Texts`, `Reading`, `Headers`,
-//! `Steps`, `Events` and `Scripts` for the text, `Transfers` and `Plays` for the steps, `Reports`, `WorldReports` and
-//! `Each` for what is written, and `Laws` and `Runs` for what holds for every run.
+//! What a line says is the crate `script_text`, and what is told of a world the crate `world_report`.
+//!
+//! `docs/FORMATS.md` describes scripts and reports; `specs/` has the same as definitions: `Scripts` for the text, over those of
+//! `script_text`; `Transfers` and `Plays` for the steps; `Reports` and `Each` for what is written, over those of `world_report`;
+//! and `Laws` and `Runs` for what holds for every run.
 #![tactic(auto)]
 
 mod causes;
 mod each;
-mod event;
-mod event_parts;
-mod events;
 mod explain;
 mod fault;
 mod flow_script;
-mod header;
 mod laws;
 mod limits;
-mod lines;
 mod machine;
 mod parsing;
-mod readers;
 mod reasons;
 mod report;
 mod running;
 mod script;
 mod shown;
-mod step;
-mod steps;
 mod transfer;
-mod values;
-mod word;
-mod world_report;
 mod world_script;
-mod wrong;
 
 pub use causes::cause;
 pub use each::run_each;
-pub use event::{NumberedEvent, word_of};
 pub use explain::Explain;
 pub use fault::Fault;
 pub use flow_script::FlowScript;
@@ -55,8 +44,7 @@ pub use parsing::parse;
 pub use report::{fault_line, print_transfer};
 pub use running::{Outcome, ScriptFault, answer, run};
 pub use script::{Reached, Script};
-pub use step::{Bytes, NumberedStep, Step};
+pub use script_text::{Bytes, NumberedEvent, NumberedStep, Step, Word, word_of};
 pub use transfer::Transfer;
-pub use word::Word;
 pub use world_report::print;
 pub use world_script::WorldScript;

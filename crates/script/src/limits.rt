@@ -1,23 +1,7 @@
-//! The limits of a script. A ring's is [`Flow::MAX`](flow::Flow::MAX), a lead's [`Flow::MAX_LEAD`](flow::Flow::MAX_LEAD),
-//! a generation's `token::MAX_GENERATION`, and a poll's `kernel_model::MAX_POLLED`.
+//! The limits of a script as a whole. Those of its lines are the crate `script_text`'s.
 
 /// The maximum number of bytes in a script.
 pub(crate) const MAX_BYTES: usize = 1_048_576;
 
 /// The most bytes of a word that are shown to a person.
 pub(crate) const MAX_SHOWN: usize = 64;
-
-/// The most slots of a world.
-pub(crate) const MAX_SLOTS: usize = 64;
-
-/// The most workers of a world.
-pub(crate) const MAX_WORKERS: usize = 16;
-
-/// The most calls of one turn.
-pub(crate) const MAX_BUDGET: usize = 1_024;
-
-/// The most seconds of an idle limit.
-pub(crate) const MAX_IDLE: usize = 86_400;
-
-/// The most hexadecimal digits of a word, two for each byte.
-pub(crate) const MAX_DIGITS: usize = 2_048;

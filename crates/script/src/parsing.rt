@@ -2,13 +2,11 @@ ghost use Rattle.std.specs.Prelude.{◌≡◌, ◌^◌, ◌<◌, IsErrOf};
 ghost use Rattle.script.specs.Faults.{GivesBy};
 ghost use Rattle.script.specs.Scripts.{MayBeScript, parsed, steps_of, events_of, said_by, said_lines};
 
-use crate::events::event;
-use crate::header::{Header, read_header};
 use crate::limits::MAX_BYTES;
-use crate::lines::Lines;
-use crate::steps::step;
-use crate::wrong::NotRead;
-use crate::{Fault, FlowScript, NumberedEvent, NumberedStep, Script, WorldScript};
+use crate::{Fault, FlowScript, Script, WorldScript};
+use script_text::{
+    Header, Lines, NotRead, NumberedEvent, NumberedStep, read_event, read_header, read_step,
+};
 use std::alloc::Global;
 
 /// The script that a text stands for, or its first fault: too long before all else, then no line that is not skipped,
@@ -41,7 +39,7 @@ fn steps(alloc: Global, mut lines: Lines) -> Result<Vec<NumberedStep>, Fault>
 {
     let mut steps = Vec::new(alloc);
     while let Some(line) = lines.next() {
-        let step = match step(alloc, line.text) {
+        let step = match read_step(alloc, line.text) {
             Ok(step) => step,
             Err(NotRead::Malformed(_)) => return Err(Fault::Malformed(line.number)),
             Err(NotRead::NoMemory) => return Err(Fault::NoMemory),
@@ -60,7 +58,7 @@ fn events(alloc: Global, mut lines: Lines) -> Result<Vec<NumberedEvent>, Fault>
 {
     let mut events = Vec::new(alloc);
     while let Some(line) = lines.next() {
-        let event = match event(alloc, line.text) {
+        let event = match read_event(alloc, line.text) {
             Ok(event) => event,
             Err(NotRead::Malformed(_)) => return Err(Fault::Malformed(line.number)),
             Err(NotRead::NoMemory) => return Err(Fault::NoMemory),

@@ -4,8 +4,8 @@ ghost use Rattle.script.specs.Faults.{Refused};
 ghost use Rattle.script.specs.Each.{has_line, first_line, new_lines, shown};
 
 use crate::Fault;
-use crate::lines::{Lines, Pieces};
 use crate::machine::Machine;
+use script_text::{Lines, Pieces};
 use std::alloc::{AllocError, Global};
 
 /// The lines of a script that were not shown yet, and the last report.

@@ -3,10 +3,11 @@ ghost use Rattle.kernel_model.specs.Outcome.{Meets, MeetsAlways};
 ghost use Rattle.script.specs.Faults.{Carries};
 ghost use Rattle.script.specs.Transfers.{opening, stepped, line_stepped, takes_memory, read_size};
 
-use crate::{Fault, NumberedStep, Step};
+use crate::Fault;
 use flow::Flow;
 use kernel_model::{End, Refusal, Reply};
 use relay_core::MAX_READ;
+use script_text::{NumberedStep, Step};
 use std::alloc::{AllocError, Global};
 use token::Side;
 

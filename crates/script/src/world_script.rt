@@ -3,9 +3,9 @@ ghost use Rattle.world.specs.States.{IsWithinLimits, opening};
 ghost use Rattle.script.specs.Faults.{Gives, Carries, Plays};
 ghost use Rattle.script.specs.Plays.{line_happened, world_of};
 
-use crate::event::word_of;
-use crate::{Fault, NumberedEvent};
+use crate::Fault;
 use kernel_model::Refusal;
+use script_text::{NumberedEvent, word_of};
 use std::alloc::{AllocError, Global};
 use std::marker::Model;
 use world::{Limits, World};

@@ -15,8 +15,6 @@ mod limits;
 mod poll;
 mod socket;
 mod stream;
-#[cfg(test)]
-mod tests;
 mod wire;
 
 pub use bound::{Bound, bind};

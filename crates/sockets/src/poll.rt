@@ -176,7 +176,7 @@ impl<R: Dial> Sockets<'_, R> {
         }
         Route {
             client: v4(client.peer()),
-            accepted: v4(client.stream.local().ok()),
+            accepted: v4(client.stream().local().ok()),
         }
     }
 }

@@ -8,14 +8,19 @@ use std::net::{Shutdown, SocketAddr};
 /// A TCP socket of the system, and what is told of its reports.
 #[derive(Drop)]
 pub struct Socket {
-    pub(crate) stream: TcpStream,
+    stream: TcpStream,
     told: Option<Told>,
 }
 
 impl Socket {
     /// A socket that is not reported yet.
-    pub(crate) fn new(stream: TcpStream) -> Socket {
+    pub fn new(stream: TcpStream) -> Socket {
         Socket { stream, told: None }
+    }
+
+    /// Whether the socket sends at once (TCP_NODELAY of tcp(7)), as the system says.
+    pub fn sends_at_once(&self) -> io::Result<bool> {
+        self.stream.nodelay()
     }
 
     /// The address at this end (getsockname(2)): for a client's socket, the one on which the client was accepted.

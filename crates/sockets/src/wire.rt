@@ -30,7 +30,7 @@ use token::Token;
 /// answers unchanged. It does not specify its bytes, since only the system knows which bytes come.
 #[derive(Drop)]
 pub struct SocketWire<S = Socket> {
-    pub(crate) stream: S,
+    stream: S,
     tally: Tally,
     delay: Delay,
     attention: Attention,
@@ -48,7 +48,7 @@ impl<S> Model for SocketWire<S> {
 
 impl<S: Stream> SocketWire<S> {
     /// A client's socket, which is connected, and the client's address.
-    pub(crate) fn accepted(stream: S, peer: SocketAddr) -> SocketWire<S>
+    pub fn accepted(stream: S, peer: SocketAddr) -> SocketWire<S>
         ensures { result ≡ record { stream = stream; socket = fresh_wire true (Some peer) } }
     {
         SocketWire {
@@ -62,7 +62,7 @@ impl<S: Stream> SocketWire<S> {
     }
 
     /// A target's socket, which is connecting.
-    pub(crate) fn connecting(stream: S) -> SocketWire<S>
+    pub fn connecting(stream: S) -> SocketWire<S>
         ensures { result ≡ record { stream = stream; socket = fresh_wire false None } }
     {
         SocketWire {
@@ -73,6 +73,13 @@ impl<S: Stream> SocketWire<S> {
             peer: None,
             watched: None,
         }
+    }
+
+    /// The socket.
+    pub fn stream(&self) -> &S
+        ensures { result.now ≡ self.now.stream }
+    {
+        &self.stream
     }
 
     /// The address of the client, if the wire is a client's.

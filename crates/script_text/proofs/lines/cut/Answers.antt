@@ -1,0 +1,11 @@
+use Rattle.std.proofs.Common.{sym, ◌∙◌, ◌+◌}
+use Rattle.std.proofs.lemmas.List.{take_rest}
+use Rattle.script_text.proofs.Cuts.{split_at_first, split_nowhere}
+use Rattle.script_text.proofs.lines.cut.Goals as goal
+
+pub returns-in-Some : goal.returns-in-Some
+returns-in-Some c =
+    rw (take_rest c.args.text.now (c.in-Some.at + 1)) (split_at_first _ _ _ (sym c.first.ensures ∙ c.in-Some.is))
+
+pub returns-in-None : goal.returns-in-None
+returns-in-None c = split_nowhere _ _ (sym c.first.ensures ∙ c.in-None.is)

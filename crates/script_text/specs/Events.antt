@@ -1,0 +1,169 @@
+-- The events of a world's script, and the lines that say them. Part of the promises.
+use Rattle.std.specs.Prelude.{ℕ, nat_lt, nat_le, ◌&&◌, if◌then◌else◌, List, [], ◌∷◌, length, codes, Option, Some, None, option_map, option_and_then}
+use Rattle.std.specs.Str.{bytes_eq}
+use Rattle.token.specs.declared.side.Side.{Side}
+use Rattle.token.specs.Sides.{side_named}
+use Rattle.token.specs.Kinds.{kind_named}
+use Rattle.token.specs.declared.name.Name.{Name}
+use Rattle.token.specs.declared.name.Name.TheVariants as name
+use Rattle.kernel_model.specs.declared.reply.Reply.{Reply}
+use Rattle.kernel_model.specs.declared.reply.Reply.TheVariants as reply
+use Rattle.kernel_model.specs.declared.accepting.Accepting.{Accepting}
+use Rattle.kernel_model.specs.declared.accepting.Accepting.TheVariants as accepting
+use Rattle.world.specs.declared.event.Event.{Event}
+use Rattle.world.specs.declared.event.Event.TheVariants as event
+use Rattle.world.specs.declared.event.Change.{Change}
+use Rattle.world.specs.declared.event.Change.TheVariants as change
+use Rattle.world.specs.declared.event.Reported.{Reported}
+use Rattle.world.specs.declared.event.Reported.TheVariants as reported
+use Rattle.world.specs.declared.event.Listening.TheVariants as listening
+use Rattle.world.specs.declared.event.Polling.TheVariants as polling
+use Rattle.world.specs.declared.event.Act.{Act}
+use Rattle.world.specs.declared.event.Act.TheVariants as act
+use Rattle.script_text.specs.Texts.{pieces_of, words_of, number_of, number_below, bytes_of}
+use Rattle.script_text.specs.Reading.{word_then, if_last, full_of}
+
+-- An event as a line says it. Two forms carry a list, of bytes or of names; each other one is an event of
+-- the machine as it stands.
+pub data Said : Type 0 where
+  Arrives : ℕ → Side → List ℕ → Said
+  Polls : List Name → Said
+  Plainly : Event → Said
+
+-- what an event says
+abbrev pub said_of : Event → Said
+said_of (event.Network slot side (change.Arrive bytes)) = Arrives slot side bytes.items
+said_of (event.Poll (polling.Poll names)) = Polls names.items
+said_of e = Plainly e
+
+-- The parts of a line
+
+abbrev pub slot_of : List ℕ → Option ℕ
+slot_of word = number_below 64 word
+
+abbrev pub worker_of : List ℕ → Option ℕ
+worker_of word = number_below 16 word
+
+-- the generations of a name, 1 to 2^47 - 1
+abbrev pub generation_of : List ℕ → Option ℕ
+generation_of word = option_and_then (λ n. if nat_lt 0 n && nat_le n 140737488355327 then Some n else None) (number_of word)
+
+-- `SLOT.GEN.SIDE`, by its parts
+abbrev pub end_of : List (List ℕ) → Option Name
+end_of (slot ∷ generation ∷ side ∷ []) =
+    option_and_then (λ s. option_and_then (λ g. option_map (λ d. name.End (record { slot = s; side = d; generation = g })) (side_named side)) (generation_of generation)) (slot_of slot)
+end_of _ = None
+
+-- `listener`, `waker` or the name of an end, whose parts stand between dots
+abbrev pub name_of : List ℕ → Option Name
+name_of word =
+    if bytes_eq word (codes "listener") then Some name.Listener
+    else if bytes_eq word (codes "waker") then Some name.Waker
+    else end_of (pieces_of 46 word)
+
+abbrev pub all_names : List (List ℕ) → Option (List Name)
+all_names [] = Some []
+all_names (word ∷ words) = option_and_then (λ n. option_map (λ ns. n ∷ ns) (all_names words)) (name_of word)
+
+-- 256 names at most
+abbrev pub names_of : List (List ℕ) → Option (List Name)
+names_of words = if nat_le (length words) 256 then all_names words else None
+
+abbrev pub accepting_of : List ℕ → Option Accepting
+accepting_of word =
+    if bytes_eq word (codes "ok") then Some accepting.Accepted
+    else if bytes_eq word (codes "blocked") then Some accepting.Blocked
+    else if bytes_eq word (codes "again") then Some accepting.Again
+    else if bytes_eq word (codes "starved") then Some accepting.Starved
+    else None
+
+-- what a worker does, where its number says all else
+abbrev pub act_of : List ℕ → Option Act
+act_of word =
+    if bytes_eq word (codes "pop") then Some act.Pop
+    else if bytes_eq word (codes "claim") then Some act.Claim
+    else if bytes_eq word (codes "take") then Some act.Take
+    else if bytes_eq word (codes "post") then Some act.Post
+    else if bytes_eq word (codes "release") then Some act.Release
+    else if bytes_eq word (codes "idle") then Some act.Expire
+    else if bytes_eq word (codes "close") then Some act.Close
+    else if bytes_eq word (codes "retire") then Some act.Retire
+    else if bytes_eq word (codes "free") then Some act.Free
+    else None
+
+-- a reply to a call, and what it carries
+abbrev pub reply_of : List (List ℕ) → Option Reply
+reply_of [] = None
+reply_of (name ∷ words) =
+    if bytes_eq name (codes "read") then word_then number_of (λ n. if_last (reply.Bytes n)) words
+    else if bytes_eq name (codes "end") then if_last reply.End words
+    else if bytes_eq name (codes "wrote") then word_then number_of (λ n left. option_map (λ full. reply.Wrote n full) (full_of left)) words
+    else if bytes_eq name (codes "joined") then if_last reply.Joined words
+    else if bytes_eq name (codes "shut") then if_last reply.Shut words
+    else if bytes_eq name (codes "blocked") then if_last reply.Blocked words
+    else if bytes_eq name (codes "interrupted") then if_last reply.Interrupted words
+    else if bytes_eq name (codes "failed") then word_then kind_named (λ kind. if_last (reply.Failed kind)) words
+    else None
+
+-- what a report without a cause is about: `listener`, `waker`, or a slot and a side
+abbrev pub reported_of : List (List ℕ) → Option Reported
+reported_of [] = None
+reported_of (who ∷ words) =
+    if bytes_eq who (codes "listener") then if_last reported.Listener words
+    else if bytes_eq who (codes "waker") then if_last reported.Waker words
+    else option_and_then (λ slot. word_then side_named (λ side. if_last (reported.End slot side)) words) (slot_of who)
+
+-- The words behind the first one
+
+-- a slot and a side, for what happens to a socket
+abbrev pub change_event : Change → List (List ℕ) → Option Event
+change_event change = word_then slot_of (λ slot. word_then side_named (λ side. if_last (event.Network slot side change)))
+
+-- `poller`, or the number of a worker
+abbrev pub put_event : List (List ℕ) → Option Event
+put_event [] = None
+put_event (who ∷ words) =
+    if bytes_eq who (codes "poller") then if_last (event.Poll polling.Put) words
+    else option_and_then (λ worker. if_last (event.Work worker act.Put) words) (worker_of who)
+
+-- the next call of the worker of this number gets this reply
+abbrev pub call_event : List (List ℕ) → Option Event
+call_event = word_then worker_of (λ worker words. option_map (λ answer. event.Work worker (act.Call answer)) (reply_of words))
+
+abbrev pub act_event : Act → List (List ℕ) → Option Event
+act_event act = word_then worker_of (λ worker. if_last (event.Work worker act))
+
+-- the events that carry no list
+abbrev pub plain_event : List ℕ → List (List ℕ) → Option Event
+plain_event name words =
+    if bytes_eq name (codes "tick") then word_then number_of (λ n. if_last (event.Tick n)) words
+    else if bytes_eq name (codes "connect") then if_last (event.Listen listening.Connect) words
+    else if bytes_eq name (codes "accept") then word_then accepting_of (λ answer. if_last (event.Listen (listening.Accept answer))) words
+    else if bytes_eq name (codes "drop") then if_last (event.Listen listening.Drop) words
+    else if bytes_eq name (codes "fin") then change_event change.Fin words
+    else if bytes_eq name (codes "reset") then change_event change.Reset words
+    else if bytes_eq name (codes "room") then change_event change.Room words
+    else if bytes_eq name (codes "spurious") then option_map event.Spurious (reported_of words)
+    else if bytes_eq name (codes "vanish") then option_map event.Vanish (reported_of words)
+    else if bytes_eq name (codes "open") then if_last (event.Poll polling.Open) words
+    else if bytes_eq name (codes "deliver") then if_last (event.Poll polling.Deliver) words
+    else if bytes_eq name (codes "sweep") then word_then slot_of (λ slot. if_last (event.Poll (polling.Sweep slot))) words
+    else if bytes_eq name (codes "put") then put_event words
+    else if bytes_eq name (codes "call") then call_event words
+    else option_and_then (λ act. act_event act words) (act_of name)
+
+-- a slot, a side, and the bytes that arrive there
+abbrev pub arrival : List (List ℕ) → Option Said
+arrival = word_then slot_of (λ slot. word_then side_named (λ side. word_then bytes_of (λ bytes. if_last (Arrives slot side bytes))))
+
+-- an event that carries no list is said as it stands
+abbrev pub event_of_words : List (List ℕ) → Option Said
+event_of_words [] = None
+event_of_words (name ∷ words) =
+    if bytes_eq name (codes "arrive") then arrival words
+    else if bytes_eq name (codes "poll") then option_map Polls (names_of words)
+    else option_map said_of (plain_event name words)
+
+-- the event that a line says
+abbrev pub event_of : List ℕ → Option Said
+event_of line = event_of_words (words_of line)

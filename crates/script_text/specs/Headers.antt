@@ -1,0 +1,88 @@
+-- The header of a script, which says what the script covers, and its sizes. Part of the promises. It is the first line
+-- that is not skipped.
+use Rattle.std.specs.Prelude.{ℕ, ◌≤◌, nat_lt, nat_le, ◌&&◌, if◌then◌else◌, List, [], ◌∷◌, codes, length, Option, Some, None, option_map, option_and_then}
+use Rattle.std.specs.Str.{bytes_eq}
+use Rattle.world.specs.declared.limits.Limits.{Limits}
+use Rattle.world.specs.States.{IsWithinLimits}
+use Rattle.script_text.specs.declared.header.Extras.{Extras}
+use Rattle.script_text.specs.declared.header.Header.{Header}
+use Rattle.script_text.specs.declared.header.Header.TheVariants.{Flow, World}
+use Rattle.script_text.specs.Texts.{NumberedLine, words_of, value_after, bytes_after}
+use Rattle.script_text.specs.Reading.{Found, word_then, if_last}
+
+-- `KEY=N` with N from 1 to the most
+abbrev pub size_of : List ℕ → ℕ → List ℕ → Option ℕ
+size_of key most word = option_and_then (λ n. if nat_lt 0 n && nat_le n most then Some n else None) (value_after key word)
+
+-- `gen=G` with G from 0 to 2^47 - 2
+abbrev pub generation_of : List ℕ → Option ℕ
+generation_of word = option_and_then (λ n. if nat_lt n 140737488355327 then Some n else None) (value_after (codes "gen=") word)
+
+-- `ring=R`, the bytes of a ring
+abbrev pub ring_of : List ℕ → Option ℕ
+ring_of word = size_of (codes "ring=") 65536 word
+
+-- the bytes that a ring may have
+abbrev pub IsRing : ℕ → Type 0
+IsRing n = (1 ≤ n) × (n ≤ 65536)
+
+-- `idle=L`, the idle limit in seconds, 1 to 86,400
+abbrev pub idle_of : List ℕ → Option ℕ
+idle_of word = size_of (codes "idle=") 86400 word
+
+-- what is of a size that it may have
+abbrev pub IsWithin : Header → Type 0
+IsWithin (Flow ring) = IsRing ring
+IsWithin (World limits) = IsWithinLimits limits
+
+-- these bytes, if a lead may have so many
+abbrev pub short_enough : List ℕ → Option (List ℕ)
+short_enough bytes = if nat_le (length bytes) 107 then Some bytes else None
+
+-- `lead=HEX`, the bytes that each target is sent before those of its client, 1 to 107 of them
+abbrev pub lead_of : List ℕ → Option (List ℕ)
+lead_of word = option_and_then short_enough (bytes_after (codes "lead=") word)
+
+-- what the first word says; if it does not say such a thing, it is left, and the value is another
+abbrev pub found_or : {X : Type 0} → X → List ℕ → List (List ℕ) → Option X → Found X
+found_or otherwise word words (Some x) = record { value = x; words = words }
+found_or otherwise word words None = record { value = otherwise; words = word ∷ words }
+
+abbrev pub optional : {X : Type 0} → (List ℕ → Option X) → X → List (List ℕ) → Found X
+optional read otherwise [] = record { value = otherwise; words = [] }
+optional read otherwise (word ∷ words) = found_or otherwise word words (read word)
+
+-- What may stand behind the sizes, each at most once and in this order: ` gen=G`, the generation that the slots have had,
+-- 0 where it is not given; ` idle=L`, the idle limit, 0 for none; ` lead=HEX`, the lead, empty for none.
+abbrev pub extras_of : List (List ℕ) → Option Extras
+extras_of words =
+    let generation = optional generation_of 0 words in
+    let idle = optional idle_of 0 generation.words in
+    let lead = optional lead_of [] idle.words in
+    if_last (record { generation = generation.value; idle = idle.value; lead = lead.value }) lead.words
+
+-- `slots=S workers=W ring=R budget=B`, with what stands behind
+abbrev pub limits_of : List (List ℕ) → Option Limits
+limits_of =
+    word_then (size_of (codes "slots=") 64) (λ slots. word_then (size_of (codes "workers=") 16) (λ workers.
+    word_then ring_of (λ ring. word_then (size_of (codes "budget=") 1024) (λ budget words.
+    option_map (λ extras. record { slots = slots; workers = workers; ring = ring; budget = budget; generation = extras.generation; idle = extras.idle; lead = extras.lead }) (extras_of words)))))
+
+abbrev pub lone_ring : List (List ℕ) → Option ℕ
+lone_ring = word_then ring_of (λ ring. if_last ring)
+
+-- `flow ring=R`, or `world` and its limits
+abbrev pub header_of_words : List (List ℕ) → Option Header
+header_of_words [] = None
+header_of_words (name ∷ words) =
+    if bytes_eq name (codes "flow") then option_map Flow (lone_ring words)
+    else if bytes_eq name (codes "world") then option_map World (limits_of words)
+    else None
+
+abbrev pub header_of : List ℕ → Option Header
+header_of line = header_of_words (words_of line)
+
+-- the header of a text, whose lines that say something are these
+abbrev pub first_header : List NumberedLine → Option Header
+first_header [] = None
+first_header (l ∷ ls) = header_of l.text

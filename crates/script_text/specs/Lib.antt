@@ -1,0 +1,7 @@
+-- The crate's definitions. The first line of each file says whether the promises need it.
+pub mod Texts
+pub mod Reading
+pub mod Steps
+pub mod Events
+pub mod Words
+pub mod Headers

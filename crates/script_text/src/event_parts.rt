@@ -1,0 +1,171 @@
+// The parts of a line for an event that several words say, or one of many words.
+ghost use Rattle.std.specs.Prelude.{◌≡◌, option_map};
+ghost use Rattle.script_text.specs.Texts.{number_of};
+ghost use Rattle.script_text.specs.Reading.{word_then, if_last, full_of, Reads, ReadsBy};
+ghost use Rattle.script_text.specs.Events.{generation_of, end_of, name_of, names_of, act_of, reply_of, reported_of};
+ghost use Rattle.token.specs.Kinds.{kind_named};
+
+use crate::limits::MAX_SLOTS;
+use crate::lines::Pieces;
+use crate::readers::{count, is_full, kind, last, said, side, word};
+use crate::values::{number, number_below};
+use crate::wrong::{NotRead, Wrong};
+use kernel_model::{MAX_POLLED, Reply};
+use std::alloc::Global;
+use token::{MAX_GENERATION, Name, Side, Token};
+use world::{Act, Reported};
+
+/// The generation in a name, 1 to 2^47 - 1.
+fn generation(word: &[u8]) -> Option<u64>
+    ensures { result ≡ generation_of word.now }
+{
+    let value = number(word)? as u64;
+    if 1 <= value && value <= MAX_GENERATION {
+        Some(value)
+    } else {
+        None
+    }
+}
+
+/// The name of an end, `SLOT.GEN.SIDE`, by its parts.
+fn end(mut parts: Pieces) -> Option<Name>
+    ensures { result ≡ end_of parts.entry }
+{
+    let (slot_part, generation_part) = (parts.next()?, parts.next()?);
+    let (side_part, more) = (parts.next()?, parts.next());
+    if more.is_some() {
+        return None;
+    }
+    let slot = number_below(MAX_SLOTS, slot_part)?;
+    let generation = generation(generation_part)?;
+    let side = Side::named(side_part)?;
+    match Token::pack(slot, side, generation) {
+        Ok(token) => Some(Name::End(token)),
+        Err(_) => None,
+    }
+}
+
+/// A name as the queue has it: `listener`, `waker` or `SLOT.GEN.SIDE`.
+fn name(word: &[u8]) -> Option<Name>
+    ensures { result ≡ name_of word.now }
+{
+    if word == b"listener".as_slice() {
+        Some(Name::Listener)
+    } else if word == b"waker".as_slice() {
+        Some(Name::Waker)
+    } else {
+        end(Pieces::new(word, b'.'))
+    }
+}
+
+/// The names of a poll, at most 256.
+pub(crate) fn names<'a>(alloc: Global, mut words: Pieces<'a>) -> Result<Vec<Name>, NotRead<'a>>
+    ensures { ReadsBy (λ names. names.items) (names_of words.entry) result }
+{
+    let mut names = Vec::new(alloc);
+    while let Some(word) = words.next() {
+        if names.len() == MAX_POLLED {
+            return Err(NotRead::Malformed(Wrong::malformed(word, "a poll has at most 256 names")));
+        }
+        let Some(name) = name(word) else {
+            return Err(NotRead::Malformed(Wrong::malformed(
+                word,
+                "listener, waker or SLOT.GEN.SIDE, as in 0.1.client, is wanted",
+            )));
+        };
+        names.push(name)?;
+    }
+    Ok(names)
+}
+
+/// What a report without cause is about: `listener`, `waker`, or a slot and a side.
+pub(crate) fn reported(mut words: Pieces<'_>) -> Result<Reported, Wrong<'_>>
+    ensures { Reads (reported_of words.entry) result }
+{
+    let wanted = "listener, waker or the number of a slot, 0 to 63, is wanted";
+    let who = word(&mut words, wanted)?;
+    if who == b"listener".as_slice() {
+        last(Reported::Listener, words)
+    } else if who == b"waker".as_slice() {
+        last(Reported::Waker, words)
+    } else {
+        let slot = said(number_below(MAX_SLOTS, who), who, wanted)?;
+        let side = side(&mut words)?;
+        last(Reported::End(slot, side), words)
+    }
+}
+
+/// What a worker does, if its number is the only further word.
+pub(crate) fn act(word: &[u8]) -> Option<Act>
+    ensures { result ≡ act_of word.now }
+{
+    if word == b"pop".as_slice() {
+        Some(Act::Pop)
+    } else if word == b"claim".as_slice() {
+        Some(Act::Claim)
+    } else if word == b"take".as_slice() {
+        Some(Act::Take)
+    } else if word == b"post".as_slice() {
+        Some(Act::Post)
+    } else if word == b"release".as_slice() {
+        Some(Act::Release)
+    } else if word == b"idle".as_slice() {
+        Some(Act::Expire)
+    } else if word == b"close".as_slice() {
+        Some(Act::Close)
+    } else if word == b"retire".as_slice() {
+        Some(Act::Retire)
+    } else if word == b"free".as_slice() {
+        Some(Act::Free)
+    } else {
+        None
+    }
+}
+
+/// The answer to a call.
+pub(crate) fn reply(mut words: Pieces<'_>) -> Result<Reply, Wrong<'_>>
+    ensures { Reads (reply_of words.entry) result }
+{
+    let wanted = "one of blocked, end, failed, interrupted, joined, read, shut and wrote is wanted";
+    let name = word(&mut words, wanted)?;
+    if name == b"read".as_slice() {
+        read(words)
+    } else if name == b"end".as_slice() {
+        last(Reply::End, words)
+    } else if name == b"wrote".as_slice() {
+        wrote(words)
+    } else if name == b"joined".as_slice() {
+        last(Reply::Joined, words)
+    } else if name == b"shut".as_slice() {
+        last(Reply::Shut, words)
+    } else if name == b"blocked".as_slice() {
+        last(Reply::Blocked, words)
+    } else if name == b"interrupted".as_slice() {
+        last(Reply::Interrupted, words)
+    } else if name == b"failed".as_slice() {
+        failed(words)
+    } else {
+        Err(Wrong::malformed(name, wanted))
+    }
+}
+
+fn read(mut words: Pieces<'_>) -> Result<Reply, Wrong<'_>>
+    ensures { Reads (word_then number_of (λ n. if_last (Reply.Bytes n)) words.entry) result }
+{
+    let count = count(&mut words)?;
+    last(Reply::Bytes(count), words)
+}
+
+fn wrote(mut words: Pieces<'_>) -> Result<Reply, Wrong<'_>>
+    ensures { Reads (word_then number_of (λ n left. option_map (λ full. Reply.Wrote n full) (full_of left)) words.entry) result }
+{
+    let count = count(&mut words)?;
+    Ok(Reply::Wrote(count, is_full(words)?))
+}
+
+fn failed(mut words: Pieces<'_>) -> Result<Reply, Wrong<'_>>
+    ensures { Reads (word_then kind_named (λ kind. if_last (Reply.Failed kind)) words.entry) result }
+{
+    let kind = kind(&mut words)?;
+    last(Reply::Failed(kind), words)
+}

@@ -1,0 +1,238 @@
+// The header: the first line of a script that is not skipped.
+ghost use Rattle.std.specs.Prelude.{◌≡◌, ◌≤◌, ◌<◌, [], codes, unwrap_or, IfSome, IfOk, option_and_then};
+ghost use Rattle.world.specs.States.{IsWithinLimits};
+ghost use Rattle.script_text.specs.Reading.{first_as, Reads, Takes};
+ghost use Rattle.script_text.specs.Headers.{size_of, generation_of, ring_of, idle_of, lead_of, short_enough, optional, extras_of, limits_of, lone_ring, header_of, IsRing, IsWithin};
+ghost use Rattle.script_text.specs.Texts.{bytes_of};
+
+use crate::limits::{MAX_BUDGET, MAX_IDLE, MAX_SLOTS, MAX_WORKERS};
+use crate::lines::Pieces;
+use crate::readers::{end_or, last, said, word};
+use crate::values::{is_hex_text, value_after};
+use crate::wrong::Wrong;
+use flow::Flow;
+use token::MAX_GENERATION;
+use world::{Lead, Limits};
+
+/// What a script covers, and its sizes.
+#[derive(Clone, Copy)]
+pub enum Header {
+    /// One direction, with a ring of at most this many bytes.
+    Flow(usize),
+    /// A world with these sizes.
+    World(Limits),
+}
+
+/// What may stand behind the sizes of a world.
+#[derive(Clone, Copy)]
+struct Extras {
+    /// The generation at which every slot starts; 0 if it is not given.
+    generation: u64,
+    /// The idle limit in seconds; 0 for none.
+    idle: u64,
+    /// What each target is sent first; empty for nothing.
+    lead: Lead,
+}
+
+/// The header that a line stands for, or what is wrong with it: the first such word from the left. Allocates no memory.
+pub fn read_header(line: &[u8]) -> Result<Header, Wrong<'_>>
+    ensures value { Reads (header_of line.now) result }
+    ensures range { IfOk result IsWithin }
+{
+    let wanted = "a script begins with flow or world";
+    let mut words = Pieces::new(line, b' ');
+    let name = word(&mut words, wanted)?;
+    if name == b"flow".as_slice() {
+        Ok(Header::Flow(lone_ring(words)?))
+    } else if name == b"world".as_slice() {
+        match limits(words) {
+            Ok(limits) => Ok(Header::World(limits)),
+            Err(wrong) => Err(wrong),
+        }
+    } else {
+        Err(Wrong::unknown(name, wanted))
+    }
+}
+
+/// `ring=R` and nothing else.
+fn lone_ring(mut words: Pieces<'_>) -> Result<usize, Wrong<'_>>
+    ensures value { Reads (lone_ring words.entry) result }
+    ensures range { IfOk result IsRing }
+{
+    let ring = ring(&mut words)?;
+    last(ring, words)
+}
+
+/// The sizes of a world: `slots=S workers=W ring=R budget=B`, perhaps `gen=G`, perhaps `idle=L`, and perhaps `lead=HEX`.
+fn limits(mut words: Pieces<'_>) -> Result<Limits, Wrong<'_>>
+    ensures value { Reads (limits_of words.entry) result }
+    ensures range { IfOk result IsWithinLimits }
+{
+    let slots = size(
+        &mut words,
+        b"slots=",
+        MAX_SLOTS,
+        "slots=1 to slots=64 is wanted",
+    )?;
+    let workers = size(
+        &mut words,
+        b"workers=",
+        MAX_WORKERS,
+        "workers=1 to workers=16 is wanted",
+    )?;
+    let ring = ring(&mut words)?;
+    let budget = size(
+        &mut words,
+        b"budget=",
+        MAX_BUDGET,
+        "budget=1 to budget=1024 is wanted",
+    )?;
+    match read_extras(words) {
+        Ok(extras) => Ok(Limits {
+            slots,
+            workers,
+            ring,
+            budget,
+            generation: extras.generation,
+            idle: extras.idle,
+            lead: extras.lead,
+        }),
+        Err(wrong) => Err(wrong),
+    }
+}
+
+/// What stands behind the sizes: `gen=G`, `idle=L` and `lead=HEX` in this order, each of which may be left out.
+fn read_extras(mut words: Pieces<'_>) -> Result<Extras, Wrong<'_>>
+    ensures value { Reads (extras_of words.entry) result }
+    ensures range { IfOk result (λ extras. extras.generation < 140737488355327) }
+{
+    let generation = optional_generation(&mut words);
+    let idle = optional_idle(&mut words);
+    let lead = optional_lead(&mut words);
+    end_or(words, behind(generation, idle, lead.is_some()))?;
+    Ok(Extras {
+        generation: generation.unwrap_or(0),
+        idle: idle.unwrap_or(0),
+        lead: lead.unwrap_or(Lead::NONE),
+    })
+}
+
+/// What may stand behind these, if anything.
+fn behind(generation: Option<u64>, idle: Option<u64>, has_lead: bool) -> &'static str {
+    if has_lead {
+        "the line should end before this word"
+    } else if idle.is_some() {
+        "lead= and 1 to 107 bytes as pairs of lower-case hexadecimal digits, or the end of the line, is wanted"
+    } else if generation.is_some() {
+        "idle=1 to idle=86400, lead= and 1 to 107 bytes as pairs of lower-case hexadecimal digits, or the end of the line, is wanted"
+    } else {
+        "gen=0 to gen=140737488355326, idle=1 to idle=86400, lead= and 1 to 107 bytes as pairs of lower-case hexadecimal digits, or the end of the line, is wanted"
+    }
+}
+
+/// The generation that the first word says, or none, and the word stays.
+fn optional_generation(words: &mut Pieces) -> Option<u64>
+    ensures value { optional generation_of 0 words.old ≡ record { value = unwrap_or result 0; words = words.new } }
+    ensures range { IfSome result (λ generation. generation < 140737488355327) }
+{
+    let generation = words.peek().and_then(generation)?;
+    words.next();
+    Some(generation)
+}
+
+/// The idle limit that the first word says, or none, and the word stays.
+fn optional_idle(words: &mut Pieces) -> Option<u64>
+    ensures { optional idle_of 0 words.old ≡ record { value = unwrap_or result 0; words = words.new } }
+{
+    let idle = words.peek().and_then(idle)?;
+    words.next();
+    Some(idle)
+}
+
+/// The lead that the first word says, or none, and the word stays.
+fn optional_lead(words: &mut Pieces) -> Option<Lead>
+    ensures { optional lead_of [] words.old ≡ record { value = unwrap_or result []; words = words.new } }
+{
+    let lead = words.peek().and_then(lead)?;
+    words.next();
+    Some(lead)
+}
+
+/// `ring=R`, 1 to 65,536 bytes.
+fn ring<'a>(words: &mut Pieces<'a>) -> Result<usize, Wrong<'a>>
+    ensures value { Takes (first_as ring_of words.old) result words.new }
+    ensures range { IfOk result IsRing }
+{
+    size(words, b"ring=", Flow::MAX, "ring=1 to ring=65536 is wanted")
+}
+
+/// `KEY=N`, from 1 to `most`. The key ends with its `=`.
+fn size<'a>(
+    words: &mut Pieces<'a>,
+    key: &[u8],
+    most: usize,
+    wanted: &'static str,
+) -> Result<usize, Wrong<'a>>
+    ensures value { Takes (first_as (size_of key.now most) words.old) result words.new }
+    ensures range { IfOk result (λ size. (1 ≤ size) × (size ≤ most)) }
+{
+    let word = word(words, wanted)?;
+    said(size_said(key, most, word), word, wanted)
+}
+
+fn size_said(key: &[u8], most: usize, word: &[u8]) -> Option<usize>
+    ensures value { result ≡ size_of key.now most word.now }
+    ensures range { IfSome result (λ size. (1 ≤ size) × (size ≤ most)) }
+{
+    let size = value_after(key, word)?;
+    if 1 <= size && size <= most {
+        Some(size)
+    } else {
+        None
+    }
+}
+
+/// `gen=G`, 0 to 2^47 - 2.
+fn generation(word: &[u8]) -> Option<u64>
+    ensures value { result ≡ generation_of word.now }
+    ensures range { IfSome result (λ generation. generation < 140737488355327) }
+{
+    let generation = value_after(b"gen=", word)?;
+    if generation < MAX_GENERATION as usize {
+        Some(generation as u64)
+    } else {
+        None
+    }
+}
+
+/// `idle=L`, 1 to 86,400 seconds.
+fn idle(word: &[u8]) -> Option<u64>
+    ensures { result ≡ idle_of word.now }
+{
+    let idle = size_said(b"idle=", MAX_IDLE, word)?;
+    Some(idle as u64)
+}
+
+/// `lead=HEX`, 1 to 107 bytes.
+fn lead(word: &[u8]) -> Option<Lead>
+    ensures { result ≡ lead_of word.now }
+{
+    short_bytes(word.strip_prefix(b"lead=")?)
+}
+
+/// The lead whose bytes a text stands for in lower-case hexadecimal.
+#[tactic(auto, using(crate::proofs::Leads::too_long))]
+fn short_bytes(text: &[u8]) -> Option<Lead>
+    ensures { result ≡ option_and_then short_enough (bytes_of text.now) }
+{
+    if !is_hex_text(text) {
+        return None;
+    }
+    let length = text.len() / 2;
+    if length > Flow::MAX_LEAD {
+        return None;
+    }
+    let mut room = [0; Flow::MAX_LEAD];
+    hex::decode_to_slice(text, &mut room[..length]).ok()?;
+    Lead::new(&room[..length])
+}

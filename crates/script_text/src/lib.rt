@@ -1,0 +1,31 @@
+//! What the lines of a script say: its header, and the step or the event of each further line.
+//!
+//! [`Lines`] gives the lines of a text that are not skipped, and [`Pieces`] the words of a line. [`read_header`] reads the
+//! first line, and [`read_step`] and [`read_event`] read the others, by what the header covers. A line that says none of
+//! these has a first word from the left that is [`Wrong`], with what is expected there.
+//!
+//! `docs/FORMATS.md` describes the lines; `specs/` has the same as definitions: `Texts` and `Reading` for lines and words,
+//! `Headers`, `Steps` and `Events` for what they say, and `Words` for the word by which a fault names an event.
+#![tactic(auto)]
+
+mod event;
+mod event_parts;
+mod events;
+mod header;
+mod limits;
+mod lines;
+mod readers;
+mod step;
+mod steps;
+mod values;
+mod word;
+mod wrong;
+
+pub use event::{NumberedEvent, word_of};
+pub use events::read_event;
+pub use header::{Header, read_header};
+pub use lines::{Line, Lines, Pieces};
+pub use step::{Bytes, NumberedStep, Step};
+pub use steps::read_step;
+pub use word::Word;
+pub use wrong::{NotRead, Wrong};

@@ -1,0 +1,164 @@
+//! What reads the next word of a line, or says what is wrong with it. The numbers in the texts are those of `limits`; a
+//! row of `tests/program/causes` tries each text with the last word that is taken and the first that is not.
+ghost use Rattle.std.specs.Prelude.{◌≡◌, ◌∷◌, [], MatchResult};
+ghost use Rattle.token.specs.Sides.{side_named};
+ghost use Rattle.token.specs.Kinds.{kind_named};
+ghost use Rattle.script_text.specs.Texts.{number_of, bytes_of};
+ghost use Rattle.script_text.specs.Reading.{first_as, word_then, line_end, if_last, full_of, Reads, ReadsBy, Takes};
+ghost use Rattle.script_text.specs.Events.{slot_of, worker_of, accepting_of};
+
+use crate::Bytes;
+use crate::limits::{MAX_SLOTS, MAX_WORKERS};
+use crate::lines::Pieces;
+use crate::values::{bytes, number, number_below};
+use crate::wrong::{NotRead, Wrong};
+use kernel_model::Accepting;
+use std::alloc::Global;
+use token::{Kind, Side};
+
+/// The next word, whatever it is.
+pub(crate) fn word<'a>(words: &mut Pieces<'a>, wanted: &'static str) -> Result<&'a [u8], Wrong<'a>>
+    ensures { MatchResult result (λ word. words.old ≡ word.now ∷ words.new) (λ _. words.old ≡ []) }
+{
+    match words.next() {
+        Some(word) => Ok(word),
+        None => Err(Wrong::missing(wanted)),
+    }
+}
+
+/// What a word says, if it says anything.
+pub(crate) fn said<'a, T>(
+    value: Option<T>,
+    word: &'a [u8],
+    wanted: &'static str,
+) -> Result<T, Wrong<'a>>
+    ensures { Reads value result }
+{
+    match value {
+        Some(value) => Ok(value),
+        None => Err(Wrong::malformed(word, wanted)),
+    }
+}
+
+/// The end of the line, where something else may stand too.
+pub(crate) fn end_or<'a>(mut words: Pieces<'a>, wanted: &'static str) -> Result<(), Wrong<'a>>
+    ensures { Reads (line_end words.entry) result }
+{
+    match words.next() {
+        None => Ok(()),
+        Some(word) => Err(Wrong::malformed(word, wanted)),
+    }
+}
+
+/// The end of the line.
+pub(crate) fn end(words: Pieces<'_>) -> Result<(), Wrong<'_>>
+    ensures { Reads (line_end words.entry) result }
+{
+    end_or(words, "the line should end before this word")
+}
+
+/// A value, if the line ends.
+pub(crate) fn last<'a, T: Drop>(value: T, words: Pieces<'a>) -> Result<T, Wrong<'a>>
+    ensures { Reads (if_last value words.entry) result }
+{
+    end(words)?;
+    Ok(value)
+}
+
+/// The number of a slot, 0 to 63.
+pub(crate) fn slot<'a>(words: &mut Pieces<'a>) -> Result<usize, Wrong<'a>>
+    ensures { Takes (first_as slot_of words.old) result words.new }
+{
+    let wanted = "the number of a slot, 0 to 63, is wanted";
+    let word = word(words, wanted)?;
+    said(number_below(MAX_SLOTS, word), word, wanted)
+}
+
+/// The number of a worker, 0 to 15.
+pub(crate) fn worker<'a>(words: &mut Pieces<'a>) -> Result<usize, Wrong<'a>>
+    ensures { Takes (first_as worker_of words.old) result words.new }
+{
+    let wanted = "the number of a worker, 0 to 15, is wanted";
+    let word = word(words, wanted)?;
+    said(number_below(MAX_WORKERS, word), word, wanted)
+}
+
+/// The name of a side.
+pub(crate) fn side<'a>(words: &mut Pieces<'a>) -> Result<Side, Wrong<'a>>
+    ensures { Takes (first_as side_named words.old) result words.new }
+{
+    let wanted = "client or target is wanted";
+    let word = word(words, wanted)?;
+    said(Side::named(word), word, wanted)
+}
+
+/// A count of bytes or of seconds.
+pub(crate) fn count<'a>(words: &mut Pieces<'a>) -> Result<usize, Wrong<'a>>
+    ensures { Takes (first_as number_of words.old) result words.new }
+{
+    let wanted = "a number from 0 to 18446744073709551615 without leading zeros is wanted";
+    let word = word(words, wanted)?;
+    said(number(word), word, wanted)
+}
+
+/// A kind of failure.
+pub(crate) fn kind<'a>(words: &mut Pieces<'a>) -> Result<Kind, Wrong<'a>>
+    ensures { Takes (first_as kind_named words.old) result words.new }
+{
+    let wanted =
+        "one of aborted, notconnected, other, pipe, refused, reset, timedout and zero is wanted";
+    let word = word(words, wanted)?;
+    said(Kind::named(word), word, wanted)
+}
+
+/// What accept(2) is answered.
+pub(crate) fn accepting<'a>(words: &mut Pieces<'a>) -> Result<Accepting, Wrong<'a>>
+    ensures { Takes (first_as accepting_of words.old) result words.new }
+{
+    let wanted = "one of again, blocked, ok and starved is wanted";
+    let word = word(words, wanted)?;
+    said(accepting_named(word), word, wanted)
+}
+
+fn accepting_named(word: &[u8]) -> Option<Accepting>
+    ensures { result ≡ accepting_of word.now }
+{
+    if word == b"ok".as_slice() {
+        Some(Accepting::Accepted)
+    } else if word == b"blocked".as_slice() {
+        Some(Accepting::Blocked)
+    } else if word == b"again".as_slice() {
+        Some(Accepting::Again)
+    } else if word == b"starved".as_slice() {
+        Some(Accepting::Starved)
+    } else {
+        None
+    }
+}
+
+/// Bytes in hexadecimal, behind which the line ends. A line that goes on is malformed, even if there is no memory.
+pub(crate) fn last_bytes<'a>(alloc: Global, mut words: Pieces<'a>) -> Result<Bytes, NotRead<'a>>
+    ensures { ReadsBy (λ bytes. bytes) (word_then bytes_of if_last words.entry) result }
+{
+    let wanted = "1 to 1024 bytes as pairs of lower-case hexadecimal digits are wanted";
+    let word = word(&mut words, wanted)?;
+    let Ok(bytes) = bytes(alloc, word) else {
+        end(words)?;
+        return Err(NotRead::NoMemory);
+    };
+    Ok(last(said(bytes, word, wanted)?, words)?)
+}
+
+/// Whether a write left no room, which `full` at the end of the line says.
+pub(crate) fn is_full(mut words: Pieces<'_>) -> Result<bool, Wrong<'_>>
+    ensures { Reads (full_of words.entry) result }
+{
+    let Some(word) = words.next() else {
+        return Ok(false);
+    };
+    if word == b"full".as_slice() {
+        last(true, words)
+    } else {
+        Err(Wrong::malformed(word, "full, or the end of the line, is wanted"))
+    }
+}
