@@ -4,3 +4,4 @@ pub mod Replies
 pub mod Outcome
 pub mod Names
 pub mod Kernel
+pub mod Changes

@@ -1,7 +1,7 @@
 use crate::end::End;
 
 /// The descriptors of a connection's two ends.
-#[derive(Clone, Copy, Debug, PartialEq, Eq)]
+#[derive(Clone, Copy)]
 pub struct Descriptors {
     pub client: usize,
     pub target: usize,

@@ -2,8 +2,10 @@ ghost use Rattle.std.specs.Prelude.{◌≡◌, Ok, Err, IsErrOf, IsTrue, IsSome,
 ghost use Rattle.std.specs.Option.{option_copied};
 ghost use Rattle.kernel_model.specs.Outcome.{guard, Meets, MeetsAlways, Tells, TellsAlways};
 ghost use Rattle.kernel_model.specs.Ends.{IsTailOf, opened, is_readable, is_writable, arrival, finish, failure, new_room};
+ghost use Rattle.kernel_model.specs.Changes.{change_of};
 ghost use Rattle.kernel_model.specs.Replies.{bytes_read, failed, blocked_write, wrote, after_read, after_write, needs_memory, after_join, after_shut};
 
+use crate::change::Change;
 use crate::{Refusal, Reply};
 use std::alloc::Global;
 use std::marker::Model;
@@ -207,6 +209,30 @@ impl End {
         Ok(self.report_write())
     }
 
+    /// Whether the network may make this change.
+    pub(crate) fn may_change(&self, change: Change<'_>) -> bool
+        ensures { IsTrue result ↔ IsSome (change_of change.entry self.now) }
+    {
+        match change {
+            Change::Arrive(bytes) => self.may_arrive(bytes),
+            Change::Fin => !self.fin && !self.err,
+            Change::Reset => !self.err,
+            Change::Room => !self.room && !self.err,
+        }
+    }
+
+    /// The network makes this change. Returns whether that is to be reported.
+    pub(crate) fn change(&mut self, change: Change<'_>) -> Result<bool, Refusal>
+        ensures { Tells (change_of change.entry self.old) self.old self.new result }
+    {
+        match change {
+            Change::Arrive(bytes) => self.arrive(bytes),
+            Change::Fin => self.fin(),
+            Change::Reset => self.reset(),
+            Change::Room => self.room(),
+        }
+    }
+
     /// The bytes that a read of at most `most` gives if it answers with `count` of them: the first that are unread.
     /// None if it may not answer so, because `count` is 0, or more than `most` or than are unread.
     pub fn bytes_read(&self, most: usize, count: usize) -> Option<&[u8]>
@@ -228,21 +254,9 @@ impl End {
         ensures { MeetsAlways (after_read self.old most reply) self.old self.new result }
     {
         match reply {
-            Reply::Bytes(count) => {
-                if self.bytes_read(most, count).is_none() {
-                    return Err(Refusal::NotAllowed);
-                }
-                self.read += count;
-                Ok(())
-            }
+            Reply::Bytes(count) => self.give(most, count),
             Reply::End => allowed(self.read == self.arrived.len() && self.fin),
-            Reply::Blocked => {
-                if self.is_readable() {
-                    return Err(Refusal::NotAllowed);
-                }
-                self.read_armed = true;
-                Ok(())
-            }
+            Reply::Blocked => self.block_read(),
             Reply::Interrupted => Ok(()),
             Reply::Failed(kind) => allowed(kind != Kind::Zero),
             Reply::Wrote(..) | Reply::Joined | Reply::Shut => Err(Refusal::NotAllowed),
@@ -320,6 +334,28 @@ impl End {
         ensures cleared { self.new ≡ record self.old { write_armed = false } }
     {
         mem::replace(&mut self.write_armed, false)
+    }
+
+    /// A read of at most `most` bytes gives the first `count` that are unread.
+    fn give(&mut self, most: usize, count: usize) -> Result<(), Refusal>
+        ensures { MeetsAlways (after_read self.old most (Reply.Bytes count)) self.old self.new result }
+    {
+        if self.bytes_read(most, count).is_none() {
+            return Err(Refusal::NotAllowed);
+        }
+        self.read += count;
+        Ok(())
+    }
+
+    /// A read would block.
+    fn block_read(&mut self) -> Result<(), Refusal>
+        ensures { MeetsAlways (after_read self.old 0 Reply.Blocked) self.old self.new result }
+    {
+        if self.is_readable() {
+            return Err(Refusal::NotAllowed);
+        }
+        self.read_armed = true;
+        Ok(())
     }
 
     /// A write takes the first `count` bytes of the offer.

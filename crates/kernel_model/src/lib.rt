@@ -16,6 +16,7 @@
 
 mod accepting;
 mod both;
+mod change;
 mod connecting;
 mod end;
 mod kernel;

@@ -2,7 +2,7 @@ use token::Kind;
 
 /// What a socket replies to a call, with sizes in place of bytes. `specs/Replies.antt` says which replies a call may
 /// get, and what each does to the end.
-#[derive(Clone, Copy, Debug, PartialEq, Eq)]
+#[derive(Clone, Copy, PartialEq, Eq)]
 pub enum Reply {
     /// To a read: this many bytes, at least one (read(2)).
     Bytes(usize),

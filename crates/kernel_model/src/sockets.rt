@@ -1,10 +1,13 @@
 // What arrives at the open ends of a kernel, and the calls on them.
 ghost use Rattle.std.specs.Prelude.{◌≡◌, ◌<◌, IsErrOf, IsTrue};
 ghost use Rattle.kernel_model.specs.Outcome.{Meets, MeetsAlways};
+ghost use Rattle.kernel_model.specs.Ends.{Endpoint};
 ghost use Rattle.kernel_model.specs.Replies.{needs_memory};
-ghost use Rattle.kernel_model.specs.Kernel.{Registered, arrive, fin, reset, room, read, write, join, shut};
+ghost use Rattle.kernel_model.specs.Changes.{change_of, told};
+ghost use Rattle.kernel_model.specs.Kernel.{Registered, changed, arrive, fin, reset, room, read, write, join, shut};
 
-use crate::kernel::Kernel;
+use crate::change::Change;
+use crate::kernel::{Kernel, Open};
 use crate::queue::add;
 use crate::refusal::Refusal;
 use crate::reply::Reply;
@@ -19,19 +22,7 @@ impl Kernel {
     pub fn arrive(&mut self, descriptor: usize, bytes: &[u8]) -> Result<(), Refusal>
         ensures { Meets (arrive self.old descriptor bytes.now) self.old self.new result }
     {
-        if !self
-            .end(descriptor)
-            .is_some_and(|open| open.socket.may_arrive(bytes))
-        {
-            return Err(Refusal::NotAllowed);
-        }
-        self.queue.reserve(1)?;
-        if let Some(open) = &mut self.ends[descriptor] {
-            if open.socket.arrive(bytes)? {
-                add(&mut self.queue, Name::End(open.token));
-            }
-        }
-        Ok(())
+        self.change(descriptor, Change::Arrive(bytes))
     }
 
     /// The peer's end of input arrives at an end, and is reported if reads are armed there.
@@ -41,19 +32,7 @@ impl Kernel {
     pub fn fin(&mut self, descriptor: usize) -> Result<(), Refusal>
         ensures { Meets (fin self.old descriptor) self.old self.new result }
     {
-        if !self
-            .end(descriptor)
-            .is_some_and(|open| !open.socket.has_fin() && !open.socket.has_err())
-        {
-            return Err(Refusal::NotAllowed);
-        }
-        self.queue.reserve(1)?;
-        if let Some(open) = &mut self.ends[descriptor] {
-            if open.socket.fin()? {
-                add(&mut self.queue, Name::End(open.token));
-            }
-        }
-        Ok(())
+        self.change(descriptor, Change::Fin)
     }
 
     /// An error arrives at an end, such as a reset by the peer, and is reported if reads or writes are armed there.
@@ -63,19 +42,7 @@ impl Kernel {
     pub fn reset(&mut self, descriptor: usize) -> Result<(), Refusal>
         ensures { Meets (reset self.old descriptor) self.old self.new result }
     {
-        if !self
-            .end(descriptor)
-            .is_some_and(|open| !open.socket.has_err())
-        {
-            return Err(Refusal::NotAllowed);
-        }
-        self.queue.reserve(1)?;
-        if let Some(open) = &mut self.ends[descriptor] {
-            if open.socket.reset()? {
-                add(&mut self.queue, Name::End(open.token));
-            }
-        }
-        Ok(())
+        self.change(descriptor, Change::Reset)
     }
 
     /// An end gets room for writes, which is reported if writes are armed there.
@@ -85,19 +52,20 @@ impl Kernel {
     pub fn room(&mut self, descriptor: usize) -> Result<(), Refusal>
         ensures { Meets (room self.old descriptor) self.old self.new result }
     {
-        if !self
-            .end(descriptor)
-            .is_some_and(|open| !open.socket.has_room() && !open.socket.has_err())
-        {
+        self.change(descriptor, Change::Room)
+    }
+
+    /// The network changes something at an end, and that is reported if the end tells so.
+    fn change(&mut self, descriptor: usize, change: Change<'_>) -> Result<(), Refusal>
+        ensures { Meets (changed self.old descriptor (λ (e : Endpoint). change_of change.entry e)) self.old self.new result }
+    {
+        if descriptor >= self.ends.len() {
             return Err(Refusal::NotAllowed);
         }
-        self.queue.reserve(1)?;
-        if let Some(open) = &mut self.ends[descriptor] {
-            if open.socket.room()? {
-                add(&mut self.queue, Name::End(open.token));
-            }
+        match &mut self.ends[descriptor] {
+            Some(open) => tell(open, &mut self.queue, change),
+            None => Err(Refusal::NotAllowed),
         }
-        Ok(())
     }
 
     /// A read of at most `most` bytes gets this reply ([`End::read`]).
@@ -164,4 +132,18 @@ impl Kernel {
             None => Err(Refusal::NotAllowed),
         }
     }
+}
+
+/// A change at an open end, whose name is queued if the end tells so.
+fn tell(registered: &mut Open, queue: &mut Vec<Name>, change: Change<'_>) -> Result<(), Refusal>
+    ensures { Meets (told change.entry (record { registered = registered.old; queue = queue.old.items })) (record { registered = registered.old; queue = queue.old.items }) (record { registered = registered.new; queue = queue.new.items }) result }
+{
+    if !registered.socket.may_change(change) {
+        return Err(Refusal::NotAllowed);
+    }
+    queue.reserve(1)?;
+    if registered.socket.change(change)? {
+        add(queue, Name::End(registered.token));
+    }
+    Ok(())
 }

@@ -1,5 +1,5 @@
 /// What a kernel reports on.
-#[derive(Clone, Copy, Debug, PartialEq, Eq)]
+#[derive(Clone, Copy)]
 pub enum Watched {
     /// The listening socket.
     Listener,

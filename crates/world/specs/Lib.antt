@@ -13,3 +13,4 @@ pub mod Headline
 pub mod Support
 pub mod Words
 pub mod CoreLaws
+pub mod Acts

@@ -34,7 +34,7 @@ pub enum Change {
 }
 
 /// What a report is about.
-#[derive(Clone, Copy, Debug, PartialEq, Eq)]
+#[derive(Clone, Copy)]
 pub enum Reported {
     Listener,
     Waker,
@@ -43,7 +43,7 @@ pub enum Reported {
 }
 
 /// What happens at the listener.
-#[derive(Clone, Copy, Debug, PartialEq, Eq)]
+#[derive(Clone, Copy)]
 pub enum Listening {
     /// A client connects, and waits.
     Connect,
@@ -69,7 +69,7 @@ pub enum Polling {
 }
 
 /// What a worker does.
-#[derive(Clone, Copy, Debug, PartialEq, Eq)]
+#[derive(Clone, Copy)]
 pub enum Act {
     /// It puts the first ticket in its hand into the ready queue.
     Put,

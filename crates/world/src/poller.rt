@@ -2,23 +2,24 @@
 ghost use Rattle.std.specs.Prelude.{◌≡◌};
 ghost use Rattle.world.specs.Steps.{token_of};
 
-use crate::actors::{Holder, Ticket};
+use crate::actors::Ticket;
 use crate::connection::Connection;
 use crate::event::Polling;
-use crate::slot::Slot;
 use crate::world::World;
 use kernel_model::Refusal;
 use relay_core::Pair;
+use std::alloc::AllocError;
 use token::{MAX_GENERATION, Name, Side, Token};
 
 #[tactic(auto, using(std::proofs::lemmas::Option::gets, std::proofs::lemmas::Grind::common_steps))]
 impl World {
-    ghost use Rattle.std.specs.Prelude.{◌≡◌, ◌<◌, true, length, slice_get, Some, IsErrOf, IsTrue};
+    ghost use Rattle.std.specs.Prelude.{◌≡◌, ◌<◌, length, slice_get, Some, IfOk, IsErrOf, IsTrue};
     ghost use Rattle.kernel_model.specs.Outcome.{Meets};
     ghost use Rattle.kernel_model.specs.Kernel.{open_both};
+    ghost use Rattle.relay_core.specs.Pairs.{fresh};
     ghost use Rattle.world.specs.Memory.{becomes_note, polling_allocates};
     ghost use Rattle.world.specs.States.{is_entry};
-    ghost use Rattle.world.specs.Steps.{opened_world, delivered, delivered_at, deliver, sweep, batched, put_by_poller, post_at, polled};
+    ghost use Rattle.world.specs.Steps.{opened_world, opening_of, delivered, delivered_at, deliver, sweep, batched, put_by_poller, post_at, polled};
 
     /// The poller does something.
     pub(crate) fn poll(&mut self, event: &Polling) -> Result<(), Refusal>
@@ -38,29 +39,36 @@ impl World {
     fn open(&mut self) -> Result<(), Refusal>
         ensures { Meets (polled self.old Polling.Open) self.old self.new result }
     {
-        if !self.accepted || self.free.is_empty() {
+        if !self.accepted {
             return Err(Refusal::NotAllowed);
         }
-        let slot = self.free[0];
-        if slot >= self.slots.len() || slot >= self.table.len() {
+        match self.free.first().copied() {
+            Some(slot) => self.open_slot(slot),
+            None => Err(Refusal::NotAllowed),
+        }
+    }
+
+    /// It opens this slot, the first free one, for the generation after that of its table.
+    fn open_slot(&mut self, slot: usize) -> Result<(), Refusal>
+        requires { slice_get self.old.free 0 ≡ Some slot }
+        ensures { Meets (opening_of self.old slot) self.old self.new result }
+    {
+        if slot >= self.slots.len() {
             return Err(Refusal::NotAllowed);
         }
-        let old = self.table[slot];
-        if old >= MAX_GENERATION {
-            return Err(Refusal::NotAllowed);
+        match self.table_entry(slot) {
+            Some(old) if old < MAX_GENERATION => self.open_at(slot, old),
+            Some(_) | None => Err(Refusal::NotAllowed),
         }
-        self.open_at(slot, old)
     }
 
     /// It opens this slot for the generation after `old`.
     fn open_at(&mut self, slot: usize, old: u64) -> Result<(), Refusal>
-        requires accepted { self.old.accepted ≡ true }
         requires first { slice_get self.old.free 0 ≡ Some slot }
         requires inside { slot < length self.old.slots }
-        requires inside_table { slot < length self.old.table }
         requires before { slice_get self.old.table slot ≡ Some old }
         requires next { old < 140737488355327 }
-        ensures { Meets (polled self.old Polling.Open) self.old self.new result }
+        ensures { Meets (opening_of self.old slot) self.old self.new result }
     {
         let generation = old + 1;
         let Some(client) = token_of(slot, Side::Client, generation) else {
@@ -85,28 +93,30 @@ impl World {
         requires inside_table { slot < length self.old.table }
         ensures { Meets (Some (opened_world self.old slot generation (open_both self.old.kernel client target))) self.old self.new result }
     {
-        let pair = Pair::new(
+        let pair = self.fresh_pair(slot, generation)?;
+        self.hand.reserve(1)?;
+        let notes = vec![in self.alloc; generation; 1]?;
+        let ends = self.kernel.open_both(client, target)?;
+        self.hand.push(Ticket { slot, generation }).unwrap();
+        self.accepted = false;
+        self.free.remove(0);
+        self.table[slot] = generation;
+        self.slots[slot].open(generation, Connection { pair, ends }, notes);
+        Ok(())
+    }
+
+    /// A new pair for this slot and generation, made as the limits say.
+    fn fresh_pair(&self, slot: usize, generation: u64) -> Result<Pair, AllocError>
+        ensures { IfOk result (λ pair. pair ≡ fresh slot generation self.now.limits.ring self.now.second self.now.limits.lead) }
+    {
+        Pair::new(
             self.alloc,
             slot,
             generation,
             self.limits.ring,
             self.second,
             self.limits.lead.as_slice(),
-        )?;
-        let notes = vec![in self.alloc; generation; 1]?;
-        self.hand.reserve(1)?;
-        let ends = self.kernel.open_both(client, target)?;
-        self.slots[slot] = Slot {
-            generation,
-            connection: Some(Connection { pair, ends }),
-            holder: Holder::Nobody,
-            notes,
-        };
-        self.accepted = false;
-        self.table[slot] = generation;
-        self.free.remove(0);
-        self.hand.push(Ticket { slot, generation }).unwrap();
-        Ok(())
+        )
     }
 
     /// It takes these names from the queue as its batch.
@@ -180,11 +190,7 @@ impl World {
             return Err(Refusal::NotAllowed);
         }
         self.hand.reserve(1)?;
-        let quiet = self.slots[slot].is_held() || self.slots[slot].has_notes();
-        if self.slots[slot].note(generation).is_err() {
-            return Err(Refusal::NoMemory);
-        }
-        if !quiet {
+        if self.slots[slot].post(generation)? {
             self.hand.push(Ticket { slot, generation }).unwrap();
         }
         Ok(())

@@ -24,14 +24,14 @@ impl Model for Slot {
 
 #[tactic(auto, using(std::proofs::lemmas::Option::gets, std::proofs::lemmas::Grind::common_steps))]
 impl Slot {
-    ghost use Rattle.std.specs.Prelude.{◌≡◌, OnOk, OnErr, IsErrOf, IsTrue};
+    ghost use Rattle.std.specs.Prelude.{◌≡◌, OnOk, OnErr, IsErrOf, IsTrue, Some, None};
     ghost use Rattle.std.specs.Option.{option_copied};
     ghost use Rattle.kernel_model.specs.Ends.{is_nonempty};
-    ghost use Rattle.kernel_model.specs.Outcome.{Meets, MeetsAlways};
+    ghost use Rattle.kernel_model.specs.Outcome.{Meets, MeetsAlways, Tells};
     ghost use Rattle.kernel_model.specs.Replies.{needs_memory};
     ghost use Rattle.world.specs.Places.{is_held};
     ghost use Rattle.world.specs.States.{unused};
-    ghost use Rattle.world.specs.Steps.{with_note, noted_place, expired_place, Lodging, lodged_call};
+    ghost use Rattle.world.specs.Steps.{with_note, brings_ticket, noted_place, expired_place, Lodging, lodged_call};
 
     /// A slot without a connection.
     pub fn new(alloc: Global, generation: u64) -> Slot
@@ -97,6 +97,34 @@ impl Slot {
     {
         self.notes.push(generation)?;
         Ok(())
+    }
+
+    /// Adds a note. Returns whether that makes a ticket: it is the first, and nobody holds the slot.
+    ///
+    /// Fails with `NoMemory` if the list of notes cannot grow, and then changes nothing.
+    pub(crate) fn post(&mut self, generation: u64) -> Result<bool, Refusal>
+        ensures { Tells (Some (record { value = with_note self.old generation; told = brings_ticket self.old })) self.old self.new result }
+    {
+        let is_quiet = self.is_held() || self.has_notes();
+        self.note(generation)?;
+        Ok(!is_quiet)
+    }
+
+    /// A new connection is opened in it, for this generation, with these notes. Nobody holds it.
+    pub(crate) fn open(&mut self, generation: u64, connection: Connection, notes: Vec<u64>)
+        ensures { self.new ≡ record { generation = generation; connection = Some connection; holder = Holder.Nobody; notes = notes.items } }
+    {
+        self.generation = generation;
+        self.connection = Some(connection);
+        self.holder = Holder::Nobody;
+        self.notes = notes;
+    }
+
+    /// It has no connection any more.
+    pub(crate) fn clear(&mut self)
+        ensures { self.new ≡ record self.old { connection = None } }
+    {
+        self.connection = None;
     }
 
     /// Removes all notes. If there was one, every call is worth trying again.

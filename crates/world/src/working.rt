@@ -22,33 +22,93 @@ pub fn is_live(verdict: Verdict) -> bool
 
 #[tactic(auto, using(std::proofs::lemmas::Option::gets, std::proofs::lemmas::Grind::common_steps))]
 impl World {
-    ghost use Rattle.std.specs.Prelude.{◌≡◌, ◌<◌, [], length, slice_get, IfSome, IsErrOf, IsTrue};
+    ghost use Rattle.std.specs.Prelude.{◌≡◌, ◌<◌, length, slice_get, option_map, Some};
     ghost use Rattle.kernel_model.specs.Outcome.{Meets, MeetsAlways};
     ghost use Rattle.kernel_model.specs.Replies.{needs_memory};
+    ghost use Rattle.world.specs.Acts.{busy, MeetsIn};
     ghost use Rattle.world.specs.Memory.{act_allocates};
     ghost use Rattle.world.specs.Places.{Actor};
     ghost use Rattle.world.specs.Steps.{of_worker, claim, take, call, post, release, expire, close, retire, free, pop, worked};
 
     /// A worker does something.
     pub(crate) fn work(&mut self, worker: usize, act: Act) -> Result<(), Refusal>
-        ensures event { Meets (worked self.old worker act) self.old self.new result }
-        ensures memory { IsErrOf result Refusal.NoMemory → IsTrue (act_allocates act) }
+        ensures { MeetsIn (act_allocates act) (worked self.old worker act) self.old self.new result }
     {
         if worker >= self.workers.len() {
             return Err(Refusal::NotAllowed);
         }
-        match (act, self.workers[worker].doing()) {
-            (Act::Put, _) => self.put_by_worker(worker),
-            (Act::Pop, Doing::Idle) => self.pop(worker),
-            (Act::Claim, Doing::Tries(ticket)) => self.claim(worker, ticket),
-            (Act::Take, Doing::Holds(slot, left)) => self.take(slot, left),
-            (Act::Call(reply), Doing::Holds(slot, left)) => self.call(worker, slot, left, reply),
-            (Act::Post, Doing::Holds(slot, left)) => self.post(slot, left),
-            (Act::Release, Doing::Holds(slot, left)) => self.release(worker, slot, left),
-            (Act::Expire, Doing::Holds(slot, left)) => self.expire(slot, left),
-            (Act::Close, Doing::Holds(slot, left)) => self.close(worker, slot, left),
-            (Act::Retire, Doing::Closed(slot)) => self.retire(worker, slot),
-            (Act::Free, Doing::Retired(slot)) => self.free(worker, slot),
+        match self.workers[worker].doing() {
+            Doing::Idle => self.act_idle(worker, act),
+            Doing::Tries(ticket) => self.act_trying(worker, ticket, act),
+            Doing::Holds(slot, left) => self.act_holding(worker, slot, left, act),
+            Doing::Closed(slot) => self.act_closed(worker, slot, act),
+            Doing::Retired(slot) => self.act_retired(worker, slot, act),
+        }
+    }
+
+    /// A worker that is idle does something.
+    fn act_idle(&mut self, worker: usize, act: Act) -> Result<(), Refusal>
+        requires { option_map (λ (k : Actor). k.doing) (slice_get self.old.workers worker) ≡ Some Doing.Idle }
+        ensures { MeetsIn (act_allocates act) (worked self.old worker act) self.old self.new result }
+    {
+        match act {
+            Act::Put => self.put_by_worker(worker),
+            Act::Pop => self.pop(worker),
+            _ => Err(Refusal::NotAllowed),
+        }
+    }
+
+    /// A worker that has a ticket to try does something.
+    fn act_trying(&mut self, worker: usize, ticket: Ticket, act: Act) -> Result<(), Refusal>
+        requires { slice_get self.old.workers worker ≡ Some (busy (Doing.Tries ticket)) }
+        ensures { MeetsIn (act_allocates act) (worked self.old worker act) self.old self.new result }
+    {
+        match act {
+            Act::Claim => self.claim(worker, ticket),
+            _ => Err(Refusal::NotAllowed),
+        }
+    }
+
+    /// A worker that holds a slot does something.
+    fn act_holding(
+        &mut self,
+        worker: usize,
+        slot: usize,
+        left: usize,
+        act: Act,
+    ) -> Result<(), Refusal>
+        requires { slice_get self.old.workers worker ≡ Some (busy (Doing.Holds slot left)) }
+        ensures { MeetsIn (act_allocates act) (worked self.old worker act) self.old self.new result }
+    {
+        match act {
+            Act::Take => self.take(slot, left),
+            Act::Call(reply) => self.call(worker, slot, left, reply),
+            Act::Post => self.post(slot, left),
+            Act::Release => self.release(worker, slot, left),
+            Act::Expire => self.expire(slot, left),
+            Act::Close => self.close(worker, slot, left),
+            _ => Err(Refusal::NotAllowed),
+        }
+    }
+
+    /// A worker that closed the connection of its slot does something.
+    fn act_closed(&mut self, worker: usize, slot: usize, act: Act) -> Result<(), Refusal>
+        requires { slice_get self.old.workers worker ≡ Some (busy (Doing.Closed slot)) }
+        ensures { MeetsIn (act_allocates act) (worked self.old worker act) self.old self.new result }
+    {
+        match act {
+            Act::Retire => self.retire(worker, slot),
+            _ => Err(Refusal::NotAllowed),
+        }
+    }
+
+    /// A worker that retired its slot does something.
+    fn act_retired(&mut self, worker: usize, slot: usize, act: Act) -> Result<(), Refusal>
+        requires { slice_get self.old.workers worker ≡ Some (busy (Doing.Retired slot)) }
+        ensures { MeetsIn (act_allocates act) (worked self.old worker act) self.old self.new result }
+    {
+        match act {
+            Act::Free => self.free(worker, slot),
             _ => Err(Refusal::NotAllowed),
         }
     }
@@ -82,9 +142,8 @@ impl World {
 
     /// It takes hold of its ticket's slot, or drops the ticket if the slot is held.
     fn claim(&mut self, worker: usize, ticket: Ticket) -> Result<(), Refusal>
-        requires inside { worker < length self.old.workers }
-        requires hand { IfSome (slice_get self.old.workers worker) (λ (k : Actor). k.hand ≡ []) }
-        ensures { MeetsAlways (of_worker self.old worker (λ (k : Actor). claim self.old worker k (Doing.Tries ticket))) self.old self.new result }
+        requires { slice_get self.old.workers worker ≡ Some (busy (Doing.Tries ticket)) }
+        ensures { MeetsAlways (claim self.old worker (busy (Doing.Tries ticket)) (Doing.Tries ticket)) self.old self.new result }
     {
         if ticket.slot >= self.slots.len() {
             return Err(Refusal::NotAllowed);
@@ -111,10 +170,8 @@ impl World {
 
     /// It makes the connection's next call, and gets this reply.
     fn call(&mut self, worker: usize, slot: usize, left: usize, reply: Reply) -> Result<(), Refusal>
-        requires inside { worker < length self.old.workers }
-        requires hand { IfSome (slice_get self.old.workers worker) (λ (k : Actor). k.hand ≡ []) }
-        ensures event { Meets (of_worker self.old worker (λ (k : Actor). call self.old worker k (Doing.Holds slot left) reply)) self.old self.new result }
-        ensures memory { IsErrOf result Refusal.NoMemory → IsTrue (needs_memory reply) }
+        requires { slice_get self.old.workers worker ≡ Some (busy (Doing.Holds slot left)) }
+        ensures { MeetsIn (needs_memory reply) (call self.old worker (busy (Doing.Holds slot left)) (Doing.Holds slot left) reply) self.old self.new result }
     {
         if left == 0 || slot >= self.slots.len() {
             return Err(Refusal::NotAllowed);
@@ -148,9 +205,8 @@ impl World {
 
     /// It releases its slot, and takes in hand the ticket that the notes create.
     fn release(&mut self, worker: usize, slot: usize, left: usize) -> Result<(), Refusal>
-        requires inside { worker < length self.old.workers }
-        requires hand { IfSome (slice_get self.old.workers worker) (λ (k : Actor). k.hand ≡ []) }
-        ensures { MeetsAlways (of_worker self.old worker (λ (k : Actor). release self.old worker k (Doing.Holds slot left))) self.old self.new result }
+        requires { slice_get self.old.workers worker ≡ Some (busy (Doing.Holds slot left)) }
+        ensures { MeetsAlways (release self.old worker (busy (Doing.Holds slot left)) (Doing.Holds slot left)) self.old self.new result }
     {
         let Some(connection) = self.connection(slot) else {
             return Err(Refusal::NotAllowed);
@@ -178,9 +234,8 @@ impl World {
 
     /// It closes the connection of its slot, which is done or failed.
     fn close(&mut self, worker: usize, slot: usize, left: usize) -> Result<(), Refusal>
-        requires inside { worker < length self.old.workers }
-        requires hand { IfSome (slice_get self.old.workers worker) (λ (k : Actor). k.hand ≡ []) }
-        ensures { Meets (of_worker self.old worker (λ (k : Actor). close self.old worker k (Doing.Holds slot left))) self.old self.new result }
+        requires { slice_get self.old.workers worker ≡ Some (busy (Doing.Holds slot left)) }
+        ensures { Meets (close self.old worker (busy (Doing.Holds slot left)) (Doing.Holds slot left)) self.old self.new result }
     {
         let Some(connection) = self.connection(slot) else {
             return Err(Refusal::NotAllowed);
@@ -200,16 +255,15 @@ impl World {
             ends,
         };
         self.past.push(past).unwrap();
-        self.slots[slot].connection = None;
+        self.slots[slot].clear();
         self.workers[worker].turn_to(Doing::Closed(slot));
         Ok(())
     }
 
     /// It retires its slot, which is free from then on.
     fn retire(&mut self, worker: usize, slot: usize) -> Result<(), Refusal>
-        requires inside { worker < length self.old.workers }
-        requires hand { IfSome (slice_get self.old.workers worker) (λ (k : Actor). k.hand ≡ []) }
-        ensures { MeetsAlways (of_worker self.old worker (λ (k : Actor). retire self.old worker k (Doing.Closed slot))) self.old self.new result }
+        requires { slice_get self.old.workers worker ≡ Some (busy (Doing.Closed slot)) }
+        ensures { MeetsAlways (retire self.old worker (busy (Doing.Closed slot)) (Doing.Closed slot)) self.old self.new result }
     {
         if slot >= self.slots.len() {
             return Err(Refusal::NotAllowed);
@@ -221,9 +275,8 @@ impl World {
 
     /// It puts the slot that it retired into the free queue, unless the slot's last generation was used.
     fn free(&mut self, worker: usize, slot: usize) -> Result<(), Refusal>
-        requires inside { worker < length self.old.workers }
-        requires hand { IfSome (slice_get self.old.workers worker) (λ (k : Actor). k.hand ≡ []) }
-        ensures { Meets (of_worker self.old worker (λ (k : Actor). free self.old worker k (Doing.Retired slot))) self.old self.new result }
+        requires { slice_get self.old.workers worker ≡ Some (busy (Doing.Retired slot)) }
+        ensures { Meets (free self.old worker (busy (Doing.Retired slot)) (Doing.Retired slot)) self.old self.new result }
     {
         if slot >= self.slots.len() {
             return Err(Refusal::NotAllowed);

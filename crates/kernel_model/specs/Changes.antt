@@ -1,0 +1,30 @@
+-- A change of the network as one value, by which private functions make any of the four. Not part of the promises.
+use Rattle.std.specs.Prelude.{Bool, List, Option, option_map}
+use Rattle.token.specs.declared.name.Name.{Name}
+use Rattle.token.specs.declared.name.Name.TheVariants.{End}
+use Rattle.kernel_model.specs.declared.change.Change.{Change}
+use Rattle.kernel_model.specs.declared.change.Change.TheVariants.{Arrive, Fin, Reset, Room}
+use Rattle.kernel_model.specs.Outcome.{Told}
+use Rattle.kernel_model.specs.Ends.{Endpoint, arrival, finish, failure, new_room}
+use Rattle.kernel_model.specs.Kernel.{Registered, reported}
+
+-- what it does to an end
+abbrev pub change_of : Change → Endpoint → Option (Told Endpoint Bool)
+change_of (Arrive bytes) e = arrival e bytes.now
+change_of Fin e = finish e
+change_of Reset e = failure e
+change_of Room e = new_room e
+
+-- an open end, and the names that are queued
+pub record Watch : Type 0 where
+  pub registered : Registered
+  pub queue : List Name
+
+-- what it does to both
+abbrev pub told : Change → Watch → Option Watch
+told change w = option_map
+    (λ (t : Told Endpoint Bool). record {
+      registered = record w.registered { socket = t.value };
+      queue = reported w.queue (End w.registered.token) t.told;
+    })
+    (change_of change w.registered.socket)
