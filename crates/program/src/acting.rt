@@ -1,37 +1,24 @@
 //! What the program does, from its arguments to its status.
-ghost use Rattle.std.specs.Prelude.{◌≡◌, ◌≢◌, ◌⊎◌, IfSome, Ok, map};
-ghost use Rattle.std.specs.Char.{to_ascii_lowercase};
+ghost use Rattle.std.specs.Prelude.{◌≡◌, ◌≢◌, ◌⊎◌, IfSome, Ok};
 ghost use Rattle.clap.specs.Values.{kind_of};
-ghost use Rattle.log.specs.Level.{filter_name};
-ghost use Rattle.settings.specs.Names.{level_name};
 ghost use Rattle.script.specs.Each.{WritesEach, WritesEachFault};
 ghost use Rattle.script.specs.Runs.{WritesReport, WritesFault};
 
 use crate::causes::LoggedCauses;
-use crate::command_line::{Command, read_command};
-use crate::config;
 use crate::constants::{DONE, FAULT, USAGE};
-use crate::faults::{ArgumentsFault, ProgramFault};
-use crate::starting::prepare;
-use crate::streams::Stream;
+use crate::faults::ProgramFault;
 use clap::error::ErrorKind;
 use dispatch::ServerFault;
 use log::sink::Console;
 use log::{LevelFilter, Log, Logged};
 use script::Outcome;
-use settings::{LogLevel, Settings};
+use settings::Settings;
 use sockets::{Bound, bind};
+use startup::{ArgumentsFault, Command, Stream, config, level_filter, prepare, read_command};
 use std::alloc::{AllocError, Global};
-use std::env::{self, Env};
 use std::io::{Eprint, IsTerminal, Read, Write};
 use std::net::Net;
 use std::rt::Files;
-
-/// The arguments of the command line; the first is the program's own name.
-pub fn arguments<R: AllocGlobal + Env>(rt: &R) -> Result<Vec<String>, ArgumentsFault> {
-    let arguments = env::args(rt)?;
-    Ok(arguments.collect(rt.alloc())?)
-}
 
 /// Writes to `errors` why the arguments cannot be read, and returns the exit status: 1 if memory ran out, and 2, a
 /// usage error, if one is not UTF-8.
@@ -40,7 +27,7 @@ pub fn report_arguments_fault<E: Write>(errors: &mut E, fault: ArgumentsFault) -
     ensures not_text { fault ≡ ArgumentsFault.NotText → result ≡ 2 }
 {
     match fault {
-        ArgumentsFault::NoMemory => report_fault(errors, ProgramFault::NoMemory),
+        ArgumentsFault::NoMemory => report_fault(errors, ProgramFault::from(AllocError)),
         ArgumentsFault::NotText => {
             // If this can't be written either, only the status is left to report it.
             let _ = writeln!(errors, "error: an argument is not UTF-8");
@@ -78,7 +65,7 @@ where
     requires { S.IsAlwaysCallable serve.now }
 {
     let Ok(arguments) = texts(rt.alloc(), arguments) else {
-        return report_fault(errors, ProgramFault::NoMemory);
+        return report_fault(errors, ProgramFault::from(AllocError));
     };
     let log = Logged::new(*rt, LevelFilter::Error, Console(*rt));
     let mut writer = Stream {
@@ -235,20 +222,6 @@ fn announce(alloc: Global, bound: &Bound, writer: &mut impl Write) -> Result<(),
     write(writer, line.as_str())
 }
 
-/// The filter with the same name as a level of the settings.
-pub fn level_filter(level: LogLevel) -> LevelFilter
-    ensures { map to_ascii_lowercase (filter_name result) ≡ level_name level }
-{
-    match level {
-        LogLevel::Off => LevelFilter::Off,
-        LogLevel::Error => LevelFilter::Error,
-        LogLevel::Warn => LevelFilter::Warn,
-        LogLevel::Info => LevelFilter::Info,
-        LogLevel::Debug => LevelFilter::Debug,
-        LogLevel::Trace => LevelFilter::Trace,
-    }
-}
-
 /// Writes all of a text, and flushes it.
 fn write(writer: &mut impl Write, text: &str) -> Result<(), ProgramFault> {
     if writer.write_all(text.as_bytes()).is_err() || writer.flush().is_err() {
@@ -264,7 +237,7 @@ fn answer_usage<O: Write, E: Write>(error: &clap::Error, writer: &mut O, errors:
     ensures refused { kind_of error.now ≢ ErrorKind.OutOfMemory → kind_of error.now ≢ ErrorKind.DisplayHelp → kind_of error.now ≢ ErrorKind.DisplayVersion → result ≡ 2 }
 {
     if error.kind() == ErrorKind::OutOfMemory {
-        return report_fault(errors, ProgramFault::NoMemory);
+        return report_fault(errors, ProgramFault::from(AllocError));
     }
     if error.use_stderr() {
         // If this cannot be written either, only the status is left to report it.

@@ -1,10 +1,4 @@
-//! The fixed values of the program.
-
-/// The version that `--version` prints.
-pub const VERSION: &str = "0.1.0";
-
-/// The maximum size of a settings file, in bytes.
-pub const MAX_CONFIG_BYTES: usize = 65_536;
+//! The statuses of the program.
 
 /// The status after a command was carried out.
 pub const DONE: u8 = 0;

@@ -1,6 +1,7 @@
 // How a run ends with any reader and writer.
 use super::ends::{Sink, Source};
-use program::{ArgumentsFault, act, report_arguments_fault};
+use program::{act, report_arguments_fault};
+use startup::ArgumentsFault;
 use std::alloc::{AllocError, Global};
 use std::io::{self, ErrorKind};
 use std::test::Fail;

@@ -18,8 +18,10 @@ pub enum Command<'a> {
     Forward(String),
 }
 
-/// The command that the arguments name; the first argument is the program's own name. An error is a usage text: the
-/// requested help or version, or why the arguments are refused.
+/// The command that the arguments name; the first argument is the program's own name.
+///
+/// An error is a usage text: the requested help or version, or why the arguments are refused; or it has the kind
+/// `OutOfMemory`. Nothing has been printed then.
 pub fn read_command<'a>(alloc: Global, arguments: &'a [&'a str]) -> Result<Command<'a>, Error> {
     let matches = relayd(alloc)?.try_get_matches_from(arguments)?;
     if let Some(forward) = matches.subcommand_matches("forward") {

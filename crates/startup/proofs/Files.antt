@@ -5,8 +5,8 @@ use Rattle.settings.specs.Text.{IsSettingsOf, IsFaultOf}
 use Rattle.settings.specs.declared.fields.Settings.{Settings}
 use Rattle.settings.specs.declared.faults.SettingsFault.{SettingsFault}
 use Rattle.settings.specs.declared.faults.SettingsFault.TheVariants as settings
-use Rattle.program.specs.Files.{most_bytes, FileSets, HasFault, settings_fault}
-use Rattle.program.specs.declared.faults.ProgramFault.{ProgramFault}
+use Rattle.startup.specs.Files.{most_bytes, FileSets, HasFault, settings_fault}
+use Rattle.startup.specs.declared.faults.ConfigFault.{ConfigFault}
 
 abbrev IsMemory : SettingsFault → Type 0
 IsMemory settings.NoMemory = Unit {0}
@@ -22,7 +22,7 @@ has_fault text (settings.OutOfRange key) few is = (few, is (λ e. subst IsMemory
 has_fault text (settings.BadAddress key) few is = (few, is (λ e. subst IsMemory (sym e) tt))
 
 -- the same of a text that was read into a slice
-pub has_fault_of : (left : Option (List ℕ)) (text slice : List ℕ) (fault : SettingsFault) (told : ProgramFault) → IfSome left (λ bytes. text ≡ bytes) → length text ≤ most_bytes → slice ≡ text → (fault ≢ settings.NoMemory → IsFaultOf slice fault) → told ≡ settings_fault fault → IfSome left (λ bytes. HasFault bytes told)
+pub has_fault_of : (left : Option (List ℕ)) (text slice : List ℕ) (fault : SettingsFault) (told : ConfigFault) → IfSome left (λ bytes. text ≡ bytes) → length text ≤ most_bytes → slice ≡ text → (fault ≢ settings.NoMemory → IsFaultOf slice fault) → told ≡ settings_fault fault → IfSome left (λ bytes. HasFault bytes told)
 has_fault_of None text slice fault told same few all is by = tt
 has_fault_of (Some bytes) text slice fault told same few all is by = rw (by, ← same, ← all) (has_fault slice fault (rw all few) is)
 
