@@ -318,3 +318,23 @@ room_same a b took = ap (λ (n : ℕ). n - length b.hand.tickets) took.capacity 
 -- a try took one ticket in hand at most
 pub room_left : (try : ℕ) (a b c : Own) → OnlyTook a b → ticket_room b.hand ≤ ticket_room c.hand + 1 → 4 ≤ try + ticket_room a.hand → 4 ≤ try + 1 + ticket_room c.hand
 room_left try a b c took one room = let same = room_same a b took in omega arith
+
+-- what trying accept(2) may change of what the poller keeps
+abbrev tried : PollerState → PollerState → PollerState
+tried p q = record p { table = q.table; accepting = q.accepting; starved = q.starved; tries = q.tries; opened = q.opened; lost = q.lost }
+
+pub accept_again : (p q r : PollerState) → q ≡ tried p q → r ≡ tried q r → r ≡ tried p r
+accept_again p q r one two = two ∙ ap (λ (s : PollerState). tried s r) one
+
+pub accept_still : (p q : PollerState) (tries : ℕ) → q ≡ record p { tries = tries } → q ≡ tried p q
+accept_still p q tries is = subst (λ (s : PollerState). s ≡ tried p s) (sym is) refl
+
+pub accept_refused : (p a q : PollerState) (tries : ℕ) (accepting starved : Bool)
+    → a ≡ record p { tries = tries } → q ≡ record a { accepting = accepting; starved = starved } → q ≡ tried p q
+accept_refused p a q tries accepting starved one two =
+    accept_again p a q (accept_still p a tries one) (subst (λ (s : PollerState). s ≡ tried a s) (sym two) refl)
+
+pub accept_opened : (p a q : PollerState) (tries : ℕ) (starved : Bool) (table : List ℕ) (opened lost : ℕ)
+    → a ≡ record p { tries = tries; starved = starved } → q ≡ record a { table = table; opened = opened; lost = lost } → q ≡ tried p q
+accept_opened p a q tries starved table opened lost one two =
+    accept_again p a q (subst (λ (s : PollerState). s ≡ tried p s) (sym one) refl) (subst (λ (s : PollerState). s ≡ tried a s) (sym two) refl)

@@ -14,7 +14,7 @@ use Rattle.dispatch.specs.Outgoing.{outgoing, tickets_out, TicketsPut}
 use Rattle.dispatch.specs.Polls.{PollerState, Counted}
 use Rattle.dispatch.specs.declared.part.Part.{Part}
 use Rattle.dispatch.specs.Rounds.{RoundDone}
-use Rattle.dispatch.specs.Sweeps.{sweep_of}
+use Rattle.dispatch.specs.Sweeps.{swept_after, sweep_of}
 use Rattle.dispatch.specs.Turns.{Rose}
 use Rattle.dispatch.proofs.Connections.{SamePoller, accept_none}
 use Rattle.dispatch.proofs.Reports.{posted_none}
@@ -146,3 +146,9 @@ round_ended p q a z b begun none put took =
     (subst (λ (ts : List Ticket). ArePosted ts b.seat b.seat b.hand b.hand) (sym unswept) (posted_none b.seat b.hand))
     refl refl (λ slot out. ap (λ (ts : List Ticket). at_slot slot ts) unswept) still
     (accept_none q q b still) refl
+
+-- the second of the last sweep, if what came before the look at the clock left it, and what comes after leaves both seconds
+pub swept_is : (limit : ℕ) (p r s t : PollerState) → r.swept ≡ p.swept → s.swept ≡ swept_after limit s.second r.swept
+    → t.swept ≡ s.swept → t.second ≡ s.second → t.swept ≡ swept_after limit t.second p.swept
+swept_is limit p r s t was swept still second =
+    still ∙ swept ∙ ap (λ (n : ℕ). swept_after limit n r.swept) (sym second) ∙ ap (λ (n : ℕ). swept_after limit t.second n) was

@@ -148,7 +148,7 @@ fn polled<R: Log>(rt: &R, answer: io::Result<()>) -> Result<(), ServerFault>
         Ok(()) => Ok(()),
         Err(error) if error.kind() == io::ErrorKind::Interrupted => Ok(()),
         Err(error) => {
-            error!(rt; target: "relayd", "poll: {error}");
+            log_failure(rt, "poll", &error);
             Err(ServerFault::Poll)
         }
     }
@@ -199,11 +199,7 @@ fn accept_all<F: Front, R: Wait + Log>(
     ensures worn { IfErr result (λ fault. fault ≡ ServerFault.Worn) }
     ensures done { OnOk result (AcceptDone poller.old poller.new own.old own.new) }
     ensures ended { OnOk result (AcceptEnded poller.new own.new) }
-    ensures over { poller.new.over ≡ poller.old.over }
-    ensures opening { poller.new.opening ≡ poller.old.opening }
-    ensures reported { poller.new.reported ≡ poller.old.reported }
-    ensures second { poller.new.second ≡ poller.old.second }
-    ensures swept { poller.new.swept ≡ poller.old.swept }
+    ensures poller { poller.new ≡ record poller.old { table = poller.new.table; accepting = poller.new.accepting; starved = poller.new.starved; tries = poller.new.tries; opened = poller.new.opened; lost = poller.new.lost } }
 {
     poller.reset_tries();
     for _try in 0..MAX_ACCEPTS {
@@ -244,11 +240,7 @@ fn accept_next<F: Front, R: Wait + Log>(
     ensures room { OnOk result (ticket_room own.old.hand ≤ ticket_room own.new.hand + 1) }
     ensures tries { poller.new.tries + 1 ≡ poller.old.tries }
     ensures starved { IfOk result (λ more. more ≡ false → poller.new.starved ≡ true) }
-    ensures over { poller.new.over ≡ poller.old.over }
-    ensures opening { poller.new.opening ≡ poller.old.opening }
-    ensures reported { poller.new.reported ≡ poller.old.reported }
-    ensures second { poller.new.second ≡ poller.old.second }
-    ensures swept { poller.new.swept ≡ poller.old.swept }
+    ensures poller { poller.new ≡ record poller.old { table = poller.new.table; accepting = poller.new.accepting; starved = poller.new.starved; tries = poller.new.tries; opened = poller.new.opened; lost = poller.new.lost } }
 {
     match accept(poller) {
         Ok(client) => {
@@ -315,12 +307,17 @@ fn not_accepted<F: Front, R: Log>(rt: &R, poller: &mut Poller<F>, error: &io::Er
         }
         Accepted::Starved => {
             if !poller.starved {
-                error!(rt; target: "relayd", "accept: {error}");
+                log_failure(rt, "accept", error);
             }
             poller.starved = true;
         }
     }
     class
+}
+
+/// Logs why a system call failed.
+fn log_failure<R: Log>(rt: &R, call: &str, error: &io::Error) {
+    error!(rt; target: "relayd", "{call}: {error}");
 }
 
 /// Once all connections that it may open have been opened, takes the free slots in hand and checks whether they are all

@@ -60,18 +60,18 @@ where
     requires { AreFresh (arc_value shared.now).claims rest.old.parts.seats.items }
     ensures { AreFresh (arc_value shared.now).claims rest.new.parts.seats.items }
 {
-    let mut leads = Vec::with_capacity(alloc, pollers.len())?;
-    for _lead in 0..pollers.len() {
+    let count = pollers.len();
+    let mut leads = Vec::with_capacity(alloc, count)?;
+    for _lead in 0..count {
         let Some(poller) = pollers.pop() else {
             return Ok(leads);
         };
-        leads.push(next_lead(alloc, shared, rest, pollers.len(), poller)?)?;
+        leads.push_reserved(next_lead(alloc, shared, rest, pollers.len(), poller)?);
     }
     Ok(leads)
 }
 
-/// The thread of a poller, whose hand has room for all that two rounds may put there. A poller whose table is not for
-/// these slots is refused; `build` makes none.
+/// The thread of a poller. A poller whose table is not for these slots is refused; `build` makes none.
 #[tactic(auto, using(claims::proofs::Seats::fresh_holds_nothing))]
 fn next_lead<F: Front + Drop>(
     alloc: Global,
@@ -89,14 +89,18 @@ where
     if poller.table().len() != slots {
         return Err(ServerFault::NoMemory);
     }
-    let capacity = slots.saturating_mul(2).saturating_add(2 * MAX_BATCH);
-    let own = rest.next_own(alloc, shared, number, capacity)?;
+    let (shared, own) = owned(alloc, shared, rest, number, lead_hand(slots))?;
     Ok(Lead {
-        shared: Arc::try_clone(shared)?,
+        shared,
         number,
         own,
         poller,
     })
+}
+
+/// The room of the hand of a poller's thread: for all that two rounds may put there.
+fn lead_hand(slots: usize) -> usize {
+    slots.saturating_mul(2).saturating_add(2 * MAX_BATCH)
 }
 
 /// The threads of so many workers, numbered from `first` on.
@@ -115,7 +119,7 @@ where
     let mut made = Vec::with_capacity(alloc, workers)?;
     for index in 0..workers {
         let number = first.saturating_add(index);
-        made.push(next_worker(alloc, shared, rest, number)?)?;
+        made.push_reserved(next_worker(alloc, shared, rest, number)?);
     }
     Ok(made)
 }
@@ -133,14 +137,34 @@ where
     requires { AreFresh (arc_value shared.now).claims rest.old.parts.seats.items }
     ensures { AreFresh (arc_value shared.now).claims rest.new.parts.seats.items }
 {
-    let own = rest.next_own(alloc, shared, 0, WORKER_HAND)?;
     let others = rest.other_ends(alloc)?;
+    let (shared, own) = owned(alloc, shared, rest, 0, WORKER_HAND)?;
     Ok(Worker {
-        shared: Arc::try_clone(shared)?,
+        shared,
         number,
         own,
         others,
     })
+}
+
+/// What the next thread shares with all others, and what it owns, with an end of this poller's queue of free slots.
+fn owned<F: Front + Drop>(
+    alloc: Global,
+    shared: &Arc<Shared<F>>,
+    rest: &mut Rest,
+    poller: usize,
+    capacity: usize,
+) -> Result<(Arc<Shared<F>>, Own), ServerFault>
+where
+    F::Waker: Drop,
+    requires { AreFresh (arc_value shared.now).claims rest.old.parts.seats.items }
+    ensures left { AreFresh (arc_value shared.now).claims rest.new.parts.seats.items }
+    ensures shared { IfOk result (λ made. arc_value made.0 ≡ arc_value shared.now) }
+    ensures own { IfOk result (λ made. made.1.seat ≡ fresh_seat (arc_value shared.now).claims) }
+{
+    let own = rest.next_own(alloc, shared, poller, capacity)?;
+    let shared = Arc::try_clone(shared)?;
+    Ok((shared, own))
 }
 
 impl Rest {

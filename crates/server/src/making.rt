@@ -8,7 +8,7 @@ ghost use Rattle.dispatch.specs.Splits.{each_part, part_of, parts_of};
 ghost use Rattle.server.specs.Begins.{HasBegun};
 
 use berths::Berths;
-use claims::{ClaimSeat, Claims};
+use claims::Claims;
 use dispatch::{Front, Opening, Parts, Poller, ServerFault, Shared, Split};
 use ready::{FreeQueue, ReadyQueue};
 use settings::Settings;
@@ -56,24 +56,15 @@ where
     ensures workers { IfOk result (λ made. (made.workers ≡ settings.now.workers) × (made.pollers_work ≡ true)) }
     ensures refused { IfErr result (λ fault. fault ≡ ServerFault.NoMemory) }
 {
-    let slots = settings.slots;
     let threads = split.pollers() + settings.workers;
-    let (claims, seats) = open_claims(alloc, slots, threads)?;
-    let shared = Shared {
-        claims,
-        berths: Berths::new(alloc, slots)?,
-        waker,
-        budget: settings.budget as usize,
-    };
-    let parts = Parts {
-        seats,
-        ready: ReadyQueue::new(alloc, slots, threads)?,
-    };
+    let pollers = pollers_of(alloc, settings, split, fronts)?;
+    let free = frees_of(rt, alloc, split, settings.workers)?;
+    let (shared, parts) = shared_of(alloc, settings, threads, waker)?;
     Ok(Server {
         shared,
         parts,
-        free: frees_of(rt, alloc, split, settings.workers)?,
-        pollers: pollers_of(alloc, settings, split, fronts)?,
+        free,
+        pollers,
         split,
         workers: settings.workers,
         pollers_work: true,
@@ -91,9 +82,10 @@ fn frees_of(
     requires { workers ≤ 31 }
     ensures { IfOk result (λ all. map (λ ends. ends.items) all.items ≡ each_part split.slots split.size (λ part. filled part.first part.slots ∷ replicate workers (unused part.slots))) }
 {
-    let mut frees = Vec::with_capacity(alloc, split.pollers())?;
-    for number in 0..split.pollers() {
-        frees.push(free_of(rt, alloc, split, number, workers)?)?;
+    let pollers = split.pollers();
+    let mut frees = Vec::with_capacity(alloc, pollers)?;
+    for number in 0..pollers {
+        frees.push_reserved(free_of(rt, alloc, split, number, workers)?);
     }
     Ok(frees)
 }
@@ -111,11 +103,12 @@ fn pollers_of<F: Front + Drop>(
     ensures begun { IfOk result (λ all. All (λ poller. HasBegun settings.now.slots (record { ring = settings.now.ring; proxy = settings.now.proxy }) poller) all.items) }
     ensures shares { IfOk result (λ all. map (λ poller. poller.most) all.items ≡ shares_of settings.now.stop_after (parts_of split.slots split.size)) }
 {
-    let mut pollers = Vec::with_capacity(alloc, fronts.len())?;
+    let count = split.pollers();
+    let mut pollers = Vec::with_capacity(alloc, count)?;
     fronts.reverse();
-    for number in 0..split.pollers() {
+    for number in 0..count {
         match fronts.pop() {
-            Some(front) => pollers.push(poller_of(alloc, settings, split, number, front)?)?,
+            Some(front) => pollers.push_reserved(poller_of(alloc, settings, split, number, front)?),
             None => unreachable!(),
         }
     }
@@ -175,19 +168,45 @@ fn share_of(stop_after: u32, pollers: usize, number: usize) -> u64
     }
 }
 
-/// The claim words and their seats, one for each thread.
-fn open_claims(
+/// What so many threads share, and for each of them a seat and an end of the queue of tickets.
+fn shared_of<F: Front>(
     alloc: Global,
-    slots: usize,
+    settings: &Settings,
     threads: usize,
-) -> Result<(Claims, Vec<ClaimSeat>), ServerFault>
-    requires slots { (1 ≤ slots) × (slots ≤ 4096) }
+    waker: F::Waker,
+) -> Result<(Shared<F>, Parts), ServerFault>
+where
+    F::Waker: Drop,
     requires threads { (1 ≤ threads) × (threads ≤ 32) }
-    ensures made { IfOk result (λ made. (made.0.words ≡ slots) × (made.1.items ≡ replicate threads (fresh_seat made.0))) }
+    ensures slots { IfOk result (λ made. made.0.claims.words ≡ settings.now.slots) }
+    ensures budget { IfOk result (λ made. made.0.budget ≡ settings.now.budget) }
+    ensures seats { IfOk result (λ made. made.1.seats.items ≡ replicate threads (fresh_seat made.0.claims)) }
+    ensures ready { IfOk result (λ made. made.1.ready.items ≡ replicate threads (unused settings.now.slots)) }
     ensures refused { IfErr result (λ fault. fault ≡ ServerFault.NoMemory) }
 {
+    let berths = Berths::new(alloc, settings.slots)?;
+    let (claims, parts) = open_claims(alloc, settings.slots, threads)?;
+    let shared = Shared {
+        claims,
+        berths,
+        waker,
+        budget: settings.budget as usize,
+    };
+    Ok((shared, parts))
+}
+
+/// The claim words, and for each thread a seat and an end of the queue of tickets.
+fn open_claims(alloc: Global, slots: usize, threads: usize) -> Result<(Claims, Parts), ServerFault>
+    requires slots { (1 ≤ slots) × (slots ≤ 4096) }
+    requires threads { (1 ≤ threads) × (threads ≤ 32) }
+    ensures slots { IfOk result (λ made. made.0.words ≡ slots) }
+    ensures seats { IfOk result (λ made. made.1.seats.items ≡ replicate threads (fresh_seat made.0)) }
+    ensures ready { IfOk result (λ made. made.1.ready.items ≡ replicate threads (unused slots)) }
+    ensures refused { IfErr result (λ fault. fault ≡ ServerFault.NoMemory) }
+{
+    let ready = ReadyQueue::new(alloc, slots, threads)?;
     match Claims::open(alloc, slots, threads) {
-        Ok(made) => Ok(made),
+        Ok((claims, seats)) => Ok((claims, Parts { seats, ready })),
         Err(_) => Err(ServerFault::NoMemory),
     }
 }

@@ -1,8 +1,9 @@
 ghost use Rattle.std.specs.Prelude.{◌≡◌, IfOk, IfErr};
 ghost use Rattle.sockets.specs.Fronts.{IsAt};
 
+use crate::failure::log_failure_at;
 use dispatch::ServerFault;
-use log::{Log, error};
+use log::{Level, Log};
 use mio::net::TcpListener;
 use settings::Settings;
 use std::io;
@@ -47,7 +48,7 @@ pub fn bind<R: Net + Log>(rt: &R, settings: &Settings) -> Result<Bound, ServerFa
     match listen(rt, address) {
         Ok(bound) => Ok(bound),
         Err(error) => {
-            error!(rt; target: "relayd", "listen: {address}: {error}");
+            log_failure_at(rt, Level::Error, "listen", address, &error);
             Err(ServerFault::Listen)
         }
     }

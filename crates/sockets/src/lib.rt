@@ -10,6 +10,7 @@
 mod bound;
 mod delay;
 mod dial;
+mod failure;
 mod forwarding;
 mod limits;
 mod poll;

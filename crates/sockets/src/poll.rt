@@ -7,6 +7,7 @@ ghost use Rattle.sockets.specs.Wires.{SameButWatched, fresh_wire, under};
 
 use crate::bound::Bound;
 use crate::dial::Dial;
+use crate::failure::{log_failure, log_failure_at};
 use crate::forwarding::Forwarding;
 use crate::limits::MAX_WAIT_MILLIS;
 use crate::socket::Socket;
@@ -14,7 +15,7 @@ use crate::wire::SocketWire;
 use dispatch::{
     Front, LISTENER, MAX_BATCH, Opened, Route, ServerFault, Settle, Split, Unopened, WAKER,
 };
-use log::{Log, debug, error};
+use log::{Level, Log};
 use mio::event::Event;
 use mio::net::TcpListener;
 use mio::{Events, Interest, Poll, Waker};
@@ -77,17 +78,31 @@ pub fn open_all<'r, R: Net + Log>(
     ensures wakers { IfOk result (λ made. made.1.split ≡ split) }
     ensures refused { IfErr result (λ fault. (fault ≡ ServerFault.Poll) ⊎ (fault ≡ ServerFault.NoMemory)) }
 {
-    let mut listener = bound.listener;
-    let mut polls = Vec::with_capacity(alloc, split.pollers())?;
-    let mut each = Vec::with_capacity(alloc, split.pollers())?;
-    for _poller in 0..split.pollers() {
-        let (poll, waker) = watched(rt, &mut listener)?;
-        polls.push(poll)?;
-        each.push(waker)?;
-    }
     let told = Arc::new(alloc, Reports::new(alloc, split.slots())?)?;
+    let mut listener = bound.listener;
+    let (polls, each) = watched_by_all(rt, alloc, &mut listener, split.pollers())?;
     let fronts = fronts_of(rt, alloc, listener, &told, polls, forwarding)?;
     Ok((fronts, Wakers { split, each }))
+}
+
+/// What reports on the listening socket and the waker, of each of so many pollers.
+fn watched_by_all<R: Net + Log>(
+    rt: &R,
+    alloc: Global,
+    listener: &mut TcpListener,
+    pollers: usize,
+) -> Result<(Vec<Poll>, Vec<Waker>), ServerFault>
+    ensures polls { IfOk result (λ made. vec_len made.0 ≡ pollers) }
+    ensures refused { IfErr result (λ fault. (fault ≡ ServerFault.Poll) ⊎ (fault ≡ ServerFault.NoMemory)) }
+{
+    let mut polls = Vec::with_capacity(alloc, pollers)?;
+    let mut wakers = Vec::with_capacity(alloc, pollers)?;
+    for _poller in 0..pollers {
+        let (poll, waker) = watched(rt, listener)?;
+        polls.push_reserved(poll);
+        wakers.push_reserved(waker);
+    }
+    Ok((polls, wakers))
 }
 
 /// A front for each of these, all with one listening socket.
@@ -102,18 +117,19 @@ fn fronts_of<'r, R>(
     ensures { IfOk result (λ fronts. fronts.items ≡ replicate (vec_len polls) (record { forwarding = forwarding; reported = [] })) }
 {
     let listener = Arc::new(alloc, listener)?;
-    let mut fronts = Vec::with_capacity(alloc, polls.len())?;
+    let count = polls.len();
+    let mut fronts = Vec::with_capacity(alloc, count)?;
     polls.reverse();
-    for _front in 0..polls.len() {
+    for _front in 0..count {
         match polls.pop() {
-            Some(poll) => fronts.push(Sockets {
+            Some(poll) => fronts.push_reserved(Sockets {
                 rt,
                 listener: Arc::try_clone(&listener)?,
                 forwarding,
                 told: Arc::try_clone(told)?,
                 poll,
                 events: Events::with_capacity(alloc, MAX_BATCH)?,
-            })?,
+            }),
             None => unreachable!(),
         }
     }
@@ -127,7 +143,7 @@ fn watched<R: Net + Log>(rt: &R, listener: &mut TcpListener) -> Result<(Poll, Wa
     match reports_on(rt, listener) {
         Ok(made) => Ok(made),
         Err(error) => {
-            error!(rt; target: "relayd", "poll: {error}");
+            log_failure(rt, Level::Error, "poll", &error);
             Err(ServerFault::Poll)
         }
     }
@@ -142,8 +158,7 @@ impl<R: Dial> Sockets<'_, R> {
         match self.rt.dial(self.forwarding.target) {
             Ok(stream) => Ok(SocketWire::connecting(Socket::new(stream))),
             Err(error) => {
-                let target = self.forwarding.target;
-                debug!(rt; target: "relayd", "connect: {target}: {error}");
+                log_failure_at(rt, Level::Debug, "connect", self.forwarding.target, &error);
                 Err(Unopened::Connect)
             }
         }
@@ -160,7 +175,7 @@ impl<R: Dial> Sockets<'_, R> {
         match wire.watch(self.poll.registry(), token, told) {
             Ok(()) => Ok(()),
             Err(error) => {
-                debug!(rt; target: "relayd", "register: {error}");
+                log_failure(rt, Level::Debug, "register", &error);
                 Err(Unopened::Register)
             }
         }

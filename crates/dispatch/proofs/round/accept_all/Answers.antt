@@ -1,6 +1,6 @@
 use Rattle.std.proofs.Common.{◌+◌, ◌∙◌, ap, length, arith}
 use Rattle.dispatch.specs.Polls.{PollerState}
-use Rattle.dispatch.proofs.Connections.{accept_none, same_tries, accept_and_took, accept_and_next, room_left}
+use Rattle.dispatch.proofs.Connections.{accept_none, accept_again, accept_still, same_tries, accept_and_took, accept_and_next, room_left}
 use Rattle.dispatch.proofs.round.accept_all.Goals as goal
 
 pub loop-try-init : goal.loop-try-init
@@ -13,11 +13,7 @@ loop-try-init g c = record {
   room = omega arith;
   tries = ap (λ (s : PollerState). 0 + s.tries) c.reset_tries.ensures;
   done = accept_none c.args.poller.now c.reset_tries.new.self c.args.own.now (same_tries c.args.poller.now c.reset_tries.new.self 4 c.reset_tries.ensures);
-  over = ap (λ (s : PollerState). s.over) c.reset_tries.ensures;
-  opening = ap (λ (s : PollerState). s.opening) c.reset_tries.ensures;
-  reported = ap (λ (s : PollerState). s.reported) c.reset_tries.ensures;
-  second = ap (λ (s : PollerState). s.second) c.reset_tries.ensures;
-  swept = ap (λ (s : PollerState). s.swept) c.reset_tries.ensures;
+  poller = accept_still c.args.poller.now c.reset_tries.new.self 4 c.reset_tries.ensures;
 }
 
 pub returns-then-not-may_accept-clause-done : goal.returns-then-not-may_accept-clause-done
@@ -32,9 +28,11 @@ loop-try-preserved g c = record {
   room = room_left c.loop-try._try c.loop-try.own c.may_accept.new.own c.accept_next.new.own c.may_accept.ensures.took c.in_ok-accept_next.ensures.room c.loop-try.invariant.room;
   tries = (let left = c.in_ok-accept_next.ensures.tries in let sum = c.loop-try.invariant.tries in omega arith);
   done = accept_and_next c.loop-try.invariant.done c.may_accept.ensures.took c.in_ok-accept_next.ensures.done;
-  over = c.in_ok-accept_next.ensures.over ∙ c.loop-try.invariant.over;
-  opening = c.in_ok-accept_next.ensures.opening ∙ c.loop-try.invariant.opening;
-  reported = c.in_ok-accept_next.ensures.reported ∙ c.loop-try.invariant.reported;
-  second = c.in_ok-accept_next.ensures.second ∙ c.loop-try.invariant.second;
-  swept = c.in_ok-accept_next.ensures.swept ∙ c.loop-try.invariant.swept;
+  poller = accept_again c.args.poller.now c.loop-try.poller c.accept_next.new.poller c.loop-try.invariant.poller c.in_ok-accept_next.ensures.poller;
 }
+
+pub returns-in_err-accept_next-clause-poller : goal.returns-in_err-accept_next-clause-poller
+returns-in_err-accept_next-clause-poller g c = accept_again c.args.poller.now c.loop-try.poller c.accept_next.new.poller c.loop-try.invariant.poller c.accept_next.ensures.poller
+
+pub returns-then-not-branch-clause-poller : goal.returns-then-not-branch-clause-poller
+returns-then-not-branch-clause-poller g c = accept_again c.args.poller.now c.loop-try.poller c.accept_next.new.poller c.loop-try.invariant.poller c.in_ok-accept_next.ensures.poller

@@ -1,5 +1,5 @@
 use Rattle.std.proofs.Common.{refl, false, ◌-◌}
-use Rattle.dispatch.proofs.Connections.{accept_both, accept_none, same_two}
+use Rattle.dispatch.proofs.Connections.{accept_both, accept_none, accept_opened, accept_refused, same_two}
 use Rattle.dispatch.proofs.round.accept_next.Goals as goal
 
 pub returns-in-Err-clause-done : goal.returns-in-Err-clause-done
@@ -14,3 +14,12 @@ returns-in_ok-open-in-Ok-clause-done g c =
     (accept_none old c.accept.new.poller c.args.own.now
     (same_two old (record old { tries = old.tries - 1 }) c.accept.new.poller (old.tries - 1) old.accepting false refl c.in-Ok.ensures.accepted))
     c.in_ok-open-in-Ok.ensures.done
+
+pub returns-in-Err-clause-poller : goal.returns-in-Err-clause-poller
+returns-in-Err-clause-poller g c = accept_refused c.args.poller.now c.accept.new.poller c.not_accepted.new.poller _ _ _ c.in-Err.ensures.refused c.not_accepted.ensures.flag
+
+pub returns-in_err-open-in-Ok-clause-poller : goal.returns-in_err-open-in-Ok-clause-poller
+returns-in_err-open-in-Ok-clause-poller g c = accept_opened c.args.poller.now c.accept.new.poller c.open.new.poller _ _ _ _ _ c.in-Ok.ensures.accepted c.open.ensures.poller
+
+pub returns-in_ok-open-in-Ok-clause-poller : goal.returns-in_ok-open-in-Ok-clause-poller
+returns-in_ok-open-in-Ok-clause-poller g c = accept_opened c.args.poller.now c.accept.new.poller c.open.new.poller _ _ _ _ _ c.in-Ok.ensures.accepted c.open.ensures.poller

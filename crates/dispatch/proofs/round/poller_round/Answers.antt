@@ -1,9 +1,9 @@
-use Rattle.std.proofs.Common.{◌∙◌, ap, arith}
+use Rattle.std.proofs.Common.{◌∙◌, ap, inl, inr, arith}
 use Rattle.dispatch.specs.Polls.{PollerState}
 use Rattle.dispatch.proofs.Connections.{SamePoller, accept_both, accept_took, room_same, took_none}
 use Rattle.dispatch.proofs.Reports.{few_tickets, capacity_kept, reported_le}
 use Rattle.dispatch.proofs.Sweeps.{few_sweep, own_sweep}
-use Rattle.dispatch.proofs.WholeRounds.{begun_is, looked_is, round_of, round_ended}
+use Rattle.dispatch.proofs.WholeRounds.{begun_is, looked_is, round_of, round_ended, swept_is}
 use Rattle.dispatch.proofs.round.poller_round.Goals as goal
 
 pub returns-then-not-begin-clause-round : goal.returns-then-not-begin-clause-round
@@ -85,4 +85,41 @@ returns-clause-round g c = λ _.
       part = ap (λ (s : PollerState). s.part) c.sweep_if_due.ensures.poller;
     })
     (accept_both c.in_ok-accept_all.ensures.done (accept_took c.accept_all.new.poller c.take_back.new.poller c.accept_all.new.own c.take_back.new.own flags c.take_back.ensures.took))
-    (ap (λ (s : PollerState). s.swept) c.take_back.ensures.poller ∙ c.accept_all.ensures.swept))
+    (ap (λ (s : PollerState). s.swept) c.take_back.ensures.poller ∙ ap (λ (s : PollerState). s.swept) c.accept_all.ensures.poller))
+
+-- the second of the last sweep is what it was until the sweep, and what the sweep left from then on
+pub returns-then-not-begin-clause-unswept : goal.returns-then-not-begin-clause-unswept
+returns-then-not-begin-clause-unswept g c = inl (ap (λ (s : PollerState). s.swept) c.begin.ensures.poller)
+
+pub returns-in_err-look-clause-unswept : goal.returns-in_err-look-clause-unswept
+returns-in_err-look-clause-unswept g c = inl (ap (λ (s : PollerState). s.swept) c.look.ensures.poller ∙ ap (λ (s : PollerState). s.swept) c.begin.ensures.poller)
+
+pub returns-in_err-deliver_batch-clause-unswept : goal.returns-in_err-deliver_batch-clause-unswept
+returns-in_err-deliver_batch-clause-unswept g c = inl (ap (λ (s : PollerState). s.swept) c.deliver_batch.ensures.poller ∙ ap (λ (s : PollerState). s.swept) c.look.ensures.poller ∙ ap (λ (s : PollerState). s.swept) c.begin.ensures.poller)
+
+pub returns-in_err-sweep_if_due-clause-unswept : goal.returns-in_err-sweep_if_due-clause-unswept
+returns-in_err-sweep_if_due-clause-unswept g c = inl (c.in_err-sweep_if_due.ensures.unswept ∙ ap (λ (s : PollerState). s.swept) c.deliver_batch.ensures.poller ∙ ap (λ (s : PollerState). s.swept) c.look.ensures.poller ∙ ap (λ (s : PollerState). s.swept) c.begin.ensures.poller)
+
+pub returns-in_err-accept_all-clause-unswept : goal.returns-in_err-accept_all-clause-unswept
+returns-in_err-accept_all-clause-unswept g c =
+    inr (swept_is c.args.timing.now.limit c.args.poller.now c.deliver_batch.new.poller c.sweep_if_due.new.poller c.accept_all.new.poller
+    (ap (λ (s : PollerState). s.swept) c.deliver_batch.ensures.poller ∙ ap (λ (s : PollerState). s.swept) c.look.ensures.poller ∙ ap (λ (s : PollerState). s.swept) c.begin.ensures.poller)
+    c.in_ok-sweep_if_due.ensures.swept
+    (ap (λ (s : PollerState). s.swept) c.accept_all.ensures.poller)
+    (ap (λ (s : PollerState). s.second) c.accept_all.ensures.poller))
+
+pub returns-clause-unswept : goal.returns-clause-unswept
+returns-clause-unswept g c =
+    inr (swept_is c.args.timing.now.limit c.args.poller.now c.deliver_batch.new.poller c.sweep_if_due.new.poller c.take_back.new.poller
+    (ap (λ (s : PollerState). s.swept) c.deliver_batch.ensures.poller ∙ ap (λ (s : PollerState). s.swept) c.look.ensures.poller ∙ ap (λ (s : PollerState). s.swept) c.begin.ensures.poller)
+    c.in_ok-sweep_if_due.ensures.swept
+    (ap (λ (s : PollerState). s.swept) c.take_back.ensures.poller ∙ ap (λ (s : PollerState). s.swept) c.accept_all.ensures.poller)
+    (ap (λ (s : PollerState). s.second) c.take_back.ensures.poller ∙ ap (λ (s : PollerState). s.second) c.accept_all.ensures.poller))
+
+pub returns-clause-swept : goal.returns-clause-swept
+returns-clause-swept g c =
+    inr (swept_is c.args.timing.now.limit c.args.poller.now c.deliver_batch.new.poller c.sweep_if_due.new.poller c.take_back.new.poller
+    (ap (λ (s : PollerState). s.swept) c.deliver_batch.ensures.poller ∙ ap (λ (s : PollerState). s.swept) c.look.ensures.poller ∙ ap (λ (s : PollerState). s.swept) c.begin.ensures.poller)
+    c.in_ok-sweep_if_due.ensures.swept
+    (ap (λ (s : PollerState). s.swept) c.take_back.ensures.poller ∙ ap (λ (s : PollerState). s.swept) c.accept_all.ensures.poller)
+    (ap (λ (s : PollerState). s.second) c.take_back.ensures.poller ∙ ap (λ (s : PollerState). s.second) c.accept_all.ensures.poller))

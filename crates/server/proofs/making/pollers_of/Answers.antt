@@ -1,17 +1,19 @@
-use Rattle.std.proofs.Common.{ap, arith}
+use Rattle.std.proofs.Common.{ap, ◌∙◌, ◌+◌, ℕ, arith}
 use Rattle.server.proofs.Parts.{mapped_more, mapped_all, begun_one}
 use Rattle.server.proofs.making.pollers_of.Goals as goal
 
 pub loop-number-preserved : goal.loop-number-preserved
 loop-number-preserved g c = record {
   left = omega (arith, c.loop-number.invariant.left, c.in-Some.ensures.len);
-  parts = mapped_more _ _ _ _ c.loop-number.number c.in_ok-push-in-Some.ensures.items (ap (λ poller. poller.part) c.in_ok-poller_of-in-Some.ensures) c.loop-number.invariant.parts;
-  begun = begun_one _ _ _ _ c.in_ok-push-in-Some.ensures.items c.in_ok-poller_of-in-Some.ensures c.loop-number.invariant.begun;
-  shares = mapped_more _ _ _ _ c.loop-number.number c.in_ok-push-in-Some.ensures.items (ap (λ poller. poller.most) c.in_ok-poller_of-in-Some.ensures) c.loop-number.invariant.shares;
+  parts = mapped_more _ _ _ _ c.loop-number.number c.push_reserved.ensures.items (ap (λ poller. poller.part) c.in_ok-poller_of-in-Some.ensures) c.loop-number.invariant.parts;
+  begun = begun_one _ _ _ _ c.push_reserved.ensures.items c.in_ok-poller_of-in-Some.ensures c.loop-number.invariant.begun;
+  shares = mapped_more _ _ _ _ c.loop-number.number c.push_reserved.ensures.items (ap (λ poller. poller.most) c.in_ok-poller_of-in-Some.ensures) c.loop-number.invariant.shares;
+  len = c.push_reserved.ensures.len ∙ ap (λ (n : ℕ). n + 1) c.loop-number.invariant.len;
+  room = omega (arith, c.push_reserved.ensures.capacity, c.loop-number.invariant.room);
 }
 
 pub returns-clause-parts : goal.returns-clause-parts
-returns-clause-parts g c = mapped_all _ _ _ c.loop-number.number _ (omega (arith, c.loop-number.invariant.left, c.pollers-number-end.ensures.parts)) c.loop-number.invariant.parts
+returns-clause-parts g c = mapped_all _ _ _ c.loop-number.number _ (omega (arith, c.loop-number.invariant.left, c.pollers-count.ensures.parts)) c.loop-number.invariant.parts
 
 pub returns-clause-shares : goal.returns-clause-shares
-returns-clause-shares g c = mapped_all _ _ _ c.loop-number.number _ (omega (arith, c.loop-number.invariant.left, c.pollers-number-end.ensures.parts)) c.loop-number.invariant.shares
+returns-clause-shares g c = mapped_all _ _ _ c.loop-number.number _ (omega (arith, c.loop-number.invariant.left, c.pollers-count.ensures.parts)) c.loop-number.invariant.shares

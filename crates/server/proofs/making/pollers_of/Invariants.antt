@@ -1,4 +1,5 @@
-use Rattle.std.proofs.Common.{◌≡◌, ℕ, ◌+◌, length, map, All}
+use Rattle.std.proofs.Common.{◌≡◌, ◌≤◌, ℕ, ◌+◌, length, map, All}
+use Rattle.std.specs.Prelude.{vec_len, vec_capacity}
 use Rattle.std.specs.List.{range_with_len}
 use Rattle.server.specs.Limits.{share_of}
 use Rattle.dispatch.specs.Splits.{part_of, parts_of}
@@ -11,4 +12,6 @@ invariant-loop-number g l = record {
   parts : map (λ poller. poller.part) l.pollers.items ≡ map (λ (number : ℕ). part_of l.split.slots l.split.size number) (range_with_len 0 l.number);
   begun : All (λ poller. HasBegun l.settings.slots (record { ring = l.settings.ring; proxy = l.settings.proxy }) poller) l.pollers.items;
   shares : map (λ poller. poller.most) l.pollers.items ≡ map (λ (number : ℕ). share_of l.settings.stop_after (parts_of l.split.slots l.split.size) number) (range_with_len 0 l.number);
+  len : vec_len l.pollers ≡ l.number;
+  room : l.count ≤ vec_capacity l.pollers;
 }
