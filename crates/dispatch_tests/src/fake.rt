@@ -1,7 +1,7 @@
 // A front in memory, which plays a script.
 ghost use Rattle.std.specs.Prelude.{◌≡◌, ◌≤◌, [], length, vec_capacity};
 
-use super::scenes::{Scene, Settling, wire_of};
+use super::scenes::{SILENT, Scene, Settling, wire_of};
 use dispatch::{Front, MAX_BATCH, Opened, Route, Unopened};
 use log::Log;
 use std::alloc::{AllocError, Global};
@@ -19,14 +19,24 @@ pub(crate) type Told = (bool, bool);
 /// plays the same scene. If targets are to be sent a line, there is also whether open tells the client's address and the
 /// accepted one, and after the last of them it tells both; else it tells none.
 #[derive(Clone, Copy)]
-pub(crate) struct Script<'a> {
-    pub(crate) batches: &'a [&'a [u64]],
-    pub(crate) accepts: &'a [Option<ErrorKind>],
-    pub(crate) opens: &'a [Option<Unopened>],
+pub(crate) struct Script {
+    pub(crate) batches: &'static [&'static [u64]],
+    pub(crate) accepts: &'static [Option<ErrorKind>],
+    pub(crate) opens: &'static [Option<Unopened>],
     pub(crate) proxy: bool,
-    pub(crate) told: &'a [Told],
+    pub(crate) told: &'static [Told],
     pub(crate) scene: Scene,
 }
+
+/// Nothing is reported, and nobody comes.
+pub(crate) const SILENCE: Script = Script {
+    batches: &[],
+    accepts: &[],
+    opens: &[],
+    proxy: false,
+    told: &[],
+    scene: SILENT,
+};
 
 /// A front that plays a script. Its clients come from 192.0.2.7:50000, and are accepted on 198.51.100.1:7000. No call of
 /// it takes memory.
@@ -46,9 +56,8 @@ pub(crate) struct Fake {
     pub(crate) waited: bool,
     /// How often accept was called.
     pub(crate) accepted: usize,
-    opened: usize,
-    /// The numbers of the tokens that open was asked for.
-    pub(crate) asked: Vec<u64>,
+    /// The numbers of the tokens that each opening was asked for.
+    asked: Vec<(u64, u64)>,
 }
 
 impl Fake {
@@ -59,14 +68,18 @@ impl Fake {
             wires,
             batches: batches(alloc, script.batches)?,
             last: Vec::new(alloc),
-            waited: false,
             accepts: script.accepts.to_vec(alloc)?,
             opens: script.opens.to_vec(alloc)?,
             proxy: script.proxy,
             told: script.told.to_vec(alloc)?,
+            waited: false,
             accepted: 0,
-            opened: 0,
         })
+    }
+
+    /// The numbers of the tokens that this opening was asked for.
+    pub(crate) fn asked(&self, opening: usize) -> Option<(u64, u64)> {
+        self.asked.get(opening).copied()
     }
 }
 
@@ -101,12 +114,6 @@ fn fill(batch: &mut Vec<u64>, numbers: &[u64])
     for number in numbers {
         batch.push_reserved(*number);
     }
-}
-
-/// Notes the numbers of the tokens that open was asked for.
-fn note(asked: &mut Vec<u64>, client: Token, target: Token) {
-    let _ = asked.push(client.value());
-    let _ = asked.push(target.value());
 }
 
 /// The answer to open with this number, if it is a refusal.
@@ -161,9 +168,10 @@ impl Front for Fake {
         client_token: Token,
         target_token: Token,
     ) -> Result<Opened<Settling>, Unopened> {
-        note(&mut self.asked, client_token, target_token);
-        let number = self.opened;
-        self.opened = number.saturating_add(1);
+        let number = self.asked.len();
+        let _ = self
+            .asked
+            .push((client_token.value(), target_token.value()));
         let target = self.wires.pop().ok_or(Unopened::Connect)?;
         let route = if self.proxy {
             route(self.told.as_slice(), number)

@@ -8,13 +8,21 @@
 #[cfg(test)]
 mod fake;
 #[cfg(test)]
+mod gate;
+#[cfg(test)]
 mod leads;
+#[cfg(test)]
+mod player;
 #[cfg(test)]
 mod rounds;
 #[cfg(test)]
 mod scenes;
 #[cfg(test)]
+mod sights;
+#[cfg(test)]
 mod stage;
+#[cfg(test)]
+mod story;
 #[cfg(test)]
 mod sweeps;
 #[cfg(test)]

@@ -1,19 +1,19 @@
 // A server of one thread, which makes the poller's rounds and runs a worker's turns.
 ghost use Rattle.std.specs.Prelude.{◌≡◌, ◌≤◌, length, IfOk};
 ghost use Rattle.claims.specs.Seats.{fresh_seat, HoldsNothing};
+ghost use Rattle.dispatch.specs.Parts.{AreFresh};
 
 use super::fake::{Fake, Script};
-use super::scenes::Settling;
+use super::gate::Counting;
 use super::ticks::Ticks;
-use berths::{Berth, Berths};
-use claims::{Claimed, Claims};
+use berths::Berths;
+use claims::Claims;
 use dispatch::{
-    Gate, Hand, MAX_BATCH, Opening, Own, Part, Poller, Shared, Timing, Worked, own_turn,
-    poller_round, share_tickets, worker_turn,
+    MAX_BATCH, Opening, Own, Part, Parts, Poller, Shared, Timing, Worked, own_turn, poller_round,
+    share_tickets, worker_turn,
 };
 use log::Log;
 use ready::{FreeQueue, ReadyQueue, Ticket};
-use relay_core::MAX_READ;
 use std::alloc::{AllocError, Global};
 use std::sync::Wait;
 use std::sync::atomic::AtomicU64;
@@ -26,57 +26,59 @@ pub(crate) struct Stage {
     pub(crate) shared: Shared<Fake>,
     pub(crate) own: Own,
     pub(crate) poller: Poller<Fake>,
+    pub(crate) gate: Counting,
     pub(crate) clock: Ticks,
     /// The idle limit.
     pub(crate) limit: u64,
+    /// What the last turn answered. None where there was none, the hand was full, or the seat worn.
+    pub(crate) worked: Option<Worked>,
+    /// Whether a step could not be made.
+    pub(crate) stuck: bool,
     pub ghost same: { own.seat.table ≡ shared.claims },
     pub ghost idle: { HoldsNothing own.seat },
     pub ghost sized: { length poller.table ≡ shared.claims.words },
 }
 
 impl Stage {
-    /// Whether a round ended without a fault.
-    pub(crate) fn round<R: Wait + Log>(&mut self, rt: &R, alloc: Global) -> bool {
+    /// A round of the poller.
+    pub(crate) fn round<R: Wait + Log>(&mut self, rt: &R, alloc: Global) {
         let timing = Timing {
             clock: &self.clock,
             limit: self.limit,
         };
-        poller_round(
+        let done = poller_round(
             rt,
             alloc,
             &self.shared,
             &mut self.own,
             &mut self.poller,
             &timing,
-        )
-        .is_ok()
+        );
+        self.stuck |= done.is_err();
     }
 
-    /// A worker's turn for a ticket. None where the hand is full, or the seat is worn.
-    pub(crate) fn turn<G: Gate, R: Wait + Log>(
-        &mut self,
-        rt: &R,
-        gate: &G,
-        ticket: Ticket,
-    ) -> Option<Worked> {
+    /// A worker's turn for a ticket.
+    pub(crate) fn turn<R: Wait + Log>(&mut self, rt: &R, ticket: Ticket) {
+        self.worked = None;
         if !self.own.hand.has_room() {
-            return None;
+            return;
         }
         let timing = Timing {
             clock: &self.clock,
             limit: self.limit,
         };
-        worker_turn(rt, &self.shared, &mut self.own, gate, ticket, &timing).ok()
+        self.worked = worker_turn(
+            rt,
+            &self.shared,
+            &mut self.own,
+            &self.gate,
+            ticket,
+            &timing,
+        ).ok();
     }
 
-    /// How many tickets stay in hand for the poller's own turns.
-    pub(crate) fn share(&mut self, rt: &impl Wait) -> usize {
-        share_tickets(rt, &mut self.own, &mut self.poller);
-        self.own.hand.tickets()
-    }
-
-    /// The poller's own turn. None where there was none, or the seat is worn.
-    pub(crate) fn own_turn<G: Gate, R: Wait + Log>(&mut self, rt: &R, gate: &G) -> Option<Worked> {
+    /// The poller's own turn.
+    pub(crate) fn own_turn<R: Wait + Log>(&mut self, rt: &R) {
         let timing = Timing {
             clock: &self.clock,
             limit: self.limit,
@@ -85,54 +87,52 @@ impl Stage {
             rt,
             &self.shared,
             &mut self.own,
-            gate,
+            &self.gate,
             &mut self.poller,
             &timing,
         );
-        worked.unwrap_or(None)
+        self.worked = worked.unwrap_or(None);
     }
 
-    /// The word of each slot.
-    pub(crate) fn words(&self) -> (u64, u64) {
-        (self.word(0), self.word(1))
+    /// Only the tickets for the poller's own turns stay in hand.
+    pub(crate) fn share(&mut self, rt: &impl Wait) {
+        share_tickets(rt, &mut self.own, &mut self.poller);
     }
 
-    fn word(&self, slot: usize) -> u64 {
-        if slot < self.shared.claims.slots() {
-            self.shared.claims.peek(slot)
+    /// Has a ticket in hand.
+    pub(crate) fn keep(&mut self, ticket: Ticket) {
+        if self.own.hand.has_room() {
+            self.own.hand.keep_ticket(ticket);
         } else {
-            0
+            self.stuck = true;
         }
     }
 
-    /// How often each wire of the connection in a slot was settled. None where the slot has no connection.
-    pub(crate) fn settled(self, rt: &impl Wait, slot: usize) -> Option<(u32, u32)> {
-        let berth = self.berth(rt, slot)?;
-        Some((berth.client.settled, berth.target.settled))
-    }
-
-    /// Whether the target of the connection in a slot got these bytes, and no others.
-    pub(crate) fn wrote(self, rt: &impl Wait, slot: usize, bytes: &[u8]) -> bool {
-        match self.berth(rt, slot) {
-            Some(berth) => berth.target.wire.written() == bytes,
-            None => false,
+    /// Takes the tickets out of hand.
+    pub(crate) fn drop_tickets(&mut self) {
+        for _ticket in 0..self.own.hand.tickets() {
+            let _ = self.own.hand.take_ticket();
         }
     }
 
-    /// The connection in a slot.
-    fn berth(self, rt: &impl Wait, slot: usize) -> Option<Berth<Settling, Settling>> {
-        let Stage {
-            shared,
-            mut own,
-            ..
-        } = self;
-        if slot >= shared.claims.slots() {
-            return None;
+    /// Loses the connections from their places.
+    pub(crate) fn lose(&mut self, alloc: Global) {
+        match Berths::new(alloc, self.shared.claims.slots()) {
+            Ok(berths) => self.shared.berths = berths,
+            Err(AllocError) => self.stuck = true,
         }
-        match shared.claims.claim(&mut own.seat, slot) {
-            Claimed::Busy => None,
-            Claimed::Held => shared.berths.take_out(rt, &own.seat, slot),
-        }
+    }
+
+    /// The poller begins at this second, and the server has this idle limit.
+    pub(crate) fn begin(&mut self, second: u64, limit: u64) {
+        self.poller.begin_at(second);
+        self.limit = limit;
+    }
+
+    /// A round at this second.
+    pub(crate) fn round_at<R: Wait + Log>(&mut self, rt: &R, alloc: Global, second: u64) {
+        self.clock.set(second);
+        self.round(rt, alloc);
     }
 }
 
@@ -144,54 +144,62 @@ pub(crate) fn staged(
     budget: usize,
     most: u64,
     script: Script,
-) -> Result<Stage, AllocError>
-    requires budget { (1 ≤ budget) × (budget ≤ 1024) }
+) -> Result<Stage, AllocError> {
+    let poller = poller_of(alloc, script, most)?;
+    let (shared, mut parts) = parts_of(alloc, budget.clamp(1, 1024))?;
+    let own = own_of(rt, alloc, &shared, &mut parts)?;
+    Ok(stage_of(shared, own, poller))
+}
+
+/// A poller that has opened no connection yet.
+fn poller_of(alloc: Global, script: Script, most: u64) -> Result<Poller<Fake>, AllocError>
+    ensures { IfOk result (λ poller. length poller.table ≡ 2) }
 {
-    let (claims, own) = opened(rt, alloc)?;
+    let opening = Opening {
+        ring: 4,
+        proxy: script.proxy,
+    };
+    let all = Part {
+        first: 0,
+        slots: SLOTS,
+    };
+    let front = Fake::new(alloc, script)?;
+    Poller::new(alloc, front, SLOTS, all, opening, most)
+}
+
+/// What threads share, and what one thread is made from.
+fn parts_of(alloc: Global, budget: usize) -> Result<(Shared<Fake>, Parts), AllocError>
+    requires budget { (1 ≤ budget) × (budget ≤ 1024) }
+    ensures fresh { IfOk result (λ made. AreFresh made.0.claims made.1.seats.items) }
+    ensures sized { IfOk result (λ made. made.0.claims.words ≡ 2) }
+{
+    let Ok((claims, seats)) = Claims::open(alloc, SLOTS, 1) else {
+        return Err(AllocError);
+    };
     let shared = Shared {
         claims,
         berths: Berths::new(alloc, SLOTS)?,
         waker: AtomicU64::new(0),
         budget,
     };
-    let opening = Opening {
-        ring: 4,
-        proxy: script.proxy,
-    };
-    let front = Fake::new(alloc, script)?;
-    let all = Part {
-        first: 0,
-        slots: SLOTS,
-    };
-    let poller = Poller::new(alloc, front, SLOTS, all, opening, most)?;
-    Ok(stage_of(shared, own, poller))
+    let ready = ReadyQueue::new(alloc, SLOTS, 1)?;
+    Ok((shared, Parts { seats, ready }))
 }
 
-/// The claim words, and all that one thread owns.
-fn opened(rt: &impl Wait, alloc: Global) -> Result<(Claims, Own), AllocError>
-    ensures seat { IfOk result (λ made. made.1.seat ≡ fresh_seat made.0) }
-    ensures sized { IfOk result (λ made. made.0.words ≡ 2) }
+/// What the thread owns.
+fn own_of(
+    rt: &impl Wait,
+    alloc: Global,
+    shared: &Shared<Fake>,
+    parts: &mut Parts,
+) -> Result<Own, AllocError>
+    requires { AreFresh shared.now.claims parts.old.seats.items }
+    ensures { IfOk result (λ own. own.seat ≡ fresh_seat shared.now.claims) }
 {
-    let Ok((claims, mut seats)) = Claims::open(alloc, SLOTS, 1) else {
-        return Err(AllocError);
-    };
-    let mut ready = ReadyQueue::new(alloc, SLOTS, 1)?;
-    let mut free = FreeQueue::new(rt, alloc, 0, SLOTS, 1)?;
-    let hand = Hand::new(alloc, 2 * SLOTS + 2 * MAX_BATCH)?;
-    let Some(seat) = seats.pop() else {
-        return Err(AllocError);
-    };
-    let (Some(ready), Some(free)) = (ready.pop(), free.pop()) else {
-        return Err(AllocError);
-    };
-    let own = Own {
-        seat,
-        ready,
-        free,
-        hand,
-        buffer: Box::new(alloc, [0; MAX_READ])?,
-    };
-    Ok((claims, own))
+    let free = FreeQueue::new(rt, alloc, 0, SLOTS, 1)?.pop();
+    let free = free.ok_or(AllocError)?;
+    let own = parts.next_own(alloc, shared, 2 * SLOTS + 2 * MAX_BATCH, free)?;
+    own.ok_or(AllocError)
 }
 
 fn stage_of(shared: Shared<Fake>, own: Own, poller: Poller<Fake>) -> Stage
@@ -202,7 +210,10 @@ fn stage_of(shared: Shared<Fake>, own: Own, poller: Poller<Fake>) -> Stage
         shared,
         own,
         poller,
+        gate: Counting::new(),
         clock: Ticks::new(0),
         limit: 0,
+        worked: None,
+        stuck: false,
     }
 }
