@@ -62,8 +62,8 @@ fn relayd<'a>(alloc: Global) -> Result<clap::Command<'a>, AllocError> {
         .after_help(
             "Without a command, relayd does the same as `relayd sim`.\n\nExamples:\n  relayd forward 127.0.0.1:7000 127.0.0.1:7001\n  relayd run --config examples/relayd.toml\n  relayd sim < examples/one-direction.flow\n\nSee relayd(1) for details and relayd.toml(5) for the settings.",
         );
-    for row in COMMANDS {
-        command = command.subcommand(subcommand(alloc, row)?)?;
+    for row in &COMMANDS {
+        command = command.subcommand(subcommand(alloc, *row)?)?;
     }
     Ok(command)
 }
@@ -91,7 +91,7 @@ enum Takes {
 }
 
 /// The commands, in the order of the help.
-const COMMANDS: [CommandRow; 4] = [
+static COMMANDS: [CommandRow; 4] = [
     CommandRow {
         name: "forward",
         about: "Forwards connections from one address to another",

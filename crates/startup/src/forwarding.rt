@@ -19,7 +19,7 @@ struct SettingRow {
 }
 
 /// The settings, in the order of the help.
-const SETTINGS: [SettingRow; 10] = [
+static SETTINGS: [SettingRow; 10] = [
     SettingRow {
         key: "listen",
         option: None,
@@ -97,8 +97,8 @@ pub fn add_settings<'a>(
     alloc: Global,
     mut command: clap::Command<'a>,
 ) -> Result<clap::Command<'a>, AllocError> {
-    for row in SETTINGS {
-        command = command.arg(argument(alloc, row))?;
+    for row in &SETTINGS {
+        command = command.arg(argument(alloc, *row))?;
     }
     Ok(command)
 }
@@ -117,7 +117,7 @@ fn argument<'a>(alloc: Global, row: SettingRow) -> Arg<'a> {
 /// The text of a settings file that says the same as the arguments.
 pub fn settings_text(alloc: Global, matches: &ArgMatches<'_>) -> Result<String, AllocError> {
     let mut text = String::new(alloc);
-    for row in SETTINGS {
+    for row in &SETTINGS {
         if let Some(value) = matches.get_str(row.key) {
             let line = Assignment {
                 key: row.key,
