@@ -73,6 +73,7 @@ fn first(text: &[u8], sought: u8) -> Option<usize>
 pub struct Line<'a> {
     /// Its number in the text, from 1.
     pub number: u64,
+    /// Its bytes, without the line feed.
     pub text: &'a [u8],
 }
 

@@ -25,7 +25,7 @@ pub enum NotRead<'a> {
 
 impl<'a> Wrong<'a> {
     /// No line of this kind begins with this word.
-    pub fn unknown(word: &'a [u8], wanted: &'static str) -> Wrong<'a> {
+    pub(crate) fn unknown(word: &'a [u8], wanted: &'static str) -> Wrong<'a> {
         Wrong {
             word: Some(word),
             is_first: true,
@@ -34,7 +34,7 @@ impl<'a> Wrong<'a> {
     }
 
     /// This is expected in place of a word behind the first one.
-    pub fn malformed(word: &'a [u8], wanted: &'static str) -> Wrong<'a> {
+    pub(crate) fn malformed(word: &'a [u8], wanted: &'static str) -> Wrong<'a> {
         Wrong {
             word: Some(word),
             is_first: false,
@@ -43,7 +43,7 @@ impl<'a> Wrong<'a> {
     }
 
     /// The line ends where this is expected.
-    pub fn missing(wanted: &'static str) -> Wrong<'a> {
+    pub(crate) fn missing(wanted: &'static str) -> Wrong<'a> {
         Wrong {
             word: None,
             is_first: false,
