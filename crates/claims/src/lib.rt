@@ -62,8 +62,6 @@ mod opening;
 mod plays;
 mod rule;
 mod seat;
-#[cfg(test)]
-mod tests;
 mod view;
 mod word;
 

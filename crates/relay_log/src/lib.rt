@@ -16,8 +16,6 @@
 mod calls;
 mod cause;
 mod messages;
-#[cfg(test)]
-mod tests;
 mod texts;
 
 pub use calls::{log_done, log_drop, log_fail, log_open, log_peer};

@@ -14,26 +14,13 @@ use ready::{FreeQueue, ReadyQueue};
 use settings::Settings;
 use std::alloc::{AllocError, Global};
 use std::sync::Wait;
+use threads::Server;
 
-/// A server before its threads run: what they share, what they are made from, and the pollers.
-#[derive(Drop)]
-pub(crate) struct Server<F: Front> {
-    pub(crate) shared: Shared<F>,
-    /// For each thread a seat and an end of the queue of tickets.
-    pub(crate) parts: Parts,
-    /// For each poller its ends of a queue of free slots: one for its own thread, and one for each worker.
-    pub(crate) free: Vec<Vec<FreeQueue>>,
-    /// The pollers, in the order of their parts.
-    pub(crate) pollers: Vec<Poller<F>>,
-    pub(crate) split: Split,
-    pub(crate) workers: usize,
-    /// Whether the pollers' threads run turns, too, or leave them all to the workers.
-    pub(crate) pollers_work: bool,
-    pub ghost seats: { AreFresh shared.claims parts.seats.items },
-}
-
-/// A server as the settings say, with a poller for each part of the slots.
-pub(crate) fn build<F: Front + Drop, R: Wait>(
+/// A server as the settings say, with a poller for each part of the slots. `fronts` has the front of each, in the order of
+/// the parts.
+///
+/// Refuses with `NoMemory` alone; then the fronts and the waker are dropped, and nothing is left.
+pub fn build<F: Front + Drop, R: Wait>(
     rt: &R,
     alloc: Global,
     settings: &Settings,

@@ -1,0 +1,69 @@
+// Eight threads post while a ninth takes, and no note is lost.
+ghost use Rattle.std.specs.Prelude.{◌≡◌, ◌+◌, ◌<◌, All};
+ghost use Rattle.claims.specs.Seats.{account_at, Holds};
+
+use claims::{Adopted, ClaimSeat, Claims};
+use std::test::Fail;
+use std::thread;
+
+const POSTERS: usize = 8;
+
+const POSTS_EACH: usize = 10_000;
+
+fn post_many(claims: &Claims, seat: &mut ClaimSeat)
+    requires same { seat.old.table ≡ claims.now }
+    requires inside { 0 < claims.now.words }
+{
+    for _ in 0..POSTS_EACH {
+        let _answer = claims.post(seat, 0);
+    }
+}
+
+// What these takes answered, added up, and the seat.
+fn take_many(claims: &Claims, mut seat: ClaimSeat) -> (u64, ClaimSeat)
+    requires same { seat.table ≡ claims.now }
+    requires inside { 0 < claims.now.words }
+    requires holder { Holds seat 0 }
+    requires unused { (account_at seat 0).taken ≡ 0 }
+    ensures { (result.1.table ≡ claims.now) × Holds result.1 0 × ((account_at result.1 0).taken ≡ result.0) }
+{
+    let mut sum = 0;
+    for _ in 0..POSTS_EACH {
+        sum += claims.take(&mut seat, 0);
+    }
+    (sum, seat)
+}
+
+#[test]
+fn every_note_is_taken_once(rt: HostRuntime) -> Result<(), Fail> {
+    let (claims, mut seats) = Claims::open(rt.alloc(), 1, POSTERS + 1)?;
+    let Some(mut holder) = seats.pop() else {
+        panic!(rt; "there is no seat")
+    };
+    assert!(rt; claims.adopt(&mut holder, 0) == Adopted::Adopted);
+    let table = &claims;
+    let posters = seats.as_mut_slice();
+    let ((during, mut holder), ()) = thread::join(
+        &rt,
+        || -> (u64, ClaimSeat)
+            requires { (holder.table ≡ table.now) × Holds holder 0 × ((account_at holder 0).taken ≡ 0) × (0 < table.now.words) }
+            ensures { (result.1.table ≡ table.entry.now) × Holds result.1 0 × ((account_at result.1 0).taken ≡ result.0) }
+        { take_many(table, holder) },
+        || -> ()
+            requires { All (λ s. s.table ≡ table.now) posters.now × (0 < table.now.words) }
+        {
+            thread::for_each_mut(
+                &rt,
+                posters,
+                POSTERS,
+                &|_, seat| -> ()
+                    requires { (seat.now.table ≡ table.now) × (0 < table.now.words) }
+                { post_many(table, seat) },
+            )
+        },
+    );
+    let last = claims.take(&mut holder, 0);
+    assert_eq!(rt; during + last, 80_000);
+    assert_eq!(rt; claims.peek(0), 1);
+    Ok(())
+}

@@ -1,5 +1,0 @@
-use Rattle.server.specs.Loops.{RanSome}
-use Rattle.server.proofs.leading.Lead.run_rounds.Given as goal
-
-abbrev pub invariant-loop-round : goal.invariant-loop-round
-invariant-loop-round g l = RanSome l.fn.self.own l.self.own

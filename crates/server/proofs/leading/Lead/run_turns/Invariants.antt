@@ -1,6 +1,0 @@
-use Rattle.server.specs.Loops.{RanAtMost}
-use Rattle.server.proofs.leading.Lead.run_turns.Given as goal
-
--- one ticket for each turn so far, at most
-abbrev pub invariant-loop-turn : goal.invariant-loop-turn
-invariant-loop-turn g l = RanAtMost l._turn l.fn.self.own l.self.own

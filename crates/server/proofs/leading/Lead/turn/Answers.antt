@@ -1,7 +1,0 @@
-use Rattle.server.proofs.Loops.{own_turn_ran}
-use Rattle.server.proofs.leading.Lead.turn.Goals as goal
-
-pub returns : goal.returns
-returns g c = record {
-  balance = own_turn_ran _ _ _ c.own_turn.ensures.only c.own_turn.ensures.turn c.own_turn.ensures.none;
-}

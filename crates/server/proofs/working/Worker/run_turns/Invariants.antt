@@ -1,5 +1,0 @@
-use Rattle.server.specs.Loops.{Balanced}
-use Rattle.server.proofs.working.Worker.run_turns.Given as goal
-
-abbrev pub invariant-loop-turn : goal.invariant-loop-turn
-invariant-loop-turn g l = Balanced l.fn.self.own l.self.own

@@ -1,5 +1,0 @@
-mod failing;
-mod faults;
-mod holding;
-mod serving;
-mod still;

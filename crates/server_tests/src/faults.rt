@@ -1,0 +1,255 @@
+// What a fault of one thread does to the others, and which fault is answered.
+
+use crate::failing::{Failing, server_without_reports};
+use crate::still::{NO_LIMIT, Still};
+use dispatch::{OpenGate, ServerFault, Shared, Split};
+use log::sink::{Discard, Locked};
+use log::{Level, Log, Logged};
+use ready::{ReadyQueue, Ticket};
+use std::alloc::{AllocError, Global};
+use std::io::ErrorKind;
+use std::sync::atomic::AtomicUsize;
+use std::sync::atomic::Ordering::SeqCst;
+use std::sync::{Arc, Mutex, Wait};
+use std::test::Fail;
+use threads::{Cast, Crew, Ended, FaultRecord, Rest, Server, divide, run_threads};
+
+/// What a thread of such a server is handed, if no other thread is to begin.
+fn crew_of<'a, R>(
+    rt: &'a R,
+    alloc: Global,
+    faults: &'a FaultRecord,
+    shared: &Arc<Shared<Failing>>,
+) -> Result<Crew<'a, Failing, OpenGate, Still, R>, AllocError> {
+    Ok(Crew {
+        rt,
+        alloc,
+        gate: &OpenGate,
+        timing: NO_LIMIT,
+        faults,
+        shared: Arc::try_clone(shared)?,
+        split: Split::new(1, 2),
+        polling: AtomicUsize::new(1),
+        pollers_work: true,
+        cast: Mutex::new(Cast {
+            leads: Vec::new(alloc),
+            workers: Vec::new(alloc),
+        }),
+    })
+}
+
+/// Threads by number, the poller's first, and the fault of each, in the order in which they are noted.
+const NOTED: [(&[(usize, ServerFault)], Option<ServerFault>); 5] = [
+    (&[], None),
+    (
+        &[
+            (2, ServerFault::Worn),
+            (1, ServerFault::NoMemory),
+            (3, ServerFault::Threads),
+        ],
+        Some(ServerFault::NoMemory),
+    ),
+    (
+        &[(1, ServerFault::Worn), (0, ServerFault::Poll)],
+        Some(ServerFault::Poll),
+    ),
+    (
+        &[(0, ServerFault::Poll), (1, ServerFault::Worn)],
+        Some(ServerFault::Poll),
+    ),
+    (
+        &[(0, ServerFault::Threads), (0, ServerFault::Poll)],
+        Some(ServerFault::Threads),
+    ),
+];
+
+#[test]
+fn the_fault_of_the_first_thread_is_kept(rt: HostRuntime) -> Result<(), Fail> {
+    for (row, (faults, kept)) in NOTED.iter().enumerate() {
+        let record = FaultRecord::new();
+        for (number, fault) in *faults {
+            record.write(&rt, *number, *fault);
+        }
+        assert_eq!(rt; record.is_written(), kept.is_some(), "in row {row}");
+        assert_eq!(rt; record.into_fault(), *kept, "in row {row}");
+    }
+    Ok(())
+}
+
+/// A worker fails, and later another thread. Answers the fault that is kept.
+fn fails_first<R: Wait + Log>(
+    rt: &R,
+    alloc: Global,
+    shared: &Arc<Shared<Failing>>,
+    mine: &mut ReadyQueue,
+    later: usize,
+) -> Result<Option<ServerFault>, AllocError> {
+    let faults = FaultRecord::new();
+    {
+        let crew = crew_of(rt, alloc, &faults, shared)?;
+        if let Err(ended) = Ended::on_fault::<()>(Err(ServerFault::Worn)) {
+            crew.end(2, mine, ended);
+        }
+    }
+    faults.write(rt, later, ServerFault::NoMemory);
+    Ok(faults.into_fault())
+}
+
+/// The thread that fails later, and the fault that is kept: the first worker's goes before, the third worker's does not.
+const LATER: [(usize, ServerFault); 2] = [(3, ServerFault::Worn), (1, ServerFault::NoMemory)];
+
+/// The first row of the table in which another fault is kept.
+fn kept_otherwise<R: Wait + Log>(
+    rt: &R,
+    alloc: Global,
+    shared: &Arc<Shared<Failing>>,
+    mine: &mut ReadyQueue,
+) -> Result<Option<usize>, AllocError> {
+    for (row, (later, kept)) in LATER.iter().enumerate() {
+        if fails_first(rt, alloc, shared, mine, *later)? != Some(*kept) {
+            return Ok(Some(row));
+        }
+    }
+    Ok(None)
+}
+
+/// What all threads of a server share, and two ends of its queue of tickets.
+fn ends_of(
+    alloc: Global,
+    server: Server<Failing>,
+) -> Result<(Arc<Shared<Failing>>, ReadyQueue, ReadyQueue), AllocError> {
+    let Server {
+        shared,
+        mut parts,
+        ..
+    } = server;
+    match (parts.ready.pop(), parts.ready.pop()) {
+        (Some(mine), Some(other)) => Ok((Arc::new(alloc, shared)?, mine, other)),
+        _ => Err(AllocError),
+    }
+}
+
+#[test]
+fn a_worker_s_fault_is_told_to_all(rt: HostRuntime) -> Result<(), Fail> {
+    let log = Logged::new(&rt, Level::Error, Discard);
+    let server = server_without_reports(&rt, rt.alloc(), ErrorKind::Other)?;
+    let (shared, mut mine, mut other) = ends_of(rt.alloc(), server)?;
+    let row = kept_otherwise(&log, rt.alloc(), &shared, &mut mine)?;
+    assert_eq!(rt; row, None);
+    assert_eq!(rt; other.take(&rt), None);
+    assert_eq!(rt; shared.waker.load(SeqCst), 2);
+    Ok(())
+}
+
+/// What the threads of a server share, and the threads: its poller's, and those of so many workers.
+fn cast_of(
+    alloc: Global,
+    server: Server<Failing>,
+    workers: usize,
+) -> Result<(Arc<Shared<Failing>>, Cast<Failing>), ServerFault> {
+    let Server {
+        shared,
+        parts,
+        free,
+        pollers,
+        ..
+    } = server;
+    let shared = Arc::new(alloc, shared)?;
+    let cast = divide(alloc, &shared, Rest { parts, free }, pollers, workers)?;
+    Ok((shared, cast))
+}
+
+/// A worker of a server, which takes tickets with this fault recorded before, if any.
+fn work<R: Wait + Log>(
+    rt: &R,
+    alloc: Global,
+    server: Server<Failing>,
+    fault: Option<ServerFault>,
+) -> Result<(), ServerFault> {
+    let (shared, mut cast) = cast_of(alloc, server, 1)?;
+    let faults = FaultRecord::new();
+    if let Some(fault) = fault {
+        faults.write(rt, 2, fault);
+    }
+    if let Some(worker) = cast.workers.last_mut() {
+        worker.work(&crew_of(rt, alloc, &faults, &shared)?);
+    }
+    Ok(())
+}
+
+/// An end of a server's queue of tickets, which has two of a slot that is free, and is closed.
+fn closed_with_two(rt: &impl Wait, server: &mut Server<Failing>) -> Result<ReadyQueue, AllocError> {
+    let Some(mut end) = server.parts.ready.pop() else {
+        return Err(AllocError);
+    };
+    let ticket = Ticket {
+        slot: 0,
+        generation: 1,
+    };
+    let _ = end.put(rt, ticket);
+    let _ = end.put(rt, ticket);
+    end.close();
+    Ok(end)
+}
+
+/// How many of two tickets a worker took, with a fault recorded before or without.
+fn takes<R: Wait + Log>(rt: &R, alloc: Global, fault: Option<ServerFault>) -> Result<usize, Fail> {
+    let mut server = server_without_reports(rt, alloc, ErrorKind::Other)?;
+    let mut end = closed_with_two(rt, &mut server)?;
+    work(rt, alloc, server, fault)?;
+    let left = [end.try_take(rt).is_some(), end.try_take(rt).is_some()];
+    Ok(left.iter().filter(|is_left| !**is_left).count())
+}
+
+// Each of the turns finds the slot free, and is Busy. A worker goes on after it, but begins none after a fault.
+#[test]
+fn a_worker_goes_on_until_a_fault(rt: HostRuntime) -> Result<(), Fail> {
+    let log = Logged::new(&rt, Level::Error, Discard);
+    for (fault, taken) in [(None, 2), (Some(ServerFault::Worn), 0)] {
+        assert_eq!(rt; takes(&log, rt.alloc(), fault)?, taken);
+    }
+    Ok(())
+}
+
+/// Lets a poller make rounds after a fault was recorded. Answers whether it ended well, and how often it waited.
+fn rounds_after<R: Wait + Log>(
+    rt: &R,
+    alloc: Global,
+    server: Server<Failing>,
+) -> Result<Option<(bool, usize)>, ServerFault> {
+    let (shared, mut cast) = cast_of(alloc, server, 0)?;
+    let faults = FaultRecord::new();
+    faults.write(rt, 2, ServerFault::Worn);
+    let Some(lead) = cast.leads.last_mut() else {
+        return Ok(None);
+    };
+    let ended = lead.run_rounds(&crew_of(rt, alloc, &faults, &shared)?);
+    Ok(Some((ended.into_fault().is_none(), lead.poller.front.polled)))
+}
+
+#[test]
+fn no_round_begins_after_a_fault(rt: HostRuntime) -> Result<(), Fail> {
+    let log = Logged::new(&rt, Level::Error, Discard);
+    let server = server_without_reports(&rt, rt.alloc(), ErrorKind::Other)?;
+    assert_eq!(rt; rounds_after(&log, rt.alloc(), server)?, Some((true, 0)));
+    Ok(())
+}
+
+// Both workers sleep, or come to a closed queue.
+#[test]
+fn a_failed_wait_ends_all_threads(rt: HostRuntime) -> Result<(), Fail> {
+    let alloc = rt.alloc();
+    let sink = Locked::new(rt, Vec::new(alloc));
+    let log = Logged::new(rt, Level::Error, &sink);
+    let server = server_without_reports(&rt, alloc, ErrorKind::PermissionDenied)?;
+    let served = run_threads(&log, alloc, &OpenGate, NO_LIMIT, server);
+    let bytes = sink.into_inner();
+    // A worker that was not started, and a line that is missing, are refused allocations.
+    if served == Err(ServerFault::Threads) || bytes.is_empty() {
+        return Err(Fail::from(AllocError));
+    }
+    assert_eq!(rt; served, Err(ServerFault::Poll));
+    let text = str::from_utf8(bytes.as_slice())?;
+    assert!(rt; text.contains("relayd] poll: "));
+    Ok(())
+}

@@ -1,0 +1,79 @@
+// A server over real sockets on loopback, with its clients and its target in the same process. How clients are served is
+// shown by `tests/relay`, with the built program.
+
+use crate::holding::Holding;
+use crate::still::NO_LIMIT;
+use dispatch::{ServerFault, Split};
+use log::sink::Discard;
+use log::{Level, Log, Logged};
+use server::build;
+use settings::{Settings, parse};
+use sockets::{Bound, Dial, Forwarding, bind, open_all};
+use std::alloc::Global;
+use std::net::{Net, Shutdown, SocketAddr, TcpListener, TcpStream};
+use std::sync::Wait;
+use std::test::Fail;
+use std::thread::Threads;
+use std::{io, thread};
+use threads::run_threads;
+
+/// Two workers and two slots, on a port that the system chooses. The server ends after two connections.
+fn settings(alloc: Global, target: SocketAddr) -> Result<Settings, Fail> {
+    let text = format!(in alloc;
+        "listen = \"127.0.0.1:0\"\ntarget = \"{target}\"\nworkers = 2\nslots = 2\nstop_after = 2\n"
+    )?;
+    Ok(parse(alloc, text.as_bytes())?)
+}
+
+/// Takes so many connections one by one, and sends back to each what it sends, to its end.
+fn echo(listener: &TcpListener, connections: usize) -> io::Result<()> {
+    for _connection in 0..connections {
+        let (stream, _from) = listener.accept()?;
+        io::copy(&mut &stream, &mut &stream)?;
+        stream.shutdown(Shutdown::Write)?;
+    }
+    Ok(())
+}
+
+/// Serves like `serve`, but leaves all turns to the workers.
+fn serve_by_workers<R: Net + Dial + Wait + Threads + Log + Sync>(
+    rt: &R,
+    alloc: Global,
+    settings: &Settings,
+    gate: &Holding,
+    bound: Bound,
+) -> Result<(), ServerFault> {
+    let split = Split::new(settings.slots, settings.workers);
+    let forwarding = Forwarding::of(settings);
+    let (fronts, wakers) = open_all(rt, alloc, bound, forwarding, split)?;
+    let mut server = build(rt, alloc, settings, split, fronts, wakers)?;
+    server.pollers_work = false;
+    run_threads(rt, alloc, gate, NO_LIMIT, server)
+}
+
+// A client is connected when both have shut their side before the server begins.
+#[test]
+fn two_workers_run_at_once(rt: HostRuntime) -> Result<(), Fail> {
+    let alloc = rt.alloc();
+    let listener = TcpListener::bind(&rt, "127.0.0.1:0")?;
+    let settings = settings(alloc, listener.local_addr()?)?;
+    let log = Logged::new(rt, Level::Error, Discard);
+    let bound = bind(&log, &settings)?;
+    let address = bound.text();
+    let (first, second) = (
+        TcpStream::connect(&rt, address)?,
+        TcpStream::connect(&rt, address)?,
+    );
+    first.shutdown(Shutdown::Write)?;
+    second.shutdown(Shutdown::Write)?;
+    let gate = Holding::new();
+    let (served, echoed) = thread::join(
+        &rt,
+        || serve_by_workers(&log, alloc, &settings, &gate, bound),
+        || echo(&listener, 2),
+    );
+    assert_eq!(rt; served, Ok(()));
+    echoed?;
+    assert!(rt; !gate.was_in_vain());
+    Ok(())
+}

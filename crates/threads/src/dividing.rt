@@ -1,0 +1,213 @@
+//! What a server is made of, divided among its threads.
+ghost use Rattle.std.specs.Prelude.{◌≡◌, length, IfOk};
+ghost use Rattle.std.specs.Arc.{arc_value};
+ghost use Rattle.claims.specs.Seats.{fresh_seat};
+ghost use Rattle.dispatch.specs.Parts.{AreFresh};
+
+use crate::leading::Lead;
+use crate::limits::WORKER_HAND;
+use crate::working::Worker;
+use dispatch::{Front, MAX_BATCH, Own, Parts, Poller, ServerFault, Shared};
+use ready::FreeQueue;
+use std::alloc::{AllocError, Global};
+use std::sync::Arc;
+
+/// The threads of a server that have not begun.
+#[derive(Drop)]
+pub struct Cast<F: Front> {
+    pub leads: Vec<Lead<F>>,
+    pub workers: Vec<Worker<F>>,
+}
+
+/// What no thread has yet.
+#[derive(Drop)]
+pub struct Rest {
+    pub parts: Parts,
+    /// For each poller ends of its queue of free slots.
+    pub free: Vec<Vec<FreeQueue>>,
+}
+
+/// The threads of these pollers, and so many workers. A thread has the number of its poller, and the workers have those
+/// behind.
+///
+/// Refuses with `NoMemory` if there is none for what they own, or if the parts are used up.
+pub fn divide<F: Front + Drop>(
+    alloc: Global,
+    shared: &Arc<Shared<F>>,
+    mut rest: Rest,
+    pollers: Vec<Poller<F>>,
+    workers: usize,
+) -> Result<Cast<F>, ServerFault>
+where
+    F::Waker: Drop,
+    requires { AreFresh (arc_value shared.now).claims rest.parts.seats.items }
+{
+    let first = pollers.len();
+    let leads = leads_of(alloc, shared, &mut rest, pollers)?;
+    let workers = workers_of(alloc, shared, &mut rest, first, workers)?;
+    Ok(Cast { leads, workers })
+}
+
+/// The threads of the pollers.
+fn leads_of<F: Front + Drop>(
+    alloc: Global,
+    shared: &Arc<Shared<F>>,
+    rest: &mut Rest,
+    mut pollers: Vec<Poller<F>>,
+) -> Result<Vec<Lead<F>>, ServerFault>
+where
+    F::Waker: Drop,
+    requires { AreFresh (arc_value shared.now).claims rest.old.parts.seats.items }
+    ensures { AreFresh (arc_value shared.now).claims rest.new.parts.seats.items }
+{
+    let count = pollers.len();
+    let mut leads = Vec::with_capacity(alloc, count)?;
+    for _lead in 0..count {
+        let Some(poller) = pollers.pop() else {
+            return Ok(leads);
+        };
+        leads.push_reserved(next_lead(alloc, shared, rest, pollers.len(), poller)?);
+    }
+    Ok(leads)
+}
+
+/// The thread of a poller. A poller whose table is not for these slots is refused; `build` makes none.
+#[tactic(auto, using(claims::proofs::Seats::fresh_holds_nothing))]
+fn next_lead<F: Front + Drop>(
+    alloc: Global,
+    shared: &Arc<Shared<F>>,
+    rest: &mut Rest,
+    number: usize,
+    poller: Poller<F>,
+) -> Result<Lead<F>, ServerFault>
+where
+    F::Waker: Drop,
+    requires { AreFresh (arc_value shared.now).claims rest.old.parts.seats.items }
+    ensures { AreFresh (arc_value shared.now).claims rest.new.parts.seats.items }
+{
+    let slots = shared.claims.slots();
+    if poller.table().len() != slots {
+        return Err(ServerFault::NoMemory);
+    }
+    let (shared, own) = owned(alloc, shared, rest, number, lead_hand(slots))?;
+    Ok(Lead {
+        shared,
+        number,
+        own,
+        poller,
+    })
+}
+
+/// The room of the hand of a poller's thread: for all that two rounds may put there.
+fn lead_hand(slots: usize) -> usize {
+    slots.saturating_mul(2).saturating_add(2 * MAX_BATCH)
+}
+
+/// The threads of so many workers, numbered from `first` on.
+fn workers_of<F: Front + Drop>(
+    alloc: Global,
+    shared: &Arc<Shared<F>>,
+    rest: &mut Rest,
+    first: usize,
+    workers: usize,
+) -> Result<Vec<Worker<F>>, ServerFault>
+where
+    F::Waker: Drop,
+    requires { AreFresh (arc_value shared.now).claims rest.old.parts.seats.items }
+    ensures { AreFresh (arc_value shared.now).claims rest.new.parts.seats.items }
+{
+    let mut made = Vec::with_capacity(alloc, workers)?;
+    for index in 0..workers {
+        let number = first.saturating_add(index);
+        made.push_reserved(next_worker(alloc, shared, rest, number)?);
+    }
+    Ok(made)
+}
+
+/// The thread of a worker, with an end of each poller's queue of free slots.
+#[tactic(auto, using(claims::proofs::Seats::fresh_holds_nothing))]
+fn next_worker<F: Front + Drop>(
+    alloc: Global,
+    shared: &Arc<Shared<F>>,
+    rest: &mut Rest,
+    number: usize,
+) -> Result<Worker<F>, ServerFault>
+where
+    F::Waker: Drop,
+    requires { AreFresh (arc_value shared.now).claims rest.old.parts.seats.items }
+    ensures { AreFresh (arc_value shared.now).claims rest.new.parts.seats.items }
+{
+    let others = rest.other_ends(alloc)?;
+    let (shared, own) = owned(alloc, shared, rest, 0, WORKER_HAND)?;
+    Ok(Worker {
+        shared,
+        number,
+        own,
+        others,
+    })
+}
+
+/// What the next thread shares with all others, and what it owns, with an end of this poller's queue of free slots.
+fn owned<F: Front + Drop>(
+    alloc: Global,
+    shared: &Arc<Shared<F>>,
+    rest: &mut Rest,
+    poller: usize,
+    capacity: usize,
+) -> Result<(Arc<Shared<F>>, Own), ServerFault>
+where
+    F::Waker: Drop,
+    requires { AreFresh (arc_value shared.now).claims rest.old.parts.seats.items }
+    ensures left { AreFresh (arc_value shared.now).claims rest.new.parts.seats.items }
+    ensures shared { IfOk result (λ made. arc_value made.0 ≡ arc_value shared.now) }
+    ensures own { IfOk result (λ made. made.1.seat ≡ fresh_seat (arc_value shared.now).claims) }
+{
+    let own = rest.next_own(alloc, shared, poller, capacity)?;
+    let shared = Arc::try_clone(shared)?;
+    Ok((shared, own))
+}
+
+impl Rest {
+    /// What the next thread owns, with an end of this poller's queue of free slots.
+    ///
+    /// Refuses with `NoMemory` if there is none for it, or if the parts are used up.
+    pub fn next_own<F: Front>(
+        &mut self,
+        alloc: Global,
+        shared: &Shared<F>,
+        poller: usize,
+        capacity: usize,
+    ) -> Result<Own, ServerFault>
+        requires { AreFresh shared.now.claims self.old.parts.seats.items }
+        ensures left { AreFresh shared.now.claims self.new.parts.seats.items }
+        ensures next { IfOk result (λ own. own.seat ≡ fresh_seat shared.now.claims) }
+    {
+        let Some(free) = self.next_end(poller) else {
+            return Err(ServerFault::NoMemory);
+        };
+        match self.parts.next_own(alloc, shared, capacity, free)? {
+            Some(own) => Ok(own),
+            None => Err(ServerFault::NoMemory),
+        }
+    }
+
+    /// An end of each queue of free slots but the first poller's, in order.
+    fn other_ends(&mut self, alloc: Global) -> Result<Vec<FreeQueue>, AllocError>
+        ensures { self.new.parts ≡ self.old.parts }
+    {
+        let mut ends = Vec::with_capacity(alloc, self.free.len())?;
+        for poller in 1..self.free.len() {
+            if let Some(free) = self.next_end(poller) {
+                ends.push(free)?;
+            }
+        }
+        Ok(ends)
+    }
+
+    /// The next end of this poller's queue of free slots.
+    fn next_end(&mut self, poller: usize) -> Option<FreeQueue>
+        ensures { self.new.parts ≡ self.old.parts }
+    {
+        self.free.get_mut(poller)?.pop()
+    }
+}

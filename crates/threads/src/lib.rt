@@ -1,0 +1,22 @@
+//! The threads of a server: what each of them is made of, its loop, and how the fault of one ends all ([`run_threads`]).
+//!
+//! What a thread does in a round and in a turn is the crate `dispatch`, over parts that are lent to it. Here the parts are
+//! divided among the threads ([`divide`]), and each thread makes its rounds or takes its tickets until all is over.
+#![tactic(auto)]
+
+mod crew;
+mod dividing;
+mod ended;
+mod fault_record;
+mod leading;
+mod limits;
+mod running;
+mod working;
+
+pub use crew::Crew;
+pub use dividing::{Cast, Rest, divide};
+pub use ended::Ended;
+pub use fault_record::FaultRecord;
+pub use leading::Lead;
+pub use running::{Server, run_threads};
+pub use working::Worker;

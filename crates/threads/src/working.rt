@@ -1,0 +1,124 @@
+//! The loop of a worker's thread.
+ghost use Rattle.std.specs.Prelude.{◌≡◌, ◌≢◌, ◌<◌, ◌-◌, [], ◌∷◌, length, slice_get, slice_set, IfSome};
+ghost use Rattle.std.specs.Arc.{arc_value};
+ghost use Rattle.claims.specs.Seats.{HoldsNothing};
+ghost use Rattle.dispatch.specs.Hands.{HasRoom};
+ghost use Rattle.threads.specs.Loops.{Balanced, GivesToOwner};
+
+use crate::crew::Crew;
+use crate::ended::Ended;
+use dispatch::{Clock, Front, Gate, Own, Shared, Worked, give_slots, put_tickets, worker_turn};
+use log::Log;
+use ready::{FreeQueue, Ticket};
+use std::sync::{Arc, Wait};
+use std::{mem, thread};
+
+/// A worker, and what its thread owns.
+#[derive(Drop)]
+pub struct Worker<F: Front> {
+    pub shared: Arc<Shared<F>>,
+    /// The thread's number, by which its fault goes before those of later threads.
+    pub number: usize,
+    /// Between two turns its end of a queue of free slots is the first poller's.
+    pub own: Own,
+    /// Its ends of the queues of free slots of the other pollers, in order.
+    pub others: Vec<FreeQueue>,
+    pub ghost same: { own.seat.table ≡ (arc_value shared).claims },
+    pub ghost idle: { HoldsNothing own.seat },
+}
+
+impl<F: Front + Drop> Worker<F>
+where
+    F::Waker: Drop,
+{
+    /// Takes tickets and runs their turns until the queue of tickets is closed and empty, or a fault is recorded. A fault
+    /// of its own is recorded, and ends all other threads.
+    pub fn work<G: Gate, C: Clock, R: Wait + Log>(&mut self, crew: &Crew<'_, F, G, C, R>)
+        ensures balance { Balanced self.old.own self.new.own }
+    {
+        let ended = self.run_turns(crew);
+        crew.end(self.number, &mut self.own.ready, ended);
+    }
+
+    fn run_turns<G: Gate, C: Clock, R: Wait + Log>(&mut self, crew: &Crew<'_, F, G, C, R>) -> Ended
+        ensures balance { Balanced self.old.own self.new.own }
+    {
+        for _turn in crew.rt.forever() {
+            if crew.faults.is_written() {
+                return Ended::well();
+            }
+            if !self.own.hand.has_room() {
+                put_tickets(crew.rt, &mut self.own.ready, &mut self.own.hand);
+                self.give_all(crew.rt);
+                thread::yield_now();
+                continue;
+            }
+            let Some(ticket) = self.own.ready.take(crew.rt) else {
+                return Ended::well();
+            };
+            if let Err(ended) = self.turn(crew, ticket) {
+                return ended;
+            }
+        }
+        Ended::well()
+    }
+
+    /// Runs a turn. If its connection ends, its slot goes back to the poller that has it.
+    fn turn<G: Gate, C: Clock, R: Wait + Log>(
+        &mut self,
+        crew: &Crew<'_, F, G, C, R>,
+        ticket: Ticket,
+    ) -> Result<Worked, Ended>
+        requires { HasRoom self.old.own.hand }
+        ensures balance { Balanced self.old.own self.new.own }
+        ensures gives { ticket.slot < crew.now.split.slots → GivesToOwner crew.now.split ticket.slot (self.old.own.free ∷ self.old.others.items) (self.new.own.free ∷ self.new.others.items) }
+    {
+        let poller = crew.split.poller_of(ticket.slot);
+        self.change_queue(poller);
+        let worked = Ended::on_fault(worker_turn(
+            crew.rt,
+            &self.shared,
+            &mut self.own,
+            crew.gate,
+            ticket,
+            &crew.timing,
+        ));
+        self.give_all(crew.rt);
+        self.change_queue(poller);
+        worked
+    }
+
+    /// Exchanges its end of the queue of the first poller and that of this one. Done again, each is in its place.
+    fn change_queue(&mut self, poller: usize)
+        ensures seat { self.new.own.seat ≡ self.old.own.seat }
+        ensures hand { self.new.own.hand ≡ self.old.own.hand }
+        ensures ready { self.new.own.ready ≡ self.old.own.ready }
+        ensures shared { self.new.shared ≡ self.old.shared }
+        ensures first { poller ≡ 0 → (self.new.own.free ≡ self.old.own.free) × (self.new.others.items ≡ self.old.others.items) }
+        ensures other { poller ≢ 0 → IfSome (slice_get self.old.others.items (poller - 1)) (λ other. (self.new.own.free ≡ other) × (self.new.others.items ≡ slice_set self.old.others.items (poller - 1) self.old.own.free)) }
+    {
+        if poller == 0 {
+            return;
+        }
+        if let Some(other) = self.others.get_mut(poller - 1) {
+            mem::swap(&mut self.own.free, other);
+        }
+    }
+
+    /// Gives back all slots in hand. A queue has room for each slot that can be in it, so this waits for nobody.
+    fn give_all(&mut self, rt: &impl Wait)
+        ensures seat { self.new.own.seat ≡ self.old.own.seat }
+        ensures given { self.new.own.hand.slots ≡ [] }
+        ensures tickets { self.new.own.hand.tickets ≡ self.old.own.hand.tickets }
+        ensures ready { self.new.own.ready ≡ self.old.own.ready }
+        ensures shared { self.new.shared ≡ self.old.shared }
+        ensures others { self.new.others.items ≡ self.old.others.items }
+    {
+        for _try in rt.forever() {
+            if self.own.hand.slots() == 0 {
+                return;
+            }
+            give_slots(rt, &mut self.own.free, &mut self.own.hand);
+        }
+    }
+}
