@@ -18,29 +18,49 @@ const PIPE: Fault = Fault::Broken {
     kind: Kind::Pipe,
 };
 
+/// A message of which there is a text.
+#[derive(Clone, Copy)]
+enum Said {
+    Open,
+    Done(usize, u64, u64, u64),
+    Fail(Fault),
+    Drop(Cause),
+}
+
+/// Messages, each with its text.
+static TEXTS: [(Said, &str); 9] = [
+    (Said::Open, "open s=3 g=1"),
+    (Said::Done(3, 1, 120, 400), "done s=3 g=1 up=120 down=400"),
+    (
+        Said::Done(32_767, 140_737_488_355_327, u64::MAX, 0),
+        "done s=32767 g=140737488355327 up=18446744073709551615 down=0",
+    ),
+    (
+        Said::Fail(PIPE),
+        "fail s=3 g=1 side=target call=write kind=pipe",
+    ),
+    (Said::Fail(Fault::Idle), "fail s=3 g=1 idle"),
+    (Said::Drop(Cause::Memory), "drop kind=memory"),
+    (Said::Drop(Cause::Connect), "drop kind=connect"),
+    (Said::Drop(Cause::Register), "drop kind=register"),
+    (Said::Drop(Cause::Address), "drop kind=address"),
+];
+
+fn text_of(alloc: Global, said: Said) -> Result<String, AllocError> {
+    match said {
+        Said::Open => open_text(alloc, 3, 1),
+        Said::Done(slot, generation, up, down) => done_text(alloc, slot, generation, up, down),
+        Said::Fail(fault) => fail_text(alloc, 3, 1, fault),
+        Said::Drop(cause) => drop_text(alloc, cause),
+    }
+}
+
 #[test]
 fn texts(rt: HostRuntime) -> Result<(), Fail> {
-    let alloc = rt.alloc();
-    assert_eq!(rt; open_text(alloc, 3, 1)?.as_str(), "open s=3 g=1");
-    assert_eq!(rt;
-        done_text(alloc, 3, 1, 120, 400)?.as_str(),
-        "done s=3 g=1 up=120 down=400"
-    );
-    let text = "fail s=3 g=1 side=target call=write kind=pipe";
-    assert_eq!(rt; fail_text(alloc, 3, 1, PIPE)?.as_str(), text);
-    let text = "fail s=3 g=1 idle";
-    assert_eq!(rt; fail_text(alloc, 3, 1, Fault::Idle)?.as_str(), text);
-    for (cause, text) in [
-        (Cause::Memory, "drop kind=memory"),
-        (Cause::Connect, "drop kind=connect"),
-        (Cause::Register, "drop kind=register"),
-        (Cause::Address, "drop kind=address"),
-    ] {
-        assert_eq!(rt; drop_text(alloc, cause)?.as_str(), text);
+    for (row, (said, text)) in TEXTS.iter().enumerate() {
+        let told = text_of(rt.alloc(), *said)?;
+        assert_eq!(rt; told.as_str(), *text, "in row {row}");
     }
-    let most = "done s=32767 g=140737488355327 up=18446744073709551615 down=0";
-    let text = done_text(alloc, 32_767, 140_737_488_355_327, u64::MAX, 0)?;
-    assert_eq!(rt; text.as_str(), most);
     Ok(())
 }
 
