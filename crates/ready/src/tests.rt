@@ -1,31 +1,13 @@
-// What single calls answer. The threads are in `tests/threads.rt`.
+// What single calls answer. The threads are in `tests/threads.rt`. The helpers promise nothing, so that only its run shows
+// what a test asserts.
 use super::*;
 use crate::sleeper::Awake;
+use std::alloc::{AllocError, Global};
 use std::process::Abort;
 use std::sync::Wait;
 use std::test::Fail;
 
 mod threads;
-
-fn ticket(slot: usize, generation: u64) -> Ticket {
-    Ticket { slot, generation }
-}
-
-/// Announces that an end is idle, and passes over its looks.
-fn announce(rt: &impl Abort, end: &ReadyQueue) -> Awake {
-    let seen = end.idle().mark();
-    assert!(rt; !seen.is_closed());
-    end.idle().announce_unlooked(end.sleeper(), seen)
-}
-
-/// What is asked of an end of a queue of tickets.
-#[derive(Clone, Copy)]
-enum Ask {
-    Put(Ticket),
-    TryTake,
-    Take,
-    Close,
-}
 
 const FIRST: Ticket = Ticket {
     slot: 3,
@@ -41,6 +23,15 @@ const THIRD: Ticket = Ticket {
     slot: 5,
     generation: 3,
 };
+
+/// What is asked of an end of a queue of tickets.
+#[derive(Clone, Copy)]
+enum Ask {
+    Put(Ticket),
+    TryTake,
+    Take,
+    Close,
+}
 
 /// Of a queue with room for one ticket: the number of an end, what is asked of it, and the ticket that it gives or gives
 /// back.
@@ -71,13 +62,24 @@ fn asked(rt: &impl Wait, end: &mut ReadyQueue, ask: Ask) -> Option<Ticket> {
     }
 }
 
+/// The first row that the ends do not answer so.
+fn first_wrong_ticket(rt: &impl Wait, ends: &mut Vec<ReadyQueue>) -> Option<usize> {
+    for (row, (number, ask, wanted)) in TICKETS.iter().enumerate() {
+        let told = match ends.get_mut(*number) {
+            Some(end) => asked(rt, end, *ask),
+            None => return Some(row),
+        };
+        if told != *wanted {
+            return Some(row);
+        }
+    }
+    None
+}
+
 #[test]
 fn a_full_queue_gives_the_ticket_back(rt: HostRuntime) -> Result<(), Fail> {
     let mut ends = ReadyQueue::new(rt.alloc(), 1, 2)?;
-    for (row, (number, ask, wanted)) in TICKETS.iter().enumerate() {
-        let told = ends.get_mut(*number).map(|end| asked(&rt, end, *ask));
-        assert_eq!(rt; told, Some(*wanted), "in row {row}");
-    }
+    assert_eq!(rt; first_wrong_ticket(&rt, &mut ends), None);
     Ok(())
 }
 
@@ -104,92 +106,168 @@ fn exchanged(rt: &impl Wait, end: &mut FreeQueue, given: Option<usize>) -> Optio
     }
 }
 
+/// The first row that the first of the ends does not answer so.
+fn first_wrong_slot(rt: &impl Wait, ends: &mut Vec<FreeQueue>) -> Option<usize> {
+    for (row, (given, wanted)) in SLOTS.iter().enumerate() {
+        let told = match ends.first_mut() {
+            Some(end) => exchanged(rt, end, *given),
+            None => return Some(row),
+        };
+        if told != *wanted {
+            return Some(row);
+        }
+    }
+    None
+}
+
 #[test]
 fn free_slots_come_in_order(rt: HostRuntime) -> Result<(), Fail> {
     let mut ends = FreeQueue::new(&rt, rt.alloc(), 4, 3, 1)?;
-    let Some(mut free) = ends.pop() else {
-        panic!(rt; "there is no end")
-    };
-    for (row, (given, wanted)) in SLOTS.iter().enumerate() {
-        let told = exchanged(&rt, &mut free, *given);
-        assert_eq!(rt; told, *wanted, "in row {row}");
-    }
+    assert_eq!(rt; first_wrong_slot(&rt, &mut ends), None);
     Ok(())
+}
+
+/// Two ends of a queue.
+#[derive(Drop)]
+struct Pair {
+    one: ReadyQueue,
+    other: ReadyQueue,
+}
+
+/// The last two of these ends.
+fn last_two(mut ends: Vec<ReadyQueue>) -> Result<Pair, AllocError> {
+    match (ends.pop(), ends.pop()) {
+        (Some(one), Some(other)) => Ok(Pair { one, other }),
+        _ => Err(AllocError),
+    }
+}
+
+/// Announces that an end is idle, and passes over its looks.
+fn announce(rt: &impl Abort, end: &ReadyQueue) -> Awake {
+    let seen = end.idle().mark();
+    assert!(rt; !seen.is_closed());
+    end.idle().announce_unlooked(end.sleeper(), seen)
+}
+
+/// Puts a ticket at one end while the other is idle. Answers whether that woke the other, if it could be put.
+fn wakes<R: Abort + Wait>(rt: &R, pair: &mut Pair) -> Option<bool> {
+    let announced = announce(rt, &pair.other);
+    let put = pair.one.put(rt, FIRST);
+    let wakes = pair.other.idle().count() == 0;
+    pair.other.idle().withdraw(announced, None);
+    put.ok().map(|()| wakes)
+}
+
+/// Whether a ticket is taken before a put, and whether the put wakes another end: of an end that never took; its first put
+/// after a take; its second one.
+static PUTS: [(bool, bool); 3] = [(false, true), (true, false), (false, true)];
+
+/// The first row that does not go so.
+fn first_wrong_put<R: Abort + Wait>(rt: &R, pair: &mut Pair) -> Option<usize> {
+    for (row, (takes, wanted)) in PUTS.iter().enumerate() {
+        if *takes && pair.one.take(rt) != Some(FIRST) || wakes(rt, pair) != Some(*wanted) {
+            return Some(row);
+        }
+    }
+    None
 }
 
 #[test]
 fn the_first_put_after_a_take_wakes_nobody(rt: HostRuntime) -> Result<(), Fail> {
-    let mut ends = ReadyQueue::new(rt.alloc(), 4, 2)?;
-    let (Some(mut mine), Some(other)) = (ends.pop(), ends.pop()) else {
-        panic!(rt; "there are not two ends")
-    };
-    let idle = other.idle();
-    // Never took; its first put after a take; its second one.
-    for (step, wakes) in [(0, true), (1, false), (2, true)] {
-        let announced = announce(&rt, &other);
-        assert_eq!(rt; mine.put(&rt, ticket(1, 1)), Ok(()));
-        assert_eq!(rt; idle.count() == 0, wakes, "at step {step}");
-        idle.withdraw(announced, None);
-        if step == 0 {
-            assert_eq!(rt; mine.take(&rt), Some(ticket(1, 1)));
+    let mut pair = last_two(ReadyQueue::new(rt.alloc(), 4, 2)?)?;
+    assert_eq!(rt; first_wrong_put(&rt, &mut pair), None);
+    Ok(())
+}
+
+/// Whether another thread wakes one of two idle ends, whether that end finds a ticket, and how many ends stay idle.
+static WITHDRAWN: [(bool, Option<Ticket>, u32); 3] = [
+    (true, Some(FIRST), 0),
+    (true, None, 1),
+    (false, Some(FIRST), 1),
+];
+
+/// How many ends stay idle.
+fn left_idle(rt: &impl Abort, pair: &Pair, woken: bool, found: Option<Ticket>) -> u32 {
+    let idle = pair.one.idle();
+    let first = announce(rt, &pair.one);
+    if woken {
+        idle.wake_one();
+    }
+    let second = announce(rt, &pair.other);
+    idle.withdraw(first, found);
+    let left = idle.count();
+    idle.withdraw(second, None);
+    left
+}
+
+/// The first row that does not go so.
+fn first_wrong_withdrawn(rt: &impl Abort, pair: &Pair) -> Option<usize> {
+    for (row, (woken, found, left)) in WITHDRAWN.iter().enumerate() {
+        if left_idle(rt, pair, *woken, *found) != *left {
+            return Some(row);
         }
     }
-    Ok(())
+    None
 }
 
 #[test]
 fn a_wake_that_is_not_needed_is_passed_on(rt: HostRuntime) -> Result<(), Fail> {
-    let mut ends = ReadyQueue::new(rt.alloc(), 1, 2)?;
-    let (Some(zero), Some(one)) = (ends.pop(), ends.pop()) else {
-        panic!(rt; "there are not two ends")
-    };
-    let idle = zero.idle();
-    // Whether another thread wakes end 0, whether end 0 finds a ticket, and how many ends stay idle.
-    for (woken, found, left) in [
-        (true, Some(ticket(1, 1)), 0),
-        (true, None, 1),
-        (false, Some(ticket(1, 1)), 1),
-    ] {
-        let first = announce(&rt, &zero);
-        if woken {
-            idle.wake_one();
-        }
-        let second = announce(&rt, &one);
-        idle.withdraw(first, found);
-        assert_eq!(rt; idle.count(), left, "woken {woken}, found {found:?}");
-        idle.withdraw(second, None);
-    }
+    let pair = last_two(ReadyQueue::new(rt.alloc(), 1, 2)?)?;
+    assert_eq!(rt; first_wrong_withdrawn(&rt, &pair), None);
     Ok(())
+}
+
+/// How many of two idle ends are left after each of two wakes. The second is of a thread that read the bits before the
+/// first, and finds the end that was woken in them.
+fn left_by_wakes(rt: &impl Abort, end: &ReadyQueue, next: &ReadyQueue) -> (u32, u32) {
+    let idle = end.idle();
+    let seen = 1u64 << end.sleeper().number() | 1u64 << next.sleeper().number();
+    let first = announce(rt, end);
+    let second = announce(rt, next);
+    idle.wake_one_of(seen);
+    let once = idle.count();
+    idle.wake_one_of(seen);
+    let twice = idle.count();
+    idle.withdraw(first, None);
+    idle.withdraw(second, None);
+    (once, twice)
+}
+
+/// An end that was not woken sleeps here for good.
+fn sleep(rt: &impl Wait, end: &ReadyQueue) {
+    end.sleeper().parker().park(rt);
+}
+
+/// Wakes each end together with the one before it, which is the last for the first end. Answers the place of the first end
+/// where two wakes do not wake one end each.
+fn first_unwoken<R: Abort + Wait>(rt: &R, ends: &[ReadyQueue]) -> Option<usize> {
+    let mut next = ends.last()?;
+    for (number, end) in ends.iter().enumerate() {
+        if left_by_wakes(rt, end, next) != (1, 0) {
+            return Some(number);
+        }
+        sleep(rt, end);
+        sleep(rt, next);
+        next = end;
+    }
+    None
+}
+
+/// Closes the queue, which wakes each end.
+fn close(rt: &impl Wait, ends: &[ReadyQueue]) {
+    if let Some(end) = ends.last() {
+        end.idle().close();
+    }
+    for end in ends {
+        sleep(rt, end);
+    }
 }
 
 #[test]
 fn a_wake_is_for_one_end_and_a_close_for_all(rt: HostRuntime) -> Result<(), Fail> {
     let ends = ReadyQueue::new(rt.alloc(), 1, 32)?;
-    let Some(last) = ends.last() else {
-        panic!(rt; "there is no end")
-    };
-    let idle = last.idle();
-    let mut next = last;
-    for end in &ends {
-        let (number, other) = (end.sleeper().number(), next.sleeper().number());
-        let first = announce(&rt, end);
-        let second = announce(&rt, next);
-        // The second wake is of a thread that read the bits before the first, and finds the end that was woken in them.
-        let seen = 1u64 << number | 1u64 << other;
-        for left in [1, 0] {
-            idle.wake_one_of(seen);
-            assert_eq!(rt; idle.count(), left, "of {number} and {other}");
-        }
-        idle.withdraw(first, None);
-        idle.withdraw(second, None);
-        // An end that was not woken sleeps here for good.
-        end.sleeper().parker().park(&rt);
-        next.sleeper().parker().park(&rt);
-        next = end;
-    }
-    idle.close();
-    for end in &ends {
-        end.sleeper().parker().park(&rt);
-    }
+    assert_eq!(rt; ends.len(), 32);
+    assert_eq!(rt; first_unwoken(&rt, &ends), None);
+    close(&rt, &ends);
     Ok(())
 }

@@ -1,9 +1,10 @@
 // Many threads at one queue.
+use super::Pair;
 use crate::{Full, ReadyQueue, Ticket};
 use std::alloc::{AllocError, Global};
 use std::sync::Wait;
 use std::test::Fail;
-use std::thread;
+use std::thread::{self, JoinHandle, Threads};
 
 const EACH: u64 = 500;
 
@@ -21,7 +22,7 @@ fn put_all(rt: &impl Wait, mut end: ReadyQueue, slot: usize) {
 }
 
 /// Takes until the queue is closed and empty.
-fn take_all(rt: &impl Wait, alloc: Global, mut end: ReadyQueue) -> Result<Vec<Ticket>, AllocError> {
+fn take_all(rt: &impl Wait, alloc: Global, mut end: ReadyQueue) -> Taken {
     let mut tickets = Vec::new(alloc);
     for _ in rt.forever() {
         match end.take(rt) {
@@ -30,6 +31,65 @@ fn take_all(rt: &impl Wait, alloc: Global, mut end: ReadyQueue) -> Result<Vec<Ti
         }
     }
     Ok(tickets)
+}
+
+type Taken = Result<Vec<Ticket>, AllocError>;
+
+/// A thread that takes until the queue is closed and empty.
+fn taker<R: Threads + Wait + Copy + Send + 'static>(
+    rt: R,
+    alloc: Global,
+    end: Option<ReadyQueue>,
+) -> Result<JoinHandle<Taken>, AllocError> {
+    let Some(end) = end else {
+        return Err(AllocError);
+    };
+    match thread::spawn(&rt, move || take_all(&rt, alloc, end)) {
+        Ok(taker) => Ok(taker),
+        Err(_) => Err(AllocError),
+    }
+}
+
+/// A thread that puts the tickets of one slot.
+fn putter<R: Threads + Wait + Copy + Send + 'static>(
+    rt: R,
+    end: Option<ReadyQueue>,
+    slot: usize,
+) -> Result<JoinHandle<()>, AllocError> {
+    let Some(end) = end else {
+        return Err(AllocError);
+    };
+    match thread::spawn(&rt, move || put_all(&rt, end, slot)) {
+        Ok(putter) => Ok(putter),
+        Err(_) => Err(AllocError),
+    }
+}
+
+/// Puts the tickets of two slots by two threads, and then closes the queue.
+fn put_and_close<R: Threads + Wait + Copy + Send + 'static>(
+    rt: R,
+    ends: &mut Vec<ReadyQueue>,
+) -> Result<(), AllocError> {
+    let first = putter(rt, ends.pop(), 0)?;
+    let second = putter(rt, ends.pop(), 1)?;
+    first.join(&rt);
+    second.join(&rt);
+    if let Some(end) = ends.last_mut() {
+        end.close();
+    }
+    Ok(())
+}
+
+/// What two threads take while two others put.
+fn taken_by_two<R: Threads + Wait + Copy + Send + 'static>(
+    rt: R,
+    alloc: Global,
+) -> Result<(Taken, Taken), AllocError> {
+    let mut ends = ReadyQueue::new(alloc, 8, 5)?;
+    let first = taker(rt, alloc, ends.pop())?;
+    let second = taker(rt, alloc, ends.pop())?;
+    put_and_close(rt, &mut ends)?;
+    Ok((first.join(&rt), second.join(&rt)))
 }
 
 /// Whether the generations of the tickets of this slot rise.
@@ -46,11 +106,15 @@ fn rises(tickets: &[Ticket], slot: usize) -> bool {
     true
 }
 
-/// How often the ticket is among those that both took.
-fn times(first: &[Ticket], second: &[Ticket], ticket: Ticket) -> (usize, usize) {
-    let one = first.iter().filter(|taken| **taken == ticket).count();
-    let other = second.iter().filter(|taken| **taken == ticket).count();
-    (one, other)
+/// How often the ticket was taken.
+fn times(tickets: &[Ticket], ticket: Ticket) -> usize {
+    let mut times = 0usize;
+    for taken in tickets {
+        if *taken == ticket {
+            times = times.saturating_add(1);
+        }
+    }
+    times
 }
 
 /// The first ticket that was not taken exactly once.
@@ -58,7 +122,7 @@ fn taken_otherwise(first: &[Ticket], second: &[Ticket]) -> Option<Ticket> {
     for slot in 0..2 {
         for generation in 1..=EACH {
             let ticket = Ticket { slot, generation };
-            match times(first, second, ticket) {
+            match (times(first, ticket), times(second, ticket)) {
                 (1, 0) | (0, 1) => {}
                 _ => return Some(ticket),
             }
@@ -69,34 +133,34 @@ fn taken_otherwise(first: &[Ticket], second: &[Ticket]) -> Option<Ticket> {
 
 #[test]
 fn each_ticket_is_taken_once(rt: HostRuntime) -> Result<(), Fail> {
-    let alloc = rt.alloc();
-    let mut ends = ReadyQueue::new(alloc, 8, 5)?;
-    let (Some(mut closing), Some(put_zero), Some(put_one), Some(take_zero), Some(take_one)) = (
-        ends.pop(),
-        ends.pop(),
-        ends.pop(),
-        ends.pop(),
-        ends.pop(),
-    ) else {
-        panic!(rt; "there are not five ends")
-    };
-    let first = thread::spawn(&rt, move || take_all(&rt, alloc, take_zero)).map_err(
-        AllocError::from,
-    )?;
-    let second = thread::spawn(&rt, move || take_all(&rt, alloc, take_one)).map_err(
-        AllocError::from,
-    )?;
-    let putting = thread::spawn(&rt, move || put_all(&rt, put_zero, 0)).map_err(AllocError::from)?;
-    put_all(&rt, put_one, 1);
-    putting.join(&rt);
-    closing.close();
-    let first = first.join(&rt)?;
-    let second = second.join(&rt)?;
+    let (first, second) = taken_by_two(rt, rt.alloc())?;
+    let (first, second) = (first?, second?);
     assert_eq!(rt; taken_otherwise(&first, &second), None);
     for slot in 0..2 {
         assert!(rt; rises(&first, slot) && rises(&second, slot));
     }
     Ok(())
+}
+
+const TICKET: Ticket = Ticket {
+    slot: 1,
+    generation: 1,
+};
+
+/// Whether an end takes the ticket that it puts.
+fn takes_back(rt: &impl Wait, end: &mut ReadyQueue) -> bool {
+    end.put(rt, TICKET).is_ok() && end.take(rt) == Some(TICKET)
+}
+
+/// A thread that takes twice.
+fn twice<R: Threads + Wait + Copy + Send + 'static>(
+    rt: R,
+    mut end: ReadyQueue,
+) -> Result<JoinHandle<(Option<Ticket>, Option<Ticket>)>, AllocError> {
+    match thread::spawn(&rt, move || (end.take(&rt), end.take(&rt))) {
+        Ok(taker) => Ok(taker),
+        Err(_) => Err(AllocError),
+    }
 }
 
 /// Returns once an end has announced that it is idle.
@@ -109,32 +173,44 @@ fn wait_for_idle(rt: &impl Wait, end: &ReadyQueue) {
     }
 }
 
-#[test]
-fn a_parked_end_is_woken(rt: HostRuntime) -> Result<(), Fail> {
-    let ticket = Ticket {
-        slot: 1,
-        generation: 1,
-    };
-    // The first is the one of the highest number.
-    let mut ends = ReadyQueue::new(rt.alloc(), 1, 32)?.into_iter();
-    let (Some(mut taking), Some(mut putting)) = (ends.next(), ends.next()) else {
-        panic!(rt; "there are not two ends")
-    };
-    // An end that has put a ticket and taken it back sleeps and is woken like any other.
-    assert_eq!(rt; taking.put(&rt, ticket), Ok(()));
-    assert_eq!(rt; taking.take(&rt), Some(ticket));
-    let taking = thread::spawn(&rt, move || (taking.take(&rt), taking.take(&rt))).map_err(
-        AllocError::from,
-    )?;
-    wait_for_idle(&rt, &putting);
-    // An end that looks again and again in place of sleeping is not idle in between.
+/// Whether one end is idle all the time. An end that looks again and again in place of sleeping is not idle in between.
+fn stays_idle(end: &ReadyQueue) -> bool {
     for _ in 0..1000 {
-        assert!(rt; putting.idle().count() == 1);
+        if end.idle().count() != 1 {
+            return false;
+        }
         thread::yield_now();
     }
-    assert_eq!(rt; putting.put(&rt, ticket), Ok(()));
-    wait_for_idle(&rt, &putting);
-    putting.close();
-    assert_eq!(rt; taking.join(&rt), (Some(ticket), None));
+    true
+}
+
+/// Waits for an end that sleeps, puts a ticket for it, and waits until it sleeps again. Answers whether it slept until the
+/// ticket was put.
+fn wakes_once(rt: &impl Wait, end: &mut ReadyQueue) -> bool {
+    wait_for_idle(rt, end);
+    let slept = stays_idle(end);
+    let put = end.put(rt, TICKET).is_ok();
+    wait_for_idle(rt, end);
+    slept && put
+}
+
+/// The ends of the two highest numbers.
+fn highest(alloc: Global) -> Result<Pair, AllocError> {
+    let mut ends = ReadyQueue::new(alloc, 1, 32)?.into_iter();
+    match (ends.next(), ends.next()) {
+        (Some(one), Some(other)) => Ok(Pair { one, other }),
+        _ => Err(AllocError),
+    }
+}
+
+#[test]
+fn a_parked_end_is_woken(rt: HostRuntime) -> Result<(), Fail> {
+    let Pair { mut one, mut other } = highest(rt.alloc())?;
+    // An end that has put a ticket and taken it back sleeps and is woken like any other.
+    assert!(rt; takes_back(&rt, &mut one));
+    let taking = twice(rt, one)?;
+    assert!(rt; wakes_once(&rt, &mut other));
+    other.close();
+    assert_eq!(rt; taking.join(&rt), (Some(TICKET), None));
     Ok(())
 }
