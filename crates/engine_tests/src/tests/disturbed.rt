@@ -1,9 +1,9 @@
 // A session of eight calls, with one play more before one of them. Each side gives some bytes and then its
 // end, and takes what the other side gave; the target is not known to be connected at first.
-use super::session::{Session, take_turn, was_given};
+use super::session::{Session, open, take_turn, was_given};
 use super::*;
 use engine::PlayList;
-use relay_core::{CallKind, Fault, Pair, Side, Verdict};
+use relay_core::{CallKind, Fault, Side, Verdict};
 use std::process::Abort;
 use std::test::Fail;
 
@@ -121,28 +121,21 @@ struct Ended {
     faults: (u64, u64),
 }
 
-fn fresh_wire(
-    alloc: Global,
-    joined: bool,
-    gives: &'static [u8],
-    takes: usize,
-) -> Result<ScriptWire, AllocError> {
-    let part = Part {
-        joined,
-        reads: &[Cue::Bytes(gives), Cue::End],
-        writes: &[Cue::Take(takes)],
+fn fresh_session(alloc: Global, (up, down): Given) -> Result<Session, AllocError> {
+    let client = Part {
+        joined: true,
+        reads: &[Cue::Bytes(up), Cue::End],
+        writes: &[Cue::Take(down.len())],
         closings: &[Cue::Shut],
         given: b"",
     };
-    wire_of(alloc, &part)
-}
-
-fn fresh_session(alloc: Global, (up, down): Given) -> Result<Session, AllocError> {
-    Ok(Session {
-        pair: Pair::new(alloc, 0, 1, 4, 0, b"")?,
-        client: fresh_wire(alloc, true, up, down.len())?,
-        target: fresh_wire(alloc, false, down, up.len())?,
-    })
+    let target = Part {
+        joined: false,
+        reads: &[Cue::Bytes(down), Cue::End],
+        writes: &[Cue::Take(up.len())],
+        ..client
+    };
+    open(alloc, 4, b"", &client, &target)
 }
 
 fn disturb(
@@ -192,8 +185,20 @@ fn outcome_of(session: &Session, (first, last): (Turn, Turn), given: Given) -> E
     }
 }
 
-/// A session in which each side gives these bytes, with these plays put in. `given` is what should have been passed on
-/// in the end.
+/// Puts these plays into a fresh session, and plays it. `given` is what should have been passed on in the end.
+fn play_with(
+    rt: &impl Abort,
+    alloc: Global,
+    session: &mut Session,
+    more: More,
+    given: Given,
+) -> Result<Ended, AllocError> {
+    disturb_all(rt, alloc, session, more)?;
+    let turns = take_both_turns(session);
+    Ok(outcome_of(session, turns, given))
+}
+
+/// The same of a session in which each side gives these bytes.
 fn play_session(
     rt: &impl Abort,
     alloc: Global,
@@ -202,9 +207,7 @@ fn play_session(
     given: Given,
 ) -> Result<Ended, AllocError> {
     let mut session = fresh_session(alloc, gives)?;
-    disturb_all(rt, alloc, &mut session, more)?;
-    let turns = take_both_turns(&mut session);
-    Ok(outcome_of(&session, turns, given))
+    play_with(rt, alloc, &mut session, more, given)
 }
 
 /// It is done once every byte was passed on and every play used: in the first turn, or after the report.

@@ -26,17 +26,18 @@ fn opened(alloc: Global, reads: &[Cue]) -> Result<Session, AllocError> {
     open(alloc, 4, b"", &client, &SILENT)
 }
 
-/// The outcome of the turn, the second of the last movement, and whether the connection failed by being idle.
-fn played(
-    alloc: Global,
-    reads: &[Cue],
-    now: u64,
-    limit: u64,
-) -> Result<(Turn, u64, bool), AllocError> {
-    let mut session = opened(alloc, reads)?;
-    let outcome = take_turn_at(&mut session, 2, now, limit);
+/// What a turn shows: its outcome, the second of the last movement, and whether the connection failed by being idle.
+type Shown = (Turn, u64, bool);
+
+fn shown_by_turn(session: &mut Session, now: u64, limit: u64) -> Shown {
+    let outcome = take_turn_at(session, 2, now, limit);
     let is_idle = session.pair.verdict() == Verdict::Failed(Fault::Idle);
-    Ok((outcome, session.pair.moved(), is_idle))
+    (outcome, session.pair.moved(), is_idle)
+}
+
+fn played(alloc: Global, reads: &[Cue], now: u64, limit: u64) -> Result<Shown, AllocError> {
+    let mut session = opened(alloc, reads)?;
+    Ok(shown_by_turn(&mut session, now, limit))
 }
 
 #[test]

@@ -38,10 +38,12 @@ pub fn open(
     requires large { ring ≤ 65536 }
     requires short { length lead.now ≤ 107 }
 {
+    let client = wire_of(alloc, client)?;
+    let target = wire_of(alloc, target)?;
     Ok(Session {
         pair: Pair::new(alloc, 0, 1, ring, 0, lead)?,
-        client: wire_of(alloc, client)?,
-        target: wire_of(alloc, target)?,
+        client,
+        target,
     })
 }
 

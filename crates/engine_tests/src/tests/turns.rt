@@ -268,9 +268,17 @@ fn play(
     requires large { ring ≤ 65536 }
 {
     let mut session = open(alloc, ring, b"", client, target)?;
-    let (seen, again) = turn_seen(&mut session, budget.clamp(1, 1_024));
-    let is_given = was_given(&session, client.given, target.given);
-    Ok((seen, again, is_given && has_waiting(&mut session, waiting)))
+    let given = (client.given, target.given);
+    Ok(play_in(&mut session, budget.clamp(1, 1_024), given, waiting))
+}
+
+fn play_in(session: &mut Session, budget: usize, given: (&[u8], &[u8]), waiting: &[u8]) -> Played
+    requires least { 1 ≤ budget }
+    requires most { budget ≤ 1024 }
+{
+    let (seen, again) = turn_seen(session, budget);
+    let is_given = was_given(session, given.0, given.1);
+    (seen, again, is_given && has_waiting(session, waiting))
 }
 
 fn turn_seen(session: &mut Session, budget: usize) -> (Seen, Seen)
@@ -372,16 +380,25 @@ fn leaves(session: &mut Session, budget: usize, given: &[u8], offered: &[u8]) ->
     was_given(session, b"", given) && has_waiting(session, offered)
 }
 
+/// The first of the turns that does not leave what it should.
+fn first_wrong(session: &mut Session) -> Option<usize> {
+    for (index, (budget, given, offered)) in LED.iter().enumerate() {
+        if !leaves(session, *budget, given, offered) {
+            return Some(index);
+        }
+    }
+    None
+}
+
+fn wrong_of_led(alloc: Global) -> Result<Option<usize>, AllocError> {
+    let mut session = led(alloc)?;
+    Ok(first_wrong(&mut session))
+}
+
 // Each write offers what is left of the lead, or the ring, and never both.
 #[test]
 fn writes_the_lead_and_then_the_ring(rt: HostRuntime) -> Result<(), Fail> {
-    let mut session = led(rt.alloc())?;
-    for (index, (budget, given, offered)) in LED.iter().enumerate() {
-        assert!(rt;
-            leaves(&mut session, *budget, given, offered),
-            "turn {index}"
-        );
-    }
+    assert_eq!(rt; wrong_of_led(rt.alloc())?, None);
     Ok(())
 }
 

@@ -244,28 +244,41 @@ fn counts_by_the_joined_rule(rt: HostRuntime) -> Result<(), Fail> {
     Ok(())
 }
 
-/// Reads two bytes, and keeps what came.
-fn read_two(wire: &mut ScriptWire, got: &mut Vec<u8>) -> Result<(), AllocError> {
+/// Whether a read into two bytes brings these.
+fn brings(wire: &mut ScriptWire, bytes: &[u8]) -> bool {
     let mut buffer = [0; 2];
     match wire.read(&mut buffer) {
-        Ok(count) => got.extend_from_slice(&buffer[..count]),
-        Err(_) => Ok(()),
+        Ok(count) => &buffer[..count] == bytes,
+        Err(_) => false,
     }
+}
+
+/// What the reads bring of the plays `abc` and `de`.
+static PIECES: [&[u8]; 3] = [b"ab", b"c", b"de"];
+
+/// The first read that brings something else.
+fn first_wrong_piece(wire: &mut ScriptWire) -> Option<usize> {
+    for (index, bytes) in PIECES.iter().enumerate() {
+        if !brings(wire, bytes) {
+            return Some(index);
+        }
+    }
+    None
+}
+
+fn wrong_piece(alloc: Global) -> Result<Option<usize>, AllocError> {
+    let part = Part {
+        reads: &[Cue::Bytes(b"abc"), Cue::Bytes(b"de")],
+        ..SILENT
+    };
+    let mut wire = wire_of(alloc, &part)?;
+    Ok(first_wrong_piece(&mut wire))
 }
 
 // The bytes of a play come in their order, whatever the buffers.
 #[test]
 fn gives_its_bytes_in_order(rt: HostRuntime) -> Result<(), Fail> {
-    let part = Part {
-        reads: &[Cue::Bytes(b"abc"), Cue::Bytes(b"de")],
-        ..SILENT
-    };
-    let mut wire = wire_of(rt.alloc(), &part)?;
-    let mut got = Vec::new(rt.alloc());
-    for _reads in 0..3 {
-        read_two(&mut wire, &mut got)?;
-    }
-    assert_eq!(rt; got.as_slice(), b"abcde".as_slice());
+    assert_eq!(rt; wrong_piece(rt.alloc())?, None);
     Ok(())
 }
 
