@@ -1,3 +1,5 @@
+pub mod AllWords
 pub mod Cuts
 pub mod Digits
+pub mod FirstWords
 pub mod Leads

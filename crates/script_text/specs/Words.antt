@@ -1,5 +1,6 @@
 -- The first word of a step or an event, by which a fault names it. Part of the promises.
-use Rattle.std.specs.Prelude.{ℕ, List, codes}
+use Rattle.std.specs.Prelude.{◌≡◌, ℕ, false, List, [], ◌∷◌, codes}
+use Rattle.std.specs.Str.{bytes_eq}
 use Rattle.world.specs.declared.event.Event.{Event}
 use Rattle.world.specs.declared.event.Event.TheVariants.{Tick, Network, Spurious, Vanish, Listen, Poll, Work}
 use Rattle.world.specs.declared.event.Change.{Change}
@@ -44,6 +45,11 @@ word_text word.Take = codes "take"
 word_text word.Tick = codes "tick"
 word_text word.Vanish = codes "vanish"
 word_text word.Wrote = codes "wrote"
+
+-- the first of these words, if there is one, is none of them
+abbrev pub BeginsOtherwise : List (List ℕ) → Type 0
+BeginsOtherwise [] = Unit {0}
+BeginsOtherwise (name ∷ words) = (w : Word) → bytes_eq name (word_text w) ≡ false
 
 abbrev pub change_word : Change → Word
 change_word (Arrive bytes) = word.Arrive

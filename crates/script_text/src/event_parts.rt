@@ -2,7 +2,7 @@
 ghost use Rattle.std.specs.Prelude.{◌≡◌, option_map};
 ghost use Rattle.script_text.specs.Texts.{number_of};
 ghost use Rattle.script_text.specs.Reading.{word_then, if_last, full_of, Reads, ReadsBy};
-ghost use Rattle.script_text.specs.Events.{generation_of, end_of, name_of, names_of, act_of, reply_of, reported_of};
+ghost use Rattle.script_text.specs.Events.{generation_of, end_of, name_of, names_of, reply_of, reported_of};
 ghost use Rattle.token.specs.Kinds.{kind_named};
 
 use crate::limits::MAX_SLOTS;
@@ -13,7 +13,7 @@ use crate::wrong::{NotRead, Wrong};
 use kernel_model::{MAX_POLLED, Reply};
 use std::alloc::Global;
 use token::{MAX_GENERATION, Name, Side, Token};
-use world::{Act, Reported};
+use world::Reported;
 
 /// The generation in a name, 1 to 2^47 - 1.
 fn generation(word: &[u8]) -> Option<u64>
@@ -92,33 +92,6 @@ pub(crate) fn reported(mut words: Pieces<'_>) -> Result<Reported, Wrong<'_>>
         let slot = said(number_below(MAX_SLOTS, who), who, wanted)?;
         let side = side(&mut words)?;
         last(Reported::End(slot, side), words)
-    }
-}
-
-/// What a worker does, if its number is the only further word.
-pub(crate) fn act(word: &[u8]) -> Option<Act>
-    ensures { result ≡ act_of word.now }
-{
-    if word == b"pop".as_slice() {
-        Some(Act::Pop)
-    } else if word == b"claim".as_slice() {
-        Some(Act::Claim)
-    } else if word == b"take".as_slice() {
-        Some(Act::Take)
-    } else if word == b"post".as_slice() {
-        Some(Act::Post)
-    } else if word == b"release".as_slice() {
-        Some(Act::Release)
-    } else if word == b"idle".as_slice() {
-        Some(Act::Expire)
-    } else if word == b"close".as_slice() {
-        Some(Act::Close)
-    } else if word == b"retire".as_slice() {
-        Some(Act::Retire)
-    } else if word == b"free".as_slice() {
-        Some(Act::Free)
-    } else {
-        None
     }
 }
 

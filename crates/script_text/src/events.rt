@@ -1,13 +1,15 @@
 // The events in a script of a world.
 ghost use Rattle.std.specs.Prelude.{option_map};
+ghost use Rattle.script_text.specs.Words.{word_text};
 ghost use Rattle.script_text.specs.Texts.{number_of};
 ghost use Rattle.script_text.specs.Reading.{word_then, if_last, Reads, ReadsBy};
 ghost use Rattle.script_text.specs.Events.{said_of, slot_of, accepting_of, change_event, put_event, call_event, act_event, plain_event, arrival, event_of};
 
-use crate::event_parts::{act, names, reply, reported};
+use crate::Word;
+use crate::event_parts::{names, reply, reported};
 use crate::limits::MAX_WORKERS;
 use crate::lines::Pieces;
-use crate::readers::{accepting, count, last, last_bytes, said, side, slot, word, worker};
+use crate::readers::{accepting, count, first_word, last, last_bytes, said, side, slot, word, worker};
 use crate::values::number_below;
 use crate::wrong::{NotRead, Wrong};
 use std::alloc::Global;
@@ -23,13 +25,11 @@ pub fn read_event<'a>(alloc: Global, line: &'a [u8]) -> Result<Event, NotRead<'a
     ensures { ReadsBy said_of (event_of line.now) result }
 {
     let mut words = Pieces::new(line, b' ');
-    let name = word(&mut words, EVENTS)?;
-    if name == b"arrive".as_slice() {
-        arrive(alloc, words)
-    } else if name == b"poll".as_slice() {
-        Ok(Event::Poll(Polling::Poll(names(alloc, words)?)))
-    } else {
-        Ok(plain_event(name, words)?)
+    let first = first_word(&mut words, EVENTS)?;
+    match first {
+        Word::Arrive => arrive(alloc, words),
+        Word::Poll => Ok(Event::Poll(Polling::Poll(names(alloc, words)?))),
+        _ => Ok(plain_event(first, words)?),
     }
 }
 
@@ -43,39 +43,36 @@ fn arrive<'a>(alloc: Global, mut words: Pieces<'a>) -> Result<Event, NotRead<'a>
 }
 
 /// An event that carries no list.
-fn plain_event<'a>(name: &'a [u8], words: Pieces<'a>) -> Result<Event, Wrong<'a>>
-    ensures { Reads (plain_event name.now words.entry) result }
+fn plain_event(first: Word, words: Pieces<'_>) -> Result<Event, Wrong<'_>>
+    ensures { Reads (plain_event (word_text first) words.entry) result }
 {
-    if name == b"tick".as_slice() {
-        tick(words)
-    } else if name == b"connect".as_slice() {
-        last(Event::Listen(Listening::Connect), words)
-    } else if name == b"accept".as_slice() {
-        accept(words)
-    } else if name == b"drop".as_slice() {
-        last(Event::Listen(Listening::Drop), words)
-    } else if name == b"fin".as_slice() {
-        at_end(Change::Fin, words)
-    } else if name == b"reset".as_slice() {
-        at_end(Change::Reset, words)
-    } else if name == b"room".as_slice() {
-        at_end(Change::Room, words)
-    } else if name == b"spurious".as_slice() {
-        Ok(Event::Spurious(reported(words)?))
-    } else if name == b"vanish".as_slice() {
-        Ok(Event::Vanish(reported(words)?))
-    } else if name == b"open".as_slice() {
-        last(Event::Poll(Polling::Open), words)
-    } else if name == b"deliver".as_slice() {
-        last(Event::Poll(Polling::Deliver), words)
-    } else if name == b"sweep".as_slice() {
-        sweep(words)
-    } else if name == b"put".as_slice() {
-        put(words)
-    } else if name == b"call".as_slice() {
-        call(words)
-    } else {
-        work(act(name).ok_or(Wrong::unknown(name, EVENTS))?, words)
+    match first {
+        Word::Tick => tick(words),
+        Word::Connect => last(Event::Listen(Listening::Connect), words),
+        Word::Accept => accept(words),
+        Word::Drop => last(Event::Listen(Listening::Drop), words),
+        Word::Fin => at_end(Change::Fin, words),
+        Word::Reset => at_end(Change::Reset, words),
+        Word::Room => at_end(Change::Room, words),
+        Word::Spurious => Ok(Event::Spurious(reported(words)?)),
+        Word::Vanish => Ok(Event::Vanish(reported(words)?)),
+        Word::Open => last(Event::Poll(Polling::Open), words),
+        Word::Deliver => last(Event::Poll(Polling::Deliver), words),
+        Word::Sweep => sweep(words),
+        Word::Put => put(words),
+        Word::Call => call(words),
+        Word::Pop => work(Act::Pop, words),
+        Word::Claim => work(Act::Claim, words),
+        Word::Take => work(Act::Take, words),
+        Word::Post => work(Act::Post, words),
+        Word::Release => work(Act::Release, words),
+        Word::Idle => work(Act::Expire, words),
+        Word::Close => work(Act::Close, words),
+        Word::Retire => work(Act::Retire, words),
+        Word::Free => work(Act::Free, words),
+        Word::Arrive | Word::End | Word::Poll | Word::Read | Word::Shut | Word::Wrote => {
+            Err(Wrong::unknown(first.text().as_bytes(), EVENTS))
+        }
     }
 }
 

@@ -3,11 +3,12 @@
 ghost use Rattle.std.specs.Prelude.{◌≡◌, ◌∷◌, [], MatchResult};
 ghost use Rattle.token.specs.Sides.{side_named};
 ghost use Rattle.token.specs.Kinds.{kind_named};
+ghost use Rattle.script_text.specs.Words.{word_text, BeginsOtherwise};
 ghost use Rattle.script_text.specs.Texts.{number_of, bytes_of};
 ghost use Rattle.script_text.specs.Reading.{first_as, word_then, line_end, if_last, full_of, Reads, ReadsBy, Takes};
 ghost use Rattle.script_text.specs.Events.{slot_of, worker_of, accepting_of};
 
-use crate::Bytes;
+use crate::{Bytes, Word};
 use crate::limits::{MAX_SLOTS, MAX_WORKERS};
 use crate::lines::Pieces;
 use crate::values::{bytes, number, number_below};
@@ -23,6 +24,17 @@ pub(crate) fn word<'a>(words: &mut Pieces<'a>, wanted: &'static str) -> Result<&
     match words.next() {
         Some(word) => Ok(word),
         None => Err(Wrong::missing(wanted)),
+    }
+}
+
+/// The first word of a line, if a line begins with such a word.
+pub(crate) fn first_word<'a>(words: &mut Pieces<'a>, wanted: &'static str) -> Result<Word, Wrong<'a>>
+    ensures { MatchResult result (λ first. words.old ≡ word_text first ∷ words.new) (λ _. BeginsOtherwise words.old) }
+{
+    let name = word(words, wanted)?;
+    match Word::named(name) {
+        Some(first) => Ok(first),
+        None => Err(Wrong::unknown(name, wanted)),
     }
 }
 

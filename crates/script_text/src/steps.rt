@@ -1,12 +1,13 @@
 // The steps in a script of one direction.
 ghost use Rattle.std.specs.Prelude.{option_map};
+ghost use Rattle.script_text.specs.Words.{word_text};
 ghost use Rattle.script_text.specs.Texts.{number_of};
 ghost use Rattle.script_text.specs.Reading.{word_then, if_last, full_of, Reads, ReadsBy};
 ghost use Rattle.script_text.specs.Steps.{plain_step, arrive_step, step_of};
 
-use crate::Step;
+use crate::{Step, Word};
 use crate::lines::Pieces;
-use crate::readers::{count, is_full, last, last_bytes, word};
+use crate::readers::{count, first_word, is_full, last, last_bytes};
 use crate::wrong::{NotRead, Wrong};
 use std::alloc::Global;
 
@@ -20,11 +21,10 @@ pub fn read_step<'a>(alloc: Global, line: &'a [u8]) -> Result<Step, NotRead<'a>>
     ensures { ReadsBy (λ step. step) (step_of line.now) result }
 {
     let mut words = Pieces::new(line, b' ');
-    let name = word(&mut words, STEPS)?;
-    if name == b"arrive".as_slice() {
-        arrive(alloc, words)
-    } else {
-        Ok(plain_step(name, words)?)
+    let first = first_word(&mut words, STEPS)?;
+    match first {
+        Word::Arrive => arrive(alloc, words),
+        _ => Ok(plain_step(first, words)?),
     }
 }
 
@@ -35,23 +35,17 @@ fn arrive<'a>(alloc: Global, words: Pieces<'a>) -> Result<Step, NotRead<'a>>
 }
 
 /// A step that carries no bytes.
-fn plain_step<'a>(name: &'a [u8], words: Pieces<'a>) -> Result<Step, Wrong<'a>>
-    ensures { Reads (plain_step name.now words.entry) result }
+fn plain_step(first: Word, words: Pieces<'_>) -> Result<Step, Wrong<'_>>
+    ensures { Reads (plain_step (word_text first) words.entry) result }
 {
-    if name == b"fin".as_slice() {
-        last(Step::Fin, words)
-    } else if name == b"room".as_slice() {
-        last(Step::Room, words)
-    } else if name == b"read".as_slice() {
-        read(words)
-    } else if name == b"end".as_slice() {
-        last(Step::End, words)
-    } else if name == b"wrote".as_slice() {
-        wrote(words)
-    } else if name == b"shut".as_slice() {
-        last(Step::Shut, words)
-    } else {
-        Err(Wrong::unknown(name, STEPS))
+    match first {
+        Word::Fin => last(Step::Fin, words),
+        Word::Room => last(Step::Room, words),
+        Word::Read => read(words),
+        Word::End => last(Step::End, words),
+        Word::Wrote => wrote(words),
+        Word::Shut => last(Step::Shut, words),
+        _ => Err(Wrong::unknown(first.text().as_bytes(), STEPS)),
     }
 }
 

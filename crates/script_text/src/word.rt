@@ -1,10 +1,12 @@
-ghost use Rattle.std.specs.Prelude.{◌≡◌};
+ghost use Rattle.std.specs.Prelude.{◌≡◌, false, IfSome, IfNone};
+ghost use Rattle.std.specs.Str.{bytes_eq};
 ghost use Rattle.script_text.specs.Words.{word_text};
+ghost use Rattle.script_text.specs.declared.word.Word.{Word};
 
 use std::fmt;
 
 /// The first word of a step or an event, with which a fault names it.
-#[derive(Clone, Copy, Debug, PartialEq, Eq)]
+#[derive(Clone, Copy)]
 pub enum Word {
     /// `accept`.
     Accept,
@@ -66,7 +68,53 @@ pub enum Word {
     Wrote,
 }
 
+/// All words.
+static WORDS: [Word; 29] = [
+    Word::Accept,
+    Word::Arrive,
+    Word::Call,
+    Word::Claim,
+    Word::Close,
+    Word::Connect,
+    Word::Deliver,
+    Word::Drop,
+    Word::End,
+    Word::Fin,
+    Word::Free,
+    Word::Idle,
+    Word::Open,
+    Word::Poll,
+    Word::Pop,
+    Word::Post,
+    Word::Put,
+    Word::Read,
+    Word::Release,
+    Word::Reset,
+    Word::Retire,
+    Word::Room,
+    Word::Shut,
+    Word::Spurious,
+    Word::Sweep,
+    Word::Take,
+    Word::Tick,
+    Word::Vanish,
+    Word::Wrote,
+];
+
 impl Word {
+    /// The word that a text is, if it is one.
+    pub(crate) fn named(text: &[u8]) -> Option<Word>
+        ensures some { IfSome result (λ word. text.now ≡ word_text word) }
+        ensures none { IfNone result ((word : Word) → bytes_eq text.now (word_text word) ≡ false) }
+    {
+        for word in &WORDS {
+            if text == word.text().as_bytes() {
+                return Some(*word);
+            }
+        }
+        None
+    }
+
     /// The word as written in a script.
     pub fn text(self) -> &'static str
         ensures { result.now ≡ word_text self }
@@ -102,6 +150,12 @@ impl Word {
             Word::Vanish => "vanish",
             Word::Wrote => "wrote",
         }
+    }
+}
+
+impl fmt::Debug for Word {
+    fn fmt<W: fmt::Write>(&self, f: &mut fmt::Formatter<W>) -> fmt::Result {
+        f.write_str(self.text())
     }
 }
 

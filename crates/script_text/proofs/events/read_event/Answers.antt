@@ -1,0 +1,25 @@
+use Rattle.std.proofs.Common.{◌≡◌, ap, sym, ◌∙◌, rules, None}
+use Rattle.std.specs.Prelude.{option_map}
+use Rattle.script_text.specs.Words.{word_text}
+use Rattle.script_text.specs.Events.{said_of, plain_event, event_of, event_of_words}
+use Rattle.script_text.proofs.FirstWords.{no_event, plain_event_of}
+use Rattle.script_text.proofs.events.read_event.Goals as goal
+
+pub returns-in_err-first : goal.returns-in_err-first
+returns-in_err-first c =
+    let none : event_of c.args.line.now ≡ None = ap event_of_words (sym c.new-words.ensures) ∙ no_event _ c.in_err-first.ensures in
+    search (rules, none)
+
+pub returns-in_ok-plain_event-in_default : goal.returns-in_ok-plain_event-in_default
+returns-in_ok-plain_event-in_default c =
+    ap event_of_words (sym c.new-words.ensures ∙ c.in_ok-first.ensures)
+    ∙ (plain_event_of _ c.first_word.new.words c.in_default.not-Arrive c.in_default.not-Poll
+    ∙ ap (option_map said_of) c.in_ok-plain_event-in_default.ensures)
+
+pub returns-in_err-plain_event-in_default : goal.returns-in_err-plain_event-in_default
+returns-in_err-plain_event-in_default c =
+    let none : event_of c.args.line.now ≡ None =
+    ap event_of_words (sym c.new-words.ensures ∙ c.in_ok-first.ensures)
+    ∙ (plain_event_of _ c.first_word.new.words c.in_default.not-Arrive c.in_default.not-Poll
+    ∙ ap (option_map said_of) c.in_err-plain_event-in_default.ensures) in
+    search (rules, none)
