@@ -1,3 +1,4 @@
+pub mod FirstLine
 pub mod Playing
 pub mod Keeping
 pub mod Telling

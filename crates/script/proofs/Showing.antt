@@ -51,6 +51,20 @@ no_script_shown text fault old is may = (no_script text fault is may, ([], (inl 
 pub none_shown : (text : List ℕ) (script : Script) (old : Option (List ℕ)) → parsed text ≡ Ok (said_by script) → ShowsEach text (Err (Refused NoMemory)) old old
 none_shown text script old is = (script_may text (said_by script) is, ([], (inl (refl, inr refl), Appends-nil old)))
 
+halted : (r : Result (Unit {0}) Halt) (fault : Fault) → IsErrAnd r (λ halt. halt ≡ Refused fault) → r ≡ Err (Refused fault)
+halted (Ok all) fault is = absurd is
+halted (Err halt) fault is = ap (λ (h : Halt). Err h) is
+
+pub no_script_halts : (text : List ℕ) (fault : Fault) (r : Result (Unit {0}) Halt) (old : Option (List ℕ)) → IsErrAnd r (λ halt. halt ≡ Refused fault)
+    → GivesBy said_by (parsed text) (Err fault) → (fault ≡ NoMemory → MayBeScript text) → ShowsEach text r old old
+no_script_halts text fault r old is gives may =
+    subst (λ (q : Result (Unit {0}) Halt). ShowsEach text q old old) (sym (halted r fault is)) (no_script_shown text fault old gives may)
+
+pub none_halts : (text : List ℕ) (script : Script) (r : Result (Unit {0}) Halt) (old : Option (List ℕ)) → IsErrAnd r (λ halt. halt ≡ Refused NoMemory)
+    → parsed text ≡ Ok (said_by script) → ShowsEach text r old old
+none_halts text script r old is gives =
+    subst (λ (q : Result (Unit {0}) Halt). ShowsEach text q old old) (sym (halted r NoMemory is)) (none_shown text script old gives)
+
 -- a fault of the steps is one of the script
 wrapped : {X : Type 0} (wrap : X → Reached) (fault : Fault) (r : Result X Fault) → Gives r (Err fault) → Gives (and_then (λ (x : X). Ok (wrap x)) r) (Err fault)
 wrapped wrap TooLong r is = rw is refl
@@ -128,10 +142,6 @@ one_more_shown stepped told lines x steps i y z l left before text old mid new c
     sym (is ∙ rw (same_left, told_before, told_now) refl) in
     subst (λ (t : List ℕ). Appends old new t) (sym (next_shown stepped told lines x steps i text text_is))
     (Appends-trans old mid new (shown_to stepped told lines x steps i) text front wrote)
-
-halted : (r : Result (Unit {0}) Halt) (fault : Fault) → IsErrAnd r (λ halt. halt ≡ Refused fault) → r ≡ Err (Refused fault)
-halted (Ok all) fault is = absurd is
-halted (Err halt) fault is = ap (λ (h : Halt). Err h) is
 
 -- a step is refused behind those that were shown
 pub stops_shown : {X L : Type 0} (stepped : X → L → Result X Fault) (told : X → List ℕ) (lines : List NumberedLine) (x : X) (steps : List L)

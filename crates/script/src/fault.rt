@@ -6,7 +6,7 @@ use std::error::Error;
 use std::fmt;
 
 /// Why a script has no report. Its text is the line that a run writes in place of the report.
-#[derive(Clone, Copy, Debug, PartialEq, Eq)]
+#[derive(Clone, Copy, Debug)]
 pub enum Fault {
     /// The text has more than 1,048,576 bytes.
     TooLong,

@@ -14,7 +14,7 @@ use std::io::{Read, Write};
 use thiserror::Error;
 
 /// What a run wrote.
-#[derive(Clone, Copy, Debug, PartialEq, Eq)]
+#[derive(Clone, Copy)]
 pub enum Outcome {
     /// The report of the state after the whole script.
     Report,
@@ -23,7 +23,7 @@ pub enum Outcome {
 }
 
 /// Why a run could not write its outcome.
-#[derive(Clone, Copy, Debug, PartialEq, Eq, Error)]
+#[derive(Clone, Copy, Debug, Error)]
 pub enum ScriptFault {
     /// The script could not be read. Nothing was written.
     #[error("input: cannot be read")]

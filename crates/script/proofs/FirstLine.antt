@@ -1,0 +1,113 @@
+-- What a text is by its first line, and the lines behind it one by one.
+use Rattle.std.proofs.Common.{◌≡◌, ℕ, ◌≤◌, List, [], ◌∷◌, ◌++◌, length, Some, None, Result, Ok, Err, refl, sym, ap, ◌∙◌, subst}
+use Rattle.std.specs.Result.{IsErrAnd}
+use Rattle.std.proofs.lemmas.Bool.{le-ltb}
+use Rattle.world.specs.declared.limits.Limits.{Limits}
+use Rattle.world.specs.declared.event.Event.{Event}
+use Rattle.script.specs.declared.fault.Fault.{Fault}
+use Rattle.script.specs.declared.fault.Fault.TheVariants.{TooLong, NoWorld, Malformed, NotAllowed, NoMemory}
+use Rattle.script_text.specs.declared.header.Header.{Header}
+use Rattle.script_text.specs.declared.header.Header.TheVariants as header
+use Rattle.script.specs.declared.script.Script.{Script}
+use Rattle.script.specs.Plans.{FlowPlan, WorldPlan}
+use Rattle.script_text.specs.declared.event.NumberedEvent.{NumberedEvent}
+use Rattle.script_text.specs.declared.step.NumberedStep.{NumberedStep}
+use Rattle.script_text.specs.Texts.{NumberedLine, lines_of, telling_lines}
+use Rattle.script_text.specs.Headers.{header_of}
+use Rattle.script_text.specs.Events.{said_of, event_of}
+use Rattle.script.specs.Faults.{GivesBy, and_then}
+use Rattle.script.specs.Scripts.{Plan, FlowOf, WorldOf, SaidLine, MayBeScript, most_bytes, or_malformed, headed, parsed, plan_of, said_by, said_line, said_lines, steps_of, events_of}
+
+-- a text that is not too long is what its first line says
+pub headed_is : (text : List ℕ) (ls : List NumberedLine) (first : NumberedLine) (rest : List NumberedLine)
+    → length text ≤ most_bytes → ls ≡ telling_lines 1 (lines_of text) → ls ≡ first ∷ rest
+    → parsed text ≡ and_then (λ h. headed h rest) (or_malformed first.number (header_of first.text))
+headed_is text ls first rest short lines is =
+    rw (le-ltb most_bytes (length text) short) (ap plan_of (sym lines ∙ is))
+
+pub bad_first : (text : List ℕ) (ls : List NumberedLine) (first : NumberedLine) (rest : List NumberedLine)
+    → length text ≤ most_bytes → ls ≡ telling_lines 1 (lines_of text) → ls ≡ first ∷ rest → header_of first.text ≡ None
+    → parsed text ≡ Err (Malformed first.number)
+bad_first text ls first rest short lines is none =
+    headed_is text ls first rest short lines is ∙ ap (λ o. and_then (λ h. headed h rest) (or_malformed first.number o)) none
+
+pub flow_first : (text : List ℕ) (ls : List NumberedLine) (first : NumberedLine) (rest : List NumberedLine) (ring : ℕ)
+    → length text ≤ most_bytes → ls ≡ telling_lines 1 (lines_of text) → ls ≡ first ∷ rest → header_of first.text ≡ Some (header.Flow ring)
+    → parsed text ≡ and_then (λ steps. Ok (FlowOf (record { ring = ring; steps = steps }))) (steps_of rest)
+flow_first text ls first rest ring short lines is flow =
+    headed_is text ls first rest short lines is ∙ ap (λ o. and_then (λ h. headed h rest) (or_malformed first.number o)) flow
+
+pub world_first : (text : List ℕ) (ls : List NumberedLine) (first : NumberedLine) (rest : List NumberedLine) (limits : Limits)
+    → length text ≤ most_bytes → ls ≡ telling_lines 1 (lines_of text) → ls ≡ first ∷ rest → header_of first.text ≡ Some (header.World limits)
+    → parsed text ≡ and_then (λ events. Ok (WorldOf limits events)) (events_of rest)
+world_first text ls first rest limits short lines is world =
+    headed_is text ls first rest short lines is ∙ ap (λ o. and_then (λ h. headed h rest) (or_malformed first.number o)) world
+
+-- the steps behind the header were read
+pub flow_read : (text : List ℕ) (ls : List NumberedLine) (first : NumberedLine) (rest : List NumberedLine) (ring given : ℕ) (steps : List NumberedStep) (plan : FlowPlan)
+    → length text ≤ most_bytes → ls ≡ telling_lines 1 (lines_of text) → ls ≡ first ∷ rest → header_of first.text ≡ Some (header.Flow ring)
+    → steps_of rest ≡ Ok steps → plan ≡ record { ring = given; steps = steps } → given ≡ ring → parsed text ≡ Ok (FlowOf plan)
+flow_read text ls first rest ring given steps plan short lines is flow read planned same =
+    flow_first text ls first rest ring short lines is flow ∙ rw (read, planned, same) refl
+
+pub world_read : (text : List ℕ) (ls : List NumberedLine) (first : NumberedLine) (rest : List NumberedLine) (limits given : Limits) (events : List NumberedEvent) (plan : WorldPlan)
+    → length text ≤ most_bytes → ls ≡ telling_lines 1 (lines_of text) → ls ≡ first ∷ rest → header_of first.text ≡ Some (header.World limits)
+    → events_of rest ≡ Ok (said_lines events) → plan ≡ record { limits = given; events = events } → given ≡ limits
+    → parsed text ≡ Ok (WorldOf plan.limits (said_lines plan.events))
+world_read text ls first rest limits given events plan short lines is world read planned same =
+    world_first text ls first rest limits short lines is world ∙ rw (read, planned, same) refl
+
+-- a fault of what is behind the header is one of the text
+passes_on : {X Y : Type 0} (view : Y → X) (wrap : X → Plan) (r : Result X Fault) (fault : Fault) → GivesBy view r (Err fault)
+    → GivesBy said_by (and_then (λ (x : X). Ok (wrap x)) r) (Err fault)
+passes_on view wrap r TooLong is = rw is refl
+passes_on view wrap r NoWorld is = rw is refl
+passes_on view wrap r (Malformed line) is = rw is refl
+passes_on view wrap r (NotAllowed line word) is = rw is refl
+passes_on view wrap r NoMemory is = tt
+
+err_is : {X : Type 0} (r : Result X Fault) (fault : Fault) → IsErrAnd r (λ f. f ≡ fault) → r ≡ Err fault
+err_is (Ok x) fault is = absurd is
+err_is (Err f) fault is = ap (λ (e : Fault). Err e) is
+
+pub flow_fails : (text : List ℕ) (ls : List NumberedLine) (first : NumberedLine) (rest : List NumberedLine) (ring : ℕ) {Y : Type 0} (view : Y → List NumberedStep)
+    (fault : Fault) (r : Result Script Fault)
+    → length text ≤ most_bytes → ls ≡ telling_lines 1 (lines_of text) → ls ≡ first ∷ rest → header_of first.text ≡ Some (header.Flow ring)
+    → GivesBy view (steps_of rest) (Err fault) → IsErrAnd r (λ f. f ≡ fault) → GivesBy said_by (parsed text) r
+flow_fails text ls first rest ring view fault r short lines is flow fails err =
+    subst (λ (q : Result Script Fault). GivesBy said_by (parsed text) q) (sym (err_is r fault err))
+    (subst (λ (p : Result Plan Fault). GivesBy said_by p (Err fault)) (sym (flow_first text ls first rest ring short lines is flow))
+    (passes_on view (λ (steps : List NumberedStep). FlowOf (record { ring = ring; steps = steps })) (steps_of rest) fault fails))
+
+pub world_fails : (text : List ℕ) (ls : List NumberedLine) (first : NumberedLine) (rest : List NumberedLine) (limits : Limits) {Y : Type 0} (view : Y → List SaidLine)
+    (fault : Fault) (r : Result Script Fault)
+    → length text ≤ most_bytes → ls ≡ telling_lines 1 (lines_of text) → ls ≡ first ∷ rest → header_of first.text ≡ Some (header.World limits)
+    → GivesBy view (events_of rest) (Err fault) → IsErrAnd r (λ f. f ≡ fault) → GivesBy said_by (parsed text) r
+world_fails text ls first rest limits view fault r short lines is world fails err =
+    subst (λ (q : Result Script Fault). GivesBy said_by (parsed text) q) (sym (err_is r fault err))
+    (subst (λ (p : Result Plan Fault). GivesBy said_by p (Err fault)) (sym (world_first text ls first rest limits short lines is world))
+    (passes_on view (λ (events : List SaidLine). WorldOf limits events) (events_of rest) fault fails))
+
+-- a text whose header is good may be a script
+pub good_first : (text : List ℕ) (ls : List NumberedLine) (first : NumberedLine) (rest : List NumberedLine) (h : Header)
+    → length text ≤ most_bytes → ls ≡ telling_lines 1 (lines_of text) → ls ≡ first ∷ rest → header_of first.text ≡ Some h
+    → MayBeScript text
+good_first text ls first rest h short lines is good = (short, rw (sym lines ∙ is, good) refl)
+
+-- one more event was read
+one_event : (items : List NumberedEvent) (x : NumberedEvent) (rest : List SaidLine) → said_lines items ++ (said_line x ∷ rest) ≡ said_lines (items ++ (x ∷ [])) ++ rest
+one_event [] x rest = refl
+one_event (item ∷ items) x rest = ap (λ (l : List SaidLine). said_line item ∷ l) (one_event items x rest)
+
+then_event : (items : List NumberedEvent) (x : NumberedEvent) (r : Result (List SaidLine) Fault)
+    → and_then (λ rest. Ok (said_lines items ++ rest)) (and_then (λ rest. Ok (said_line x ∷ rest)) r)
+    ≡ and_then (λ rest. Ok (said_lines (items ++ (x ∷ [])) ++ rest)) r
+then_event items x (Ok rest) = ap (λ (l : List SaidLine). Ok l) (one_event items x rest)
+then_event items x (Err fault) = refl
+
+pub more_events : (all : Result (List SaidLine) Fault) (items more : List NumberedEvent) (ls : List NumberedLine) (l : NumberedLine) (rest : List NumberedLine) (e : Event)
+    → all ≡ and_then (λ left. Ok (said_lines items ++ left)) (events_of ls) → ls ≡ l ∷ rest → event_of l.text ≡ Some (said_of e)
+    → more ≡ items ++ ((record { line = l.number; event = e }) ∷ [])
+    → all ≡ and_then (λ left. Ok (said_lines more ++ left)) (events_of rest)
+more_events all items more ls l rest e so_far is read added =
+    so_far ∙ rw (is, read, added) (then_event items (record { line = l.number; event = e }) (events_of rest))
