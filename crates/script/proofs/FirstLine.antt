@@ -11,9 +11,11 @@ use Rattle.script_text.specs.declared.header.Header.TheVariants as header
 use Rattle.script.specs.declared.script.Script.{Script}
 use Rattle.script.specs.Plans.{FlowPlan, WorldPlan}
 use Rattle.script_text.specs.declared.event.NumberedEvent.{NumberedEvent}
+use Rattle.script_text.specs.declared.step.Step.{Step}
 use Rattle.script_text.specs.declared.step.NumberedStep.{NumberedStep}
 use Rattle.script_text.specs.Texts.{NumberedLine, lines_of, telling_lines}
 use Rattle.script_text.specs.Headers.{header_of}
+use Rattle.script_text.specs.Steps.{step_of}
 use Rattle.script_text.specs.Events.{said_of, event_of}
 use Rattle.script.specs.Faults.{GivesBy, and_then}
 use Rattle.script.specs.Scripts.{Plan, FlowOf, WorldOf, SaidLine, MayBeScript, most_bytes, or_malformed, headed, parsed, plan_of, said_by, said_line, said_lines, steps_of, events_of}
@@ -111,3 +113,20 @@ pub more_events : (all : Result (List SaidLine) Fault) (items more : List Number
     → all ≡ and_then (λ left. Ok (said_lines more ++ left)) (events_of rest)
 more_events all items more ls l rest e so_far is read added =
     so_far ∙ rw (is, read, added) (then_event items (record { line = l.number; event = e }) (events_of rest))
+
+-- one more step was read
+one_step : (items : List NumberedStep) (x : NumberedStep) (rest : List NumberedStep) → items ++ (x ∷ rest) ≡ (items ++ (x ∷ [])) ++ rest
+one_step [] x rest = refl
+one_step (item ∷ items) x rest = ap (λ (l : List NumberedStep). item ∷ l) (one_step items x rest)
+
+then_step : (items : List NumberedStep) (x : NumberedStep) (r : Result (List NumberedStep) Fault)
+    → and_then (λ rest. Ok (items ++ rest)) (and_then (λ rest. Ok (x ∷ rest)) r) ≡ and_then (λ rest. Ok ((items ++ (x ∷ [])) ++ rest)) r
+then_step items x (Ok rest) = ap (λ (l : List NumberedStep). Ok l) (one_step items x rest)
+then_step items x (Err fault) = refl
+
+pub more_steps : (all : Result (List NumberedStep) Fault) (items more : List NumberedStep) (ls : List NumberedLine) (l : NumberedLine) (rest : List NumberedLine) (step : Step)
+    → all ≡ and_then (λ left. Ok (items ++ left)) (steps_of ls) → ls ≡ l ∷ rest → step_of l.text ≡ Some step
+    → more ≡ items ++ ((record { line = l.number; step = step }) ∷ [])
+    → all ≡ and_then (λ left. Ok (more ++ left)) (steps_of rest)
+more_steps all items more ls l rest step so_far is read added =
+    so_far ∙ rw (is, read, added) (then_step items (record { line = l.number; step = step }) (steps_of rest))

@@ -204,3 +204,29 @@ refuses_each (Some input) text front r old new same cut told is =
 pub ran_out_each : (a : Option (List ℕ)) (old new : Option (List ℕ)) → Appends old new (fault_line NoMemory) → IfSome a (λ input. WritesEachFault input old new)
 ran_out_each None old new wrote = tt
 ran_out_each (Some input) old new wrote = inr wrote
+
+-- every step was made and shown
+pub all_shown : {X L : Type 0} (stepped : X → L → Result X Fault) (told : X → List ℕ) (lines : List NumberedLine) (x : X) (steps : List L)
+    (i : ℕ) (y : X) (old new : Option (List ℕ))
+    → length steps ≤ i → i ≤ length steps → played stepped x (take i steps) ≡ Ok y → Appends old new (shown_to stepped told lines x steps i)
+    → Shows stepped told lines x steps (Ok tt) old new
+all_shown {X} {L} stepped told lines x steps i y old new past within came wrote =
+    let whole : i ≡ length steps = omega (arith, past, within) in
+    (shown_to stepped told lines x steps (length steps),
+    (((y, subst (λ (ls : List L). played stepped x ls ≡ Ok y) (take_all i steps past) came), refl),
+    subst (λ (n : ℕ). Appends old new (shown_to stepped told lines x steps n)) whole wrote))
+
+-- the header is shown before the first step
+pub first_shown : {X L : Type 0} (stepped : X → L → Result X Fault) (told : X → List ℕ) (lines : List NumberedLine) (x : X) (steps : List L)
+    (left : List NumberedLine) (before text : List ℕ) (old new : Option (List ℕ))
+    → left ≡ lines → before ≡ [] → text ≡ shown (first_line left) before (told x) → Appends old new text
+    → Appends old new (shown_to stepped told lines x steps 0)
+first_shown stepped told lines x steps left before text old new same none is wrote =
+    subst (λ (t : List ℕ). Appends old new t) (is ∙ rw (same, none) refl) wrote
+
+-- memory ran out before anything was shown
+pub nothing_shown : {X L : Type 0} (stepped : X → L → Result X Fault) (told : X → List ℕ) (lines : List NumberedLine) (x : X) (steps : List L)
+    (r : Result (Unit {0}) Halt) (old : Option (List ℕ))
+    → IsErrAnd r (λ halt. halt ≡ Refused NoMemory) → Shows stepped told lines x steps r old old
+nothing_shown stepped told lines x steps r old is =
+    subst (λ (q : Result (Unit {0}) Halt). Shows stepped told lines x steps q old old) (sym (halted r NoMemory is)) ([], (inl (refl, refl), Appends-nil old))

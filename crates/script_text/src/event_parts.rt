@@ -1,5 +1,5 @@
 // The parts of a line for an event that several words say, or one of many words.
-ghost use Rattle.std.specs.Prelude.{◌≡◌, option_map};
+ghost use Rattle.std.specs.Prelude.{◌≡◌, ◌∷◌, [], option_map};
 ghost use Rattle.script_text.specs.Texts.{number_of};
 ghost use Rattle.script_text.specs.Reading.{word_then, if_last, full_of, Reads, ReadsBy};
 ghost use Rattle.script_text.specs.Events.{generation_of, end_of, name_of, names_of, reply_of, reported_of};
@@ -8,7 +8,7 @@ ghost use Rattle.token.specs.Kinds.{kind_named};
 use crate::limits::MAX_SLOTS;
 use crate::lines::Pieces;
 use crate::readers::{count, is_full, kind, last, said, side, word};
-use crate::values::{number, number_below};
+use crate::values::{is, number, number_below};
 use crate::wrong::{NotRead, Wrong};
 use kernel_model::{MAX_POLLED, Reply};
 use std::alloc::Global;
@@ -16,7 +16,7 @@ use token::{MAX_GENERATION, Name, Side, Token};
 use world::Reported;
 
 /// The generation in a name, 1 to 2^47 - 1.
-fn generation(word: &[u8]) -> Option<u64>
+fn generation_said(word: &[u8]) -> Option<u64>
     ensures { result ≡ generation_of word.now }
 {
     let value = number(word)? as u64;
@@ -31,14 +31,34 @@ fn generation(word: &[u8]) -> Option<u64>
 fn end(mut parts: Pieces) -> Option<Name>
     ensures { result ≡ end_of parts.entry }
 {
-    let (slot_part, generation_part) = (parts.next()?, parts.next()?);
-    let (side_part, more) = (parts.next()?, parts.next());
-    if more.is_some() {
+    let Some(slot) = parts.next() else {
         return None;
+    };
+    let Some(generation) = parts.next() else {
+        return None;
+    };
+    let Some(side) = parts.next() else {
+        return None;
+    };
+    match parts.next() {
+        Some(_) => None,
+        None => end_named(slot, generation, side),
     }
-    let slot = number_below(MAX_SLOTS, slot_part)?;
-    let generation = generation(generation_part)?;
-    let side = Side::named(side_part)?;
+}
+
+/// The name of an end whose slot, generation and side these are.
+fn end_named(slot: &[u8], generation: &[u8], side: &[u8]) -> Option<Name>
+    ensures { result ≡ end_of (slot.now ∷ generation.now ∷ side.now ∷ []) }
+{
+    let Some(slot) = number_below(MAX_SLOTS, slot) else {
+        return None;
+    };
+    let Some(generation) = generation_said(generation) else {
+        return None;
+    };
+    let Some(side) = Side::named(side) else {
+        return None;
+    };
     match Token::pack(slot, side, generation) {
         Ok(token) => Some(Name::End(token)),
         Err(_) => None,
@@ -49,9 +69,9 @@ fn end(mut parts: Pieces) -> Option<Name>
 fn name(word: &[u8]) -> Option<Name>
     ensures { result ≡ name_of word.now }
 {
-    if word == b"listener".as_slice() {
+    if is(word, "listener") {
         Some(Name::Listener)
-    } else if word == b"waker".as_slice() {
+    } else if is(word, "waker") {
         Some(Name::Waker)
     } else {
         end(Pieces::new(word, b'.'))
@@ -84,9 +104,9 @@ pub(crate) fn reported(mut words: Pieces<'_>) -> Result<Reported, Wrong<'_>>
 {
     let wanted = "listener, waker or the number of a slot, 0 to 63, is wanted";
     let who = word(&mut words, wanted)?;
-    if who == b"listener".as_slice() {
+    if is(who, "listener") {
         last(Reported::Listener, words)
-    } else if who == b"waker".as_slice() {
+    } else if is(who, "waker") {
         last(Reported::Waker, words)
     } else {
         let slot = said(number_below(MAX_SLOTS, who), who, wanted)?;
@@ -101,21 +121,21 @@ pub(crate) fn reply(mut words: Pieces<'_>) -> Result<Reply, Wrong<'_>>
 {
     let wanted = "one of blocked, end, failed, interrupted, joined, read, shut and wrote is wanted";
     let name = word(&mut words, wanted)?;
-    if name == b"read".as_slice() {
+    if is(name, "read") {
         read(words)
-    } else if name == b"end".as_slice() {
+    } else if is(name, "end") {
         last(Reply::End, words)
-    } else if name == b"wrote".as_slice() {
+    } else if is(name, "wrote") {
         wrote(words)
-    } else if name == b"joined".as_slice() {
+    } else if is(name, "joined") {
         last(Reply::Joined, words)
-    } else if name == b"shut".as_slice() {
+    } else if is(name, "shut") {
         last(Reply::Shut, words)
-    } else if name == b"blocked".as_slice() {
+    } else if is(name, "blocked") {
         last(Reply::Blocked, words)
-    } else if name == b"interrupted".as_slice() {
+    } else if is(name, "interrupted") {
         last(Reply::Interrupted, words)
-    } else if name == b"failed".as_slice() {
+    } else if is(name, "failed") {
         failed(words)
     } else {
         Err(Wrong::malformed(name, wanted))

@@ -10,7 +10,7 @@ use crate::event_parts::{names, reply, reported};
 use crate::limits::MAX_WORKERS;
 use crate::lines::Pieces;
 use crate::readers::{accepting, count, first_word, last, last_bytes, said, side, slot, word, worker};
-use crate::values::number_below;
+use crate::values::{is, number_below};
 use crate::wrong::{NotRead, Wrong};
 use std::alloc::Global;
 use world::{Act, Change, Event, Listening, Polling};
@@ -112,7 +112,7 @@ fn put(mut words: Pieces<'_>) -> Result<Event, Wrong<'_>>
 {
     let wanted = "poller or the number of a worker, 0 to 15, is wanted";
     let who = word(&mut words, wanted)?;
-    if who == b"poller".as_slice() {
+    if is(who, "poller") {
         last(Event::Poll(Polling::Put), words)
     } else {
         let worker = said(number_below(MAX_WORKERS, who), who, wanted)?;

@@ -8,7 +8,7 @@ ghost use Rattle.script_text.specs.Texts.{bytes_of};
 use crate::limits::{MAX_BUDGET, MAX_IDLE, MAX_SLOTS, MAX_WORKERS};
 use crate::lines::Pieces;
 use crate::readers::{end_or, last, said, word};
-use crate::values::{is_hex_text, value_after};
+use crate::values::{is, is_hex_text, value_after};
 use crate::wrong::Wrong;
 use flow::Flow;
 use token::MAX_GENERATION;
@@ -42,9 +42,9 @@ pub fn read_header(line: &[u8]) -> Result<Header, Wrong<'_>>
     let wanted = "a script begins with flow or world";
     let mut words = Pieces::new(line, b' ');
     let name = word(&mut words, wanted)?;
-    if name == b"flow".as_slice() {
+    if is(name, "flow") {
         Ok(Header::Flow(lone_ring(words)?))
-    } else if name == b"world".as_slice() {
+    } else if is(name, "world") {
         match limits(words) {
             Ok(limits) => Ok(Header::World(limits)),
             Err(wrong) => Err(wrong),

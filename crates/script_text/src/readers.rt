@@ -11,7 +11,7 @@ ghost use Rattle.script_text.specs.Events.{slot_of, worker_of, accepting_of};
 use crate::{Bytes, Word};
 use crate::limits::{MAX_SLOTS, MAX_WORKERS};
 use crate::lines::Pieces;
-use crate::values::{bytes, number, number_below};
+use crate::values::{bytes, is, number, number_below};
 use crate::wrong::{NotRead, Wrong};
 use kernel_model::Accepting;
 use std::alloc::Global;
@@ -135,13 +135,13 @@ pub(crate) fn accepting<'a>(words: &mut Pieces<'a>) -> Result<Accepting, Wrong<'
 fn accepting_named(word: &[u8]) -> Option<Accepting>
     ensures { result ≡ accepting_of word.now }
 {
-    if word == b"ok".as_slice() {
+    if is(word, "ok") {
         Some(Accepting::Accepted)
-    } else if word == b"blocked".as_slice() {
+    } else if is(word, "blocked") {
         Some(Accepting::Blocked)
-    } else if word == b"again".as_slice() {
+    } else if is(word, "again") {
         Some(Accepting::Again)
-    } else if word == b"starved".as_slice() {
+    } else if is(word, "starved") {
         Some(Accepting::Starved)
     } else {
         None
@@ -168,7 +168,7 @@ pub(crate) fn is_full(mut words: Pieces<'_>) -> Result<bool, Wrong<'_>>
     let Some(word) = words.next() else {
         return Ok(false);
     };
-    if word == b"full".as_slice() {
+    if is(word, "full") {
         last(true, words)
     } else {
         Err(Wrong::malformed(word, "full, or the end of the line, is wanted"))

@@ -1,10 +1,18 @@
 ghost use Rattle.std.specs.Prelude.{◌≡◌, IfOk};
+ghost use Rattle.std.specs.Str.{bytes_eq};
 ghost use Rattle.std.specs.List.{list_all};
 ghost use Rattle.script_text.specs.Texts.{number_of, number_below, value_after, bytes_of, is_digit, is_lower_hex, is_hex_text, is_plain};
 
 use crate::Bytes;
 use crate::limits::MAX_DIGITS;
 use std::alloc::{AllocError, Global};
+
+/// Whether a word is this text.
+pub(crate) fn is(word: &[u8], text: &str) -> bool
+    ensures { result ≡ bytes_eq word.now text.now }
+{
+    word == text.as_bytes()
+}
 
 /// The number that a text stands for in decimal digits without leading zeros, if it is below 2^64.
 pub(crate) fn number(text: &[u8]) -> Option<usize>

@@ -1,0 +1,6 @@
+use Rattle.script.proofs.FirstLine.{more_steps}
+use Rattle.script.proofs.parsing.steps.Goals as goal
+
+pub loop-line-preserved : goal.loop-line-preserved
+loop-line-preserved c =
+    more_steps _ _ _ _ _ _ _ c.loop-line.invariant c.in-Some.ensures c.in-Ok.ensures c.in_ok-push.ensures.items
