@@ -211,10 +211,13 @@ pub all_shown : {X L : Type 0} (stepped : X → L → Result X Fault) (told : X 
     → length steps ≤ i → i ≤ length steps → played stepped x (take i steps) ≡ Ok y → Appends old new (shown_to stepped told lines x steps i)
     → Shows stepped told lines x steps (Ok tt) old new
 all_shown {X} {L} stepped told lines x steps i y old new past within came wrote =
-    let whole : i ≡ length steps = omega (arith, past, within) in
-    (shown_to stepped told lines x steps (length steps),
-    (((y, subst (λ (ls : List L). played stepped x ls ≡ Ok y) (take_all i steps past) came), refl),
-    subst (λ (n : ℕ). Appends old new (shown_to stepped told lines x steps n)) whole wrote))
+    let whole : i ≡ length steps = omega (arith, past, within) in (
+      shown_to stepped told lines x steps (length steps),
+      (
+        ((y, subst (λ (ls : List L). played stepped x ls ≡ Ok y) (take_all i steps past) came), refl),
+        subst (λ (n : ℕ). Appends old new (shown_to stepped told lines x steps n)) whole wrote,
+      ),
+    )
 
 -- the header is shown before the first step
 pub first_shown : {X L : Type 0} (stepped : X → L → Result X Fault) (told : X → List ℕ) (lines : List NumberedLine) (x : X) (steps : List L)

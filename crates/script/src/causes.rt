@@ -3,11 +3,12 @@
 
 use crate::limits::{MAX_BYTES, MAX_SHOWN};
 use crate::reasons::step_reason;
-use crate::{Fault, FlowScript, Script, WorldScript, parse};
+use crate::{Fault, FlowScript, Script, Transfer, WorldScript, parse};
 use script_text::{
     Header, Line, Lines, NotRead, Pieces, Wrong, read_event, read_header, read_step,
 };
 use std::alloc::{AllocError, Global};
+use world::World;
 use world_report::event_reason;
 
 /// The cause of a fault, for a person, on one line: which word is malformed and what is expected there, or why the step
@@ -29,18 +30,31 @@ pub fn cause(alloc: Global, text: &[u8], fault: Fault) -> Option<String> {
 /// Which word of a line is malformed, behind the first one unless that is the wrong one, and what is expected there.
 fn malformed(alloc: Global, text: &[u8], number: u64) -> Option<String> {
     let (line, wrong) = wrong_line(alloc, text, number)?;
-    let mut cause = format!(in alloc; "line {number}: ").ok()?;
-    if !wrong.is_first {
-        tell_name(&mut cause, Pieces::new(line, b' ').next()?).ok()?;
+    let mut cause = String::new(alloc);
+    match tell_wrong(&mut cause, number, line, &wrong) {
+        Ok(()) => Some(cause),
+        Err(_) => None,
     }
-    tell_word(&mut cause, wrong.word).ok()?;
-    cause.push_str(wrong.wanted).ok()?;
-    Some(cause)
+}
+
+/// Appends the number of a line, its first word unless that is the wrong one, the wrong word, and what is expected there.
+fn tell_wrong(
+    cause: &mut String,
+    number: u64,
+    line: &[u8],
+    wrong: &Wrong<'_>,
+) -> Result<(), AllocError> {
+    write!(cause, "line {number}: ")?;
+    if !wrong.is_first {
+        tell_name(cause, Pieces::new(line, b' ').next())?;
+    }
+    tell_word(cause, wrong.word)?;
+    cause.push_str(wrong.wanted)
 }
 
 /// Appends the first word of a line, where it is one that a line begins with.
-fn tell_name(cause: &mut String, name: &[u8]) -> Result<(), AllocError> {
-    for byte in name {
+fn tell_name(cause: &mut String, name: Option<&[u8]>) -> Result<(), AllocError> {
+    for byte in name.unwrap_or(b"") {
         show_byte(cause, *byte)?;
     }
     cause.push_str(": ")
@@ -84,19 +98,26 @@ fn wrong_line(alloc: Global, text: &[u8], number: u64) -> Option<(&[u8], Wrong<'
     }
     let mut lines = Lines::new(text);
     let first = lines.next()?;
-    let header = match read_header(first.text) {
-        Ok(header) => header,
-        Err(wrong) if first.number == number => return Some((first.text, wrong)),
-        Err(_) => return None,
-    };
-    let line = numbered(lines, number)?.text;
+    match read_header(first.text) {
+        Ok(header) => wrong_behind(alloc, &header, numbered(lines, number)?.text),
+        Err(wrong) if first.number == number => Some((first.text, wrong)),
+        Err(_) => None,
+    }
+}
+
+/// A line behind the header, and what is wrong with it.
+fn wrong_behind<'a>(
+    alloc: Global,
+    header: &Header,
+    line: &'a [u8],
+) -> Option<(&'a [u8], Wrong<'a>)> {
     let not_read = match header {
-        Header::Flow(_) => read_step(alloc, line).err()?,
-        Header::World(_) => read_event(alloc, line).err()?,
+        Header::Flow(_) => read_step(alloc, line).err(),
+        Header::World(_) => read_event(alloc, line).err(),
     };
     match not_read {
-        NotRead::Malformed(wrong) => Some((line, wrong)),
-        NotRead::NoMemory => None,
+        Some(NotRead::Malformed(wrong)) => Some((line, wrong)),
+        Some(NotRead::NoMemory) | None => None,
     }
 }
 
@@ -121,12 +142,21 @@ fn not_allowed(alloc: Global, text: &[u8], number: u64) -> Option<&'static str> 
 
 fn not_in_flow(alloc: Global, script: &FlowScript, number: u64) -> Option<&'static str> {
     let mut transfer = script.open(alloc).ok()?;
-    let Err(Fault::NotAllowed(..)) = script.play(&mut transfer) else {
+    refused_in_flow(script, &mut transfer, number)
+}
+
+/// Why the step of a line is not allowed, if that is where the steps end.
+fn refused_in_flow(
+    script: &FlowScript,
+    transfer: &mut Transfer,
+    number: u64,
+) -> Option<&'static str> {
+    let Err(Fault::NotAllowed(..)) = script.play(transfer) else {
         return None;
     };
     for numbered in script.steps() {
         if numbered.line == number {
-            return Some(step_reason(&transfer, &numbered.step));
+            return Some(step_reason(transfer, &numbered.step));
         }
     }
     None
@@ -134,12 +164,17 @@ fn not_in_flow(alloc: Global, script: &FlowScript, number: u64) -> Option<&'stat
 
 fn not_in_world(alloc: Global, script: &WorldScript, number: u64) -> Option<&'static str> {
     let mut world = script.open(alloc).ok()?;
-    let Err(Fault::NotAllowed(..)) = script.play(&mut world) else {
+    refused_in_world(script, &mut world, number)
+}
+
+/// Why the event of a line is not allowed, if that is where the events end.
+fn refused_in_world(script: &WorldScript, world: &mut World, number: u64) -> Option<&'static str> {
+    let Err(Fault::NotAllowed(..)) = script.play(world) else {
         return None;
     };
     for numbered in script.events() {
         if numbered.line == number {
-            return Some(event_reason(&world, &numbered.event));
+            return Some(event_reason(world, &numbered.event));
         }
     }
     None

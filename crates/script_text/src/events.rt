@@ -9,7 +9,9 @@ use crate::Word;
 use crate::event_parts::{names, reply, reported};
 use crate::limits::MAX_WORKERS;
 use crate::lines::Pieces;
-use crate::readers::{accepting, count, first_word, last, last_bytes, said, side, slot, word, worker};
+use crate::readers::{
+    accepting, count, first_word, last, last_bytes, said, side, slot, word, worker,
+};
 use crate::values::{is, number_below};
 use crate::wrong::{NotRead, Wrong};
 use std::alloc::Global;

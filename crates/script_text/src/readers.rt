@@ -8,11 +8,11 @@ ghost use Rattle.script_text.specs.Texts.{number_of, bytes_of};
 ghost use Rattle.script_text.specs.Reading.{first_as, word_then, line_end, if_last, full_of, Reads, ReadsBy, Takes};
 ghost use Rattle.script_text.specs.Events.{slot_of, worker_of, accepting_of};
 
-use crate::{Bytes, Word};
 use crate::limits::{MAX_SLOTS, MAX_WORKERS};
 use crate::lines::Pieces;
 use crate::values::{bytes, is, number, number_below};
 use crate::wrong::{NotRead, Wrong};
+use crate::{Bytes, Word};
 use kernel_model::Accepting;
 use std::alloc::Global;
 use token::{Kind, Side};
@@ -28,7 +28,10 @@ pub(crate) fn word<'a>(words: &mut Pieces<'a>, wanted: &'static str) -> Result<&
 }
 
 /// The first word of a line, if a line begins with such a word.
-pub(crate) fn first_word<'a>(words: &mut Pieces<'a>, wanted: &'static str) -> Result<Word, Wrong<'a>>
+pub(crate) fn first_word<'a>(
+    words: &mut Pieces<'a>,
+    wanted: &'static str,
+) -> Result<Word, Wrong<'a>>
     ensures { MatchResult result (λ first. words.old ≡ word_text first ∷ words.new) (λ _. BeginsOtherwise words.old) }
 {
     let name = word(words, wanted)?;
