@@ -2,13 +2,12 @@
 ghost use Rattle.std.specs.Prelude.{◌≡◌, ◌≤◌, length};
 ghost use Rattle.claims.specs.Seats.{HoldsNothing};
 
-use crate::front::KernelFront;
 use crate::looking::{slots_of, tickets_of};
-use crate::ticks::Ticks;
 use dispatch::{
-    Gate, Own, Poller, ServerFault, Shared, Timing, Worked, give_slots, own_turn, poller_round,
-    share_tickets, worker_turn,
+    Gate, Own, Part, Poller, ServerFault, Shared, Timing, Worked, give_slots, own_turn,
+    poller_round, share_tickets, worker_turn,
 };
+use drill_outside::{KernelFront, Ticks};
 use log::Log;
 use ready::{FreeQueue, Ticket};
 use std::alloc::{AllocError, Global};
@@ -131,7 +130,7 @@ impl Lead<'_> {
         let part = self.poller.part();
         let tickets = tickets_of(rt, alloc, &mut self.own.ready)?;
         let slots = slots_of(rt, alloc, &mut self.own.free)?;
-        let passes = tickets.iter().any(|ticket| part.has(ticket.slot));
+        let passes = has_any(part, tickets.as_slice());
         Ok(!passes && (self.own.hand.slots() == 0 || slots.is_empty()))
     }
 
@@ -157,4 +156,14 @@ impl Lead<'_> {
             timing,
         )
     }
+}
+
+/// Whether one of these tickets is of these slots.
+fn has_any(part: Part, tickets: &[Ticket]) -> bool {
+    for ticket in tickets {
+        if part.has(ticket.slot) {
+            return true;
+        }
+    }
+    false
 }

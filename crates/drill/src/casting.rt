@@ -1,17 +1,14 @@
 // The threads of the server, made from its parts.
 ghost use Rattle.std.specs.Prelude.{◌≡◌, ◌≤◌, length, IfOk};
 ghost use Rattle.claims.specs.Seats.{fresh_seat};
-ghost use Rattle.drill.specs.Sizes.{IsServerSize};
+ghost use Rattle.drill_outside.specs.Sizes.{IsServerSize};
 ghost use Rattle.dispatch.specs.Parts.{AreFresh};
 
 use crate::actors::{Lead, Worker};
 use crate::crew::Crew;
-use crate::front::KernelFront;
-use crate::outside::Outside;
 use crate::parts::Rest;
-use crate::sizes::{MAX_POLLERS, Sizes};
-use crate::ticks::Ticks;
 use dispatch::{Opening, Own, Part, Poller, Shared};
+use drill_outside::{KernelFront, MAX_POLLERS, Outside, Sizes, Ticks};
 use ready::FreeQueue;
 use std::alloc::{AllocError, Global};
 use std::cell::RefCell;

@@ -1,18 +1,14 @@
 // The threads of the server together, and the steps that they make.
 use crate::actors::{Lead, Worker};
 use crate::gate::{Nested, Planned};
-use crate::outside::{Actor, Outside, Unlogged};
-use crate::sizes::Sizes;
-use crate::step::{Inner, Outer};
-use crate::ticks::Ticks;
 use dispatch::{Gate, Timing, Worked};
+use drill_outside::{Actor, Inner, Outside, Sizes, Ticks};
 use log::Log;
 use std::alloc::Global;
 use std::cell::RefCell;
-use std::mem;
 use std::rc::Rc;
 use std::sync::Wait;
-use world::{Act, Event, Polling, Reported};
+use world::{Event, Polling, Reported};
 
 /// The threads of the server. Each is in a cell, so that one can make a step inside a step of another.
 #[derive(Drop)]
@@ -31,7 +27,11 @@ impl Crew<'_> {
     /// A step that may also be made inside a turn is made there.
     pub fn make_inside<R: Wait + Log>(&self, rt: &R, alloc: Global, step: Inner) {
         match step {
-            Inner::Outside(outer) => self.happen(outer),
+            Inner::Outside(outer) => {
+                if let Ok(mut outside) = self.outside.try_borrow_mut() {
+                    outside.happen(outer);
+                }
+            }
             Inner::Round(poller) => self.round(rt, alloc, poller),
             Inner::Turn(number) => self.turn(
                 rt,
@@ -58,12 +58,6 @@ impl Crew<'_> {
         }
     }
 
-    fn happen(&self, outer: Outer) {
-        if let Ok(mut outside) = self.outside.try_borrow_mut() {
-            outside.happen(outer);
-        }
-    }
-
     /// One round of a poller, unless its thread is in a turn. It puts all tickets in hand first.
     fn round<R: Wait + Log>(&self, rt: &R, alloc: Global, poller: usize) {
         let Some(cell) = self.leads.get(poller) else {
@@ -72,19 +66,21 @@ impl Crew<'_> {
         let Ok(mut lead) = cell.try_borrow_mut() else {
             return;
         };
-        for _ticket in 0..lead.own.hand.tickets() {
-            self.record(poller, Event::Poll(Polling::Put));
-        }
+        self.put_tickets(poller, lead.own.hand.tickets());
         let _ = lead.round(rt, alloc, &self.timing());
         if lead.could_accept(rt, alloc) != Ok(false) {
-            self.expect_rest(poller);
+            if let Ok(mut outside) = self.outside.try_borrow_mut() {
+                outside.expect_rest(poller);
+            }
         }
     }
 
-    /// A poller's round has ended although it could accept.
-    fn expect_rest(&self, poller: usize) {
+    /// A poller puts so many tickets.
+    fn put_tickets(&self, poller: usize, tickets: usize) {
         if let Ok(mut outside) = self.outside.try_borrow_mut() {
-            outside.expect_rest(poller);
+            for _ticket in 0..tickets {
+                outside.record(poller, Event::Poll(Polling::Put));
+            }
         }
     }
 
@@ -100,18 +96,9 @@ impl Crew<'_> {
             return;
         };
         let poller = self.sizes.poller_of(ticket.slot);
-        let former = self.enter(Actor {
-            poller,
-            worker: number,
-            calls: true,
-        });
-        self.act(Act::Pop);
+        let former = self.begin(poller, number);
         let worked = worker.turn(rt, gate, ticket, poller, &self.timing());
-        self.finish(worked);
-        if worked == Some(Worked::Ended) {
-            self.record(poller, Event::Spurious(Reported::Waker));
-        }
-        self.enter(former);
+        self.finish(poller, worked, former);
     }
 
     /// The turn of a poller's own thread, after a round that left exactly one ticket, unless the ticket goes to the
@@ -130,25 +117,18 @@ impl Crew<'_> {
         if lead.own.hand.tickets() != 1 || lead.keeps_order(rt, alloc) != Ok(true) {
             return;
         }
-        self.record(poller, Event::Poll(Polling::Put));
+        self.put_tickets(poller, 1);
         if !lead.share(rt) {
             return;
         }
-        let worker = self.workers.len();
-        let former = self.enter(Actor {
-            poller,
-            worker,
-            calls: true,
-        });
-        self.act(Act::Pop);
+        let former = self.begin(poller, self.workers.len());
         let gate = Planned {
             rt,
             alloc,
             crew: self,
         };
         let _ = lead.turn(rt, &gate, &self.timing());
-        self.finish(self.ending());
-        self.enter(former);
+        self.finish_alone(former);
     }
 
     /// The clock and the idle limit, as they are lent to a turn or a round.
@@ -156,29 +136,6 @@ impl Crew<'_> {
         Timing {
             clock: &self.clock,
             limit: self.sizes.limits.idle,
-        }
-    }
-
-    /// One step more was made.
-    pub fn count_step(&self) {
-        if let Ok(mut outside) = self.outside.try_borrow_mut() {
-            outside.totals.steps = outside.totals.steps.saturating_add(1);
-        }
-    }
-
-    /// A poller that ended a round while it could accept.
-    pub fn idle(&self) -> Option<usize> {
-        match self.outside.try_borrow() {
-            Ok(outside) => outside.idle,
-            Err(_) => None,
-        }
-    }
-
-    /// What the log lacks of a connection that could not be opened.
-    pub fn unlogged(&self) -> Option<Unlogged> {
-        match self.outside.try_borrow() {
-            Ok(outside) => outside.unlogged,
-            Err(_) => None,
         }
     }
 
@@ -194,58 +151,31 @@ impl Crew<'_> {
         }
     }
 
-    /// How the turn in progress has to end, by the world.
-    fn ending(&self) -> Option<Worked> {
-        match self.outside.try_borrow() {
-            Ok(outside) => outside.ending(),
-            Err(_) => None,
-        }
-    }
-
-    /// What a turn has done after its last call, by its answer.
-    fn finish(&self, worked: Option<Worked>) {
-        match worked {
-            None => {}
-            Some(Worked::Busy | Worked::Gone) => self.act(Act::Claim),
-            Some(Worked::Ended) => {
-                self.act(Act::Retire);
-                self.act(Act::Free);
-            }
-            Some(Worked::Again) => {
-                self.act(Act::Post);
-                self.release();
-            }
-            Some(Worked::Quiet) => self.release(),
-        }
-    }
-
-    /// The slot is released, and a ticket that this made is put.
-    fn release(&self) {
-        if let Ok(mut outside) = self.outside.try_borrow_mut() {
-            outside.act(Act::Release);
-            if outside.has_ticket() {
-                outside.act(Act::Put);
-            }
-        }
-    }
-
-    /// From now on the turn is this actor's. Answers whose it was.
-    fn enter(&self, actor: Actor) -> Actor {
+    /// From now on the turn is this worker's, in this poller's world. Answers whose it was.
+    fn begin(&self, poller: usize, worker: usize) -> Actor {
         match self.outside.try_borrow_mut() {
-            Ok(mut outside) => mem::replace(&mut outside.actor, actor),
-            Err(_) => actor,
+            Ok(mut outside) => outside.begin(poller, worker),
+            Err(_) => Actor::NONE,
         }
     }
 
-    fn act(&self, act: Act) {
+    /// A worker's turn for a slot of this poller is over, by its answer. From now on the turn is again whose it was.
+    fn finish(&self, poller: usize, worked: Option<Worked>, former: Actor) {
         if let Ok(mut outside) = self.outside.try_borrow_mut() {
-            outside.act(act);
+            outside.finish(worked);
+            if worked == Some(Worked::Ended) {
+                outside.record(poller, Event::Spurious(Reported::Waker));
+            }
+            outside.actor = former;
         }
     }
 
-    fn record(&self, poller: usize, event: Event) {
+    /// The turn of a poller's own thread is over, as it has to be by the world.
+    fn finish_alone(&self, former: Actor) {
         if let Ok(mut outside) = self.outside.try_borrow_mut() {
-            outside.record(poller, event);
+            let worked = outside.ending();
+            outside.finish(worked);
+            outside.actor = former;
         }
     }
 }

@@ -1,5 +1,5 @@
 // What the server logs about connections.
-use crate::outside::Outside;
+use drill_outside::Outside;
 use log::kv::Source;
 use log::span::Spans;
 use log::{Log, Metadata, Record};

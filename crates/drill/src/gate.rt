@@ -1,13 +1,12 @@
 // What happens inside a turn.
 use crate::crew::Crew;
-use crate::outside::Outside;
 use dispatch::Gate;
+use drill_outside::Outside;
 use kernel_model::MAX_POLLED;
 use log::Log;
 use std::alloc::Global;
 use std::cell::RefCell;
 use std::sync::Wait;
-use world::Act;
 
 /// The gate of a turn inside another. Nothing happens inside of it but its calls.
 #[derive(Drop)]
@@ -38,7 +37,7 @@ impl<R: Wait + Log> Gate for Planned<'_, '_, R> {
         begin(&self.crew.outside);
         for _step in 0..MAX_POLLED {
             let step = match self.crew.outside.try_borrow_mut() {
-                Ok(mut outside) => outside.plan.next_before(),
+                Ok(mut outside) => outside.plan.before.pop_front(),
                 Err(_) => None,
             };
             let Some(step) = step else {
@@ -52,7 +51,7 @@ impl<R: Wait + Log> Gate for Planned<'_, '_, R> {
         end(&self.crew.outside);
         for _step in 0..MAX_POLLED {
             let step = match self.crew.outside.try_borrow_mut() {
-                Ok(mut outside) => outside.plan.next_after(),
+                Ok(mut outside) => outside.plan.after.pop_front(),
                 Err(_) => None,
             };
             let Some(step) = step else {
@@ -66,8 +65,7 @@ impl<R: Wait + Log> Gate for Planned<'_, '_, R> {
 /// The slot was claimed, and its notes were taken.
 fn begin(outside: &RefCell<Outside>) {
     if let Ok(mut outside) = outside.try_borrow_mut() {
-        outside.act(Act::Claim);
-        outside.act(Act::Take);
+        outside.begin_calls();
     }
 }
 

@@ -6,42 +6,26 @@
 //! slots alone. The worlds make the same events. After every step the report of the server's own state at a poller's
 //! slots has to be its world's report, byte for byte.
 //!
-//! `session.rt` plays the scripts, `crew.rt` makes the steps, `outside.rt`, `station.rt` and `calls.rt` are what the
-//! server's calls get, `addresses.rt` has the line that targets may get first, `ticks.rt` is the clock, `tape.rt` keeps the
-//! events and the world, and `report.rt` is the server's report. `tests/drill` makes random scripts.
+//! `session.rt` plays the scripts, `reading.rt` reads their steps, `crew.rt` makes them, and `report.rt` is the server's
+//! report. What the server's calls get, the clock, and the worlds are those of `drill_outside`. `tests/drill` makes random
+//! scripts.
 #![tactic(auto)]
 
 mod actors;
-mod addresses;
-mod calls;
 mod casting;
 mod crew;
 mod diary;
-mod front;
 mod gate;
 mod header;
-mod kinds;
-mod lines;
-mod local;
 mod looking;
-mod outside;
 mod parts;
-mod past;
 mod place;
-mod plan;
 mod play;
 mod reading;
 mod report;
 mod session;
-mod sizes;
+mod sheet;
 mod source;
-mod station;
-mod step;
-mod sweeps;
-mod tape;
-mod ticks;
-mod totals;
-mod wire;
 
 use std::io::BufReader;
 use std::process::ExitCode;

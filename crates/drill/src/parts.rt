@@ -2,14 +2,12 @@
 ghost use Rattle.std.specs.Prelude.{◌≡◌, IfOk, IfSome};
 ghost use Rattle.claims.specs.Seats.{fresh_seat};
 ghost use Rattle.dispatch.specs.Parts.{AreFresh};
-ghost use Rattle.drill.specs.Sizes.{IsServerSize};
+ghost use Rattle.drill_outside.specs.Sizes.{IsServerSize};
 
-use crate::front::KernelFront;
-use crate::outside::Outside;
-use crate::sizes::{MAX_POLLERS, Sizes};
 use berths::Berths;
 use claims::Claims;
 use dispatch::{MAX_BATCH, Own, Parts, Shared};
+use drill_outside::{KernelFront, MAX_POLLERS, Outside, Sizes};
 use ready::{FreeQueue, ReadyQueue};
 use std::alloc::{AllocError, Global};
 use std::cell::RefCell;

@@ -1,15 +1,15 @@
 // One script: the server's steps, and the comparison after each of them.
 use crate::crew::Crew;
-use crate::reading::read_step;
+use crate::reading::{Step, Unread, read_step};
 use crate::report::report_of;
-use crate::step::Step;
+use drill_outside::{Station, Tape};
 use log::Log;
 use std::alloc::Global;
 use std::io::{self, ErrorKind};
 use std::sync::Wait;
 
 /// What a line did.
-#[derive(Clone, Copy, Debug, PartialEq, Eq)]
+#[derive(Clone, Copy)]
 pub enum Played {
     /// A step after which the server and the worlds agree.
     Agreed,
@@ -26,25 +26,30 @@ pub fn play_line<R: Wait + Log + Print>(
     crew: &Crew<'_>,
     line: &str,
 ) -> io::Result<Played> {
-    let Some(step) = read_step(alloc, line)? else {
-        return Ok(Played::Malformed);
-    };
-    match step {
-        Step::Later(later) => {
+    match read_step(alloc, line) {
+        Err(Unread::Malformed) => return Ok(Played::Malformed),
+        Err(Unread::NoMemory) => return Err(io::Error::from(ErrorKind::OutOfMemory)),
+        Ok(Step::Later(later)) => {
             if let Ok(mut outside) = crew.outside.try_borrow_mut() {
                 outside.add(later)?;
             }
             return Ok(Played::Agreed);
         }
-        Step::Show => {
+        Ok(Step::Show) => {
             show(rt, alloc, crew)?;
             return Ok(Played::Agreed);
         }
-        Step::Own(poller) => crew.turn_alone(rt, alloc, poller),
-        Step::Now(step) => crew.make(rt, alloc, step),
+        Ok(Step::Own(poller)) => crew.turn_alone(rt, alloc, poller),
+        Ok(Step::Now(step)) => crew.make(rt, alloc, step),
     }
-    crew.count_step();
-    compare(rt, alloc, crew)
+    if let Ok(mut outside) = crew.outside.try_borrow_mut() {
+        outside.totals.steps = outside.totals.steps.saturating_add(1);
+    }
+    if compare(rt, alloc, crew)? {
+        Ok(Played::Agreed)
+    } else {
+        Ok(Played::Differs)
+    }
 }
 
 /// Prints for each poller the script of its world and the server's report.
@@ -52,41 +57,48 @@ fn show<R: Wait + Print>(rt: &R, alloc: Global, crew: &Crew<'_>) -> io::Result<(
     for poller in 0..crew.leads.len() {
         let report = report_of(rt, alloc, crew, poller)?;
         if let Ok(outside) = crew.outside.try_borrow() {
-            if let Some(station) = outside.station(poller) {
-                let script = station.tape.script();
-                print!(rt; "script\n{script}report\n{report}end\n")?;
+            if let Some(station) = outside.stations.get(poller) {
+                show_station(rt, station, report.as_str())?;
             }
         }
     }
     Ok(())
 }
 
+fn show_station<R: Print>(rt: &R, station: &Station, report: &str) -> io::Result<()> {
+    let script = station.tape.script.as_str();
+    print!(rt; "script\n{script}report\n{report}end\n")
+}
+
 /// Whether the server's reports are those of the worlds, each poller gets to know of a client that waits, none ends a
 /// round while it could accept, and the log tells of each connection that could not be opened. The first difference is
 /// printed.
-fn compare<R: Wait + Print>(rt: &R, alloc: Global, crew: &Crew<'_>) -> io::Result<Played> {
+fn compare<R: Wait + Print>(rt: &R, alloc: Global, crew: &Crew<'_>) -> io::Result<bool> {
     for poller in 0..crew.leads.len() {
         if !agrees(rt, alloc, crew, poller)? {
-            return Ok(Played::Differs);
+            return Ok(false);
         }
         if !crew.hears(poller) {
             println!(rt; "a client waits, and poller {poller} would not accept it")?;
-            return Ok(Played::Differs);
+            return Ok(false);
         }
     }
-    if let Some(poller) = crew.idle() {
+    let Ok(outside) = crew.outside.try_borrow() else {
+        return Err(io::Error::from(ErrorKind::Other));
+    };
+    if let Some(poller) = outside.idle {
         println!(rt; "poller {poller} ended a round while it could accept")?;
-        return Ok(Played::Differs);
+        return Ok(false);
     }
-    if let Some(unlogged) = crew.unlogged() {
+    if let Some(unlogged) = outside.unlogged {
         let line = unlogged.line();
         println!(rt; "not in the log: {line}")?;
-        return Ok(Played::Differs);
+        return Ok(false);
     }
-    Ok(Played::Agreed)
+    Ok(true)
 }
 
-/// Whether the server's report of a poller is that of the poller's world. If it is not, both are printed.
+/// Whether the server's report of a poller is that of the poller's world.
 fn agrees<R: Wait + Print>(
     rt: &R,
     alloc: Global,
@@ -97,17 +109,32 @@ fn agrees<R: Wait + Print>(
     let Ok(outside) = crew.outside.try_borrow() else {
         return Err(io::Error::from(ErrorKind::Other));
     };
-    let Some(station) = outside.station(poller) else {
+    let Some(station) = outside.stations.get(poller) else {
         return Ok(false);
     };
-    let tape = &station.tape;
-    let wanted = tape.report()?;
-    if let Some(event) = tape.refused() {
-        println!(rt; "refused by the world of poller {poller}: {event}")?;
-    } else if wanted.as_str() == report.as_str() {
+    let wanted = world_report::print(alloc, &station.tape.world)?;
+    if station.tape.refused.is_none() && wanted.as_str() == report.as_str() {
         return Ok(true);
     }
-    let script = tape.script();
-    print!(rt; "poller {poller}\nscript\n{script}server\n{report}world\n{wanted}")?;
+    tell(
+        rt,
+        poller,
+        &station.tape,
+        (report.as_str(), wanted.as_str()),
+    )?;
     Ok(false)
+}
+
+/// Prints how the server's report of a poller and that of the poller's world differ.
+fn tell<R: Print>(
+    rt: &R,
+    poller: usize,
+    tape: &Tape,
+    (report, wanted): (&str, &str),
+) -> io::Result<()> {
+    if let Some(event) = &tape.refused {
+        println!(rt; "refused by the world of poller {poller}: {event}")?;
+    }
+    let script = tape.script.as_str();
+    print!(rt; "poller {poller}\nscript\n{script}server\n{report}world\n{wanted}")
 }

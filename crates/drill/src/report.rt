@@ -1,17 +1,13 @@
 // The report of the server's own state at the slots of one poller, in the words of a world's report.
 use crate::actors::{Lead, Worker};
 use crate::crew::Crew;
-use crate::lines::spaced_names;
-use crate::local::{local_names, local_slot};
 use crate::looking::{slots_in, tickets_in, tickets_of};
-use crate::place::{Standing, slot_lines};
-use crate::sizes::Sizes;
-use crate::station::Station;
-use dispatch::Part;
+use crate::place::{Standing, put_slot};
+use crate::sheet::Sheet;
+use drill_outside::{Page, Piece, Station, make_local, put_names};
 use ready::Ticket;
 use std::alloc::{AllocError, Global};
 use std::sync::Wait;
-use token::Name;
 
 /// The report of the server at a poller's slots, from its words, places, queues, hands, table and pairs. What the network
 /// has comes from the kernel, and what was closed from the log.
@@ -21,167 +17,161 @@ pub fn report_of<R: Wait>(
     crew: &Crew<'_>,
     poller: usize,
 ) -> Result<String, AllocError> {
-    let Some(cell) = crew.leads.get(poller) else {
+    let (Some(cell), Ok(outside)) = (crew.leads.get(poller), crew.outside.try_borrow()) else {
         return String::from_str(alloc, "no poller\n");
     };
-    let (Ok(mut lead), Ok(outside)) = (cell.try_borrow_mut(), crew.outside.try_borrow()) else {
+    let (Ok(mut lead), Some(station)) = (cell.try_borrow_mut(), outside.stations.get(poller)) else {
         return String::from_str(alloc, "in use\n");
     };
-    match outside.station(poller) {
-        Some(station) => lead_report(rt, alloc, crew, poller, &mut lead, station),
-        None => String::from_str(alloc, "no poller\n"),
-    }
+    let mut sheet = Sheet {
+        alloc,
+        sizes: crew.sizes,
+        poller,
+        part: lead.poller.part(),
+        page: Page::new(alloc),
+        tickets: Vec::new(alloc),
+    };
+    put_report(rt, &mut sheet, crew, &mut lead, station)?;
+    sheet.page.finish()
 }
 
-/// The report at the slots of this poller, whose thread this is.
-fn lead_report<R: Wait>(
+/// Writes the report at the slots of a poller, whose thread this is.
+fn put_report<R: Wait>(
     rt: &R,
-    alloc: Global,
+    sheet: &mut Sheet,
     crew: &Crew<'_>,
-    poller: usize,
     lead: &mut Lead<'_>,
     station: &Station,
-) -> Result<String, AllocError> {
+) -> Result<(), AllocError> {
     let Ok(mut spare) = crew.spare.try_borrow_mut() else {
-        return String::from_str(alloc, "in use\n");
+        sheet.page.put(&[Piece::Text("in use\n")]);
+        return Ok(());
     };
-    let part = lead.poller.part();
-    let heads = head_lines(alloc, part, station, lead.poller.is_accepting())?;
-    let free = free_line(rt, alloc, poller, lead, &mut spare)?;
-    let mut tickets = tickets_of(rt, alloc, &mut spare.own.ready)?;
-    keep_own(crew.sizes, poller, &mut tickets);
-    let ready = spaced_tickets(alloc, part, tickets.as_slice())?;
-    let hand = tickets_in(alloc, &mut lead.own.hand)?;
-    let held = spaced_tickets(alloc, part, hand.as_slice())?;
-    tickets.extend_from_slice(hand.as_slice())?;
-    let workers = worker_lines(alloc, crew, poller, part, &mut tickets)?;
-    let standing = Standing {
-        kernel: &station.kernel,
-        tickets: tickets.as_slice(),
-        ring: crew.sizes.limits.ring,
-        part,
-        proxy: crew.sizes.proxy,
-    };
-    let slots = slots_lines(rt, alloc, lead, &mut spare, standing)?;
-    let past = station.past.lines();
-    format!(in alloc; "{heads}ready{ready}\n{free}poller{held}\n{workers}{slots}{past}")
+    put_head(sheet, station, lead.poller.is_accepting())?;
+    put_ready(rt, sheet, &mut spare)?;
+    put_free(rt, sheet, lead, &mut spare)?;
+    put_hand(sheet, lead)?;
+    put_workers(sheet, crew)?;
+    put_places(rt, sheet, lead, &mut spare, station);
+    sheet.page.put(&[Piece::Text(station.past.lines.as_str())]);
+    Ok(())
 }
 
-/// Of these tickets those of a poller's slots stay.
-fn keep_own(sizes: Sizes, poller: usize, tickets: &mut Vec<Ticket>) {
-    tickets.retain(|ticket| sizes.poller_of(ticket.slot) == poller);
+/// The lines of the listener, the readiness queue, in which names are in ascending order of their numbers, and the batch,
+/// of which nothing is left after a step.
+fn put_head(sheet: &mut Sheet, station: &Station, accepting: bool) -> Result<(), AllocError> {
+    let mut names = station.kernel.queue().to_vec(sheet.alloc)?;
+    make_local(sheet.part, names.as_mut_slice());
+    names.sort_by_key(|name| name.number())?;
+    sheet.page.put(&[
+        Piece::Text("listener backlog="),
+        Piece::Number(station.kernel.backlog() as u64),
+        Piece::Text(if accepting { " flag=up" } else { " flag=down" }),
+        Piece::Text("\nqueue"),
+    ]);
+    put_names(&mut sheet.page, names.as_slice());
+    sheet.page.put(&[Piece::Text("\nbatch\n")]);
+    Ok(())
 }
 
-/// The lines of the listener, the readiness queue and the batch, of which nothing is left after a step.
-fn head_lines(
-    alloc: Global,
-    part: Part,
-    station: &Station,
-    accepting: bool,
-) -> Result<String, AllocError> {
-    let backlog = station.kernel.backlog();
-    let flag = if accepting { "up" } else { "down" };
-    let names = local_names(alloc, part, station.kernel.queue())?;
-    let names = in_order(alloc, names.as_slice())?;
-    let queue = spaced_names(alloc, names.as_slice())?;
-    format!(in alloc; "listener backlog={backlog} flag={flag}\nqueue{queue}\nbatch\n")
+/// The line of the ready queue.
+fn put_ready<R: Wait>(rt: &R, sheet: &mut Sheet, spare: &mut Worker<'_>) -> Result<(), AllocError> {
+    let tickets = tickets_of(rt, sheet.alloc, &mut spare.own.ready)?;
+    sheet.add_own(tickets.as_slice())?;
+    sheet.page.put(&[Piece::Text("ready")]);
+    sheet.put_tickets(0);
+    Ok(())
 }
 
-/// These names in ascending order of their numbers.
-fn in_order(alloc: Global, names: &[Name]) -> Result<Vec<Name>, AllocError> {
-    let mut ordered = names.to_vec(alloc)?;
-    ordered.sort_by_key(|name| name.number())?;
-    Ok(ordered)
-}
-
-/// The free slots: those in the poller's hand, and those in its queue.
-fn free_line<R: Wait>(
+/// The line of the free slots: those in the poller's hand, and those in its queue.
+fn put_free<R: Wait>(
     rt: &R,
-    alloc: Global,
-    poller: usize,
+    sheet: &mut Sheet,
     lead: &mut Lead<'_>,
     spare: &mut Worker<'_>,
-) -> Result<String, AllocError> {
-    let part = lead.poller.part();
-    let mut slots = slots_in(alloc, &mut lead.own.hand)?;
-    let queued = spare.free_slots(rt, alloc, poller)?;
-    slots.extend_from_slice(queued.as_slice())?;
-    let mut text = String::from_str(alloc, "free")?;
-    for slot in &slots {
-        let slot = local_slot(part, *slot);
-        text.push_str(format!(in alloc; " {slot}")?.as_str())?;
-    }
-    text.push_str("\n")?;
-    Ok(text)
+) -> Result<(), AllocError> {
+    let held = slots_in(sheet.alloc, &mut lead.own.hand)?;
+    let queued = spare.free_slots(rt, sheet.alloc, sheet.poller)?;
+    sheet.page.put(&[Piece::Text("free")]);
+    sheet.put_slots(held.as_slice());
+    sheet.put_slots(queued.as_slice());
+    sheet.page.put(&[Piece::Text("\n")]);
+    Ok(())
 }
 
-/// A line for each worker, and one for the turns of the poller's thread. Adds the tickets in hand.
-fn worker_lines(
-    alloc: Global,
-    crew: &Crew<'_>,
-    poller: usize,
-    part: Part,
-    tickets: &mut Vec<Ticket>,
-) -> Result<String, AllocError> {
-    let mut text = String::new(alloc);
+/// The line of the tickets in the poller's hand.
+fn put_hand(sheet: &mut Sheet, lead: &mut Lead<'_>) -> Result<(), AllocError> {
+    let first = sheet.tickets.len();
+    let hand = tickets_in(sheet.alloc, &mut lead.own.hand)?;
+    sheet.tickets.extend_from_slice(hand.as_slice())?;
+    sheet.page.put(&[Piece::Text("poller")]);
+    sheet.put_tickets(first);
+    Ok(())
+}
+
+/// A line for each worker, and one for the turns of the poller's thread.
+fn put_workers(sheet: &mut Sheet, crew: &Crew<'_>) -> Result<(), AllocError> {
     for (number, cell) in crew.workers.iter().enumerate() {
-        let line = match cell.try_borrow_mut() {
-            Ok(mut worker) => {
-                let mut hand = tickets_in(alloc, &mut worker.own.hand)?;
-                keep_own(crew.sizes, poller, &mut hand);
-                tickets.extend_from_slice(hand.as_slice())?;
-                let kept = worker.own.hand.slots();
-                worker_line(alloc, part, number, kept, hand.as_slice())?
-            }
-            Err(_) => format!(in alloc; "worker {number} in a turn\n")?,
-        };
-        text.push_str(line.as_str())?;
+        sheet
+            .page
+            .put(&[Piece::Text("worker "), Piece::Number(number as u64)]);
+        match cell.try_borrow_mut() {
+            Ok(mut worker) => put_worker(sheet, &mut worker)?,
+            Err(_) => sheet.page.put(&[Piece::Text(" in a turn\n")]),
+        }
     }
-    let number = crew.workers.len();
-    text.push_str(format!(in alloc; "worker {number} idle\n")?.as_str())?;
-    Ok(text)
+    sheet.page.put(&[
+        Piece::Text("worker "),
+        Piece::Number(crew.workers.len() as u64),
+        Piece::Text(" idle\n"),
+    ]);
+    Ok(())
 }
 
-/// The line of a worker that keeps so many slots and these tickets.
-fn worker_line(
-    alloc: Global,
-    part: Part,
-    number: usize,
-    kept: usize,
-    hand: &[Ticket],
-) -> Result<String, AllocError> {
+/// What a worker has in hand: no slots, and these tickets.
+fn put_worker(sheet: &mut Sheet, worker: &mut Worker<'_>) -> Result<(), AllocError> {
+    let first = sheet.tickets.len();
+    let hand = tickets_in(sheet.alloc, &mut worker.own.hand)?;
+    sheet.add_own(hand.as_slice())?;
+    let kept = worker.own.hand.slots();
     if kept > 0 {
-        return format!(in alloc; "worker {number} keeps {kept} slots\n");
+        sheet.page.put(&[
+            Piece::Text(" keeps "),
+            Piece::Number(kept as u64),
+            Piece::Text(" slots\n"),
+        ]);
+    } else {
+        sheet.page.put(&[Piece::Text(" idle")]);
+        sheet.put_tickets(first);
     }
-    let hand = spaced_tickets(alloc, part, hand)?;
-    format!(in alloc; "worker {number} idle{hand}\n")
-}
-
-/// Tickets, each with a space in front.
-fn spaced_tickets(alloc: Global, part: Part, tickets: &[Ticket]) -> Result<String, AllocError> {
-    let mut text = String::new(alloc);
-    for ticket in tickets {
-        let (slot, generation) = (local_slot(part, ticket.slot), ticket.generation);
-        text.push_str(format!(in alloc; " {slot}.{generation}")?.as_str())?;
-    }
-    Ok(text)
+    Ok(())
 }
 
 /// The lines of each of the poller's slots.
-fn slots_lines<R: Wait>(
+fn put_places<R: Wait>(
     rt: &R,
-    alloc: Global,
+    sheet: &mut Sheet,
     lead: &Lead<'_>,
     spare: &mut Worker<'_>,
-    standing: Standing<'_>,
-) -> Result<String, AllocError> {
-    let mut text = String::new(alloc);
-    for index in 0..standing.part.slots {
-        let slot = standing.part.first.saturating_add(index);
+    station: &Station,
+) {
+    let part = sheet.part;
+    let standing = Standing {
+        kernel: &station.kernel,
+        tickets: sheet.tickets.as_slice(),
+        ring: sheet.sizes.limits.ring,
+        part,
+        proxy: sheet.sizes.proxy,
+    };
+    for index in 0..part.slots {
+        let slot = part.first.saturating_add(index);
         let generation = lead.poller.table().get(slot).copied().unwrap_or(0);
-        let named = Ticket { slot, generation };
-        let lines = slot_lines(rt, alloc, spare, standing, named)?;
-        text.push_str(lines.as_str())?;
+        put_slot(
+            rt,
+            &mut sheet.page,
+            spare,
+            standing,
+            Ticket { slot, generation },
+        );
     }
-    Ok(text)
 }

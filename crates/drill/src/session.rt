@@ -1,17 +1,14 @@
 // The scripts of the input, one after the other.
-ghost use Rattle.drill.specs.Sizes.{IsServerSize};
+ghost use Rattle.drill_outside.specs.Sizes.{IsServerSize};
 
 use crate::casting::crew_of;
 use crate::crew::Crew;
 use crate::diary::Diary;
 use crate::header::read_header;
-use crate::outside::Outside;
 use crate::parts::parts_of;
 use crate::play::{Played, play_line};
-use crate::sizes::Sizes;
 use crate::source::Source;
-use crate::ticks::Ticks;
-use crate::totals::Totals;
+use drill_outside::{Outside, Sizes, Ticks, Totals};
 use log::{Level, Log, Logged};
 use std::alloc::Global;
 use std::cell::RefCell;

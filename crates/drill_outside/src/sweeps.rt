@@ -1,18 +1,14 @@
 // When a poller sweeps, by a reckoning of its own, so that the poller is not asked.
 
 /// The second of a poller's last sweep, at first that at which the poller began.
-#[derive(Clone, Copy, Debug, PartialEq, Eq)]
+#[derive(Clone, Copy)]
 pub struct Sweeps {
-    limit: u64,
-    last: u64,
+    /// The idle limit; 0 is none.
+    pub limit: u64,
+    pub last: u64,
 }
 
 impl Sweeps {
-    /// Those of a poller that begins at second 0, under this idle limit; 0 is none.
-    pub fn new(limit: u64) -> Sweeps {
-        Sweeps { limit, last: 0 }
-    }
-
     /// Whether a round at this second makes a sweep. If so, that is the last one from now on.
     pub fn falls_due(&mut self, second: u64) -> bool {
         let is_due = self.limit > 0 && second.saturating_sub(self.last) >= self.limit;

@@ -1,6 +1,5 @@
 // The numbers that the slots of a poller have in its world, which has no others.
 use dispatch::Part;
-use std::alloc::{AllocError, Global};
 use token::{Name, Token};
 use world::{Event, Polling, Reported};
 
@@ -17,13 +16,11 @@ pub fn local_slot(part: Part, slot: usize) -> usize {
     }
 }
 
-/// The names with the slots' numbers in the world.
-pub fn local_names(alloc: Global, part: Part, names: &[Name]) -> Result<Vec<Name>, AllocError> {
-    let mut local = Vec::with_capacity(alloc, names.len())?;
-    for name in names {
-        local.push(local_name(part, *name))?;
+/// Gives the slots in these names their numbers in the world.
+pub fn make_local(part: Part, names: &mut [Name]) {
+    for name in names.iter_mut() {
+        *name = local_name(part, *name);
     }
-    Ok(local)
 }
 
 fn local_name(part: Part, name: Name) -> Name {
@@ -41,17 +38,18 @@ fn local_name(part: Part, name: Name) -> Name {
 }
 
 /// The event with the slots' numbers in the world.
-pub fn local_event(alloc: Global, part: Part, event: Event) -> Result<Event, AllocError> {
-    Ok(match event {
+pub fn local_event(part: Part, event: Event) -> Event {
+    match event {
         Event::Network(slot, side, change) => Event::Network(local_slot(part, slot), side, change),
         Event::Spurious(who) => Event::Spurious(local_end(part, who)),
         Event::Vanish(who) => Event::Vanish(local_end(part, who)),
-        Event::Poll(Polling::Poll(names)) => {
-            Event::Poll(Polling::Poll(local_names(alloc, part, names.as_slice())?))
+        Event::Poll(Polling::Poll(mut names)) => {
+            make_local(part, names.as_mut_slice());
+            Event::Poll(Polling::Poll(names))
         }
         Event::Poll(Polling::Sweep(slot)) => Event::Poll(Polling::Sweep(local_slot(part, slot))),
         event => event,
-    })
+    }
 }
 
 fn local_end(part: Part, who: Reported) -> Reported {

@@ -2,7 +2,7 @@
 ghost use Rattle.std.specs.Prelude.{◌≡◌, ◌≤◌, [], OnErr, length, vec_len, vec_capacity};
 
 use crate::outside::Outside;
-use crate::wire::EndWire;
+use crate::wire::{EndState, EndWire};
 use dispatch::{Front, MAX_BATCH, Opened, Unopened};
 use kernel_model::Accepting;
 use log::Log;
@@ -115,7 +115,9 @@ impl Front for KernelFront {
             return Err(io::Error::from(ErrorKind::Other));
         };
         match outside.accept(self.poller) {
-            Accepting::Accepted => Ok(EndWire::accepted(shared, self.poller)),
+            Accepting::Accepted => {
+                Ok(EndWire::new(shared, self.poller, EndState::Accepted, true))
+            }
             Accepting::Blocked => Err(io::Error::from(ErrorKind::WouldBlock)),
             Accepting::Again => Err(io::Error::from(ErrorKind::ConnectionAborted)),
             Accepting::Starved => Err(io::Error::from(ErrorKind::Other)),
@@ -136,15 +138,15 @@ impl Front for KernelFront {
             return Err(Unopened::Connect);
         };
         let started = outside.open(self.poller, client_token, target_token)?;
-        let target = match started.ends {
-            Some((client_end, target_end)) => {
-                client.open(client_token, client_end);
-                EndWire::connecting(shared, target_token, target_end)
+        let state = match started.ends {
+            Some(ends) => {
+                client.open(client_token, ends.client);
+                EndState::Open(target_token, ends.target)
             }
-            None => EndWire::given_up(shared, self.poller),
+            None => EndState::Never,
         };
         Ok(Opened {
-            target,
+            target: EndWire::new(shared, self.poller, state, false),
             route: started.route,
         })
     }

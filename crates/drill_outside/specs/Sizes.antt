@@ -1,7 +1,7 @@
 -- The sizes of a server that can be compared with worlds.
 use Rattle.std.specs.Prelude.{◌+◌, ◌<◌, ◌≤◌}
 use Rattle.dispatch.specs.declared.part.Part.{Part}
-use Rattle.drill.specs.declared.sizes.Sizes.{Sizes}
+use Rattle.drill_outside.specs.declared.sizes.Sizes.{Sizes}
 
 -- as a world's, with one worker less
 pub record IsServerSize (s : Sizes) : Type 0 where

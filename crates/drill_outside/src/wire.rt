@@ -4,7 +4,8 @@ ghost use Rattle.relay_core.specs.Calls.{side_of};
 ghost use Rattle.engine.specs.Classes.{class_of};
 ghost use Rattle.engine.specs.Tallies.{counted};
 
-use crate::outside::{Outside, Socket};
+use crate::calls::{Asked, Asking};
+use crate::outside::Outside;
 use dispatch::Settle;
 use engine::{Tally, Wire};
 use relay_core::Call;
@@ -19,65 +20,65 @@ pub struct EndWire {
     outside: Rc<RefCell<Outside>>,
     /// The poller that accepted or opened it.
     poller: usize,
-    end: EndState,
+    state: EndState,
     tally: Tally,
 }
 
 /// What a wire is over.
-#[derive(Clone, Copy, Debug, PartialEq, Eq)]
-enum EndState {
+#[derive(Clone, Copy)]
+pub enum EndState {
     /// A connection that was accepted and is not open yet.
     Accepted,
-    /// An open end, and the name under which it is reported.
-    Open(Token, Socket),
-    /// A target whose connection has to be given up.
+    /// An open end: the name under which it is reported, and its descriptor in the poller's kernel.
+    Open(Token, usize),
+    /// A target whose connection has to be given up at once. Closing it changes nothing.
     Never,
 }
 
 impl EndWire {
-    /// A connection that this poller accepted and that is not open yet.
-    pub fn accepted(outside: Rc<RefCell<Outside>>, poller: usize) -> EndWire {
+    /// A poller's wire over this. A client's is joined, a target's is connecting.
+    pub(crate) fn new(
+        outside: Rc<RefCell<Outside>>,
+        poller: usize,
+        state: EndState,
+        joined: bool,
+    ) -> EndWire {
         EndWire {
             outside,
             poller,
-            end: EndState::Accepted,
-            tally: Tally::new(true),
-        }
-    }
-
-    /// A target's end, which is connecting.
-    pub fn connecting(outside: Rc<RefCell<Outside>>, token: Token, socket: Socket) -> EndWire {
-        EndWire {
-            outside,
-            poller: socket.poller,
-            end: EndState::Open(token, socket),
-            tally: Tally::new(false),
-        }
-    }
-
-    /// A target's end whose connection has to be given up at once. Closing it changes nothing.
-    pub fn given_up(outside: Rc<RefCell<Outside>>, poller: usize) -> EndWire {
-        EndWire {
-            outside,
-            poller,
-            end: EndState::Never,
-            tally: Tally::new(false),
+            state,
+            tally: Tally::new(joined),
         }
     }
 
     /// An accepted connection is opened as this end.
-    pub fn open(&mut self, token: Token, socket: Socket)
+    pub(crate) fn open(&mut self, token: Token, descriptor: usize)
         ensures { self.new.tally ≡ self.old.tally }
     {
-        self.end = EndState::Open(token, socket);
+        self.state = EndState::Open(token, descriptor);
     }
 
-    /// Its end. None if it is not open.
-    pub fn socket(&self) -> Option<Socket> {
-        match self.end {
-            EndState::Open(_, socket) => Some(socket),
+    /// Its descriptor. None if it is not open.
+    pub fn descriptor(&self) -> Option<usize> {
+        match self.state {
+            EndState::Open(_, descriptor) => Some(descriptor),
             EndState::Accepted | EndState::Never => None,
         }
+    }
+
+    /// Makes a call. A read fills the front of the buffer.
+    fn ask(&self, call: Asking<'_>, buffer: &mut [u8]) -> Result<usize, ErrorKind> {
+        let (Some(descriptor), Ok(mut outside)) = (self.descriptor(), self.outside.try_borrow_mut())
+        else {
+            return Err(ErrorKind::Other);
+        };
+        let asked = Asked {
+            poller: self.poller,
+            descriptor,
+            joined: self.tally.joined(),
+            call,
+        };
+        outside.call(asked, buffer)
     }
 
     /// Counts an error of a call by its class, and gives it.
@@ -92,18 +93,18 @@ impl EndWire {
 
 impl Drop for EndWire {
     fn drop(self) {
-        let end = self.end;
+        let (poller, state) = (self.poller, self.state);
         if let Ok(mut outside) = self.outside.try_borrow_mut() {
-            match end {
-                EndState::Open(token, socket) => outside.close(socket, token),
-                EndState::Accepted => outside.record(self.poller, Event::Listen(Listening::Drop)),
+            match state {
+                EndState::Open(token, descriptor) => outside.close(poller, descriptor, token),
+                EndState::Accepted => outside.record(poller, Event::Listen(Listening::Drop)),
                 EndState::Never => {}
             }
         }
         let EndWire {
             outside: _,
             poller: _,
-            end: _,
+            state: _,
             tally: _,
         } = self;
     }
@@ -116,7 +117,7 @@ impl Wire for EndWire {
 
     fn read(&mut self, buffer: &mut [u8]) -> io::Result<usize> {
         let call = Call::Read(Side::Target, buffer.len());
-        match self.ask_read(buffer) {
+        match self.ask(Asking::Read, buffer) {
             Ok(count) => {
                 self.tally.connect();
                 Ok(count.min(buffer.len()))
@@ -126,7 +127,7 @@ impl Wire for EndWire {
     }
 
     fn write(&mut self, offer: &[u8]) -> io::Result<usize> {
-        match self.ask_write(offer) {
+        match self.ask(Asking::Write(offer), &mut []) {
             Ok(count) if count == 0 || count > offer.len() => {
                 if !offer.is_empty() {
                     self.tally.none_taken();
@@ -142,14 +143,14 @@ impl Wire for EndWire {
     }
 
     fn shut_write(&mut self) -> io::Result<()> {
-        match self.ask_shut() {
+        match self.ask(Asking::Shut, &mut []) {
             Ok(_) => Ok(()),
             Err(kind) => Err(self.refuse(Call::Shut(Side::Target), kind)),
         }
     }
 
     fn joined(&mut self) -> io::Result<()> {
-        match self.ask_join() {
+        match self.ask(Asking::Join, &mut []) {
             Ok(_) => {
                 self.tally.connect();
                 Ok(())
@@ -169,34 +170,4 @@ impl Wire for EndWire {
 
 impl Settle for EndWire {
     fn settle(&mut self) {}
-}
-
-impl EndWire {
-    fn ask_read(&self, buffer: &mut [u8]) -> Result<usize, ErrorKind> {
-        let (Some(socket), Ok(mut outside)) = (self.socket(), self.outside.try_borrow_mut()) else {
-            return Err(ErrorKind::Other);
-        };
-        outside.read(socket, self.tally.joined(), buffer)
-    }
-
-    fn ask_write(&self, offer: &[u8]) -> Result<usize, ErrorKind> {
-        let (Some(socket), Ok(mut outside)) = (self.socket(), self.outside.try_borrow_mut()) else {
-            return Err(ErrorKind::Other);
-        };
-        outside.write(socket, self.tally.joined(), offer)
-    }
-
-    fn ask_join(&self) -> Result<usize, ErrorKind> {
-        let (Some(socket), Ok(mut outside)) = (self.socket(), self.outside.try_borrow_mut()) else {
-            return Err(ErrorKind::Other);
-        };
-        outside.join(socket, self.tally.joined())
-    }
-
-    fn ask_shut(&self) -> Result<usize, ErrorKind> {
-        let (Some(socket), Ok(mut outside)) = (self.socket(), self.outside.try_borrow_mut()) else {
-            return Err(ErrorKind::Other);
-        };
-        outside.shut(socket)
-    }
 }

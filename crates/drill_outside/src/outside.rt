@@ -1,23 +1,22 @@
 // What is outside of the server: for each poller a station, the clients that none of them has accepted yet, and what the
 // next calls get.
-ghost use Rattle.drill.specs.Sizes.{IsServerSize};
+ghost use Rattle.drill_outside.specs.Sizes.{IsServerSize};
 
-use crate::addresses::Addresses;
 use crate::plan::Plan;
 use crate::sizes::{MAX_POLLERS, Sizes};
-use crate::station::Station;
+use crate::station::{Started, Station};
 use crate::step::{Later, Outer, Polled};
 use crate::ticks::Ticks;
 use crate::totals::Totals;
-use dispatch::{Clock, Route, Unopened, Worked};
-use kernel_model::{Accepting, Descriptors, MAX_BACKLOG, MAX_POLLED, Watched};
+use dispatch::{Clock, Unopened, Worked};
+use kernel_model::{Accepting, MAX_BACKLOG, MAX_POLLED, Watched};
 use std::alloc::{AllocError, Global};
 use std::rc::Rc;
 use token::{Name, Token};
 use world::{Act, Event, Listening, Polling, Reported};
 
 /// Whose turn it is.
-#[derive(Clone, Copy, Debug, PartialEq, Eq)]
+#[derive(Clone, Copy)]
 pub struct Actor {
     /// The poller that has the turn's slot.
     pub poller: usize,
@@ -27,26 +26,17 @@ pub struct Actor {
     pub calls: bool,
 }
 
-/// An open end.
-#[derive(Clone, Copy, Debug, PartialEq, Eq)]
-pub struct Socket {
-    /// The poller that opened it.
-    pub poller: usize,
-    /// Its descriptor in that poller's kernel.
-    pub descriptor: usize,
-}
-
-/// A connection that a poller started to open.
-#[derive(Clone, Copy, Debug, PartialEq, Eq)]
-pub struct Started {
-    /// Its ends, the client's first. None where it has to be given up for want of an address.
-    pub ends: Option<(Socket, Socket)>,
-    /// Its addresses.
-    pub route: Route,
+impl Actor {
+    /// In no turn.
+    pub const NONE: Actor = Actor {
+        poller: 0,
+        worker: 0,
+        calls: false,
+    };
 }
 
 /// Why a connection could not be opened, which the log has to say.
-#[derive(Clone, Copy, Debug, PartialEq, Eq)]
+#[derive(Clone, Copy)]
 pub enum Unlogged {
     /// The connection to the target could not be started.
     Connect,
@@ -72,15 +62,16 @@ impl Unlogged {
 pub struct Outside {
     sizes: Sizes,
     clock: Rc<Ticks>,
-    stations: Vec<Station>,
+    /// What is each poller's.
+    pub stations: Vec<Station>,
     pub plan: Plan,
     /// How many clients wait outside of all kernels. With one poller a client waits at its listener.
-    pub waiting: usize,
+    waiting: usize,
     pub actor: Actor,
     /// A poller whose round ended too early.
     pub idle: Option<usize>,
     /// The last log message about a connection's end.
-    pub message: String,
+    message: String,
     /// What the log still has to say of a connection that could not be opened.
     pub unlogged: Option<Unlogged>,
     pub totals: Totals,
@@ -101,11 +92,7 @@ impl Outside {
             stations: stations_of(alloc, sizes)?,
             plan: Plan::new(alloc),
             waiting: 0,
-            actor: Actor {
-                poller: 0,
-                worker: 0,
-                calls: false,
-            },
+            actor: Actor::NONE,
             idle: None,
             message: String::new(alloc),
             unlogged: None,
@@ -113,20 +100,11 @@ impl Outside {
         })
     }
 
-    /// What is a poller's.
-    pub fn station(&self, poller: usize) -> Option<&Station> {
-        self.stations.get(poller)
-    }
-
-    pub fn station_mut(&mut self, poller: usize) -> Option<&mut Station> {
-        self.stations.get_mut(poller)
-    }
-
     /// Adds what a later call gets.
     pub fn add(&mut self, later: Later) -> Result<(), AllocError> {
         match later {
             Later::Turn(turned) => self.plan.add(turned),
-            Later::Round(poller, fronted) => match self.station_mut(poller) {
+            Later::Round(poller, fronted) => match self.stations.get_mut(poller) {
                 Some(station) => station.plan.add(fronted),
                 None => Ok(()),
             },
@@ -135,38 +113,75 @@ impl Outside {
 
     /// An event has happened in the world of this poller.
     pub fn record(&mut self, poller: usize, event: Event) {
-        if let Some(station) = self.station_mut(poller) {
+        if let Some(station) = self.stations.get_mut(poller) {
             station.tape.put(event);
         }
     }
 
     /// The worker whose turn it is has done this.
     pub fn act(&mut self, act: Act) {
-        let Actor { poller, worker, .. } = self.actor;
-        self.record(poller, Event::Work(worker, act));
+        self.record(self.actor.poller, Event::Work(self.actor.worker, act));
+    }
+
+    /// A turn begins, of this worker in this poller's world: it has taken a ticket. Answers whose turn it was.
+    pub fn begin(&mut self, poller: usize, worker: usize) -> Actor {
+        let former = self.actor;
+        self.actor = Actor {
+            poller,
+            worker,
+            calls: true,
+        };
+        self.act(Act::Pop);
+        former
+    }
+
+    /// The slot of the turn in progress was claimed, and its notes were taken.
+    pub fn begin_calls(&mut self) {
+        self.act(Act::Claim);
+        self.act(Act::Take);
     }
 
     /// The turn in progress has made its last call. Its connection has to end now, if the idle limit has passed for it.
     pub fn end_calls(&mut self) {
         self.actor.calls = false;
-        let Actor { poller, worker, .. } = self.actor;
-        if let Some(station) = self.station_mut(poller) {
-            station.tape.expire(worker);
-        }
-    }
-
-    /// Whether the worker whose turn it is has a ticket to put, in the world.
-    pub fn has_ticket(&self) -> bool {
-        match self.station(self.actor.poller) {
-            Some(station) => station.tape.has_ticket(self.actor.worker),
-            None => false,
+        if let Some(station) = self.stations.get_mut(self.actor.poller) {
+            station.tape.expire(self.actor.worker);
         }
     }
 
     /// How the turn in progress has to end, by the world.
     pub fn ending(&self) -> Option<Worked> {
-        let station = self.station(self.actor.poller)?;
+        let station = self.stations.get(self.actor.poller)?;
         station.tape.ending(self.actor.worker)
+    }
+
+    /// What the turn in progress has done after its last call, by its answer.
+    pub fn finish(&mut self, worked: Option<Worked>) {
+        match worked {
+            None => {}
+            Some(Worked::Busy | Worked::Gone) => self.act(Act::Claim),
+            Some(Worked::Ended) => {
+                self.act(Act::Retire);
+                self.act(Act::Free);
+            }
+            Some(Worked::Again) => {
+                self.act(Act::Post);
+                self.release();
+            }
+            Some(Worked::Quiet) => self.release(),
+        }
+    }
+
+    /// The slot is released, and a ticket that this made is put.
+    fn release(&mut self) {
+        self.act(Act::Release);
+        let has_ticket = match self.stations.get(self.actor.poller) {
+            Some(station) => station.tape.has_ticket(self.actor.worker),
+            None => false,
+        };
+        if has_ticket {
+            self.act(Act::Put);
+        }
     }
 
     /// Something happens outside. Where the kernel refuses it, nothing does. While a client waits, no report of the
@@ -182,7 +197,11 @@ impl Outside {
             | Event::Vanish(Reported::End(slot, _)) => self.sizes.poller_of(*slot),
             _ => poller,
         };
-        if let Some(station) = self.station_mut(poller) {
+        self.tell(poller, event);
+    }
+
+    fn tell(&mut self, poller: usize, event: Event) {
+        if let Some(station) = self.stations.get_mut(poller) {
             station.happen(event);
         }
     }
@@ -208,40 +227,27 @@ impl Outside {
             return;
         }
         self.waiting += 1;
-        for poller in 0..self.stations.len() {
-            if self.is_armed(poller) {
-                self.tell(poller, Event::Spurious(Reported::Listener));
+        for station in self.stations.iter_mut() {
+            if station.kernel.is_armed() {
+                station.happen(Event::Spurious(Reported::Listener));
             }
-        }
-    }
-
-    fn is_armed(&self, poller: usize) -> bool {
-        match self.station(poller) {
-            Some(station) => station.kernel.is_armed(),
-            None => false,
-        }
-    }
-
-    fn tell(&mut self, poller: usize, event: Event) {
-        if let Some(station) = self.station_mut(poller) {
-            station.happen(event);
         }
     }
 
     /// Whether no client waits for any of several pollers, or else this one's next poll tells of the listener.
     pub fn hears(&self, poller: usize) -> bool {
-        match self.station(poller) {
+        match self.stations.get(poller) {
             Some(station) => self.waiting == 0 || station.kernel.is_queued(&Name::Listener),
             None => false,
         }
     }
 
     /// A poller's poll: the names that it gives. None where a signal came first.
-    pub fn poll(&mut self, poller: usize) -> Result<Option<Vec<Name>>, AllocError> {
-        let Some(station) = self.station_mut(poller) else {
+    pub(crate) fn poll(&mut self, poller: usize) -> Result<Option<Vec<Name>>, AllocError> {
+        let Some(station) = self.stations.get_mut(poller) else {
             return Ok(None);
         };
-        let polled = station.plan.next_poll();
+        let polled = station.plan.polls.pop_front();
         let names = station.poll(polled)?;
         for _event in 0..MAX_POLLED {
             let Some(outer) = self.next_polled(poller) else {
@@ -249,31 +255,31 @@ impl Outside {
             };
             self.happen(outer);
         }
-        for _name in &names {
-            self.record(poller, Event::Poll(Polling::Deliver));
-        }
-        self.sweep(poller);
-        if polled == Some(Polled::Interrupted) {
-            return Ok(None);
-        }
-        Ok(Some(names))
-    }
-
-    /// A poller's round comes to its sweep.
-    fn sweep(&mut self, poller: usize) {
-        let second = self.clock.second();
-        if let Some(station) = self.station_mut(poller) {
-            station.sweep(second);
+        self.deliver(poller, names.len());
+        match polled {
+            Some(Polled::Interrupted) => Ok(None),
+            _ => Ok(Some(names)),
         }
     }
 
     fn next_polled(&mut self, poller: usize) -> Option<Outer> {
-        self.station_mut(poller)?.plan.next_polled()
+        self.stations.get_mut(poller)?.plan.polled.pop_front()
+    }
+
+    /// A poller delivers so many reports, and then its round comes to its sweep.
+    fn deliver(&mut self, poller: usize, reports: usize) {
+        let second = self.clock.second();
+        if let Some(station) = self.stations.get_mut(poller) {
+            for _report in 0..reports {
+                station.tape.put(Event::Poll(Polling::Deliver));
+            }
+            station.sweep(second);
+        }
     }
 
     /// A poller's round has ended although its accept flag is up and a slot is free.
     pub fn expect_rest(&mut self, poller: usize) {
-        if let Some(station) = self.station(poller) {
+        if let Some(station) = self.stations.get(poller) {
             if !station.may_rest() {
                 self.idle = Some(poller);
             }
@@ -281,16 +287,15 @@ impl Outside {
     }
 
     /// What a poller's accept(2) is answered.
-    pub fn accept(&mut self, poller: usize) -> Accepting {
-        let waiting = self.waiting;
-        let Some(station) = self.station_mut(poller) else {
+    pub(crate) fn accept(&mut self, poller: usize) -> Accepting {
+        let Some(station) = self.stations.get_mut(poller) else {
             return Accepting::Starved;
         };
         let is_in = station.kernel.backlog() > 0;
-        let reply = station.accept(is_in || waiting > 0);
+        let reply = station.accept(is_in || self.waiting > 0);
         if reply == Accepting::Accepted && !is_in {
             station.let_in();
-            self.waiting = waiting.saturating_sub(1);
+            self.waiting = self.waiting.saturating_sub(1);
         } else {
             station.answer(reply);
         }
@@ -299,52 +304,46 @@ impl Outside {
 
     /// Both ends of a connection that a poller accepted are opened, or that fails as it is planned. From then on the log has
     /// to say so.
-    pub fn open(
+    pub(crate) fn open(
         &mut self,
         poller: usize,
         client: Token,
         target: Token,
     ) -> Result<Started, Unopened> {
-        let started = self.start(poller, client, target);
+        let started = match self.stations.get_mut(poller) {
+            Some(station) => station.open(client, target),
+            None => Err(Unopened::Connect),
+        };
         if self.unlogged.is_none() {
             self.unlogged = unlogged_of(&started);
         }
         started
     }
 
-    fn start(&mut self, poller: usize, client: Token, target: Token) -> Result<Started, Unopened> {
-        let Some(station) = self.station_mut(poller) else {
-            return Err(Unopened::Connect);
-        };
-        let (ends, route) = station.open(client, target)?;
-        Ok(Started {
-            ends: ends.map(|ends| sockets_of(poller, ends)),
-            route,
-        })
-    }
-
     /// The server logs this.
     pub fn log(&mut self, message: String) {
-        if is_told(self.unlogged, message.as_str()) {
-            self.unlogged = None;
+        if let Some(unlogged) = self.unlogged {
+            if message.as_str() == unlogged.line() {
+                self.unlogged = None;
+            }
         }
         self.message = message;
     }
 
-    /// An end is closed.
-    pub fn close(&mut self, socket: Socket, token: Token) {
-        let Some(station) = self.stations.get_mut(socket.poller) else {
+    /// An end of a poller's kernel is closed.
+    pub(crate) fn close(&mut self, poller: usize, descriptor: usize, token: Token) {
+        let Some(station) = self.stations.get_mut(poller) else {
             return;
         };
-        if station.close(socket.descriptor, token, self.message.as_str()) {
+        if station.close(descriptor, token, self.message.as_str()) {
             self.act(Act::Close);
         }
     }
 
     /// The poller that has this slot is woken.
-    pub fn wake(&mut self, slot: usize) {
+    pub(crate) fn wake(&mut self, slot: usize) {
         let poller = self.sizes.poller_of(slot);
-        if let Some(station) = self.station_mut(poller) {
+        if let Some(station) = self.stations.get_mut(poller) {
             let _ = station.kernel.spurious(Watched::Waker);
         }
     }
@@ -352,26 +351,11 @@ impl Outside {
     /// Nothing that happens from now on is recorded. Answers what was played in all.
     pub fn end(&mut self) -> Totals {
         for station in self.stations.iter_mut() {
-            station.tape.end();
+            station.tape.over = true;
             self.totals.add(&station.tape.totals);
         }
         self.totals
     }
-}
-
-/// Both ends of a connection in a poller's kernel, the client's first.
-fn sockets_of(poller: usize, ends: Descriptors) -> (Socket, Socket) {
-    let (client, target) = (ends.client, ends.target);
-    (
-        Socket {
-            poller,
-            descriptor: client,
-        },
-        Socket {
-            poller,
-            descriptor: target,
-        },
-    )
 }
 
 /// Why a connection could not be opened, if it could not.
@@ -384,14 +368,6 @@ fn unlogged_of(started: &Result<Started, Unopened>) -> Option<Unlogged> {
     }
 }
 
-/// Whether a message says why a connection could not be opened.
-fn is_told(unlogged: Option<Unlogged>, message: &str) -> bool {
-    match unlogged {
-        Some(unlogged) => message == unlogged.line(),
-        None => false,
-    }
-}
-
 /// A station for each poller of a server of these sizes.
 fn stations_of(alloc: Global, sizes: Sizes) -> Result<Vec<Station>, AllocError>
     requires { IsServerSize sizes }
@@ -399,8 +375,7 @@ fn stations_of(alloc: Global, sizes: Sizes) -> Result<Vec<Station>, AllocError>
     let mut stations = Vec::with_capacity(alloc, MAX_POLLERS)?;
     for poller in 0..MAX_POLLERS {
         if let Some(part) = sizes.part(poller) {
-            let addresses = Addresses::of(poller);
-            stations.push(Station::new(alloc, sizes, part, addresses)?)?;
+            stations.push(Station::new(alloc, sizes, part, poller)?)?;
         }
     }
     Ok(stations)

@@ -1,21 +1,8 @@
-// The steps of a script.
+// The steps of a script that are not its program's alone.
 use dispatch::Unopened;
 use kernel_model::Accepting;
 use token::Kind;
 use world::Event;
-
-/// One step of a script.
-#[derive(Drop)]
-pub enum Step {
-    /// A step that is made at once.
-    Now(Inner),
-    /// The own turn of this poller's thread, after a round that left exactly one ticket.
-    Own(usize),
-    /// What one of the next calls gets, or what happens between two of them.
-    Later(Later),
-    /// The world's script and the report are printed.
-    Show,
-}
 
 /// A step that may also be made inside a turn.
 #[derive(Drop)]
@@ -73,7 +60,7 @@ pub enum Fronted {
 }
 
 /// How an opening goes.
-#[derive(Clone, Copy, Debug, PartialEq, Eq)]
+#[derive(Clone, Copy)]
 pub enum Outcome {
     /// As the kernel has it.
     Plain,
@@ -84,7 +71,7 @@ pub enum Outcome {
 }
 
 /// An address of a connection that cannot be told.
-#[derive(Clone, Copy, Debug, PartialEq, Eq)]
+#[derive(Clone, Copy)]
 pub enum Untold {
     /// The client's own.
     Client,
@@ -93,7 +80,7 @@ pub enum Untold {
 }
 
 /// What a call of a turn gets, as far as it may.
-#[derive(Clone, Copy, Debug, PartialEq, Eq)]
+#[derive(Clone, Copy)]
 pub enum Wanted {
     /// What the kernel has.
     Plain,
@@ -108,7 +95,7 @@ pub enum Wanted {
 }
 
 /// How a poll gives the names that are queued.
-#[derive(Clone, Copy, Debug, PartialEq, Eq)]
+#[derive(Clone, Copy)]
 pub enum Polled {
     /// Not at all, since a signal came first.
     Interrupted,

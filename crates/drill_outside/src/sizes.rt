@@ -1,6 +1,6 @@
 // The sizes of the server of a script, and which slots are whose.
 ghost use Rattle.std.specs.Prelude.{IfSome};
-ghost use Rattle.drill.specs.Sizes.{IsServerSize, IsServerPart};
+ghost use Rattle.drill_outside.specs.Sizes.{IsServerSize, IsServerPart};
 
 use dispatch::Part;
 use world::Limits;
@@ -9,7 +9,7 @@ use world::Limits;
 pub const MAX_POLLERS: usize = 2;
 
 /// The sizes of the server of a script.
-#[derive(Clone, Copy, Debug, PartialEq, Eq)]
+#[derive(Clone, Copy)]
 pub struct Sizes {
     /// Those of the whole server, without a lead: each poller's world has its own.
     pub limits: Limits,

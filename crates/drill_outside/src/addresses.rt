@@ -1,0 +1,44 @@
+// The addresses of a poller's connections, and the line by which their targets get to know them.
+use crate::step::Untold;
+use dispatch::Route;
+use std::net::{Ipv4Addr, SocketAddrV4};
+use world::Lead;
+
+/// What a poller's front tells of a connection, of which one address may be untold. It is the same for all of its
+/// connections, since a world has one lead. Another poller has other addresses, and a line of another length.
+pub fn route_of(poller: usize, untold: Option<Untold>) -> Route {
+    let (client, accepted) = if poller == 0 {
+        (
+            SocketAddrV4::new(Ipv4Addr::new(10, 0, 0, 1), 40_000),
+            SocketAddrV4::new(Ipv4Addr::new(10, 0, 0, 2), 7_000),
+        )
+    } else {
+        (
+            SocketAddrV4::new(Ipv4Addr::new(203, 0, 113, 255), 65_535),
+            SocketAddrV4::new(Ipv4Addr::new(198, 51, 100, 0), 9),
+        )
+    };
+    let (client, accepted) = (Some(client), Some(accepted));
+    match untold {
+        None => Route { client, accepted },
+        Some(Untold::Client) => Route {
+            client: None,
+            accepted,
+        },
+        Some(Untold::Accepted) => Route {
+            client,
+            accepted: None,
+        },
+    }
+}
+
+/// The lead of the poller's world, if targets get the line. It is written out here, so that the server's line is
+/// compared with it.
+pub fn lead_of(poller: usize) -> Lead {
+    let line: &[u8] = if poller == 0 {
+        b"PROXY TCP4 10.0.0.1 10.0.0.2 40000 7000\r\n"
+    } else {
+        b"PROXY TCP4 203.0.113.255 198.51.100.0 65535 9\r\n"
+    };
+    Lead::new(line).unwrap_or(Lead::NONE)
+}

@@ -1,0 +1,45 @@
+//! What the program `drill` lets the server's calls get in place of a system: the network, the clock and the log, in
+//! memory, and beside them the worlds with which the server is compared.
+//!
+//! [`Outside`] has it all. Each poller has a [`Station`] there, with a modelled kernel, what its next calls get
+//! ([`RoundPlan`]), and a [`Tape`], which writes down the events to which the server's steps amount, and makes each of them
+//! in a world at once. A [`KernelFront`] is a poller's front over its kernel, an [`EndWire`] one end of a connection, and
+//! [`Ticks`] the clock. [`Outer`], [`Inner`] and [`Later`] are what a script may tell it.
+//!
+//! `outside.rt` has what happens outside of the server, `station.rt` one poller's share of it, `calls.rt` the calls of a
+//! turn, `addresses.rt` the line that targets may get first, `sweeps.rt` when a sweep is due, `words.rt` the lines of
+//! events, and `past.rt` those of closed connections.
+#![tactic(auto)]
+
+mod addresses;
+mod calls;
+mod front;
+mod local;
+mod outside;
+mod page;
+mod past;
+mod plan;
+mod sizes;
+mod station;
+mod step;
+mod sweeps;
+mod tape;
+mod ticks;
+mod totals;
+mod wire;
+mod words;
+
+pub use front::KernelFront;
+pub use local::{local_slot, make_local};
+pub use outside::{Actor, Outside, Unlogged};
+pub use page::{Page, Piece};
+pub use past::Past;
+pub use plan::{Plan, RoundPlan};
+pub use sizes::{MAX_POLLERS, Sizes};
+pub use station::Station;
+pub use step::{Fronted, Inner, Later, Outcome, Outer, Polled, Turned, Untold, Wanted};
+pub use tape::Tape;
+pub use ticks::Ticks;
+pub use totals::Totals;
+pub use wire::EndWire;
+pub use words::put_names;
