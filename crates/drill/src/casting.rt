@@ -14,41 +14,30 @@ use std::alloc::{AllocError, Global};
 use std::cell::RefCell;
 use std::rc::Rc;
 
-/// A server with its threads over this cell and by this clock. None if the parts are used up.
+/// A server with its threads over this cell and by this clock.
 pub fn crew_of<'s>(
     alloc: Global,
-    outside: &Rc<RefCell<Outside>>,
+    outside: Rc<RefCell<Outside>>,
     clock: Rc<Ticks>,
     shared: &'s Shared<KernelFront>,
     mut rest: Rest,
     sizes: Sizes,
-) -> Result<Option<Crew<'s>>, AllocError>
+) -> Result<Crew<'s>, AllocError>
     requires sizes { IsServerSize sizes }
     requires sized { shared.now.claims.words ≡ sizes.limits.slots }
     requires fresh { AreFresh shared.now.claims rest.parts.seats.items }
 {
-    let wanted = sizes.limits.workers;
-    let Some(leads) = leads_of(alloc, outside, shared, &mut rest, sizes)? else {
-        return Ok(None);
-    };
-    let Some(spare) = next_worker(alloc, shared, &mut rest)? else {
-        return Ok(None);
-    };
-    let mut workers = Vec::with_capacity(alloc, wanted)?;
-    for _worker in 0..wanted {
-        let Some(worker) = next_worker(alloc, shared, &mut rest)? else {
-            return Ok(None);
-        };
-        workers.push(RefCell::new(worker))?;
-    }
-    Ok(Some(Crew {
+    let leads = leads_of(alloc, &outside, shared, &mut rest, sizes)?;
+    let spare = RefCell::new(next_worker(alloc, shared, &mut rest)?);
+    let workers = workers_of(alloc, shared, &mut rest, sizes.limits.workers)?;
+    Ok(Crew {
         sizes,
-        outside: outside.clone()?,
+        outside,
         clock,
         leads,
         workers,
-        spare: RefCell::new(spare),
-    }))
+        spare,
+    })
 }
 
 /// The threads of the pollers.
@@ -58,7 +47,7 @@ fn leads_of<'s>(
     shared: &'s Shared<KernelFront>,
     rest: &mut Rest,
     sizes: Sizes,
-) -> Result<Option<Vec<RefCell<Lead<'s>>>>, AllocError>
+) -> Result<Vec<RefCell<Lead<'s>>>, AllocError>
     requires sizes { IsServerSize sizes }
     requires sized { shared.now.claims.words ≡ sizes.limits.slots }
     requires fresh { AreFresh shared.now.claims rest.old.parts.seats.items }
@@ -67,15 +56,29 @@ fn leads_of<'s>(
     let mut leads = Vec::with_capacity(alloc, MAX_POLLERS)?;
     for number in 0..MAX_POLLERS {
         if let Some(part) = sizes.part(number) {
-            let Some(own) = rest.next_own(alloc, shared, number)? else {
-                return Ok(None);
-            };
             let front = KernelFront::new(alloc, outside.clone()?, number)?;
             let poller = poller_of(alloc, front, part, sizes)?;
+            let own = rest.next_own(alloc, shared, number)?;
             leads.push(RefCell::new(lead_of(shared, own, poller)))?;
         }
     }
-    Ok(Some(leads))
+    Ok(leads)
+}
+
+/// So many workers.
+fn workers_of<'s>(
+    alloc: Global,
+    shared: &'s Shared<KernelFront>,
+    rest: &mut Rest,
+    wanted: usize,
+) -> Result<Vec<RefCell<Worker<'s>>>, AllocError>
+    requires { AreFresh shared.now.claims rest.old.parts.seats.items }
+{
+    let mut workers = Vec::with_capacity(alloc, wanted)?;
+    for _worker in 0..wanted {
+        workers.push(RefCell::new(next_worker(alloc, shared, rest)?))?;
+    }
+    Ok(workers)
 }
 
 /// The poller of this part of a server that has opened no connection yet.
@@ -128,15 +131,12 @@ fn next_worker<'s>(
     alloc: Global,
     shared: &'s Shared<KernelFront>,
     rest: &mut Rest,
-) -> Result<Option<Worker<'s>>, AllocError>
+) -> Result<Worker<'s>, AllocError>
     requires { AreFresh shared.now.claims rest.old.parts.seats.items }
     ensures { AreFresh shared.now.claims rest.new.parts.seats.items }
 {
-    let Some(own) = rest.next_own(alloc, shared, 0)? else {
-        return Ok(None);
-    };
-    let other = rest.next_end(1);
-    Ok(Some(worker_of(shared, own, other)))
+    let own = rest.next_own(alloc, shared, 0)?;
+    Ok(worker_of(shared, own, rest.next_end(1)))
 }
 
 #[tactic(auto, using(claims::proofs::Seats::fresh_holds_nothing))]

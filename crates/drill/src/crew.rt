@@ -2,7 +2,7 @@
 use crate::actors::{Lead, Worker};
 use crate::gate::{Nested, Planned};
 use dispatch::{Gate, Timing, Worked};
-use drill_outside::{Actor, Inner, Outside, Sizes, Ticks};
+use drill_outside::{Actor, Inner, Outside, Sizes, Ticks, Totals};
 use log::Log;
 use std::alloc::Global;
 use std::cell::RefCell;
@@ -136,6 +136,21 @@ impl Crew<'_> {
         Timing {
             clock: &self.clock,
             limit: self.sizes.limits.idle,
+        }
+    }
+
+    /// One step more was made.
+    pub fn count_step(&self) {
+        if let Ok(mut outside) = self.outside.try_borrow_mut() {
+            outside.totals.steps = outside.totals.steps.saturating_add(1);
+        }
+    }
+
+    /// Nothing that happens from now on is recorded. Answers what was played in all.
+    pub fn end(&self) -> Totals {
+        match self.outside.try_borrow_mut() {
+            Ok(mut outside) => outside.end(),
+            Err(_) => Totals::new(),
         }
     }
 

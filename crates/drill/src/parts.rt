@@ -1,5 +1,5 @@
 // What the threads of the server share, and what each of them is made from.
-ghost use Rattle.std.specs.Prelude.{◌≡◌, IfOk, IfSome};
+ghost use Rattle.std.specs.Prelude.{◌≡◌, IfOk};
 ghost use Rattle.claims.specs.Seats.{fresh_seat};
 ghost use Rattle.dispatch.specs.Parts.{AreFresh};
 ghost use Rattle.drill_outside.specs.Sizes.{IsServerSize};
@@ -71,23 +71,26 @@ fn free_queues(
 }
 
 impl Rest {
-    /// What the next thread owns, with an end of this poller's queue of free slots. None if the parts are used up.
+    /// What the next thread owns, with an end of this poller's queue of free slots. Fails also if the parts are used up.
     pub fn next_own(
         &mut self,
         alloc: Global,
         shared: &Shared<KernelFront>,
         poller: usize,
-    ) -> Result<Option<Own>, AllocError>
+    ) -> Result<Own, AllocError>
         requires { AreFresh shared.now.claims self.old.parts.seats.items }
         ensures left { AreFresh shared.now.claims self.new.parts.seats.items }
-        ensures next { IfOk result (λ next. IfSome next (λ own. own.seat ≡ fresh_seat shared.now.claims)) }
+        ensures next { IfOk result (λ own. own.seat ≡ fresh_seat shared.now.claims) }
     {
         let slots = shared.claims.slots();
         let capacity = slots.saturating_mul(2).saturating_add(2 * MAX_BATCH);
         let Some(free) = self.next_end(poller) else {
-            return Ok(None);
+            return Err(AllocError);
         };
-        self.parts.next_own(alloc, shared, capacity, free)
+        match self.parts.next_own(alloc, shared, capacity, free)? {
+            Some(own) => Ok(own),
+            None => Err(AllocError),
+        }
     }
 
     /// The next end of this poller's queue of free slots.

@@ -2,7 +2,7 @@
 use crate::crew::Crew;
 use crate::reading::{Step, Unread, read_step};
 use crate::report::report_of;
-use drill_outside::{Station, Tape};
+use drill_outside::{Station, Tape, Unlogged};
 use log::Log;
 use std::alloc::Global;
 use std::io::{self, ErrorKind};
@@ -27,24 +27,33 @@ pub fn play_line<R: Wait + Log + Print>(
     line: &str,
 ) -> io::Result<Played> {
     match read_step(alloc, line) {
-        Err(Unread::Malformed) => return Ok(Played::Malformed),
-        Err(Unread::NoMemory) => return Err(io::Error::from(ErrorKind::OutOfMemory)),
-        Ok(Step::Later(later)) => {
+        Ok(step) => play(rt, alloc, crew, step),
+        Err(Unread::Malformed) => Ok(Played::Malformed),
+        Err(Unread::NoMemory) => Err(io::Error::from(ErrorKind::OutOfMemory)),
+    }
+}
+
+fn play<R: Wait + Log + Print>(
+    rt: &R,
+    alloc: Global,
+    crew: &Crew<'_>,
+    step: Step,
+) -> io::Result<Played> {
+    match step {
+        Step::Later(later) => {
             if let Ok(mut outside) = crew.outside.try_borrow_mut() {
                 outside.add(later)?;
             }
             return Ok(Played::Agreed);
         }
-        Ok(Step::Show) => {
+        Step::Show => {
             show(rt, alloc, crew)?;
             return Ok(Played::Agreed);
         }
-        Ok(Step::Own(poller)) => crew.turn_alone(rt, alloc, poller),
-        Ok(Step::Now(step)) => crew.make(rt, alloc, step),
+        Step::Own(poller) => crew.turn_alone(rt, alloc, poller),
+        Step::Now(step) => crew.make(rt, alloc, step),
     }
-    if let Ok(mut outside) = crew.outside.try_borrow_mut() {
-        outside.totals.steps = outside.totals.steps.saturating_add(1);
-    }
+    crew.count_step();
     if compare(rt, alloc, crew)? {
         Ok(Played::Agreed)
     } else {
@@ -75,22 +84,37 @@ fn show_station<R: Print>(rt: &R, station: &Station, report: &str) -> io::Result
 /// printed.
 fn compare<R: Wait + Print>(rt: &R, alloc: Global, crew: &Crew<'_>) -> io::Result<bool> {
     for poller in 0..crew.leads.len() {
-        if !agrees(rt, alloc, crew, poller)? {
-            return Ok(false);
-        }
-        if !crew.hears(poller) {
-            println!(rt; "a client waits, and poller {poller} would not accept it")?;
+        if !agrees(rt, alloc, crew, poller)? || !hears(rt, crew, poller)? {
             return Ok(false);
         }
     }
-    let Ok(outside) = crew.outside.try_borrow() else {
-        return Err(io::Error::from(ErrorKind::Other));
+    let (idle, unlogged) = match crew.outside.try_borrow() {
+        Ok(outside) => (outside.idle, outside.unlogged),
+        Err(_) => return Err(io::Error::from(ErrorKind::Other)),
     };
-    if let Some(poller) = outside.idle {
+    is_settled(rt, idle, unlogged)
+}
+
+/// Whether a poller gets to know of a client that waits.
+fn hears<R: Print>(rt: &R, crew: &Crew<'_>, poller: usize) -> io::Result<bool> {
+    let hears = crew.hears(poller);
+    if !hears {
+        println!(rt; "a client waits, and poller {poller} would not accept it")?;
+    }
+    Ok(hears)
+}
+
+/// Whether no poller ended a round too early, and nothing is missing in the log.
+fn is_settled<R: Print>(
+    rt: &R,
+    idle: Option<usize>,
+    unlogged: Option<Unlogged>,
+) -> io::Result<bool> {
+    if let Some(poller) = idle {
         println!(rt; "poller {poller} ended a round while it could accept")?;
         return Ok(false);
     }
-    if let Some(unlogged) = outside.unlogged {
+    if let Some(unlogged) = unlogged {
         let line = unlogged.line();
         println!(rt; "not in the log: {line}")?;
         return Ok(false);

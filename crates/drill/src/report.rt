@@ -4,9 +4,11 @@ use crate::crew::Crew;
 use crate::looking::{slots_in, tickets_in, tickets_of};
 use crate::place::{Standing, put_slot};
 use crate::sheet::Sheet;
+use dispatch::{Hand, Part};
 use drill_outside::{Page, Piece, Station, make_local, put_names};
 use ready::Ticket;
 use std::alloc::{AllocError, Global};
+use std::cell::RefCell;
 use std::sync::Wait;
 
 /// The report of the server at a poller's slots, from its words, places, queues, hands, table and pairs. What the network
@@ -17,42 +19,50 @@ pub fn report_of<R: Wait>(
     crew: &Crew<'_>,
     poller: usize,
 ) -> Result<String, AllocError> {
-    let (Some(cell), Ok(outside)) = (crew.leads.get(poller), crew.outside.try_borrow()) else {
-        return String::from_str(alloc, "no poller\n");
-    };
-    let (Ok(mut lead), Some(station)) = (cell.try_borrow_mut(), outside.stations.get(poller)) else {
-        return String::from_str(alloc, "in use\n");
-    };
     let mut sheet = Sheet {
         alloc,
         sizes: crew.sizes,
         poller,
-        part: lead.poller.part(),
+        part: Part { first: 0, slots: 0 },
         page: Page::new(alloc),
         tickets: Vec::new(alloc),
     };
-    put_report(rt, &mut sheet, crew, &mut lead, station)?;
+    look(rt, &mut sheet, crew)?;
     sheet.page.finish()
 }
 
-/// Writes the report at the slots of a poller, whose thread this is.
+/// Looks at a poller's thread and what is outside of the server.
+fn look<R: Wait>(rt: &R, sheet: &mut Sheet, crew: &Crew<'_>) -> Result<(), AllocError> {
+    let (Some(cell), Ok(outside)) = (crew.leads.get(sheet.poller), crew.outside.try_borrow()) else {
+        sheet.page.put(&[Piece::Text("no poller\n")]);
+        return Ok(());
+    };
+    let (Ok(mut lead), Ok(mut spare)) = (cell.try_borrow_mut(), crew.spare.try_borrow_mut()) else {
+        sheet.page.put(&[Piece::Text("in use\n")]);
+        return Ok(());
+    };
+    match outside.stations.get(sheet.poller) {
+        Some(station) => put_report(rt, sheet, crew, &mut lead, &mut spare, station),
+        None => Ok(()),
+    }
+}
+
+/// Writes the report at the slots of a poller, whose thread this is, from the seat of a spare worker.
 fn put_report<R: Wait>(
     rt: &R,
     sheet: &mut Sheet,
     crew: &Crew<'_>,
     lead: &mut Lead<'_>,
+    spare: &mut Worker<'_>,
     station: &Station,
 ) -> Result<(), AllocError> {
-    let Ok(mut spare) = crew.spare.try_borrow_mut() else {
-        sheet.page.put(&[Piece::Text("in use\n")]);
-        return Ok(());
-    };
+    sheet.part = lead.poller.part();
     put_head(sheet, station, lead.poller.is_accepting())?;
-    put_ready(rt, sheet, &mut spare)?;
-    put_free(rt, sheet, lead, &mut spare)?;
+    put_ready(rt, sheet, spare)?;
+    put_free(rt, sheet, lead, spare)?;
     put_hand(sheet, lead)?;
     put_workers(sheet, crew)?;
-    put_places(rt, sheet, lead, &mut spare, station);
+    put_places(rt, sheet, lead, spare, station);
     sheet.page.put(&[Piece::Text(station.past.lines.as_str())]);
     Ok(())
 }
@@ -112,28 +122,41 @@ fn put_hand(sheet: &mut Sheet, lead: &mut Lead<'_>) -> Result<(), AllocError> {
 /// A line for each worker, and one for the turns of the poller's thread.
 fn put_workers(sheet: &mut Sheet, crew: &Crew<'_>) -> Result<(), AllocError> {
     for (number, cell) in crew.workers.iter().enumerate() {
-        sheet
-            .page
-            .put(&[Piece::Text("worker "), Piece::Number(number as u64)]);
-        match cell.try_borrow_mut() {
-            Ok(mut worker) => put_worker(sheet, &mut worker)?,
-            Err(_) => sheet.page.put(&[Piece::Text(" in a turn\n")]),
-        }
+        put_worker(sheet, number, cell)?;
     }
-    sheet.page.put(&[
-        Piece::Text("worker "),
-        Piece::Number(crew.workers.len() as u64),
-        Piece::Text(" idle\n"),
-    ]);
+    put_number(sheet, crew.workers.len());
+    sheet.page.put(&[Piece::Text(" idle\n")]);
     Ok(())
 }
 
+fn put_number(sheet: &mut Sheet, number: usize) {
+    sheet
+        .page
+        .put(&[Piece::Text("worker "), Piece::Number(number as u64)]);
+}
+
+/// The line of a worker with this number.
+fn put_worker(
+    sheet: &mut Sheet,
+    number: usize,
+    cell: &RefCell<Worker<'_>>,
+) -> Result<(), AllocError> {
+    put_number(sheet, number);
+    match cell.try_borrow_mut() {
+        Ok(mut worker) => put_held(sheet, &mut worker.own.hand),
+        Err(_) => {
+            sheet.page.put(&[Piece::Text(" in a turn\n")]);
+            Ok(())
+        }
+    }
+}
+
 /// What a worker has in hand: no slots, and these tickets.
-fn put_worker(sheet: &mut Sheet, worker: &mut Worker<'_>) -> Result<(), AllocError> {
+fn put_held(sheet: &mut Sheet, hand: &mut Hand) -> Result<(), AllocError> {
     let first = sheet.tickets.len();
-    let hand = tickets_in(sheet.alloc, &mut worker.own.hand)?;
-    sheet.add_own(hand.as_slice())?;
-    let kept = worker.own.hand.slots();
+    let tickets = tickets_in(sheet.alloc, hand)?;
+    sheet.add_own(tickets.as_slice())?;
+    let kept = hand.slots();
     if kept > 0 {
         sheet.page.put(&[
             Piece::Text(" keeps "),

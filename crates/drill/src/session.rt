@@ -12,7 +12,7 @@ use drill_outside::{Outside, Sizes, Ticks, Totals};
 use log::{Level, Log, Logged};
 use std::alloc::Global;
 use std::cell::RefCell;
-use std::io::{self, BufRead, ErrorKind};
+use std::io::{self, BufRead};
 use std::rc::Rc;
 use std::sync::Wait;
 
@@ -73,15 +73,26 @@ fn play_script<R: Wait + AllocGlobal + Print, B: BufRead>(
         outside: outside.clone()?,
     };
     let log = Logged::new(rt, Level::Info, diary);
+    let (ending, played) = play_server(&log, alloc, outside, clock, sizes, source)?;
+    *totals = played;
+    Ok(ending)
+}
+
+/// Plays the lines up to the next header on a server over this cell and by this clock. Answers what was played in all.
+fn play_server<R: Wait + Log + Print, B: BufRead>(
+    rt: &R,
+    alloc: Global,
+    outside: Rc<RefCell<Outside>>,
+    clock: Rc<Ticks>,
+    sizes: Sizes,
+    source: &mut Source<B>,
+) -> io::Result<(Ending, Totals)>
+    requires { IsServerSize sizes }
+{
     let (shared, rest) = parts_of(rt, alloc, outside.clone()?, sizes)?;
-    let Some(crew) = crew_of(alloc, &outside, clock, &shared, rest, sizes)? else {
-        return Err(io::Error::from(ErrorKind::Other));
-    };
-    let ending = play_lines(&log, alloc, &crew, source);
-    if let Ok(mut outside) = outside.try_borrow_mut() {
-        *totals = outside.end();
-    }
-    ending
+    let crew = crew_of(alloc, outside, clock, &shared, rest, sizes)?;
+    let ending = play_lines(rt, alloc, &crew, source)?;
+    Ok((ending, crew.end()))
 }
 
 /// Plays the lines up to the next header.
@@ -99,17 +110,13 @@ fn play_lines<R: Wait + Log + Print, B: BufRead>(
             return Ok(Ending::Header(line));
         }
         let number = source.number;
-        match play_line(rt, alloc, crew, line.as_str())? {
-            Played::Agreed => {}
-            Played::Differs => {
-                println!(rt; "line {number}: they differ after: {line}")?;
-                return Ok(Ending::Fault);
-            }
-            Played::Malformed => {
-                println!(rt; "line {number}: malformed: {line}")?;
-                return Ok(Ending::Fault);
-            }
-        }
+        let fault = match play_line(rt, alloc, crew, line.as_str())? {
+            Played::Agreed => continue,
+            Played::Differs => "they differ after",
+            Played::Malformed => "malformed",
+        };
+        println!(rt; "line {number}: {fault}: {line}")?;
+        return Ok(Ending::Fault);
     }
     Ok(Ending::Input)
 }
