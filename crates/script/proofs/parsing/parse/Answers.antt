@@ -1,4 +1,4 @@
-use Rattle.std.proofs.Common.{Some, Vec, Global, ap, ◌∙◌}
+use Rattle.std.proofs.Common.{Some, Vec, Global, ap, ◌∙◌, rules}
 use Rattle.script_text.specs.declared.step.NumberedStep.{NumberedStep}
 use Rattle.script_text.specs.declared.event.NumberedEvent.{NumberedEvent}
 use Rattle.script.specs.Scripts.{said_lines}
@@ -7,7 +7,7 @@ use Rattle.script.proofs.parsing.parse.Goals as goal
 
 pub returns-in-Err-clause-script : goal.returns-in-Err-clause-script
 returns-in-Err-clause-script c =
-    bad_first _ _ _ _ c.if-text-gt-MAX_BYTES.false c.new-lines.ensures c.in-Some.ensures c.in-Err.ensures.value
+    let bad = bad_first c.args.text.now _ _ _ c.if-text-gt-MAX_BYTES.false c.new-lines.ensures c.in-Some.ensures c.in-Err.ensures.value in search (rules, bad)
 
 pub returns-in_ok-steps-in-Ok-Flow-clause-script : goal.returns-in_ok-steps-in-Ok-Flow-clause-script
 returns-in_ok-steps-in-Ok-Flow-clause-script c =
