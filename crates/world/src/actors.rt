@@ -1,12 +1,12 @@
 /// The right to try a slot, for the connection of one generation.
-#[derive(Clone, Copy, Debug, PartialEq, Eq)]
+#[derive(Clone, Copy)]
 pub struct Ticket {
     pub slot: usize,
     pub generation: u64,
 }
 
 /// Who holds a slot.
-#[derive(Clone, Copy, Debug, PartialEq, Eq)]
+#[derive(Clone, Copy)]
 pub enum Holder {
     Nobody,
     /// The worker with this number.
@@ -16,7 +16,7 @@ pub enum Holder {
 }
 
 /// What a worker is doing.
-#[derive(Clone, Copy, Debug, PartialEq, Eq)]
+#[derive(Clone, Copy)]
 pub enum Doing {
     Idle,
     /// It has taken this ticket from the ready queue.

@@ -10,7 +10,7 @@ const MAX: usize = Flow::MAX_LEAD;
 
 /// The bytes that the target of each connection is sent before the client's own: 0 to 107. Contracts see a lead as the
 /// list of its bytes.
-#[derive(Clone, Copy, Debug, PartialEq, Eq)]
+#[derive(Clone, Copy)]
 pub struct Lead {
     bytes: [u8; MAX],
     len: usize,

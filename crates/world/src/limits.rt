@@ -10,7 +10,7 @@ pub(crate) const MAX_TICK: u64 = 4_294_967_295;
 /// to 1,024 calls per turn, the generation at which every slot starts, which is at most 2^47 - 2, the number of
 /// seconds after which a connection that moves nothing may be failed, where 0 is never, and the bytes that the target of
 /// each connection is sent before the client's own, [`Lead::NONE`] for a world without a lead.
-#[derive(Clone, Copy, Debug, PartialEq, Eq)]
+#[derive(Clone, Copy)]
 pub struct Limits {
     pub slots: usize,
     pub workers: usize,
