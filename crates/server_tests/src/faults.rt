@@ -28,7 +28,7 @@ fn crew_of<'a, R>(
         timing: NO_LIMIT,
         faults,
         shared: Arc::try_clone(shared)?,
-        split: Split::new(1, 2),
+        split: Split::new(2, 2),
         polling: AtomicUsize::new(1),
         pollers_work: true,
         cast: Mutex::new(Cast {
