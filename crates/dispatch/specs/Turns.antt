@@ -3,7 +3,7 @@ use Rattle.std.specs.Prelude.{◌≡◌, ◌≢◌, ◌⊎◌, ℕ, ◌+◌, ◌
 use Rattle.claims.specs.declared.view.Account.{Account}
 use Rattle.claims.specs.Seats.{SeatState, TableId, account_at, Holds, HoldsNot, HoldsNothing, OnlyAt}
 use Rattle.ready.specs.declared.ticket.Ticket.{Ticket}
-use Rattle.relay_core.specs.Pairs.{Relay, noted}
+use Rattle.relay_core.specs.Pairs.{PairState, noted}
 use Rattle.dispatch.specs.declared.faults.ServerFault.{ServerFault}
 use Rattle.dispatch.specs.declared.shared.Own.{Own}
 use Rattle.dispatch.specs.declared.worker.Worked.{Worked}
@@ -103,5 +103,5 @@ OwnTurn ticket (Ok (Some worked)) old new = TicketsKept ticket (without_first ol
 OwnTurn ticket (Err fault) old new = TicketsKept ticket (without_first old) new × SlotsKept ticket (Err fault) old new
 
 -- the pair, noted if there were notes
-abbrev pub noted_by : ℕ → Relay → Relay
+abbrev pub noted_by : ℕ → PairState → PairState
 noted_by notes pair = if nat_lt 0 notes then noted pair else pair

@@ -13,7 +13,7 @@ use Rattle.relay_core.specs.declared.call.Call.{Call}
 use Rattle.relay_core.specs.declared.call.Call.TheVariants as call
 use Rattle.relay_core.specs.declared.call.Call.TheVariants.{Write, Read, Join}
 use Rattle.relay_core.specs.Calls.{side_of}
-use Rattle.relay_core.specs.Pairs.{Relay}
+use Rattle.relay_core.specs.Pairs.{PairState}
 use Rattle.relay_core.specs.Order.{offer}
 use Rattle.relay_core.specs.Replies.{AnswerValue, Bytes, End, Wrote, Joined, Shut, Blocked, Interrupted, Failed, fits, after}
 use Rattle.relay_core.specs.Moved.{brought, carried}
@@ -46,7 +46,7 @@ pub stays_at : (n m : ℕ) → m ≡ n → Rises n m 0
 stays_at n m e = ap (λ (k : ℕ). k % 2 ^ 64) (e ∙ sym (add-zero n))
 
 -- an answer that moves nothing and that no wire counts
-pub still : {S : Type 0} (now : ℕ) (told : S → WireView) (does : Asked → Given → S → S → Type 0) (call : Call) (p q : Relay) (reply : AnswerValue) (old new : S) → fits p call reply ≡ true → q ≡ after now p call reply →
+pub still : {S : Type 0} (now : ℕ) (told : S → WireView) (does : Asked → Given → S → S → Type 0) (call : Call) (p q : PairState) (reply : AnswerValue) (old new : S) → fits p call reply ≡ true → q ≡ after now p call reply →
     brought (way_from (side_of call)) call reply ≡ [] → carried p (way_to (side_of call)) call reply ≡ [] →
     is_failed reply ≡ false → is_blocked reply ≡ false → Stays (told old) (told new) → IsCalled does (made (asked p call) reply) old new → IsStep told does call now p q old new
 still now told does call p q reply old new fit run brings carries sound free s m = record {
@@ -66,7 +66,7 @@ brought_whole : (side : Side) (most : ℕ) (bytes : List ℕ) → brought (way_f
 brought_whole Client most bytes = refl
 brought_whole Target most bytes = refl
 
-carried_front : (p : Relay) (side : Side) (n : ℕ) → n ≤ length (offer p side) → carried p (way_to side) (Write side) (Wrote n) ≡ take n (offer p side)
+carried_front : (p : PairState) (side : Side) (n : ℕ) → n ≤ length (offer p side) → carried p (way_to side) (Write side) (Wrote n) ≡ take n (offer p side)
 carried_front p Client n h = sym (take-offer p Client n h)
 carried_front p Target n h = sym (take-offer p Target n h)
 
@@ -76,7 +76,7 @@ fitting n most buffer some within small =
     rw (length-take-le n buffer within, le-leb 1 n some, le-leb n most small) refl
 
 -- a read brought bytes, which stand at the front of the buffer
-pub bytes_in : {S : Type 0} (now : ℕ) (told : S → WireView) (does : Asked → Given → S → S → Type 0) (side : Side) (most : ℕ) (p q : Relay) (n : ℕ) (room buffer rest : List ℕ) (old new : S) → 1 ≤ n → n ≤ length buffer → n ≤ most →
+pub bytes_in : {S : Type 0} (now : ℕ) (told : S → WireView) (does : Asked → Given → S → S → Type 0) (side : Side) (most : ℕ) (p q : PairState) (n : ℕ) (room buffer rest : List ℕ) (old new : S) → 1 ≤ n → n ≤ length buffer → n ≤ most →
     q ≡ after now p (Read side most) (Bytes (take n (buffer ++ rest))) → Consumes (told old).remaining (told new).remaining (take n buffer) →
     Stays (record (told old) { remaining = None }) (record (told new) { remaining = None }) → length room ≡ most → does (ask.Read (length room)) (Brought (take n buffer)) old new → IsStep told does (Read side most) now p q old new
 bytes_in now told does side most p q n room buffer rest old new some within small run taken s all did =
@@ -111,7 +111,7 @@ raised f g moved (inl same) = absurd (moved same)
 raised f g moved (inr rose) = rose
 
 -- a write took bytes
-pub bytes_out : {S : Type 0} (now : ℕ) (told : S → WireView) (does : Asked → Given → S → S → Type 0) (side : Side) (p q : Relay) (n : ℕ) (offered : List ℕ) (old new : S) → 1 ≤ n → n ≤ length offered → offered ≡ offer p side → q ≡ after now p (Write side) (Wrote n) →
+pub bytes_out : {S : Type 0} (now : ℕ) (told : S → WireView) (does : Asked → Given → S → S → Type 0) (side : Side) (p q : PairState) (n : ℕ) (offered : List ℕ) (old new : S) → 1 ≤ n → n ≤ length offered → offered ≡ offer p side → q ≡ after now p (Write side) (Wrote n) →
     Appends (told old).written (told new).written (take n offered) → Stays (record (told old) { written = None }) (record (told new) { written = None }) → does (ask.Write offered) (Took n) old new → IsStep told does (Write side) now p q old new
 bytes_out now told does side p q n offered old new some within same run taken s did =
     let all : n ≤ length (offer p side) = rw same at within in
@@ -129,7 +129,7 @@ bytes_out now told does side p q n offered old new some within same run taken s 
     }
 
 -- a call failed
-pub failed : {S : Type 0} (now : ℕ) (told : S → WireView) (does : Asked → Given → S → S → Type 0) (call : Call) (p q : Relay) (kind : Kind) (old new : S) → fits p call (Failed kind) ≡ true → q ≡ after now p call (Failed kind) →
+pub failed : {S : Type 0} (now : ℕ) (told : S → WireView) (does : Asked → Given → S → S → Type 0) (call : Call) (p q : PairState) (kind : Kind) (old new : S) → fits p call (Failed kind) ≡ true → q ≡ after now p call (Failed kind) →
     Keeps (told old).remaining (told new).remaining → Keeps (told old).written (told new).written → Rises (told old).faults (told new).faults 1 → (told new).blocks ≡ (told old).blocks →
     IsCalled does (made (asked p call) (Failed kind)) old new → IsStep told does call now p q old new
 failed now told does call p q kind old new fit run left kept faults blocks m = record {
@@ -146,12 +146,12 @@ failed now told does call p q kind old new fit run left kept faults blocks m = r
 }
 
 -- a write took none of an offer
-pub none_taken : {S : Type 0} (does : Asked → Given → S → S → Type 0) (p : Relay) (side : Side) (n : ℕ) (offered : List ℕ) (old new : S) → n ≡ 0 → offered ≡ offer p side → does (ask.Write offered) (Took n) old new →
+pub none_taken : {S : Type 0} (does : Asked → Given → S → S → Type 0) (p : PairState) (side : Side) (n : ℕ) (offered : List ℕ) (old new : S) → n ≡ 0 → offered ≡ offer p side → does (ask.Write offered) (Took n) old new →
     IsCalled does (made (asked p (Write side)) (Failed Zero)) old new
 none_taken does p side n offered old new none same did = record { given = Took n; told = (none, refl); did = rw same at did }
 
 -- a read met the end of input
-pub end_met : {S : Type 0} (does : Asked → Given → S → S → Type 0) (p : Relay) (side : Side) (most n : ℕ) (room buffer : List ℕ) (old new : S) → n ≡ 0 → length room ≡ most → does (ask.Read (length room)) (Brought (take n buffer)) old new →
+pub end_met : {S : Type 0} (does : Asked → Given → S → S → Type 0) (p : PairState) (side : Side) (most n : ℕ) (room buffer : List ℕ) (old new : S) → n ≡ 0 → length room ≡ most → does (ask.Read (length room)) (Brought (take n buffer)) old new →
     IsCalled does (made (asked p (Read side most)) End) old new
 end_met does p side most n room buffer old new none all did = record { given = Brought (take n buffer); told = rw none refl; did = rw all at did }
 
@@ -170,20 +170,20 @@ refused does call error (Wrote n) old new sort did = absurd sort
 refused does call error Joined old new sort did = absurd sort
 refused does call error Shut old new sort did = absurd sort
 
-interrupted_fits : (p : Relay) (call : Call) → fits p call Interrupted ≡ true
+interrupted_fits : (p : PairState) (call : Call) → fits p call Interrupted ≡ true
 interrupted_fits p (Read side most) = refl
 interrupted_fits p (Write side) = refl
 interrupted_fits p (Join side) = refl
 interrupted_fits p (call.Shut side) = refl
 
-failed_fits : (p : Relay) (call : Call) (kind : Kind) → fits p call (Failed kind) ≡ true
+failed_fits : (p : PairState) (call : Call) (kind : Kind) → fits p call (Failed kind) ≡ true
 failed_fits p (Read side most) kind = refl
 failed_fits p (Write side) kind = refl
 failed_fits p (Join side) kind = refl
 failed_fits p (call.Shut side) kind = refl
 
 -- an error, classed by what the wire counted
-pub erred : {S : Type 0} (now : ℕ) (told : S → WireView) (does : Asked → Given → S → S → Type 0) (call : Call) (p q : Relay) (error : ErrorKind) (reply : AnswerValue) (faults blocks : ℕ) (old new : S) → fits p call Blocked ≡ true → q ≡ after now p call reply →
+pub erred : {S : Type 0} (now : ℕ) (told : S → WireView) (does : Asked → Given → S → S → Type 0) (call : Call) (p q : PairState) (error : ErrorKind) (reply : AnswerValue) (faults blocks : ℕ) (old new : S) → fits p call Blocked ≡ true → q ≡ after now p call reply →
     Keeps (told old).remaining (told new).remaining → Keeps (told old).written (told new).written → faults ≡ (told old).faults → blocks ≡ (told old).blocks →
     IsError (kind_of_error error) reply faults (told new).faults blocks (told new).blocks → does (asked p call) (Refused error) old new → IsStep told does call now p q old new
 erred now told does call p q error Blocked faults blocks old new may run left kept f b e did = record {

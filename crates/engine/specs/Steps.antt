@@ -7,7 +7,7 @@ use Rattle.relay_core.specs.declared.Side.TheVariants.{Client, Target}
 use Rattle.relay_core.specs.declared.Kind.{Kind}
 use Rattle.relay_core.specs.declared.call.Call.{Call}
 use Rattle.relay_core.specs.Calls.{side_of}
-use Rattle.relay_core.specs.Pairs.{Relay}
+use Rattle.relay_core.specs.Pairs.{PairState}
 use Rattle.relay_core.specs.Replies.{AnswerValue, Blocked, Interrupted, Failed, fits, after}
 use Rattle.relay_core.specs.Runs.{answered}
 use Rattle.relay_core.specs.Moved.{brought, carried}
@@ -23,7 +23,7 @@ IsErrorReply kind (Failed other) = other ≡ kind
 IsErrorReply kind reply = ⊥
 
 -- what one answer to a call did to the wire that gave it
-pub record IsAnswered {S : Type 0} (told : S → WireView) (does : Asked → Given → S → S → Type 0) (call : Call) (p : Relay) (reply : AnswerValue) (old new : S) : Type 0 where
+pub record IsAnswered {S : Type 0} (told : S → WireView) (does : Asked → Given → S → S → Type 0) (call : Call) (p : PairState) (reply : AnswerValue) (old new : S) : Type 0 where
   pub read : Consumes (told old).remaining (told new).remaining (brought (way_from (side_of call)) call reply)
   pub written : Appends (told old).written (told new).written (carried p (way_to (side_of call)) call reply)
   pub faults : Rises (told old).faults (told new).faults (if is_failed reply then 1 else 0)
@@ -31,7 +31,7 @@ pub record IsAnswered {S : Type 0} (told : S → WireView) (does : Asked → Giv
   pub made : IsCalled does (made (asked p call) reply) old new
 
 -- a call was made at the second `now`, and the pair has its answer
-pub record IsStep {S : Type 0} (told : S → WireView) (does : Asked → Given → S → S → Type 0) (call : Call) (now : ℕ) (old new : Relay) (wire wire_now : S) : Type 0 where
+pub record IsStep {S : Type 0} (told : S → WireView) (does : Asked → Given → S → S → Type 0) (call : Call) (now : ℕ) (old new : PairState) (wire wire_now : S) : Type 0 where
   pub reply : AnswerValue
   pub fit : fits old call reply ≡ true
   pub run : new ≡ after now old call reply
@@ -44,7 +44,7 @@ pub record IsError (kind : Kind) (reply : AnswerValue) (faults faults_now blocks
   pub waited : Rises blocks blocks_now (if is_blocked reply then 1 else 0)
 
 -- the next call of a pair was made at the second `now` on the wire of its side, and the pair has its answer
-pub record IsMove (now : ℕ) (old new : Relay) (client target : Side → Relay → List AnswerValue → Type 0) : Type 0 where
+pub record IsMove (now : ℕ) (old new : PairState) (client target : Side → PairState → List AnswerValue → Type 0) : Type 0 where
   pub reply : AnswerValue
   pub run : answered now old reply ≡ Some new
   pub by_client : client Client old (reply ∷ [])

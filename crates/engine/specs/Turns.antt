@@ -16,7 +16,7 @@ use Rattle.relay_core.specs.declared.verdict.Fault.TheVariants.{Broken, Idle}
 use Rattle.relay_core.specs.declared.verdict.Verdict.{Verdict}
 use Rattle.relay_core.specs.declared.verdict.Verdict.TheVariants as verdict
 use Rattle.relay_core.specs.Calls.{side_of, direction_of}
-use Rattle.relay_core.specs.Pairs.{Relay, verdict}
+use Rattle.relay_core.specs.Pairs.{PairState, verdict}
 use Rattle.relay_core.specs.Order.{next_call, offer}
 use Rattle.relay_core.specs.Replies.{AnswerValue, Bytes, End, Wrote, Joined, Shut, Blocked, Interrupted, Failed}
 use Rattle.relay_core.specs.Runs.{answered, over}
@@ -38,7 +38,7 @@ outcome (verdict.Failed fault) next = turn.Failed
 outcome verdict.Live (Some call) = turn.Again
 outcome verdict.Live None = turn.Quiet
 
-abbrev pub outcome_of : Relay → Turn
+abbrev pub outcome_of : PairState → Turn
 outcome_of p = outcome (verdict p) (next_call p)
 
 -- the direction of the bytes that reads on a side bring, and of those that writes on it carry
@@ -68,14 +68,14 @@ one_if test side call reply = if same_side (side_of call) side && test reply the
 
 -- how many answers of a list of one second are of a sort, of those to calls on one side, each to the call that comes
 -- next at that point
-abbrev pub count_on : (AnswerValue → Bool) → Side → ℕ → Relay → List AnswerValue → ℕ
+abbrev pub count_on : (AnswerValue → Bool) → Side → ℕ → PairState → List AnswerValue → ℕ
 count_on test side now p [] = 0
 count_on test side now p (reply ∷ replies) =
     unwrap_or (option_map (λ (call : Call). one_if test side call reply) (next_call p)) 0
-    + unwrap_or (option_map (λ (q : Relay). count_on test side now q replies) (answered now p reply)) 0
+    + unwrap_or (option_map (λ (q : PairState). count_on test side now q replies) (answered now p reply)) 0
 
 -- what a call asks of its wire: a write offers all that the pair offers its side
-abbrev pub asked : Relay → Call → Asked
+abbrev pub asked : PairState → Call → Asked
 asked p (call.Read side most) = ask.Read most
 asked p (call.Write side) = ask.Write (offer p side)
 asked p (call.Join side) = ask.Join
@@ -89,15 +89,15 @@ pub record Made : Type 0 where
 abbrev pub made : Asked → AnswerValue → Made
 made asked reply = record { asked = asked; reply = reply }
 
-abbrev pub made_if : Side → Relay → Call → AnswerValue → List Made
+abbrev pub made_if : Side → PairState → Call → AnswerValue → List Made
 made_if side p call reply = if same_side (side_of call) side then made (asked p call) reply ∷ [] else []
 
 -- the calls on one side along a list of answers of one second, each the one that comes next at that point
-abbrev pub made_on : Side → ℕ → Relay → List AnswerValue → List Made
+abbrev pub made_on : Side → ℕ → PairState → List AnswerValue → List Made
 made_on side now p [] = []
 made_on side now p (reply ∷ replies) =
     unwrap_or (option_map (λ (call : Call). made_if side p call reply) (next_call p)) []
-    ++ unwrap_or (option_map (λ (q : Relay). made_on side now q replies) (answered now p reply)) []
+    ++ unwrap_or (option_map (λ (q : PairState). made_on side now q replies) (answered now p reply)) []
 
 -- a failure of this kind: a write that took no byte, or an error of that kind
 abbrev pub IsFailure : Given → Kind → Type 0
@@ -136,7 +136,7 @@ AreMade {S} told does (call ∷ calls) old new = (between : S) × IsMade told do
 -- what the answers of a list did to the wire on one side: the bytes that they brought were read from it,
 -- and those that they carried were written to it, in order and nothing else; it counted each answer that
 -- was a fault, and each that was "would block"; and the calls on its side were made on it and no other
-pub record IsServed {S : Type 0} (told : S → WireView) (does : Asked → Given → S → S → Type 0) (now : ℕ) (old new : S) (side : Side) (p : Relay) (replies : List AnswerValue) : Type 0 where
+pub record IsServed {S : Type 0} (told : S → WireView) (does : Asked → Given → S → S → Type 0) (now : ℕ) (old new : S) (side : Side) (p : PairState) (replies : List AnswerValue) : Type 0 where
   pub read : Consumes (told old).remaining (told new).remaining (all_brought now p (way_from side) replies)
   pub written : Appends (told old).written (told new).written (all_carried now p (way_to side) replies)
   pub faults : Rises (told old).faults (told new).faults (count_on is_failed side now p replies)
@@ -144,7 +144,7 @@ pub record IsServed {S : Type 0} (told : S → WireView) (does : Asked → Given
   pub made : AreMade told does (made_on side now p replies) old new
 
 -- a turn fails a live pair by its last answer, or at its end, since the pair moved nothing for the limit
-abbrev pub FailsBy : ℕ → ℕ → Relay → List AnswerValue → Fault → Type 0
+abbrev pub FailsBy : ℕ → ℕ → PairState → List AnswerValue → Fault → Type 0
 FailsBy now limit ran replies (Broken side call kind) = (front : List AnswerValue) × (replies ≡ front ++ Failed kind ∷ [])
 FailsBy now limit ran replies Idle = IsOverdue now limit ran
 
@@ -152,10 +152,10 @@ FailsBy now limit ran replies Idle = IsOverdue now limit ran
 -- each wire served its side of it, as `client` and `target` say: its bytes, its counts of faults and blocks, and its
 -- calls. The pair that ran is then held against the idle limit, which fails it where it is overdue and else changes
 -- nothing. The list is shorter than the budget only if there is no next call
-pub record IsTurn (budget now limit : ℕ) (old new : Relay) (client target : Side → Relay → List AnswerValue → Type 0) : Type 0 where
+pub record IsTurn (budget now limit : ℕ) (old new : PairState) (client target : Side → PairState → List AnswerValue → Type 0) : Type 0 where
   pub replies : List AnswerValue
   pub few : length replies ≤ budget
-  pub ran : Relay
+  pub ran : PairState
   pub run : over now old replies ≡ Some ran
   pub held : new ≡ expired now limit ran
   pub whole : OnSome (next_call new) (length replies ≡ budget)

@@ -5,11 +5,11 @@ use Rattle.token.specs.declared.name.Name.TheVariants.{End}
 use Rattle.kernel_model.specs.declared.change.Change.{Change}
 use Rattle.kernel_model.specs.declared.change.Change.TheVariants.{Arrive, Fin, Reset, Room}
 use Rattle.kernel_model.specs.Outcome.{Told}
-use Rattle.kernel_model.specs.Ends.{Endpoint, arrival, finish, failure, new_room}
+use Rattle.kernel_model.specs.Ends.{EndState, arrival, finish, failure, new_room}
 use Rattle.kernel_model.specs.Kernel.{Registered, reported}
 
 -- what it does to an end
-abbrev pub change_of : Change → Endpoint → Option (Told Endpoint Bool)
+abbrev pub change_of : Change → EndState → Option (Told EndState Bool)
 change_of (Arrive bytes) e = arrival e bytes.now
 change_of Fin e = finish e
 change_of Reset e = failure e
@@ -23,7 +23,7 @@ pub record Watch : Type 0 where
 -- what it does to both
 abbrev pub told : Change → Watch → Option Watch
 told change w = option_map
-    (λ (t : Told Endpoint Bool). record {
+    (λ (t : Told EndState Bool). record {
       registered = record w.registered { socket = t.value };
       queue = reported w.queue (End w.registered.token) t.told;
     })

@@ -5,7 +5,7 @@ use Rattle.token.specs.declared.side.Side.{Side}
 use Rattle.token.specs.declared.side.Side.TheVariants.{Client, Target}
 use Rattle.kernel_model.specs.Outcome.{guard, Told}
 
-pub record Endpoint : Type 0 where
+pub record EndState : Type 0 where
   -- every byte that ever came, those that were not read yet (the last of them), and every byte that
   -- writes took
   pub arrived : List ℕ
@@ -32,36 +32,36 @@ abbrev pub has_room_at_first : Side → Bool
 has_room_at_first Client = true
 has_room_at_first Target = false
 
-abbrev pub opened : Side → Endpoint
+abbrev pub opened : Side → EndState
 opened side = record { arrived = []; unread = []; taken = []; fin = false; err = false; room = has_room_at_first side; shut = false; read_armed = false; write_armed = false }
 
 -- a read would not block
-abbrev pub is_readable : Endpoint → Bool
+abbrev pub is_readable : EndState → Bool
 is_readable e = is_nonempty e.unread || (e.fin || e.err)
 
 -- a write would not block
-abbrev pub is_writable : Endpoint → Bool
+abbrev pub is_writable : EndState → Bool
 is_writable e = e.room || e.err
 
 -- Each change of the network has the end after it, and tells whether it is to be reported: the arm of
 -- its kind was set, and is cleared. What can't happen has no value.
 
 -- bytes come, at least one
-abbrev pub arrival : Endpoint → List ℕ → Option (Told Endpoint Bool)
+abbrev pub arrival : EndState → List ℕ → Option (Told EndState Bool)
 arrival e bytes = guard (is_nonempty bytes && (not e.fin && not e.err))
     (record { value = record e { arrived = e.arrived ++ bytes; unread = e.unread ++ bytes; read_armed = false }; told = e.read_armed })
 
 -- the end of input comes
-abbrev pub finish : Endpoint → Option (Told Endpoint Bool)
+abbrev pub finish : EndState → Option (Told EndState Bool)
 finish e = guard (not e.fin && not e.err)
     (record { value = record e { fin = true; read_armed = false }; told = e.read_armed })
 
 -- an error comes, as the peer's reset: it is of both kinds
-abbrev pub failure : Endpoint → Option (Told Endpoint Bool)
+abbrev pub failure : EndState → Option (Told EndState Bool)
 failure e = guard (not e.err)
     (record { value = record e { err = true; read_armed = false; write_armed = false }; told = e.read_armed || e.write_armed })
 
 -- room for writes comes; on a connecting socket the connect has ended
-abbrev pub new_room : Endpoint → Option (Told Endpoint Bool)
+abbrev pub new_room : EndState → Option (Told EndState Bool)
 new_room e = guard (not e.room && not e.err)
     (record { value = record e { room = true; write_armed = false }; told = e.write_armed })

@@ -13,26 +13,26 @@ use Rattle.kernel_model.specs.declared.reply.Reply.{Reply}
 use Rattle.kernel_model.specs.declared.both.Descriptors.{Descriptors}
 use Rattle.kernel_model.specs.declared.both.Sockets.{Sockets}
 use Rattle.kernel_model.specs.Outcome.{guard, Told}
-use Rattle.kernel_model.specs.Ends.{Endpoint, opened, is_readable, is_writable, arrival, finish, failure, new_room}
+use Rattle.kernel_model.specs.Ends.{EndState, opened, is_readable, is_writable, arrival, finish, failure, new_room}
 use Rattle.kernel_model.specs.Replies.{after_read, after_write, after_join, after_shut}
 use Rattle.kernel_model.specs.Names.{has, with_name, without_name, without_names, are_distinct, are_among}
 
 -- an end that is open, with the token under which it is registered
 pub record Registered : Type 0 where
   pub token : EndName
-  pub socket : Endpoint
+  pub socket : EndState
 
 -- `ends` has a place for each descriptor from 0 on. `queue` are the names that the next poll may report.
 -- `backlog` connections wait at the listener, and `armed` says that the next one is to be reported,
 -- since an accept answered blocked
-pub record Watcher : Type 0 where
+pub record KernelState : Type 0 where
   pub ends : List (Option Registered)
   pub queue : List Name
   pub backlog : ℕ
   pub armed : Bool
 
 -- nothing is open or queued, and nobody waits
-abbrev pub idle : Watcher
+abbrev pub idle : KernelState
 idle = record { ends = []; queue = []; backlog = 0; armed = false }
 
 -- the open end of a descriptor
@@ -48,21 +48,21 @@ abbrev pub with_end : List (Option Registered) → ℕ → Registered → List (
 with_end ends descriptor r = if nat_lt descriptor (length ends) then slice_set ends descriptor (Some r) else ends ++ Some r ∷ []
 
 -- an end is opened and registered under its token, at the lowest descriptor, which is told
-abbrev pub open_end : Watcher → EndName → Told Watcher ℕ
+abbrev pub open_end : KernelState → EndName → Told KernelState ℕ
 open_end k token = record {
   value = record k { ends = with_end k.ends (lowest_free k.ends) (record { token = token; socket = opened token.side }) };
   told = lowest_free k.ends;
 }
 
 -- both ends of a connection are opened, the client's first
-abbrev pub open_both : Watcher → EndName → EndName → Told Watcher Descriptors
+abbrev pub open_both : KernelState → EndName → EndName → Told KernelState Descriptors
 open_both k client target = record {
   value = (open_end (open_end k client).value target).value;
   told = record { client = (open_end k client).told; target = (open_end (open_end k client).value target).told };
 }
 
 -- an end is closed (close(2)): its name leaves the queue, and what it was is told
-abbrev pub close : Watcher → ℕ → Option (Told Watcher Endpoint)
+abbrev pub close : KernelState → ℕ → Option (Told KernelState EndState)
 close k descriptor = option_map
     (λ (r : Registered). record {
       value = record k { ends = slice_set k.ends descriptor None; queue = without_name (End r.token) k.queue };
@@ -71,10 +71,10 @@ close k descriptor = option_map
     (end_at k.ends descriptor)
 
 -- both ends of a connection are closed
-abbrev pub close_both : Watcher → Descriptors → Option (Told Watcher Sockets)
+abbrev pub close_both : KernelState → Descriptors → Option (Told KernelState Sockets)
 close_both k ends = option_and_then
-    (λ (one : Told Watcher Endpoint). option_map
-    (λ (two : Told Watcher Endpoint). record { value = two.value; told = record { client = one.told; target = two.told } })
+    (λ (one : Told KernelState EndState). option_map
+    (λ (two : Told KernelState EndState). record { value = two.value; told = record { client = one.told; target = two.told } })
     (close one.value ends.target))
     (close k ends.client)
 
@@ -84,50 +84,50 @@ reported queue name true = with_name name queue
 reported queue name false = queue
 
 -- a change of the network at an end, and its report
-abbrev pub changed : Watcher → ℕ → (Endpoint → Option (Told Endpoint Bool)) → Option Watcher
+abbrev pub changed : KernelState → ℕ → (EndState → Option (Told EndState Bool)) → Option KernelState
 changed k descriptor change = option_and_then
     (λ (r : Registered). option_map
-    (λ (t : Told Endpoint Bool). record k {
+    (λ (t : Told EndState Bool). record k {
       ends = slice_set k.ends descriptor (Some (record r { socket = t.value }));
       queue = reported k.queue (End r.token) t.told;
     })
     (change r.socket))
     (end_at k.ends descriptor)
 
-abbrev pub arrive : Watcher → ℕ → List ℕ → Option Watcher
-arrive k descriptor bytes = changed k descriptor (λ (e : Endpoint). arrival e bytes)
+abbrev pub arrive : KernelState → ℕ → List ℕ → Option KernelState
+arrive k descriptor bytes = changed k descriptor (λ (e : EndState). arrival e bytes)
 
-abbrev pub fin : Watcher → ℕ → Option Watcher
+abbrev pub fin : KernelState → ℕ → Option KernelState
 fin k descriptor = changed k descriptor finish
 
-abbrev pub reset : Watcher → ℕ → Option Watcher
+abbrev pub reset : KernelState → ℕ → Option KernelState
 reset k descriptor = changed k descriptor failure
 
-abbrev pub room : Watcher → ℕ → Option Watcher
+abbrev pub room : KernelState → ℕ → Option KernelState
 room k descriptor = changed k descriptor new_room
 
 -- a call on an end gets a reply
-abbrev pub called : Watcher → ℕ → (Endpoint → Option Endpoint) → Option Watcher
+abbrev pub called : KernelState → ℕ → (EndState → Option EndState) → Option KernelState
 called k descriptor call = option_and_then
     (λ (r : Registered). option_map
-    (λ (e : Endpoint). record k { ends = slice_set k.ends descriptor (Some (record r { socket = e })) })
+    (λ (e : EndState). record k { ends = slice_set k.ends descriptor (Some (record r { socket = e })) })
     (call r.socket))
     (end_at k.ends descriptor)
 
-abbrev pub read : Watcher → ℕ → ℕ → Reply → Option Watcher
-read k descriptor most reply = called k descriptor (λ (e : Endpoint). after_read e most reply)
+abbrev pub read : KernelState → ℕ → ℕ → Reply → Option KernelState
+read k descriptor most reply = called k descriptor (λ (e : EndState). after_read e most reply)
 
-abbrev pub write : Watcher → ℕ → List ℕ → Reply → Option Watcher
-write k descriptor offer reply = called k descriptor (λ (e : Endpoint). after_write e offer reply)
+abbrev pub write : KernelState → ℕ → List ℕ → Reply → Option KernelState
+write k descriptor offer reply = called k descriptor (λ (e : EndState). after_write e offer reply)
 
-abbrev pub join : Watcher → ℕ → Reply → Option Watcher
-join k descriptor reply = called k descriptor (λ (e : Endpoint). after_join e reply)
+abbrev pub join : KernelState → ℕ → Reply → Option KernelState
+join k descriptor reply = called k descriptor (λ (e : EndState). after_join e reply)
 
-abbrev pub shut : Watcher → ℕ → Reply → Option Watcher
-shut k descriptor reply = called k descriptor (λ (e : Endpoint). after_shut e reply)
+abbrev pub shut : KernelState → ℕ → Reply → Option KernelState
+shut k descriptor reply = called k descriptor (λ (e : EndState). after_shut e reply)
 
 -- the name of what is watched; a descriptor that is not open has none
-abbrev pub name_of : Watcher → Watched → Option Name
+abbrev pub name_of : KernelState → Watched → Option Name
 name_of k watched.Listener = Some Listener
 name_of k watched.Waker = Some Waker
 name_of k (watched.End descriptor) = option_map (λ (r : Registered). End r.token) (end_at k.ends descriptor)
@@ -138,34 +138,34 @@ is_quiet_end None = true
 is_quiet_end (Some r) = not (is_readable r.socket || is_writable r.socket)
 
 -- nothing could be done there now, so that a report would be without cause
-abbrev pub is_quiet : Watcher → Watched → Bool
+abbrev pub is_quiet : KernelState → Watched → Bool
 is_quiet k watched.Listener = k.backlog == 0
 is_quiet k watched.Waker = true
 is_quiet k (watched.End descriptor) = is_quiet_end (end_at k.ends descriptor)
 
 -- a report comes without cause
-abbrev pub spurious : Watcher → Watched → Option Watcher
+abbrev pub spurious : KernelState → Watched → Option KernelState
 spurious k who = option_map (λ (name : Name). record k { queue = with_name name k.queue }) (name_of k who)
 
 -- a report is taken back, which can happen only while nothing could be done there
-abbrev pub vanish : Watcher → Watched → Option Watcher
+abbrev pub vanish : KernelState → Watched → Option KernelState
 vanish k who = option_and_then
     (λ (name : Name). guard (has name k.queue && is_quiet k who) (record k { queue = without_name name k.queue }))
     (name_of k who)
 
 -- a poll hands over some of the queued names, in any order, 256 at most (epoll_wait(2))
-abbrev pub poll : Watcher → List Name → Option Watcher
+abbrev pub poll : KernelState → List Name → Option KernelState
 poll k names = guard (nat_le (length names) 256 && (are_among k.queue names && are_distinct names))
     (record k { queue = without_names names k.queue })
 
 -- a client connects and waits at the listener, behind at most 4,095 others (listen(2))
-abbrev pub connect_in : Watcher → Option Watcher
+abbrev pub connect_in : KernelState → Option KernelState
 connect_in k = guard (nat_lt k.backlog 4096)
     (record k { backlog = k.backlog + 1; queue = reported k.queue Listener k.armed; armed = false })
 
 -- accept(2): it takes the connection that waited longest; it would block, where nobody waits, and the next
 -- connection is to be reported; it is worth another try at once; or what it needs is used up
-abbrev pub accept : Watcher → Accepting → Option Watcher
+abbrev pub accept : KernelState → Accepting → Option KernelState
 accept k Accepted = guard (nat_lt 0 k.backlog) (record k { backlog = k.backlog - 1 })
 accept k Blocked = guard (k.backlog == 0) (record k { armed = true })
 accept k Again = Some k

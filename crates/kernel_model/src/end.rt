@@ -29,9 +29,9 @@ pub struct End {
 
 impl Model for End {
     ghost use Rattle.std.specs.Prelude.{◌≤◌, drop, vec_len};
-    ghost use Rattle.kernel_model.specs.Ends.{Endpoint};
+    ghost use Rattle.kernel_model.specs.Ends.{EndState};
 
-    ghost Value = { Endpoint };
+    ghost Value = { EndState };
 
     ghost view = { λ e. record {
       arrived = e.arrived.items;

@@ -44,9 +44,9 @@ pub struct Kernel {
 }
 
 impl Model for Kernel {
-    ghost use Rattle.kernel_model.specs.Kernel.{Watcher};
+    ghost use Rattle.kernel_model.specs.Kernel.{KernelState};
 
-    ghost Value = { Watcher };
+    ghost Value = { KernelState };
 
     ghost view = { λ k. record { ends = k.ends.items; queue = k.queue.items; backlog = k.backlog; armed = k.armed } };
 }

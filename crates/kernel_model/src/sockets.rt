@@ -1,7 +1,7 @@
 // What arrives at the open ends of a kernel, and the calls on them.
 ghost use Rattle.std.specs.Prelude.{◌≡◌, ◌<◌, IsErrOf, IsTrue};
 ghost use Rattle.kernel_model.specs.Outcome.{Meets, MeetsAlways};
-ghost use Rattle.kernel_model.specs.Ends.{Endpoint};
+ghost use Rattle.kernel_model.specs.Ends.{EndState};
 ghost use Rattle.kernel_model.specs.Replies.{needs_memory};
 ghost use Rattle.kernel_model.specs.Changes.{change_of, told};
 ghost use Rattle.kernel_model.specs.Kernel.{Registered, changed, arrive, fin, reset, room, read, write, join, shut};
@@ -57,7 +57,7 @@ impl Kernel {
 
     /// The network changes something at an end, and that is reported if the end tells so.
     fn change(&mut self, descriptor: usize, change: Change<'_>) -> Result<(), Refusal>
-        ensures { Meets (changed self.old descriptor (λ (e : Endpoint). change_of change.entry e)) self.old self.new result }
+        ensures { Meets (changed self.old descriptor (λ (e : EndState). change_of change.entry e)) self.old self.new result }
     {
         if descriptor >= self.ends.len() {
             return Err(Refusal::NotAllowed);

@@ -2,7 +2,7 @@
 use Rattle.std.proofs.Common.{◌≡◌, ℕ, Bool, true, false, not, ◌&&◌, List, [], ◌∷◌, ◌++◌, map, length, take, Option, Some, None, option_and_then, refl, sym, ◌∙◌, append-nil}
 use Rattle.token.specs.declared.kind.Kind.{Kind}
 use Rattle.kernel_model.specs.Outcome.{guard}
-use Rattle.kernel_model.specs.Ends.{Endpoint, is_readable, is_writable}
+use Rattle.kernel_model.specs.Ends.{EndState, is_readable, is_writable}
 use Rattle.kernel_model.specs.Replies.{is_count}
 use Rattle.kernel_model.specs.declared.reply.Reply.{Reply}
 use Rattle.kernel_model.specs.declared.reply.Reply.TheVariants as reply
@@ -14,7 +14,7 @@ use Rattle.readiness.proofs.Kept.{Rests, Waits, Prompt, Behind, Held, Goes, one_
 
 -- the call was allowed
 record Asked (w v : Way) (call : Call) (r : Reply) : Type 0 where
-  pub socket : Endpoint
+  pub socket : EndState
   pub allowed : after_call w.socket call r ≡ Some socket
   pub may : may_call w.reads call ≡ true
   pub after : v ≡ record w { socket = socket; reads = reads_after w.reads call r }
@@ -23,8 +23,8 @@ made : (w v : Way) (b : Bool) (x : Way) → guard b x ≡ Some v → (b ≡ true
 made w v true x h = (refl, cc)
 made w v false x h = absurd (cc)
 
-asked : (w v : Way) (call : Call) (r : Reply) (o : Option Endpoint) → after_call w.socket call r ≡ o →
-    option_and_then (λ (e : Endpoint). guard (may_call w.reads call) (record w { socket = e; reads = reads_after w.reads call r })) o ≡ Some v → Asked w v call r
+asked : (w v : Way) (call : Call) (r : Reply) (o : Option EndState) → after_call w.socket call r ≡ o →
+    option_and_then (λ (e : EndState). guard (may_call w.reads call) (record w { socket = e; reads = reads_after w.reads call r })) o ≡ Some v → Asked w v call r
 asked w v call r None is h = absurd (cc)
 asked w v call r (Some e) is h =
     let m : (may_call w.reads call ≡ true) × (v ≡ record w { socket = e; reads = reads_after w.reads call r }) = made w v _ _ h in
@@ -63,7 +63,7 @@ fails w v late s call kind held a =
 
 -- Any other call
 
-one_call : (w : Way) (late : List Change) (s : Seen) (call : Call) (r : Reply) (e f : Endpoint) (reads : Bool) → Held w late s →
+one_call : (w : Way) (late : List Change) (s : Seen) (call : Call) (r : Reply) (e f : EndState) (reads : Bool) → Held w late s →
     after_call s.socket call r ≡ Some e → settled e late ≡ Some f → Waits (record w { socket = f; reads = reads }) late → (reads ≡ false → w.told ≡ false → Rests e) →
     Goes (record w { socket = f; reads = reads }) s late late (Called call r ∷ []) (Calls call r)
 one_call w late s call r e f reads held allowed due waits rests = record {
@@ -87,10 +87,10 @@ read_now w v late s most r held a rests =
     let same : s.socket ≡ w.socket = same_socket s w late held.due none in
     rw a.after (one_call w late s (Read most) r a.socket a.socket (reads_after w.reads (Read most) r) held (rw same a.allowed) (rw none refl) (Prompt none) (λ reads told. rests reads))
 
-still_reads : (w v : Way) (most : ℕ) (r : Reply) (e : Endpoint) → Asked w v (Read most) r → w.reads ≡ false → Rests e
+still_reads : (w v : Way) (most : ℕ) (r : Reply) (e : EndState) → Asked w v (Read most) r → w.reads ≡ false → Rests e
 still_reads w v most r e a reads = absurd (let yes : w.reads ≡ true = a.may in cc)
 
-passed : (b : Bool) (x f : Endpoint) → guard b x ≡ Some f → (b ≡ true) × (f ≡ x)
+passed : (b : Bool) (x f : EndState) → guard b x ≡ Some f → (b ≡ true) × (f ≡ x)
 passed true x f h = (refl, cc)
 passed false x f h = absurd (cc)
 
@@ -111,35 +111,35 @@ reads w v late s most reply.Shut held a = absurd (let never : None ≡ Some a.so
 
 -- a call that does not concern what is late
 
-record IsAside (e x : Endpoint) : Type 0 where
+record IsAside (e x : EndState) : Type 0 where
   pub readable : is_readable e ≡ is_readable x
   pub armed : e.read_armed ≡ x.read_armed
 
-waits_aside : (w : Way) (late : List Change) (f : Endpoint) → IsAside f w.socket → Waits w late → Waits (record w { socket = f }) late
+waits_aside : (w : Way) (late : List Change) (f : EndState) → IsAside f w.socket → Waits w late → Waits (record w { socket = f }) late
 waits_aside w late f same (Prompt none) = Prompt none
 waits_aside w late f same (Behind asleep) = Behind (record { reads = asleep.reads; told = asleep.told; readable = rw same.readable asleep.readable; coming = asleep.coming })
 
-rests_aside : (e x : Endpoint) → IsAside e x → Rests x → Rests e
+rests_aside : (e x : EndState) → IsAside e x → Rests x → Rests e
 rests_aside e x same r = record { empty = rw same.readable r.empty; armed = rw same.armed r.armed }
 
-aside : (w : Way) (late : List Change) (s : Seen) (call : Call) (r : Reply) (e f : Endpoint) → Held w late s → after_call s.socket call r ≡ Some e → settled e late ≡ Some f → IsAside e s.socket → IsAside f w.socket →
+aside : (w : Way) (late : List Change) (s : Seen) (call : Call) (r : Reply) (e f : EndState) → Held w late s → after_call s.socket call r ≡ Some e → settled e late ≡ Some f → IsAside e s.socket → IsAside f w.socket →
     Goes (record w { socket = f }) s late late (Called call r ∷ []) (Calls call r)
 aside w late s call r e f held allowed due there here =
     one_call w late s call r e f w.reads held allowed due (waits_aside w late f here held.waits) (λ asleep told. rests_aside e s.socket there (held.rests asleep told))
 
-allowed_now : (b : Bool) (x : Endpoint) → b ≡ true → guard b x ≡ Some x
+allowed_now : (b : Bool) (x : EndState) → b ≡ true → guard b x ≡ Some x
 allowed_now true x h = refl
 allowed_now false x h = absurd (cc)
 
 -- nothing happens
-untouched : (w v : Way) (late : List Change) (s : Seen) (call : Call) (r : Reply) (f : Endpoint) → Held w late s → f ≡ w.socket → v ≡ record w { socket = f } → after_call s.socket call r ≡ Some s.socket →
+untouched : (w v : Way) (late : List Change) (s : Seen) (call : Call) (r : Reply) (f : EndState) → Held w late s → f ≡ w.socket → v ≡ record w { socket = f } → after_call s.socket call r ≡ Some s.socket →
     Goes v s late late (Called call r ∷ []) (Calls call r)
 untouched w v late s call r f held same after there =
     rw (after, same) (aside w late s call r s.socket w.socket held there held.due (record { readable = refl; armed = refl }) (record { readable = refl; armed = refl }))
 
 -- the next room is to be reported
-blocks : (w v : Way) (late : List Change) (s : Seen) (call : Call) (f : Endpoint) → Held w late s → guard (not (is_writable w.socket)) (with_arm w.socket) ≡ Some f → v ≡ record w { socket = f } →
-    ((e : Endpoint) → guard (not (is_writable s.socket)) (with_arm s.socket) ≡ Some e → after_call s.socket call reply.Blocked ≡ Some e) →
+blocks : (w v : Way) (late : List Change) (s : Seen) (call : Call) (f : EndState) → Held w late s → guard (not (is_writable w.socket)) (with_arm w.socket) ≡ Some f → v ≡ record w { socket = f } →
+    ((e : EndState) → guard (not (is_writable s.socket)) (with_arm s.socket) ≡ Some e → after_call s.socket call reply.Blocked ≡ Some e) →
     Goes v s late late (Called call reply.Blocked ∷ []) (Calls call reply.Blocked)
 blocks w v late s call f held allowed after there =
     let p : (not (is_writable w.socket) ≡ true) × (f ≡ with_arm w.socket) = passed _ _ f allowed in
@@ -156,7 +156,7 @@ blocks w v late s call f held allowed after there =
 sends : (w v : Way) (late : List Change) (s : Seen) (offer : List ℕ) (n : ℕ) (full : Bool) → Held w late s → Asked w v (Write offer) (reply.Wrote n full) →
     Goes v s late late (Called (Write offer) (reply.Wrote n full) ∷ []) (Calls (Write offer) (reply.Wrote n full))
 sends w v late s offer n full held a =
-    let g : Endpoint → Endpoint = with_sent (take n offer) (not full) in
+    let g : EndState → EndState = with_sent (take n offer) (not full) in
     let p : ((w.socket.room && is_count n (length offer)) ≡ true) × (a.socket ≡ g w.socket) = passed _ _ a.socket a.allowed in
     let b : IsBeside w.socket s.socket = is_beside late s.socket w.socket held.due in
     let may : (s.socket.room && is_count n (length offer)) ≡ true = rw b.room p.0 in

@@ -1,14 +1,14 @@
 -- What every step keeps, of a wire's socket and of the same socket where no wire answers by itself.
 use Rattle.std.proofs.Common.{◌≡◌, ◌≢◌, ◌⊎◌, ◌<◌, Bool, true, false, ◌||◌, List, [], ◌∷◌, ◌++◌, length, Contains, Option, Some, None, refl, inl, inr, arith}
 use Rattle.kernel_model.specs.Outcome.{Told}
-use Rattle.kernel_model.specs.Ends.{Endpoint, is_readable}
+use Rattle.kernel_model.specs.Ends.{EndState, is_readable}
 use Rattle.readiness.specs.Machine.{Change, Way, Step, answer_of, change_in, changed}
 use Rattle.readiness.specs.Delays.{Seen, Event, event, events, replies_in, came_in, IsOnItsWay, WillBeTold}
 use Rattle.readiness.proofs.Flags.{or_left, or_right, true_or}
 use Rattle.readiness.proofs.Late.{settled, Caught}
 
 -- there is nothing to read, and the system reports what comes next
-pub record Rests (e : Endpoint) : Type 0 where
+pub record Rests (e : EndState) : Type 0 where
   pub empty : is_readable e ≡ false
   pub armed : e.read_armed ≡ true
 
@@ -60,32 +60,32 @@ on_its_way w (inl queued) = inl queued
 on_its_way w (inr taken) = inr (inl (some_taken w.taken taken))
 
 -- a change of the socket, and its report
-abbrev pub reported : Way → Endpoint → Bool → Way
+abbrev pub reported : Way → EndState → Bool → Way
 reported w e told = record w { socket = e; queued = w.queued || told }
 
-pub still_coming : (w : Way) (e : Endpoint) (told : Bool) → WillBeTold w → WillBeTold (reported w e told)
+pub still_coming : (w : Way) (e : EndState) (told : Bool) → WillBeTold w → WillBeTold (reported w e told)
 still_coming w e told (inl queued) = inl (or_left w.queued told queued)
 still_coming w e told (inr taken) = inr taken
 
-still_on_its_way : (w : Way) (e : Endpoint) (told : Bool) → IsOnItsWay w → IsOnItsWay (reported w e told)
+still_on_its_way : (w : Way) (e : EndState) (told : Bool) → IsOnItsWay w → IsOnItsWay (reported w e told)
 still_on_its_way w e told (inl queued) = inl (or_left w.queued told queued)
 still_on_its_way w e told (inr rest) = inr rest
 
-one_of_two : (w : Way) (e : Endpoint) (queued there told : Bool) → (queued ≡ true → IsOnItsWay w) → (there ≡ true → told ≡ true) → (queued ≡ true) ⊎ (there ≡ true) → IsOnItsWay (reported w e told)
+one_of_two : (w : Way) (e : EndState) (queued there told : Bool) → (queued ≡ true → IsOnItsWay w) → (there ≡ true → told ≡ true) → (queued ≡ true) ⊎ (there ≡ true) → IsOnItsWay (reported w e told)
 one_of_two w e queued there told before here (inl h) = still_on_its_way w e told (before h)
 one_of_two w e queued there told before here (inr h) = inl (or_right w.queued told (here h))
 
 -- it is reported in both machines, or was on its way before
-pub queued_too : (w : Way) (e : Endpoint) (queued there told : Bool) → (queued ≡ true → IsOnItsWay w) → (there ≡ true → told ≡ true) → (queued || there) ≡ true → IsOnItsWay (reported w e told)
+pub queued_too : (w : Way) (e : EndState) (queued there told : Bool) → (queued ≡ true → IsOnItsWay w) → (there ≡ true → told ≡ true) → (queued || there) ≡ true → IsOnItsWay (reported w e told)
 queued_too w e queued there told before here h = one_of_two w e queued there told before here (true_or queued there h)
 
 -- the change that was made
-pub record Changed (w v : Way) (o : Option (Told Endpoint Bool)) : Type 0 where
-  pub told : Told Endpoint Bool
+pub record Changed (w v : Way) (o : Option (Told EndState Bool)) : Type 0 where
+  pub told : Told EndState Bool
   pub is : o ≡ Some told
   pub after : v ≡ reported w told.value told.told
 
-pub changed_of : (w v : Way) (o : Option (Told Endpoint Bool)) → changed w o ≡ Some v → Changed w v o
+pub changed_of : (w v : Way) (o : Option (Told EndState Bool)) → changed w o ≡ Some v → Changed w v o
 changed_of w v None h = absurd (cc)
 changed_of w v (Some t) h = record { told = t; is = refl; after = cc }
 

@@ -3,7 +3,7 @@ use Rattle.std.proofs.Common.{◌≡◌, ℕ, Bool, true, false, not, ◌&&◌, 
 use Rattle.std.specs.Cmp.{first_so, second_so}
 use Rattle.std.specs.Prelude.{if◌then◌else◌}
 use Rattle.kernel_model.specs.Outcome.{guard, Told}
-use Rattle.kernel_model.specs.Ends.{Endpoint, is_nonempty, is_readable, new_room}
+use Rattle.kernel_model.specs.Ends.{EndState, is_nonempty, is_readable, new_room}
 use Rattle.readiness.specs.Machine.{Change, Bytes, Fin, Error, change_of, Way, Comes, HasRoom, step}
 use Rattle.readiness.specs.Delays.{Seen, Came, GotRoom, is_late, late_after, meanwhile, WillBeTold}
 use Rattle.readiness.proofs.Flags.{is_down, both_down, or_left, or_right}
@@ -11,16 +11,16 @@ use Rattle.readiness.proofs.Late.{settle_more, settle_room, with_room, IsBeside,
 use Rattle.readiness.proofs.Kept.{Rests, Asleep, Waits, Prompt, Behind, Held, Goes, one_event, same_socket, reported, still_coming, queued_too, Changed, changed_of}
 
 -- a change that was made
-record Passed (b : Bool) (x t : Told Endpoint Bool) : Type 0 where
+record Passed (b : Bool) (x t : Told EndState Bool) : Type 0 where
   pub may : b ≡ true
   pub is : t ≡ x
 
-passed : (b : Bool) (x t : Told Endpoint Bool) → guard b x ≡ Some t → Passed b x t
+passed : (b : Bool) (x t : Told EndState Bool) → guard b x ≡ Some t → Passed b x t
 passed true x t h = record { may = refl; is = cc }
 passed false x t h = absurd (cc)
 
 -- after each change there is something to read, and it is reported if the last read would have blocked
-record Heard (e : Endpoint) (t : Told Endpoint Bool) : Type 0 where
+record Heard (e : EndState) (t : Told EndState Bool) : Type 0 where
   pub readable : is_readable t.value ≡ true
   pub told : e.read_armed ≡ true → t.told ≡ true
 
@@ -30,7 +30,7 @@ nonempty_more xs ys h =
     let all : length (xs ++ ys) ≡ length xs + length ys = length-append xs ys in
     lt-ltb 0 (length (xs ++ ys)) (omega arith)
 
-heard : (c : Change) (e : Endpoint) (t : Told Endpoint Bool) → change_of e c ≡ Some t → Heard e t
+heard : (c : Change) (e : EndState) (t : Told EndState Bool) → change_of e c ≡ Some t → Heard e t
 heard (Bytes bytes) e t h =
     let p : Passed (is_nonempty bytes && (not e.fin && not e.err)) (record { value = record e { arrived = e.arrived ++ bytes; unread = e.unread ++ bytes; read_armed = false }; told = e.read_armed }) t = passed _ _ t h in
     rw p.is (record {
@@ -49,14 +49,14 @@ heard Error e t h =
 
 -- A change while the wire does not read and was not told is late
 
-first_told : (w : Way) (late : List Change) (s : Seen) (t : Told Endpoint Bool) → Held w late s → Heard w.socket t → w.reads ≡ false → w.told ≡ false → Waits w late → WillBeTold (reported w t.value t.told)
+first_told : (w : Way) (late : List Change) (s : Seen) (t : Told EndState Bool) → Held w late s → Heard w.socket t → w.reads ≡ false → w.told ≡ false → Waits w late → WillBeTold (reported w t.value t.told)
 first_told w late s t held h reads told (Behind asleep) = still_coming w t.value t.told asleep.coming
 first_told w late s t held h reads told (Prompt none) =
     let same : s.socket ≡ w.socket = same_socket s w late held.due none in
     let armed : s.socket.read_armed ≡ true = (held.rests reads told).armed in
     inl (or_right w.queued t.told (h.told (rw same at armed)))
 
-comes_late : (w : Way) (late : List Change) (s : Seen) (c : Change) (t : Told Endpoint Bool) → Held w late s → change_of w.socket c ≡ Some t → w.reads ≡ false → w.told ≡ false →
+comes_late : (w : Way) (late : List Change) (s : Seen) (c : Change) (t : Told EndState Bool) → Held w late s → change_of w.socket c ≡ Some t → w.reads ≡ false → w.told ≡ false →
     Goes (reported w t.value t.told) s late (late ++ c ∷ []) [] (Comes c)
 comes_late w late s c t held is reads told =
     let h : Heard w.socket t = heard c w.socket t is in
@@ -86,7 +86,7 @@ nothing_late w late awake (Behind asleep) = absurd (let yes : is_late w ≡ true
 late_unheard : (w : Way) → w.reads ≡ false → w.told ≡ false → is_late w ≡ true
 late_unheard w reads told = rw (reads, told) refl
 
-came_now : (w : Way) (late : List Change) (s : Seen) (c : Change) (t : Told Endpoint Bool) → late ≡ [] → s.socket ≡ w.socket → change_of w.socket c ≡ Some t → is_late w ≡ false → Held w late s →
+came_now : (w : Way) (late : List Change) (s : Seen) (c : Change) (t : Told EndState Bool) → late ≡ [] → s.socket ≡ w.socket → change_of w.socket c ≡ Some t → is_late w ≡ false → Held w late s →
     Goes (reported w t.value t.told) s late late (Came c ∷ []) (Comes c)
 came_now w late s c t none same is awake held =
     let there : change_of s.socket c ≡ Some t = rw same is in
@@ -105,7 +105,7 @@ came_now w late s c t none same is awake held =
       };
     }
 
-comes_either : (w : Way) (late : List Change) (s : Seen) (c : Change) (t : Told Endpoint Bool) → Held w late s → change_of w.socket c ≡ Some t → (b : Bool) → is_late w ≡ b →
+comes_either : (w : Way) (late : List Change) (s : Seen) (c : Change) (t : Told EndState Bool) → Held w late s → change_of w.socket c ≡ Some t → (b : Bool) → is_late w ≡ b →
     Goes (reported w t.value t.told) s late (if b then late ++ c ∷ [] else late) (if b then [] else Came c ∷ []) (Comes c)
 comes_either w late s c t held is true sleeps =
     let none : (w.reads ≡ false) × (w.told ≡ false) = both_down w.reads w.told sleeps in
@@ -130,7 +130,7 @@ waits_with_room w late told (Behind asleep) = Behind (record {
   coming = still_coming w (with_room w.socket) told asleep.coming;
 })
 
-rests_with_room : (e : Endpoint) → Rests e → Rests (with_room e)
+rests_with_room : (e : EndState) → Rests e → Rests (with_room e)
 rests_with_room e r = record { empty = r.empty; armed = r.armed }
 
 room_goes : (w : Way) (late : List Change) (s : Seen) → Held w late s → w.socket.room ≡ false → w.socket.err ≡ false →

@@ -4,7 +4,7 @@ use Rattle.std.specs.Cmp.{second_so}
 use Rattle.std.specs.Prelude.{if◌then◌else◌}
 use Rattle.std.proofs.lemmas.List.Elements.{Contains-push}
 use Rattle.kernel_model.specs.Outcome.{guard}
-use Rattle.kernel_model.specs.Ends.{Endpoint, is_readable, is_writable}
+use Rattle.kernel_model.specs.Ends.{EndState, is_readable, is_writable}
 use Rattle.kernel_model.specs.declared.reply.Reply.TheVariants as reply
 use Rattle.readiness.specs.Machine.{Change, Read, is_quiet, Way, Spurious, Vanished, Polled, Tells, Old, Handed, Looks, Unasked, polled, tells, step}
 use Rattle.readiness.specs.Delays.{Seen, Came, Stray, Gone, Taken, Called, event, came_in, at_telling, late_telling, IsOnItsWay, WillBeTold}
@@ -42,7 +42,7 @@ passed false w v h = absurd (cc)
 
 -- The system takes the report back, and nothing is late then
 
-quiet_unread : (e : Endpoint) → is_quiet e ≡ true → is_readable e ≡ false
+quiet_unread : (e : EndState) → is_quiet e ≡ true → is_readable e ≡ false
 quiet_unread e quiet = (both_down (is_readable e) (is_writable e) quiet).0
 
 quiet_prompt : (w : Way) (late : List Change) → is_quiet w.socket ≡ true → Waits w late → late ≡ []
@@ -288,14 +288,14 @@ looks w v late s held h =
       };
     })
 
-armed_again : (e : Endpoint) → e.read_armed ≡ true → record e { read_armed = true } ≡ e
+armed_again : (e : EndState) → e.read_armed ≡ true → record e { read_armed = true } ≡ e
 armed_again e armed = ap (λ (b : Bool). record e { read_armed = b }) (sym armed)
 
 -- a read that would block once more
 blocks_again : (s : Seen) (most : ℕ) → Rests s.socket → event s (Called (Read most) reply.Blocked) ≡ Some s
 blocks_again s most r =
     let same : record (s.socket) { read_armed = true } ≡ s.socket = armed_again s.socket r.armed in
-    rw r.empty (ap (λ (e : Endpoint). Some (record s { socket = e })) same)
+    rw r.empty (ap (λ (e : EndState). Some (record s { socket = e })) same)
 
 pub unasked : (w v : Way) (late : List Change) (s : Seen) (most : ℕ) → Held w late s → step w (Unasked most) ≡ Some v → Goes v s late late (Called (Read most) reply.Blocked ∷ []) (Unasked most)
 unasked w v late s most held h =

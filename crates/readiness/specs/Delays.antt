@@ -3,14 +3,14 @@
 use Rattle.std.specs.Prelude.{◌≡◌, ◌≢◌, ◌⊎◌, Bool, true, false, not, ◌&&◌, ◌||◌, if◌then◌else◌, List, [], ◌∷◌, ◌++◌, map, Contains, Option, Some, option_map, option_and_then, unwrap_or}
 use Rattle.token.specs.declared.side.Side.{Side}
 use Rattle.kernel_model.specs.Outcome.{guard, Told}
-use Rattle.kernel_model.specs.Ends.{Endpoint, opened, is_readable, new_room}
+use Rattle.kernel_model.specs.Ends.{EndState, opened, is_readable, new_room}
 use Rattle.kernel_model.specs.declared.reply.Reply.{Reply}
 use Rattle.kernel_model.specs.declared.reply.Reply.TheVariants as reply
 use Rattle.readiness.specs.Machine.{Change, change_of, Call, Read, after_call, is_quiet, Way, Step, Comes, HasRoom, Spurious, Vanished, Polled, Tells, Old, Handed, Looks, Calls, Unasked, opening, step, run, answers_of, changes_of}
 
 -- the end there, and whether its name is queued
 pub record Seen : Type 0 where
-  pub socket : Endpoint
+  pub socket : EndState
   pub queued : Bool
 
 -- What may happen to it: a change of the network (`arrive`, `fin`, `reset`), room for writes (`room`), a report without
@@ -23,8 +23,8 @@ pub data Event : Type 0 where
   Taken : Event
   Called : Call → Reply → Event
 
-abbrev pub seen_changed : Seen → Option (Told Endpoint Bool) → Option Seen
-seen_changed s change = option_map (λ (t : Told Endpoint Bool). record { socket = t.value; queued = s.queued || t.told }) change
+abbrev pub seen_changed : Seen → Option (Told EndState Bool) → Option Seen
+seen_changed s change = option_map (λ (t : Told EndState Bool). record { socket = t.value; queued = s.queued || t.told }) change
 
 abbrev pub event : Seen → Event → Option Seen
 event s (Came change) = seen_changed s (change_of s.socket change)
@@ -32,7 +32,7 @@ event s GotRoom = seen_changed s (new_room s.socket)
 event s Stray = Some (record s { queued = true })
 event s Gone = guard (s.queued && is_quiet s.socket) (record s { queued = false })
 event s Taken = guard s.queued (record s { queued = false })
-event s (Called call r) = option_map (λ (e : Endpoint). record s { socket = e }) (after_call s.socket call r)
+event s (Called call r) = option_map (λ (e : EndState). record s { socket = e }) (after_call s.socket call r)
 
 abbrev pub events : Seen → List Event → Option Seen
 events s [] = Some s

@@ -4,7 +4,7 @@
 use Rattle.std.specs.Prelude.{ℕ, Bool, true, false, not, ◌&&◌, ◌||◌, List, [], ◌∷◌, ◌++◌, Option, Some, None, option_map, option_and_then}
 use Rattle.token.specs.declared.side.Side.{Side}
 use Rattle.kernel_model.specs.Outcome.{guard, Told}
-use Rattle.kernel_model.specs.Ends.{Endpoint, opened, is_readable, is_writable, arrival, finish, failure, new_room}
+use Rattle.kernel_model.specs.Ends.{EndState, opened, is_readable, is_writable, arrival, finish, failure, new_room}
 use Rattle.kernel_model.specs.Replies.{after_read, after_write, after_join, after_shut}
 use Rattle.kernel_model.specs.declared.reply.Reply.{Reply}
 use Rattle.kernel_model.specs.declared.reply.Reply.TheVariants as reply
@@ -15,7 +15,7 @@ pub data Change : Type 0 where
   Fin : Change
   Error : Change
 
-abbrev pub change_of : Endpoint → Change → Option (Told Endpoint Bool)
+abbrev pub change_of : EndState → Change → Option (Told EndState Bool)
 change_of e (Bytes bytes) = arrival e bytes
 change_of e Fin = finish e
 change_of e Error = failure e
@@ -28,7 +28,7 @@ pub data Call : Type 0 where
   Shut : Call
 
 -- the end after a call that is given this reply, if it may be
-abbrev pub after_call : Endpoint → Call → Reply → Option Endpoint
+abbrev pub after_call : EndState → Call → Reply → Option EndState
 after_call e (Read most) r = after_read e most r
 after_call e (Write offer) r = after_write e offer r
 after_call e Join r = after_join e r
@@ -38,7 +38,7 @@ after_call e Shut r = after_shut e r
 -- first, whether it names reading; whether one was told that the poll has not handed over yet; whether the wire was told of
 -- reading since it last looked; and whether the wire reads its socket, or answers "would block" by itself
 pub record Way : Type 0 where
-  pub socket : Endpoint
+  pub socket : EndState
   pub queued : Bool
   pub taken : List Bool
   pub owed : Bool
@@ -67,11 +67,11 @@ abbrev pub opening : Side → Bool → Way
 opening side told = record { socket = opened side; queued = false; taken = []; owed = false; told = told; reads = true }
 
 -- a change of the network, and its report
-abbrev pub changed : Way → Option (Told Endpoint Bool) → Option Way
-changed w change = option_map (λ (t : Told Endpoint Bool). record w { socket = t.value; queued = w.queued || t.told }) change
+abbrev pub changed : Way → Option (Told EndState Bool) → Option Way
+changed w change = option_map (λ (t : Told EndState Bool). record w { socket = t.value; queued = w.queued || t.told }) change
 
 -- a read would block, and so would a write; a report can vanish only then
-abbrev pub is_quiet : Endpoint → Bool
+abbrev pub is_quiet : EndState → Bool
 is_quiet e = not (is_readable e) && not (is_writable e)
 
 -- A poll takes the report out of the queue. It names reading if there is something to read by then, and may do so
@@ -97,7 +97,7 @@ reads_after reads call r = reads
 
 abbrev pub called : Way → Call → Reply → Option Way
 called w call r = option_and_then
-    (λ (e : Endpoint). guard (may_call w.reads call) (record w { socket = e; reads = reads_after w.reads call r }))
+    (λ (e : EndState). guard (may_call w.reads call) (record w { socket = e; reads = reads_after w.reads call r }))
     (after_call w.socket call r)
 
 abbrev pub step : Way → Step → Option Way

@@ -8,13 +8,13 @@ use Rattle.std.proofs.lemmas.Bool.Decides.{nat_tests}
 use Rattle.token.specs.declared.direction.Direction.{Direction}
 use Rattle.token.specs.declared.direction.Direction.TheVariants.{Up, Down}
 use Rattle.relay_core.specs.declared.call.Call.{Call}
-use Rattle.relay_core.specs.Pairs.{Relay, stream_of, verdict, is_live}
+use Rattle.relay_core.specs.Pairs.{PairState, stream_of, verdict, is_live}
 use Rattle.relay_core.specs.Order.{next_call}
 use Rattle.relay_core.specs.Idle.{is_past, is_overdue, timed_out}
 use Rattle.relay_core.specs.Laws.{IsOverdue, OnlyOverduePairsExpire, ExpiriesChangeVerdictAlone}
 use Rattle.relay_core.proofs.Faults.{live_of}
 
-pub stream_timed_out : (p : Relay) (d : Direction) → stream_of (timed_out p) d ≡ stream_of p d
+pub stream_timed_out : (p : PairState) (d : Direction) → stream_of (timed_out p) d ≡ stream_of p d
 stream_timed_out p Up = refl
 stream_timed_out p Down = refl
 
@@ -22,7 +22,7 @@ no_call : (o : Option Call) → is_none o ≡ true → o ≡ None
 no_call None h = refl
 no_call (Some call) h = absurd (cc)
 
-overdue_so : (now limit : ℕ) (p : Relay) → is_overdue now limit p ≡ true → IsOverdue now limit p
+overdue_so : (now limit : ℕ) (p : PairState) → is_overdue now limit p ≡ true → IsOverdue now limit p
 overdue_so now limit p h =
     let both : (is_past now limit p.moved && is_live (verdict p)) ≡ true = first_so (is_past now limit p.moved && is_live (verdict p)) (is_none (next_call p)) h in
     let past : is_past now limit p.moved ≡ true = first_so (is_past now limit p.moved) (is_live (verdict p)) both in
@@ -38,15 +38,15 @@ overdue_so now limit p h =
 above_zero : (n : ℕ) → 1 ≤ n → nat_lt 0 n ≡ true
 above_zero n h = grind (arith, nat_tests)
 
-so_overdue : (now limit : ℕ) (p : Relay) → IsOverdue now limit p → is_overdue now limit p ≡ true
+so_overdue : (now limit : ℕ) (p : PairState) → IsOverdue now limit p → is_overdue now limit p ≡ true
 so_overdue now limit p o =
     rw (above_zero limit o.limited, le-leb p.moved now o.before, le-leb limit (now - p.moved) o.long, o.quiet, o.live) refl
 
-pub overdue_is : (now limit : ℕ) (p : Relay) → (is_overdue now limit p ≡ true) ↔ IsOverdue now limit p
+pub overdue_is : (now limit : ℕ) (p : PairState) → (is_overdue now limit p ≡ true) ↔ IsOverdue now limit p
 overdue_is now limit p = (overdue_so now limit p, so_overdue now limit p)
 
 -- the same of a test's answer
-pub overdue_as : (b : Bool) (now limit : ℕ) (p : Relay) → b ≡ is_overdue now limit p → (b ≡ true) ↔ IsOverdue now limit p
+pub overdue_as : (b : Bool) (now limit : ℕ) (p : PairState) → b ≡ is_overdue now limit p → (b ≡ true) ↔ IsOverdue now limit p
 overdue_as b now limit p is = rw is (overdue_is now limit p)
 
 pub only_overdue_pairs_expire : OnlyOverduePairsExpire
@@ -56,7 +56,7 @@ only_overdue_pairs_expire now limit p = record {
   exact = overdue_is now limit p;
 }
 
-alone : (b : Bool) (p : Relay) → (if b then timed_out p else p) ≡ record p { failure = (if b then timed_out p else p).failure }
+alone : (b : Bool) (p : PairState) → (if b then timed_out p else p) ≡ record p { failure = (if b then timed_out p else p).failure }
 alone true p = refl
 alone false p = refl
 

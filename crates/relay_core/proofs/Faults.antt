@@ -10,7 +10,7 @@ use Rattle.relay_core.specs.declared.call.Call.{Call}
 use Rattle.relay_core.specs.declared.verdict.Fault.{Fault}
 use Rattle.relay_core.specs.declared.verdict.Verdict.TheVariants as verdict
 use Rattle.relay_core.specs.Calls.{side_of, direction_of}
-use Rattle.relay_core.specs.Pairs.{Flags, Relay, with_stream, with_flags, mark_joined, with_sent, verdict_of, verdict, is_live}
+use Rattle.relay_core.specs.Pairs.{Flags, PairState, with_stream, with_flags, mark_joined, with_sent, verdict_of, verdict, is_live}
 use Rattle.relay_core.specs.Order.{next_call}
 use Rattle.relay_core.specs.Replies.{AnswerValue, Bytes, End, Wrote, Joined, Shut, Blocked, Interrupted, Failed, after}
 use Rattle.relay_core.specs.Laws.{TellsOf}
@@ -25,26 +25,26 @@ live_of None true h = absurd (cc)
 live_of None false h = refl
 
 -- a call comes only while the pair is live
-pub asked_while_live : (p : Relay) (call : Call) → next_call p ≡ Some call → verdict p ≡ verdict.Live
+pub asked_while_live : (p : PairState) (call : Call) → next_call p ≡ Some call → verdict p ≡ verdict.Live
 asked_while_live p call e = live_of p.failure (p.up.shut && p.down.shut) (asked_of_live (is_live (verdict p)) _ call e)
 
 faultless : (f : Option Fault) (b : Bool) → verdict_of f b ≡ verdict.Live → f ≡ None
 faultless (Some fault) b h = absurd (cc)
 faultless None b h = refl
 
-failure_joined : (p : Relay) (side : Side) → (mark_joined p side).failure ≡ p.failure
+failure_joined : (p : PairState) (side : Side) → (mark_joined p side).failure ≡ p.failure
 failure_joined p Client = refl
 failure_joined p Target = refl
 
-failure_with_stream : (p : Relay) (d : Direction) (s : Stream) → (with_stream p d s).failure ≡ p.failure
+failure_with_stream : (p : PairState) (d : Direction) (s : Stream) → (with_stream p d s).failure ≡ p.failure
 failure_with_stream p Up s = refl
 failure_with_stream p Down s = refl
 
-failure_with_flags : (p : Relay) (side : Side) (flags : Flags) → (with_flags p side flags).failure ≡ p.failure
+failure_with_flags : (p : PairState) (side : Side) (flags : Flags) → (with_flags p side flags).failure ≡ p.failure
 failure_with_flags p Client flags = refl
 failure_with_flags p Target flags = refl
 
-failure_with_sent : (p : Relay) (d : Direction) (n : ℕ) → (with_sent p d n).failure ≡ p.failure
+failure_with_sent : (p : PairState) (d : Direction) (n : ℕ) → (with_sent p d n).failure ≡ p.failure
 failure_with_sent p Up n = refl
 failure_with_sent p Down n = refl
 
@@ -54,10 +54,10 @@ none_is_no_failure None true fault e h = absurd (cc)
 none_is_no_failure None false fault e h = absurd (cc)
 
 -- an answer by which no call failed leaves the pair without a fault
-sound : (now : ℕ) (p : Relay) (call : Call) (reply : AnswerValue) (fault : Fault) → p.failure ≡ None → (after now p call reply).failure ≡ p.failure → verdict (after now p call reply) ≡ verdict.Failed fault → TellsOf call reply fault
+sound : (now : ℕ) (p : PairState) (call : Call) (reply : AnswerValue) (fault : Fault) → p.failure ≡ None → (after now p call reply).failure ≡ p.failure → verdict (after now p call reply) ≡ verdict.Failed fault → TellsOf call reply fault
 sound now p call reply fault none same failed = absurd (none_is_no_failure (after now p call reply).failure _ fault (same ∙ none) failed)
 
-told : (now : ℕ) (p : Relay) (call : Call) (reply : AnswerValue) (fault : Fault) → p.failure ≡ None → verdict (after now p call reply) ≡ verdict.Failed fault → TellsOf call reply fault
+told : (now : ℕ) (p : PairState) (call : Call) (reply : AnswerValue) (fault : Fault) → p.failure ≡ None → verdict (after now p call reply) ≡ verdict.Failed fault → TellsOf call reply fault
 told now p call (Bytes bytes) fault none = sound now p call (Bytes bytes) fault none
     (failure_joined _ (side_of call) ∙ failure_with_stream p (direction_of call) _)
 told now p call End fault none = sound now p call End fault none
@@ -70,15 +70,15 @@ told now p call Blocked fault none = sound now p call Blocked fault none (failur
 told now p call Interrupted fault none = sound now p call Interrupted fault none refl
 told now p call (Failed kind) fault none = λ failed. record { kind = kind; failed = refl; told = cc }
 
-tells : (now : ℕ) (p : Relay) (call : Call) (reply : AnswerValue) (fault : Fault) → TellsOf call reply fault → verdict (after now p call reply) ≡ verdict.Failed fault
+tells : (now : ℕ) (p : PairState) (call : Call) (reply : AnswerValue) (fault : Fault) → TellsOf call reply fault → verdict (after now p call reply) ≡ verdict.Failed fault
 tells now p call reply fault t = rw (t.failed, t.told) refl
 
 -- the pair fails by a failed call and by nothing else, and its fault tells of that call
-pub fails_by_call : (now : ℕ) (p : Relay) (call : Call) (reply : AnswerValue) (q : Relay) → next_call p ≡ Some call → q ≡ after now p call reply → (fault : Fault) → (verdict q ≡ verdict.Failed fault) ↔ TellsOf call reply fault
+pub fails_by_call : (now : ℕ) (p : PairState) (call : Call) (reply : AnswerValue) (q : PairState) → next_call p ≡ Some call → q ≡ after now p call reply → (fault : Fault) → (verdict q ≡ verdict.Failed fault) ↔ TellsOf call reply fault
 fails_by_call now p call reply q next e fault =
     let none : p.failure ≡ None = faultless p.failure _ (asked_while_live p call next) in
     rw e (told now p call reply fault none, tells now p call reply fault)
 
 -- an interrupted call changes nothing but the turn
-pub interrupted_changes_turn : (now : ℕ) (p : Relay) (call : Call) (reply : AnswerValue) (q : Relay) → q ≡ after now p call reply → reply ≡ Interrupted → q ≡ record p { turn = q.turn }
+pub interrupted_changes_turn : (now : ℕ) (p : PairState) (call : Call) (reply : AnswerValue) (q : PairState) → q ≡ after now p call reply → reply ≡ Interrupted → q ≡ record p { turn = q.turn }
 interrupted_changes_turn now p call reply q e i = rw (e, i)

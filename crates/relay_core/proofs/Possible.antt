@@ -15,7 +15,7 @@ use Rattle.relay_core.specs.declared.call.Call.TheVariants.{Write, Join, Shut, R
 use Rattle.relay_core.specs.Calls.{direction_of}
 use Rattle.relay_core.specs.Replies.{fits, Bytes}
 use Rattle.relay_core.specs.Replies as reply
-use Rattle.relay_core.specs.Pairs.{Relay, stream_of, is_joined, verdict, is_live}
+use Rattle.relay_core.specs.Pairs.{PairState, stream_of, is_joined, verdict, is_live}
 use Rattle.relay_core.specs.Order.{is_waiting, is_drained, is_open, read_most, call_for, next_call}
 use Rattle.relay_core.specs.Laws.{IsDrained, HasRoomFor, IsPossible}
 use Rattle.token.specs.Sides.{opposite, inward, outward}
@@ -70,7 +70,7 @@ may_shut s joined h = (drained s (first_so (is_drained s) joined h), second_so (
 may_read : (s : Stream) (b : Bool) → (is_open s && b) ≡ true → HasRoomFor s (read_most s)
 may_read s b h = has_room s (first_so (is_open s) b h)
 
-pub call_for_is_possible : (p : Relay) (d : Direction) → IfSome (call_for p d) (IsPossible p)
+pub call_for_is_possible : (p : PairState) (d : Direction) → IfSome (call_for p d) (IsPossible p)
 call_for_is_possible p Up =
     chosen (IsPossible p) _ _ _ (waits p.up p.target.write) (λ _.
     chosen (IsPossible p) _ _ _ (may_join p.up p.joined p.target.write) (λ _.
@@ -83,20 +83,20 @@ call_for_is_possible p Down =
     chosen (IsPossible p) _ _ _ (may_read p.down p.target.read) (λ _. tt))))
 
 -- what one direction comes to is possible
-pub served_is_possible : (p : Relay) (d : Direction) (call : Call) → call_for p d ≡ Some call → IsPossible p call
+pub served_is_possible : (p : PairState) (d : Direction) (call : Call) → call_for p d ≡ Some call → IsPossible p call
 served_is_possible p d call e = rw e at (call_for_is_possible p d)
 
-next_is_possible : (p : Relay) → IfSome (next_call p) (IsPossible p)
+next_is_possible : (p : PairState) → IfSome (next_call p) (IsPossible p)
 next_is_possible p =
     chosen (IsPossible p) (is_live (verdict p)) _ _
     (λ _. either (IsPossible p) (call_for p p.turn) _ (call_for_is_possible p p.turn) (call_for_is_possible p (opposite p.turn))) (λ _. tt)
 
 -- what comes next is possible
-pub asked_is_possible : (p : Relay) (call : Call) → next_call p ≡ Some call → IsPossible p call
+pub asked_is_possible : (p : PairState) (call : Call) → next_call p ≡ Some call → IsPossible p call
 asked_is_possible p call e = rw e at (next_is_possible p)
 
 -- what a read gives goes into the ring
-pub bytes_fit : (p : Relay) (call : Call) (bytes : List ℕ) → next_call p ≡ Some call → fits p call (Bytes bytes) ≡ true → (length bytes ≤ free_room (stream_of p (direction_of call))) × ((stream_of p (direction_of call)).end_seen ≡ false)
+pub bytes_fit : (p : PairState) (call : Call) (bytes : List ℕ) → next_call p ≡ Some call → fits p call (Bytes bytes) ≡ true → (length bytes ≤ free_room (stream_of p (direction_of call))) × ((stream_of p (direction_of call)).end_seen ≡ false)
 bytes_fit p (Read side most) bytes next fit =
     let within : length bytes ≤ most = leb-true (length bytes) most (second_so (nat_le 1 (length bytes)) (nat_le (length bytes) most) fit) in
     let asked : HasRoomFor (stream_of p (outward side)) most = asked_is_possible p (Read side most) next in
@@ -106,7 +106,7 @@ bytes_fit p (Join side) bytes next fit = absurd (cc)
 bytes_fit p (Shut side) bytes next fit = absurd (cc)
 
 -- an end is passed on after every byte
-pub shut_fits : (p : Relay) (call : Call) → next_call p ≡ Some call → fits p call reply.Shut ≡ true → IsDrained (stream_of p (direction_of call))
+pub shut_fits : (p : PairState) (call : Call) → next_call p ≡ Some call → fits p call reply.Shut ≡ true → IsDrained (stream_of p (direction_of call))
 shut_fits p (Shut side) next fit = let asked : IsDrained (stream_of p (inward side)) × (is_joined p side ≡ true) = asked_is_possible p (Shut side) next in asked.0
 shut_fits p (Write side) next fit = absurd (cc)
 shut_fits p (Join side) next fit = absurd (cc)

@@ -8,7 +8,7 @@ use Rattle.token.specs.declared.direction.Direction.TheVariants.{Up, Down}
 use Rattle.token.specs.Sides.{opposite, source, destination}
 use Rattle.flow.specs.Stream.{Stream, free_room, waiting}
 use Rattle.relay_core.specs.declared.call.Call.{Call}
-use Rattle.relay_core.specs.Pairs.{Relay, stream_of, flags_of, is_joined, verdict, is_live}
+use Rattle.relay_core.specs.Pairs.{PairState, stream_of, flags_of, is_joined, verdict, is_live}
 use Rattle.relay_core.specs.Order.{is_waiting, is_drained, is_open, call_for}
 use Rattle.relay_core.specs.Laws.{IsDrained, IsAtRest, LivePairsRest}
 
@@ -37,7 +37,7 @@ open_so s unseen room = rw unseen (above_zero (free_room s) room)
 drained_joined_so : (s : Stream) (joined : Bool) → IsDrained s → joined ≡ false → (is_drained s && not joined) ≡ true
 drained_joined_so s joined h unjoined = rw (drained_so s h, unjoined) refl
 
-idle : (p : Relay) (d : Direction) → call_for p d ≡ None → IsAtRest p d
+idle : (p : PairState) (d : Direction) → call_for p d ≡ None → IsAtRest p d
 idle p d e =
     let first : ((is_waiting (stream_of p d) && (flags_of p (destination d)).write) ≡ false) × (_ ≡ None) = none_of_if _ _ _ e in
     let second : ((is_drained (stream_of p d) && not (is_joined p (destination d)) && (flags_of p (destination d)).write) ≡ false) × (_ ≡ None) = none_of_if _ _ _ first.1 in
@@ -50,13 +50,13 @@ idle p d e =
       unread = λ unseen room. other_test _ _ fourth.0 (open_so (stream_of p d) unseen room);
     }
 
-either_idle : (p : Relay) (t d : Direction) → (call_for p t ≡ None) × (call_for p (opposite t) ≡ None) → IsAtRest p d
+either_idle : (p : PairState) (t d : Direction) → (call_for p t ≡ None) × (call_for p (opposite t) ≡ None) → IsAtRest p d
 either_idle p Up Up e = idle p Up e.0
 either_idle p Up Down e = idle p Down e.1
 either_idle p Down Up e = idle p Up e.1
 either_idle p Down Down e = idle p Down e.0
 
-live_none : (p : Relay) (b : Bool) → b ≡ true → (if b then option_or (call_for p p.turn) (call_for p (opposite p.turn)) else None) ≡ None → (call_for p p.turn ≡ None) × (call_for p (opposite p.turn) ≡ None)
+live_none : (p : PairState) (b : Bool) → b ≡ true → (if b then option_or (call_for p p.turn) (call_for p (opposite p.turn)) else None) ≡ None → (call_for p p.turn ≡ None) × (call_for p (opposite p.turn) ≡ None)
 live_none p true h e = none_of_either _ _ e
 live_none p false h e = absurd (cc)
 

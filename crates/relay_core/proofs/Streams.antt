@@ -10,7 +10,7 @@ use Rattle.flow.specs.Stream.{Stream, free_room, waiting, taken_in, dropped, end
 use Rattle.flow.proofs.Front.{waiting-dropped, take-front}
 use Rattle.relay_core.specs.declared.call.Call.{Call}
 use Rattle.relay_core.specs.Calls.{side_of, direction_of}
-use Rattle.relay_core.specs.Pairs.{Flags, Relay, stream_of, with_stream, with_flags, flags_of, mark_joined, with_sent}
+use Rattle.relay_core.specs.Pairs.{Flags, PairState, stream_of, with_stream, with_flags, flags_of, mark_joined, with_sent}
 use Rattle.relay_core.specs.Order.{next_call, offer}
 use Rattle.relay_core.specs.Replies.{AnswerValue, Bytes, End, Wrote, Joined, Shut, Blocked, Interrupted, Failed, fits, change_stream, without_flag, effect, after}
 use Rattle.relay_core.specs.Moved.{same_way, carried}
@@ -26,28 +26,28 @@ served (Wrote n) s = dropped s n
 served Shut s = closed s
 served reply s = s
 
-stream_at : (p : Relay) (t : Direction) (second : ℕ) (d : Direction) → stream_of (record p { turn = t; moved = second }) d ≡ stream_of p d
+stream_at : (p : PairState) (t : Direction) (second : ℕ) (d : Direction) → stream_of (record p { turn = t; moved = second }) d ≡ stream_of p d
 stream_at p t second Up = refl
 stream_at p t second Down = refl
 
-stream_joined : (p : Relay) (side : Side) (d : Direction) → stream_of (mark_joined p side) d ≡ stream_of p d
+stream_joined : (p : PairState) (side : Side) (d : Direction) → stream_of (mark_joined p side) d ≡ stream_of p d
 stream_joined p Client d = refl
 stream_joined p Target Up = refl
 stream_joined p Target Down = refl
 
-stream_with_flags : (p : Relay) (side : Side) (flags : Flags) (d : Direction) → stream_of (with_flags p side flags) d ≡ stream_of p d
+stream_with_flags : (p : PairState) (side : Side) (flags : Flags) (d : Direction) → stream_of (with_flags p side flags) d ≡ stream_of p d
 stream_with_flags p Client flags Up = refl
 stream_with_flags p Client flags Down = refl
 stream_with_flags p Target flags Up = refl
 stream_with_flags p Target flags Down = refl
 
-stream_with_sent : (p : Relay) (e : Direction) (n : ℕ) (d : Direction) → stream_of (with_sent p e n) d ≡ stream_of p d
+stream_with_sent : (p : PairState) (e : Direction) (n : ℕ) (d : Direction) → stream_of (with_sent p e n) d ≡ stream_of p d
 stream_with_sent p Up n Up = refl
 stream_with_sent p Up n Down = refl
 stream_with_sent p Down n Up = refl
 stream_with_sent p Down n Down = refl
 
-stream_changed : (p : Relay) (e : Direction) (f : Stream → Stream) (d : Direction) → stream_of (with_stream p e (f (stream_of p e))) d ≡ (if same_way e d then f (stream_of p d) else stream_of p d)
+stream_changed : (p : PairState) (e : Direction) (f : Stream → Stream) (d : Direction) → stream_of (with_stream p e (f (stream_of p e))) d ≡ (if same_way e d then f (stream_of p d) else stream_of p d)
 stream_changed p Up f Up = refl
 stream_changed p Up f Down = refl
 stream_changed p Down f Up = refl
@@ -58,7 +58,7 @@ alike true s = refl
 alike false s = refl
 
 -- only the direction that the call serves changes, and only by the answer
-pub stream_after : (now : ℕ) (p : Relay) (d : Direction) (call : Call) (reply : AnswerValue) → stream_of (after now p call reply) d ≡ (if same_way (direction_of call) d then served reply (stream_of p d) else stream_of p d)
+pub stream_after : (now : ℕ) (p : PairState) (d : Direction) (call : Call) (reply : AnswerValue) → stream_of (after now p call reply) d ≡ (if same_way (direction_of call) d then served reply (stream_of p d) else stream_of p d)
 stream_after now p d call (Bytes bytes) =
     stream_at (effect p call (Bytes bytes)) (opposite (direction_of call)) now d
     ∙ (stream_joined (change_stream p call (λ s. taken_in s bytes)) (side_of call) d
@@ -68,8 +68,8 @@ stream_after now p d call End =
     ∙ (stream_joined (change_stream p call ended) (side_of call) d
     ∙ stream_changed p (direction_of call) ended d)
 stream_after now p d call (Wrote n) =
-    let moved : Relay = change_stream p call (λ s. dropped s n) in
-    let joined : Relay = mark_joined moved (side_of call) in
+    let moved : PairState = change_stream p call (λ s. dropped s n) in
+    let joined : PairState = mark_joined moved (side_of call) in
     stream_at (effect p call (Wrote n)) (opposite (direction_of call)) now d
     ∙ (stream_with_sent joined (direction_of call) _ d
     ∙ (stream_joined moved (side_of call) d
@@ -108,10 +108,10 @@ same_order : (b : Bool) (s t : Stream) → waiting t ≡ waiting s → waiting s
 same_order true s t e = append-nil (waiting s) ∙ sym e
 same_order false s t e = append-nil (waiting s)
 
-waiting_after : (now : ℕ) (p : Relay) (d : Direction) (call : Call) (reply : AnswerValue) → waiting (if same_way (direction_of call) d then served reply (stream_of p d) else stream_of p d) ≡ waiting (stream_of (after now p call reply) d)
+waiting_after : (now : ℕ) (p : PairState) (d : Direction) (call : Call) (reply : AnswerValue) → waiting (if same_way (direction_of call) d then served reply (stream_of p d) else stream_of p d) ≡ waiting (stream_of (after now p call reply) d)
 waiting_after now p d call reply = sym (ap (λ (s : Stream). waiting s) (stream_after now p d call reply))
 
-pub after_keeps_order : (now : ℕ) (p : Relay) (call : Call) (reply : AnswerValue) → KeepsOrder p call reply (after now p call reply)
+pub after_keeps_order : (now : ℕ) (p : PairState) (call : Call) (reply : AnswerValue) → KeepsOrder p call reply (after now p call reply)
 after_keeps_order now p call (Bytes bytes) = λ d. read_order (same_way (direction_of call) d) (stream_of p d) bytes ∙ waiting_after now p d call (Bytes bytes)
 after_keeps_order now p call End = λ d. same_order (same_way (direction_of call) d) (stream_of p d) (ended (stream_of p d)) refl ∙ waiting_after now p d call End
 after_keeps_order now p call (Wrote n) = λ d.
@@ -124,11 +124,11 @@ after_keeps_order now p call Interrupted = λ d. same_order (same_way (direction
 after_keeps_order now p call (Failed kind) = λ d. same_order (same_way (direction_of call) d) (stream_of p d) (stream_of p d) refl ∙ waiting_after now p d call (Failed kind)
 
 -- what a write takes of its offer are the first bytes that wait
-pub take-offer : (p : Relay) (side : Side) (n : ℕ) → n ≤ length (offer p side) → take n (offer p side) ≡ take n (waiting (stream_of p (inward side)))
+pub take-offer : (p : PairState) (side : Side) (n : ℕ) → n ≤ length (offer p side) → take n (offer p side) ≡ take n (waiting (stream_of p (inward side)))
 take-offer p side n h = take-front (stream_of p (inward side)) n h
 
 -- bytes leave in the order in which they came
-pub order_kept : (now : ℕ) (p : Relay) (call : Call) (reply : AnswerValue) (q : Relay) → q ≡ after now p call reply → KeepsOrder p call reply q
+pub order_kept : (now : ℕ) (p : PairState) (call : Call) (reply : AnswerValue) (q : PairState) → q ≡ after now p call reply → KeepsOrder p call reply q
 order_kept now p call reply q e = rw e (after_keeps_order now p call reply)
 
 pub same_direction : (e d : Direction) → same_way e d ≡ true → e ≡ d
@@ -161,13 +161,13 @@ stays true Blocked s h = h
 stays true Interrupted s h = h
 stays true (Failed kind) s h = h
 
-drained_before : (p : Relay) (d : Direction) (call : Call) (reply : AnswerValue) → next_call p ≡ Some call → fits p call reply ≡ true → same_way (direction_of call) d ≡ true → reply ≡ Shut → IsDrained (stream_of p d)
+drained_before : (p : PairState) (d : Direction) (call : Call) (reply : AnswerValue) → next_call p ≡ Some call → fits p call reply ≡ true → same_way (direction_of call) d ≡ true → reply ≡ Shut → IsDrained (stream_of p d)
 drained_before p d call reply next fit way shut =
     let e : direction_of call ≡ d = same_direction (direction_of call) d way in
     let fit_shut : fits p call Shut ≡ true = rw shut at fit in
     rw e at (shut_fits p call next fit_shut)
 
-open_before : (p : Relay) (d : Direction) (call : Call) (reply : AnswerValue) → next_call p ≡ Some call → fits p call reply ≡ true → same_way (direction_of call) d ≡ true → (bytes : List ℕ) → reply ≡ Bytes bytes → (stream_of p d).end_seen ≡ false
+open_before : (p : PairState) (d : Direction) (call : Call) (reply : AnswerValue) → next_call p ≡ Some call → fits p call reply ≡ true → same_way (direction_of call) d ≡ true → (bytes : List ℕ) → reply ≡ Bytes bytes → (stream_of p d).end_seen ≡ false
 open_before p d call reply next fit way bytes came =
     let e : direction_of call ≡ d = same_direction (direction_of call) d way in
     let fit_bytes : fits p call (Bytes bytes) ≡ true = rw came at fit in
@@ -187,7 +187,7 @@ closed_last true Interrupted s open_end drained c = c
 closed_last true (Failed kind) s open_end drained c = c
 
 -- the end of input is passed on last, and for good
-pub end_passed_last : (now : ℕ) (p : Relay) (call : Call) (reply : AnswerValue) (q : Relay) → next_call p ≡ Some call → fits p call reply ≡ true → q ≡ after now p call reply → (d : Direction) → PassesEndLast (stream_of p d) (stream_of q d)
+pub end_passed_last : (now : ℕ) (p : PairState) (call : Call) (reply : AnswerValue) (q : PairState) → next_call p ≡ Some call → fits p call reply ≡ true → q ≡ after now p call reply → (d : Direction) → PassesEndLast (stream_of p d) (stream_of q d)
 end_passed_last now p call reply q next fit e d =
     let is : stream_of q d ≡ (if same_way (direction_of call) d then served reply (stream_of p d) else stream_of p d) = rw e (stream_after now p d call reply) in
     record {

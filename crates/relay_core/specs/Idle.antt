@@ -3,7 +3,7 @@
 use Rattle.std.specs.Prelude.{ℕ, ◌-◌, Bool, ◌&&◌, nat_lt, nat_le, if◌then◌else◌, Some}
 use Rattle.std.specs.Option.{is_none}
 use Rattle.relay_core.specs.declared.verdict.Fault.TheVariants.{Idle}
-use Rattle.relay_core.specs.Pairs.{Relay, verdict, is_live}
+use Rattle.relay_core.specs.Pairs.{PairState, verdict, is_live}
 use Rattle.relay_core.specs.Order.{next_call}
 
 -- at this second the last movement lies a limit back that is not 0; a clock that went back shows nothing
@@ -11,13 +11,13 @@ abbrev pub is_past : ℕ → ℕ → ℕ → Bool
 is_past now limit moved = nat_lt 0 limit && nat_le moved now && nat_le limit (now - moved)
 
 -- a live pair has no next call, and the limit has passed
-abbrev pub is_overdue : ℕ → ℕ → Relay → Bool
+abbrev pub is_overdue : ℕ → ℕ → PairState → Bool
 is_overdue now limit p = is_past now limit p.moved && is_live (verdict p) && is_none (next_call p)
 
 -- the pair failed since it moved nothing
-abbrev pub timed_out : Relay → Relay
+abbrev pub timed_out : PairState → PairState
 timed_out p = record p { failure = Some Idle }
 
 -- the pair once it was held against the limit
-abbrev pub expired : ℕ → ℕ → Relay → Relay
+abbrev pub expired : ℕ → ℕ → PairState → PairState
 expired now limit p = if is_overdue now limit p then timed_out p else p

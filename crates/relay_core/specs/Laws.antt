@@ -10,7 +10,7 @@ use Rattle.relay_core.specs.declared.verdict.Fault.{Fault}
 use Rattle.relay_core.specs.declared.verdict.Fault.TheVariants.{Broken, Idle}
 use Rattle.relay_core.specs.declared.verdict.Verdict.TheVariants as Verdict
 use Rattle.relay_core.specs.Calls.{side_of, kind_of, direction_of}
-use Rattle.relay_core.specs.Pairs.{Relay, ready, fresh, stream_of, flags_of, is_joined, noted, verdict}
+use Rattle.relay_core.specs.Pairs.{PairState, ready, fresh, stream_of, flags_of, is_joined, noted, verdict}
 use Rattle.relay_core.specs.Order.{next_call, offer}
 use Rattle.relay_core.specs.Replies.{AnswerValue, End, Failed, fits, after}
 use Rattle.relay_core.specs.Runs.{answered, over}
@@ -33,7 +33,7 @@ pub record HasRoomFor (stream : Stream) (most : ℕ) : Type 0 where
 
 -- nothing in the pair speaks against a call: a write has something to offer, a shutdown comes after every
 -- byte, on a socket that is connected, and a read has room for what it asks for
-abbrev pub IsPossible : Relay → Call → Type 0
+abbrev pub IsPossible : PairState → Call → Type 0
 IsPossible p (Write side) = 1 ≤ length (offer p side)
 IsPossible p (Join side) = IsDrained (stream_of p (inward side)) × (is_joined p side ≡ false)
 IsPossible p (Shut side) = IsDrained (stream_of p (inward side)) × (is_joined p side ≡ true)
@@ -51,7 +51,7 @@ pub record PassesEndLast (old new : Stream) : Type 0 where
   pub closed_last : IsClosedLast old → IsClosedLast new
 
 -- in each direction: what was there and what came in is what went out and what is there now, in order
-abbrev pub KeepsOrder : Relay → Call → AnswerValue → Relay → Type 0
+abbrev pub KeepsOrder : PairState → Call → AnswerValue → PairState → Type 0
 KeepsOrder old call reply new =
     (d : Direction) → waiting (stream_of old d) ++ brought d call reply ≡ carried old d call reply ++ waiting (stream_of new d)
 
@@ -62,12 +62,12 @@ pub record TellsOf (made : Call) (reply : AnswerValue) (fault : Fault) : Type 0 
   pub told : fault ≡ Broken (side_of made) (kind_of made) kind
 
 -- the answer fits the call that comes next
-pub record AnswersNext (p : Relay) (call : Call) (reply : AnswerValue) : Type 0 where
+pub record AnswersNext (p : PairState) (call : Call) (reply : AnswerValue) : Type 0 where
   pub next : next_call p ≡ Some call
   pub fit : fits p call reply ≡ true
 
 -- in each direction: where the end of input was passed on, it came last
-abbrev pub KeepsEndLast : Relay → Type 0
+abbrev pub KeepsEndLast : PairState → Type 0
 KeepsEndLast p = (d : Direction) → IsClosedLast (stream_of p d)
 
 -- what a connection keeps from its opening to its end
@@ -77,19 +77,19 @@ pub record Place : Type 0 where
   pub up_capacity : ℕ
   pub down_capacity : ℕ
 
-abbrev pub place_of : Relay → Place
+abbrev pub place_of : PairState → Place
 place_of p = record { slot = p.slot; generation = p.generation; up_capacity = p.up.capacity; down_capacity = p.down.capacity }
 
 -- no call serves this direction: bytes that wait have no writable destination, an end that is to be passed
 -- on has one that neither is connected nor can be asked, and a ring with room has no readable source
-pub record IsAtRest (p : Relay) (d : Direction) : Type 0 where
+pub record IsAtRest (p : PairState) (d : Direction) : Type 0 where
   pub waits : 1 ≤ length (waiting (stream_of p d)) → (flags_of p (destination d)).write ≡ false
   pub unjoined : IsDrained (stream_of p d) → is_joined p (destination d) ≡ false
   pub unasked : IsDrained (stream_of p d) → (flags_of p (destination d)).write ≡ false
   pub unread : (stream_of p d).end_seen ≡ false → 1 ≤ free_room (stream_of p d) → (flags_of p (source d)).read ≡ false
 
 -- the pair is live and has no next call, and at this second its last movement lies at least a limit back that is not 0
-pub record IsOverdue (now limit : ℕ) (p : Relay) : Type 0 where
+pub record IsOverdue (now limit : ℕ) (p : PairState) : Type 0 where
   pub live : verdict p ≡ Verdict.Live
   pub quiet : next_call p ≡ None
   pub limited : 1 ≤ limit
@@ -99,98 +99,98 @@ pub record IsOverdue (now limit : ℕ) (p : Relay) : Type 0 where
 -- laws of one answer
 
 abbrev pub AnswersKeepOrder : Type 0
-AnswersKeepOrder = (now : ℕ) (p : Relay) (call : Call) (reply : AnswerValue) → KeepsOrder p call reply (after now p call reply)
+AnswersKeepOrder = (now : ℕ) (p : PairState) (call : Call) (reply : AnswerValue) → KeepsOrder p call reply (after now p call reply)
 
 abbrev pub AnswersPassEndLast : Type 0
 AnswersPassEndLast =
-    (now : ℕ) (p : Relay) (call : Call) (reply : AnswerValue) → AnswersNext p call reply →
+    (now : ℕ) (p : PairState) (call : Call) (reply : AnswerValue) → AnswersNext p call reply →
     (d : Direction) → PassesEndLast (stream_of p d) (stream_of (after now p call reply) d)
 
 -- the end of a direction is seen by an End that a call on it is answered, and then for good
 abbrev pub OnlyEndsAreSeen : Type 0
 OnlyEndsAreSeen =
-    (now : ℕ) (p : Relay) (call : Call) (reply : AnswerValue) (d : Direction) →
+    (now : ℕ) (p : PairState) (call : Call) (reply : AnswerValue) (d : Direction) →
     ((stream_of (after now p call reply) d).end_seen ≡ true) ↔ (((stream_of p d).end_seen ≡ true) ⊎ ((direction_of call ≡ d) × (reply ≡ End)))
 
 abbrev pub AnswersKeepPlace : Type 0
-AnswersKeepPlace = (now : ℕ) (p : Relay) (call : Call) (reply : AnswerValue) → place_of (after now p call reply) ≡ place_of p
+AnswersKeepPlace = (now : ℕ) (p : PairState) (call : Call) (reply : AnswerValue) → place_of (after now p call reply) ≡ place_of p
 
 -- an answer fails a pair by a failed call alone, and its fault tells of that call
 abbrev pub FailuresAreTold : Type 0
 FailuresAreTold =
-    (now : ℕ) (p : Relay) (call : Call) (reply : AnswerValue) (fault : Fault) → AnswersNext p call reply →
+    (now : ℕ) (p : PairState) (call : Call) (reply : AnswerValue) (fault : Fault) → AnswersNext p call reply →
     (verdict (after now p call reply) ≡ Verdict.Failed fault) ↔ TellsOf call reply fault
 
 -- what one answer does is what the answer to some next call does
-pub record IsAnswerOf (now : ℕ) (p : Relay) (reply : AnswerValue) (q : Relay) : Type 0 where
+pub record IsAnswerOf (now : ℕ) (p : PairState) (reply : AnswerValue) (q : PairState) : Type 0 where
   pub call : Call
   pub answers : AnswersNext p call reply
   pub after_it : q ≡ after now p call reply
 
 abbrev pub AnswersAreToNextCalls : Type 0
-AnswersAreToNextCalls = (now : ℕ) (p q : Relay) (reply : AnswerValue) → answered now p reply ≡ Some q → IsAnswerOf now p reply q
+AnswersAreToNextCalls = (now : ℕ) (p q : PairState) (reply : AnswerValue) → answered now p reply ≡ Some q → IsAnswerOf now p reply q
 
 -- laws of the next call
 
 abbrev pub CallsComeWhileLive : Type 0
-CallsComeWhileLive = (p : Relay) (call : Call) → next_call p ≡ Some call → verdict p ≡ Verdict.Live
+CallsComeWhileLive = (p : PairState) (call : Call) → next_call p ≡ Some call → verdict p ≡ Verdict.Live
 
 abbrev pub LivePairsRest : Type 0
-LivePairsRest = (p : Relay) → verdict p ≡ Verdict.Live → next_call p ≡ None → (d : Direction) → IsAtRest p d
+LivePairsRest = (p : PairState) → verdict p ≡ Verdict.Live → next_call p ≡ None → (d : Direction) → IsAtRest p d
 
 -- laws of a report
 
 -- a report sets all four flags and changes nothing else
 abbrev pub ReportsSetFlags : Type 0
-ReportsSetFlags = (p : Relay) → noted p ≡ record p { client = ready; target = ready }
+ReportsSetFlags = (p : PairState) → noted p ≡ record p { client = ready; target = ready }
 
 abbrev pub ReportsKeepStreams : Type 0
-ReportsKeepStreams = (p : Relay) (d : Direction) → stream_of (noted p) d ≡ stream_of p d
+ReportsKeepStreams = (p : PairState) (d : Direction) → stream_of (noted p) d ≡ stream_of p d
 
 -- laws of the idle limit
 
 -- an overdue pair has failed by the limit, and any other is as it was
-pub record IsHeldAgainst (now limit : ℕ) (p : Relay) : Type 0 where
+pub record IsHeldAgainst (now limit : ℕ) (p : PairState) : Type 0 where
   pub overdue : IsOverdue now limit p → verdict (expired now limit p) ≡ Verdict.Failed Idle
   pub other : is_overdue now limit p ≡ false → expired now limit p ≡ p
   pub exact : (is_overdue now limit p ≡ true) ↔ IsOverdue now limit p
 
 abbrev pub OnlyOverduePairsExpire : Type 0
-OnlyOverduePairsExpire = (now limit : ℕ) (p : Relay) → IsHeldAgainst now limit p
+OnlyOverduePairsExpire = (now limit : ℕ) (p : PairState) → IsHeldAgainst now limit p
 
 -- the limit changes nothing but the verdict
 abbrev pub ExpiriesChangeVerdictAlone : Type 0
-ExpiriesChangeVerdictAlone = (now limit : ℕ) (p : Relay) → expired now limit p ≡ record p { failure = (expired now limit p).failure }
+ExpiriesChangeVerdictAlone = (now limit : ℕ) (p : PairState) → expired now limit p ≡ record p { failure = (expired now limit p).failure }
 
 -- laws of runs: over any list of answers, reports and expiries
 
 -- the bytes of each direction keep their order, and none is lost or doubled
 abbrev pub RunsKeepOrder : Type 0
 RunsKeepOrder =
-    (p q : Relay) (events : List Event) → through p events ≡ Some q →
+    (p q : PairState) (events : List Event) → through p events ≡ Some q →
     (d : Direction) → waiting (stream_of p d) ++ ever_brought p d events ≡ ever_carried p d events ++ waiting (stream_of q d)
 
 -- a pair that passed on no end before its bytes goes on so, and one on which an end was passed on has
 -- passed on every byte that it ever had or read
-pub record RunPassesEndLast (p q : Relay) (events : List Event) : Type 0 where
+pub record RunPassesEndLast (p q : PairState) (events : List Event) : Type 0 where
   pub kept : KeepsEndLast q
   pub last : (d : Direction) → (stream_of q d).shut ≡ true → ever_carried p d events ≡ waiting (stream_of p d) ++ ever_brought p d events
 
 abbrev pub RunsPassEndLast : Type 0
 RunsPassEndLast =
-    (p q : Relay) (events : List Event) → KeepsEndLast p → through p events ≡ Some q → RunPassesEndLast p q events
+    (p q : PairState) (events : List Event) → KeepsEndLast p → through p events ≡ Some q → RunPassesEndLast p q events
 
 abbrev pub FreshPairsKeepEndLast : Type 0
 FreshPairsKeepEndLast = (slot generation capacity now : ℕ) (lead : List ℕ) → KeepsEndLast (fresh slot generation capacity now lead)
 
 abbrev pub RunsKeepPlace : Type 0
-RunsKeepPlace = (p q : Relay) (events : List Event) → through p events ≡ Some q → place_of q ≡ place_of p
+RunsKeepPlace = (p q : PairState) (events : List Event) → through p events ≡ Some q → place_of q ≡ place_of p
 
 -- a list of answers of one second alone, as events
-pub record IsRunOf (now : ℕ) (p : Relay) (replies : List AnswerValue) : Type 0 where
+pub record IsRunOf (now : ℕ) (p : PairState) (replies : List AnswerValue) : Type 0 where
   pub run : through p (map (Answered now) replies) ≡ over now p replies
   pub brought : (d : Direction) → ever_brought p d (map (Answered now) replies) ≡ all_brought now p d replies
   pub carried : (d : Direction) → ever_carried p d (map (Answered now) replies) ≡ all_carried now p d replies
 
 abbrev pub AnswersAreEvents : Type 0
-AnswersAreEvents = (now : ℕ) (p : Relay) (replies : List AnswerValue) → IsRunOf now p replies
+AnswersAreEvents = (now : ℕ) (p : PairState) (replies : List AnswerValue) → IsRunOf now p replies

@@ -7,18 +7,18 @@ use Rattle.token.specs.Sides.{inward}
 use Rattle.flow.specs.Stream.{Stream}
 use Rattle.flow.specs.Lending.{with_front}
 use Rattle.flow.specs.contracts.flow.Flow as flow
-use Rattle.relay_core.specs.Pairs.{Relay, stream_of, with_stream}
+use Rattle.relay_core.specs.Pairs.{PairState, stream_of, with_stream}
 use Rattle.relay_core.specs.contracts.pair.Pair.{the_row}
 
 -- the front of what is bound for a side holds what now stands in the place of its bytes
-abbrev pub with_offer : Relay → Side → List ℕ → Relay
+abbrev pub with_offer : PairState → Side → List ℕ → PairState
 with_offer p side bytes = with_stream p (inward side) (with_front (stream_of p (inward side)) bytes)
 
 -- the pair lends the bytes that are bound for a side: nothing else changes, and they only if they are
 -- written to
-abbrev pub LendsOffer : MutBor Relay → Side → MutBor (List ℕ) → Fml
+abbrev pub LendsOffer : MutBor PairState → Side → MutBor (List ℕ) → Fml
 LendsOffer p side lent = Lends the_row (Array u8 0) p lent (with_offer p.now side)
 
 -- the pair lends the stream of one direction, and nothing else changes
-abbrev pub LendsStream : MutBor Relay → Direction → MutBor Stream → Fml
+abbrev pub LendsStream : MutBor PairState → Direction → MutBor Stream → Fml
 LendsStream p d lent = Lends the_row flow.the_row p lent (with_stream p.now d)

@@ -7,7 +7,7 @@ use Rattle.token.specs.Sides.{source, destination, opposite, inward}
 use Rattle.flow.specs.Stream.{Stream, free_room, waiting, front}
 use Rattle.relay_core.specs.declared.call.Call.{Call}
 use Rattle.relay_core.specs.declared.call.Call.TheVariants.{Write, Join, Shut, Read}
-use Rattle.relay_core.specs.Pairs.{Relay, stream_of, flags_of, is_joined, verdict, is_live}
+use Rattle.relay_core.specs.Pairs.{PairState, stream_of, flags_of, is_joined, verdict, is_live}
 
 -- bytes wait, of the lead or in the ring
 abbrev pub is_waiting : Stream → Bool
@@ -26,7 +26,7 @@ abbrev pub read_most : Stream → ℕ
 read_most stream = min (free_room stream) 16384
 
 -- the first possible call that serves one direction
-abbrev pub call_for : Relay → Direction → Option Call
+abbrev pub call_for : PairState → Direction → Option Call
 call_for p d =
     if is_waiting (stream_of p d) && (flags_of p (destination d)).write then Some (Write (destination d))
     else if is_drained (stream_of p d) && not (is_joined p (destination d)) && (flags_of p (destination d)).write then Some (Join (destination d))
@@ -36,9 +36,9 @@ call_for p d =
 
 -- the call that a pair makes next: one for the direction whose turn it is, or else one for the other
 -- direction, and none once the pair is done or failed
-abbrev pub next_call : Relay → Option Call
+abbrev pub next_call : PairState → Option Call
 next_call p = if is_live (verdict p) then option_or (call_for p p.turn) (call_for p (opposite p.turn)) else None
 
 -- what a write to a side offers: the lead of what is bound for it while that is not empty, and then the ring
-abbrev pub offer : Relay → Side → List ℕ
+abbrev pub offer : PairState → Side → List ℕ
 offer p side = front (stream_of p (inward side))

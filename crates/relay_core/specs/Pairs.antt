@@ -16,7 +16,7 @@ use Rattle.relay_core.specs.declared.verdict.Verdict.TheVariants.{Live, Done, Fa
 -- since. `joined` says that the target's connect is known to have ended, `turn` is the direction that is
 -- looked at first, `sent_up` and `sent_down` count the bytes that writes took, and `moved` is the second
 -- at which the connection was made or last moved
-pub record Relay : Type 0 where
+pub record PairState : Type 0 where
   pub slot : ℕ
   pub generation : ℕ
   pub up : Stream
@@ -35,7 +35,7 @@ abbrev pub ready : Flags
 ready = record { read = true; write = true }
 
 -- a connection that was made at the second `now`, with a lead for the target
-abbrev pub fresh : ℕ → ℕ → ℕ → ℕ → List ℕ → Relay
+abbrev pub fresh : ℕ → ℕ → ℕ → ℕ → List ℕ → PairState
 fresh slot generation capacity now lead = record {
   slot = slot;
   generation = generation;
@@ -52,43 +52,43 @@ fresh slot generation capacity now lead = record {
 }
 
 -- the stream of one direction
-abbrev pub stream_of : Relay → Direction → Stream
+abbrev pub stream_of : PairState → Direction → Stream
 stream_of p Up = p.up
 stream_of p Down = p.down
 
-abbrev pub with_stream : Relay → Direction → Stream → Relay
+abbrev pub with_stream : PairState → Direction → Stream → PairState
 with_stream p Up stream = record p { up = stream }
 with_stream p Down stream = record p { down = stream }
 
 -- the flags of one side's socket
-abbrev pub flags_of : Relay → Side → Flags
+abbrev pub flags_of : PairState → Side → Flags
 flags_of p Client = p.client
 flags_of p Target = p.target
 
-abbrev pub with_flags : Relay → Side → Flags → Relay
+abbrev pub with_flags : PairState → Side → Flags → PairState
 with_flags p Client flags = record p { client = flags }
 with_flags p Target flags = record p { target = flags }
 
 -- whether one side's socket is known to be connected: the client always is
-abbrev pub is_joined : Relay → Side → Bool
+abbrev pub is_joined : PairState → Side → Bool
 is_joined p Client = true
 is_joined p Target = p.joined
 
-abbrev pub mark_joined : Relay → Side → Relay
+abbrev pub mark_joined : PairState → Side → PairState
 mark_joined p Client = p
 mark_joined p Target = record p { joined = true }
 
 -- how many bytes writes took in one direction
-abbrev pub sent : Relay → Direction → ℕ
+abbrev pub sent : PairState → Direction → ℕ
 sent p Up = p.sent_up
 sent p Down = p.sent_down
 
-abbrev pub with_sent : Relay → Direction → ℕ → Relay
+abbrev pub with_sent : PairState → Direction → ℕ → PairState
 with_sent p Up n = record p { sent_up = n }
 with_sent p Down n = record p { sent_down = n }
 
 -- a report came: each call is worth a try again
-abbrev pub noted : Relay → Relay
+abbrev pub noted : PairState → PairState
 noted p = record p { client = ready; target = ready }
 
 -- what has become of the connection: it failed once a call failed or the idle limit passed, it is done once
@@ -98,7 +98,7 @@ verdict_of (Some fault) both_shut = Failed fault
 verdict_of None true = Done
 verdict_of None false = Live
 
-abbrev pub verdict : Relay → Verdict
+abbrev pub verdict : PairState → Verdict
 verdict p = verdict_of p.failure (p.up.shut && p.down.shut)
 
 abbrev pub is_live : Verdict → Bool

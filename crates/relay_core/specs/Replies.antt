@@ -8,7 +8,7 @@ use Rattle.relay_core.specs.declared.call.Call.{Call}
 use Rattle.relay_core.specs.declared.call.Call.TheVariants as call
 use Rattle.relay_core.specs.declared.verdict.Fault.TheVariants.{Broken}
 use Rattle.relay_core.specs.Calls.{side_of, kind_of, direction_of}
-use Rattle.relay_core.specs.Pairs.{Flags, Relay, stream_of, with_stream, flags_of, with_flags, mark_joined, sent, with_sent}
+use Rattle.relay_core.specs.Pairs.{Flags, PairState, stream_of, with_stream, flags_of, with_flags, mark_joined, sent, with_sent}
 use Rattle.relay_core.specs.Order.{offer}
 
 -- read(2) gave bytes, or the end of input; write(2) took the first n bytes of the offer; the socket is
@@ -26,7 +26,7 @@ pub data AnswerValue : Type 0 where
 
 -- the answers that a call may get: a read gives 1 byte to as many as it asks for, a write takes 1 byte
 -- to all that it offers, and a shutdown never has to wait
-abbrev pub fits : Relay → Call → AnswerValue → Bool
+abbrev pub fits : PairState → Call → AnswerValue → Bool
 fits p (call.Read side most) (Bytes bytes) = nat_le 1 (length bytes) && nat_le (length bytes) most
 fits p (call.Read side most) End = true
 fits p (call.Read side most) Blocked = true
@@ -40,7 +40,7 @@ fits p call (Failed kind) = true
 fits p call reply = false
 
 -- the stream that a call serves, changed
-abbrev pub change_stream : Relay → Call → (Stream → Stream) → Relay
+abbrev pub change_stream : PairState → Call → (Stream → Stream) → PairState
 change_stream p call change = with_stream p (direction_of call) (change (stream_of p (direction_of call)))
 
 -- a call that had to wait: no other is worth a try until a report comes
@@ -49,11 +49,11 @@ without_flag (call.Read side most) flags = record flags { read = false }
 without_flag call flags = record flags { write = false }
 
 -- a write took n bytes more; the count stays at the largest that it can show
-abbrev pub count_more : Relay → Direction → ℕ → Relay
+abbrev pub count_more : PairState → Direction → ℕ → PairState
 count_more p d n = with_sent p d (min (sent p d + n) (2 ^ 64 - 1))
 
 -- what an answer does, but for the turn and the second. A socket that moved bytes or an end is connected.
-abbrev pub effect : Relay → Call → AnswerValue → Relay
+abbrev pub effect : PairState → Call → AnswerValue → PairState
 effect p call (Bytes bytes) = mark_joined (change_stream p call (λ stream. taken_in stream bytes)) (side_of call)
 effect p call End = mark_joined (change_stream p call ended) (side_of call)
 effect p call (Wrote n) = count_more (mark_joined (change_stream p call (λ stream. dropped stream n)) (side_of call)) (direction_of call) n
@@ -73,7 +73,7 @@ moves reply = true
 
 -- the pair after a call that was answered at the second `now`: the turn goes to the direction that the call did not
 -- serve
-abbrev pub after : ℕ → Relay → Call → AnswerValue → Relay
+abbrev pub after : ℕ → PairState → Call → AnswerValue → PairState
 after now p call reply = record (effect p call reply) {
   turn = opposite (direction_of call);
   moved = if moves reply then now else p.moved;

@@ -40,9 +40,9 @@ pub struct Pair {
 }
 
 impl Model for Pair {
-    ghost use Rattle.relay_core.specs.Pairs.{Relay};
+    ghost use Rattle.relay_core.specs.Pairs.{PairState};
 
-    ghost Value = { Relay };
+    ghost Value = { PairState };
 
     ghost view = { λ p. record { slot = p.slot; generation = p.generation; up = p.up; down = p.down; client = p.client; target = p.target; joined = p.joined; turn = p.turn; failure = p.failure; sent_up = p.sent_up; sent_down = p.sent_down; moved = p.moved } };
 }

@@ -6,9 +6,9 @@ use Rattle.token.specs.Names.{EndName}
 use Rattle.kernel_model.specs.declared.both.Sockets.{Sockets}
 use Rattle.kernel_model.specs.declared.reply.Reply.{Reply}
 use Rattle.kernel_model.specs.declared.reply.Reply.TheVariants as reply
-use Rattle.kernel_model.specs.Ends.{Endpoint, is_nonempty}
+use Rattle.kernel_model.specs.Ends.{EndState, is_nonempty}
 use Rattle.kernel_model.specs.Replies.{after_read, after_write, after_join, after_shut}
-use Rattle.kernel_model.specs.Kernel.{Watcher, end_at}
+use Rattle.kernel_model.specs.Kernel.{KernelState, end_at}
 use Rattle.relay_core.specs.declared.call.Call.{Call}
 use Rattle.relay_core.specs.declared.call.Call.TheVariants.{Write, Join, Shut, Read}
 use Rattle.relay_core.specs.Order.{next_call, offer}
@@ -17,10 +17,10 @@ use Rattle.relay_core.specs.Replies as answer
 use Rattle.world.specs.declared.connection.Connection.{Connection}
 use Rattle.world.specs.declared.actors.Doing.{Doing}
 use Rattle.world.specs.declared.actors.Doing.TheVariants.{Idle, Tries, Holds, Closed, Retired}
-use Rattle.world.specs.Places.{Place, Actor}
+use Rattle.world.specs.Slots.{SlotState, WorkerState}
 use Rattle.world.specs.States.{State}
-use Rattle.world.specs.Calls.{Line, descriptor, plain, told_of, replied, called}
-use Rattle.world.specs.Steps.{Lodging, lodged_call, call, doing, with_place}
+use Rattle.world.specs.Calls.{OpenConnection, descriptor, plain, told_of, replied, called}
+use Rattle.world.specs.Steps.{OpenSlot, slot_call, call, doing, with_place}
 use Rattle.world.specs.Headline.{socket_of}
 use Rattle.world.proofs.TurnsKept.{Kept, kept_bind, kept_when, kept_at, kept_then}
 use Rattle.world.proofs.EndsHeld.{History, token_at, is_pending, registered, PairOk, ConnectionOk, SlotOk, AllOk}
@@ -32,28 +32,28 @@ use Rattle.world.proofs.EndsNetwork.{ends_there}
 use Rattle.world.proofs.EndsAnswers.{IsAsked, asked, AnswerOk, Answered, told_read, read_keeps, write_keeps, join_keeps, shut_keeps}
 
 -- the kernel with another end at one side of a connection
-abbrev pub with_answer : Watcher → ℕ → ℕ → Connection → Side → Endpoint → Watcher
+abbrev pub with_answer : KernelState → ℕ → ℕ → Connection → Side → EndState → KernelState
 with_answer k s g c side e = record k { ends = slice_set k.ends (descriptor c.ends side) (Some (registered s g side e)) }
 
 -- after a call one end has changed in the kernel, and the pair is in order
-pub record LineOk (h : Side → List ℕ) (r : Side → Bool) (k : Watcher) (s g : ℕ) (c : Connection) (ends : Sockets) (line : Line) : Type 0 where
+pub record LineOk (h : Side → List ℕ) (r : Side → Bool) (k : KernelState) (s g : ℕ) (c : Connection) (ends : Sockets) (line : OpenConnection) : Type 0 where
   pub side : Side
-  pub socket : Endpoint
+  pub socket : EndState
   pub kernel : line.kernel ≡ with_answer k s g c side socket
   pub descriptors : line.connection.ends ≡ c.ends
   pub answered : AnswerOk h r c.pair line.connection.pair (with_socket ends side socket)
 
-abbrev pub EndsThere : Watcher → ℕ → ℕ → Connection → Sockets → Type 0
+abbrev pub EndsThere : KernelState → ℕ → ℕ → Connection → Sockets → Type 0
 EndsThere k s g c ends = (side : Side) → end_at k.ends (descriptor c.ends side) ≡ Some (registered s g side (socket_of ends side))
 
-line_ok : (now : ℕ) (h : Side → List ℕ) (r : Side → Bool) (k : Watcher) (s g : ℕ) (c : Connection) (ends : Sockets) (call : Call) (side : Side) (t : answer.AnswerValue) (replies : Option Endpoint)
-    → ((e : Endpoint) → replies ≡ Some e → Answered now h r c.pair ends call side t e)
-    → Kept (LineOk h r k s g c ends) (option_map (λ (q : Watcher). record { kernel = q; connection = record c { pair = after now c.pair call t } })
-    (option_map (λ (e : Endpoint). with_answer k s g c side e) replies))
+line_ok : (now : ℕ) (h : Side → List ℕ) (r : Side → Bool) (k : KernelState) (s g : ℕ) (c : Connection) (ends : Sockets) (call : Call) (side : Side) (t : answer.AnswerValue) (replies : Option EndState)
+    → ((e : EndState) → replies ≡ Some e → Answered now h r c.pair ends call side t e)
+    → Kept (LineOk h r k s g c ends) (option_map (λ (q : KernelState). record { kernel = q; connection = record c { pair = after now c.pair call t } })
+    (option_map (λ (e : EndState). with_answer k s g c side e) replies))
 line_ok now h r k s g c ends call side t None f = record { kept = tt }
 line_ok now h r k s g c ends call side t (Some e) f = record { kept = record { side = side; socket = e; kernel = refl; descriptors = refl; answered = f e refl } }
 
-told_is : (k : Watcher) (s g : ℕ) (c : Connection) (ends : Sockets) (side : Side) (most : ℕ) (said : Reply) → EndsThere k s g c ends
+told_is : (k : KernelState) (s g : ℕ) (c : Connection) (ends : Sockets) (side : Side) (most : ℕ) (said : Reply) → EndsThere k s g c ends
     → told_of (record { kernel = k; connection = c }) (Read side most) said ≡ told_read (socket_of ends side) most said
 told_is k s g c ends side most (reply.Bytes n) there = rw (there side) refl
 told_is k s g c ends side most reply.End there = refl
@@ -64,7 +64,7 @@ told_is k s g c ends side most reply.Blocked there = refl
 told_is k s g c ends side most reply.Interrupted there = refl
 told_is k s g c ends side most (reply.Failed kind) there = refl
 
-pub replied_keeps : (now : ℕ) (h : Side → List ℕ) (r : Side → Bool) (k : Watcher) (s g : ℕ) (c : Connection) (ends : Sockets) (call : Call) (said : Reply)
+pub replied_keeps : (now : ℕ) (h : Side → List ℕ) (r : Side → Bool) (k : KernelState) (s g : ℕ) (c : Connection) (ends : Sockets) (call : Call) (said : Reply)
     → EndsThere k s g c ends → IsAsked c.pair call → PairOk h r c.pair ends → Kept (LineOk h r k s g c ends) (replied now (record { kernel = k; connection = c }) call said)
 replied_keeps now h r k s g c ends (Read side most) said there up ok =
     kept_bind _ (told_of (record { kernel = k; connection = c }) (Read side most) said) (λ t told.
@@ -87,14 +87,14 @@ replied_keeps now h r k s g c ends (Shut side) said there drained ok =
     rw (there side) (line_ok now h r k s g c ends (Shut side) side t (after_shut (socket_of ends side) said)
     (λ e is. shut_keeps now h r c.pair ends side said t e drained told is ok))))
 
-pub called_keeps : (now : ℕ) (h : Side → List ℕ) (r : Side → Bool) (k : Watcher) (s g : ℕ) (c : Connection) (ends : Sockets) (said : Reply)
+pub called_keeps : (now : ℕ) (h : Side → List ℕ) (r : Side → Bool) (k : KernelState) (s g : ℕ) (c : Connection) (ends : Sockets) (said : Reply)
     → EndsThere k s g c ends → PairOk h r c.pair ends → Kept (LineOk h r k s g c ends) (called now (record { kernel = k; connection = c }) said)
 unfolding called
 called_keeps now h r k s g c ends said there ok = kept_bind _ (next_call c.pair) (λ call next.
     replied_keeps now h r k s g c ends call said there (kept_at (next_call c.pair) call next (asked c.pair)) ok)
 
 -- the state after it: all but the kernel and the slot is as it was, for these facts
-call_lands : (past next : History) (st q : State) (s : ℕ) (p place : Place) (c : Connection) (line : Line) → Quiet past next → slice_get st.slots s ≡ Some p → (ok : ConnectionOk past st s p.generation p.notes c)
+call_lands : (past next : History) (st q : State) (s : ℕ) (p place : SlotState) (c : Connection) (line : OpenConnection) → Quiet past next → slice_get st.slots s ≡ Some p → (ok : ConnectionOk past st s p.generation p.notes c)
     → LineOk (past s p.generation) (λ side. is_pending st (token_at s side p.generation) || is_nonempty p.notes) st.kernel s p.generation c ok.ends line
     → q.table ≡ st.table → q.limits ≡ st.limits → q.batch ≡ st.batch → q.kernel ≡ line.kernel → q.slots ≡ slice_set st.slots s place → place ≡ record p { connection = Some line.connection }
     → AllOk past st → AllOk next q
@@ -128,22 +128,22 @@ call_lands past next st q s p place c line quiet here ok l table limits batch ke
     all
 
 -- what a lodging is after a call
-pub record LodgingOk (past : History) (st : State) (s : ℕ) (p : Place) (l : Lodging) : Type 0 where
+pub record LodgingOk (past : History) (st : State) (s : ℕ) (p : SlotState) (l : OpenSlot) : Type 0 where
   pub connection : Connection
   pub lying : p.connection ≡ Some connection
   pub ok : ConnectionOk past st s p.generation p.notes connection
-  pub line : Line
+  pub line : OpenConnection
   pub kernel : l.kernel ≡ line.kernel
   pub place : l.place ≡ record p { connection = Some line.connection }
   pub goes : LineOk (past s p.generation) (λ side. is_pending st (token_at s side p.generation) || is_nonempty p.notes) st.kernel s p.generation connection ok.ends line
 
-lodged_keeps : (past : History) (st : State) (s : ℕ) (p : Place) (said : Reply) → SlotOk past st s p → Kept (LodgingOk past st s p) (lodged_call st.second (record { kernel = st.kernel; place = p }) said)
-unfolding lodged_call
+lodged_keeps : (past : History) (st : State) (s : ℕ) (p : SlotState) (said : Reply) → SlotOk past st s p → Kept (LodgingOk past st s p) (slot_call st.second (record { kernel = st.kernel; place = p }) said)
+unfolding slot_call
 lodged_keeps past st s p said slot = kept_bind _ p.connection (λ c lying.
     (let ok : ConnectionOk past st s p.generation p.notes c = slot.connection c lying in
     kept_then _ _ (λ line l. record { connection = c; lying = lying; ok = ok; line = line; kernel = refl; place = refl; goes = l }) (called_keeps st.second (past s p.generation) _ st.kernel s p.generation c ok.ends said ok.there ok.pair)))
 
-pub call_keeps : (past next : History) (st : State) (w : ℕ) (k : Actor) (d : Doing) (said : Reply) → Quiet past next → AllOk past st → Kept (AllOk next) (call st w k d said)
+pub call_keeps : (past next : History) (st : State) (w : ℕ) (k : WorkerState) (d : Doing) (said : Reply) → Quiet past next → AllOk past st → Kept (AllOk next) (call st w k d said)
 call_keeps past next st w k (Holds s left) said quiet all = kept_when (nat_lt 0 left) _ (λ some.
     kept_bind _ (slice_get st.slots s) (λ p here.
     kept_then _ _ (λ l lodging. call_lands past next st (doing (with_place (record st { kernel = l.kernel }) s l.place) w k (Holds s (left - 1))) s p l.place lodging.connection lodging.line quiet here lodging.ok lodging.goes refl refl refl lodging.kernel refl lodging.place all) (lodged_keeps past st s p said (all.each s p here))))

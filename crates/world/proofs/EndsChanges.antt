@@ -2,15 +2,15 @@
 use Rattle.std.proofs.Common.{◌≡◌, ◌+◌, Bool, true, false, not, ◌||◌, ◌&&◌, List, [], ◌++◌, refl, sym, subst, append-nil, length, length-append, ℕ, ◌<◌, arith, Option, Some, ltb-true, lt-ltb}
 use Rattle.std.specs.Cmp.{first_so, second_so}
 use Rattle.kernel_model.specs.Outcome.{Told, guard}
-use Rattle.kernel_model.specs.Ends.{Endpoint, is_nonempty, is_readable, is_writable, arrival, finish, failure, new_room}
+use Rattle.kernel_model.specs.Ends.{EndState, is_nonempty, is_readable, is_writable, arrival, finish, failure, new_room}
 use Rattle.world.specs.Support.{is_covered}
 use Rattle.world.proofs.EndsCovered.{cover_more, cover_report}
 use Rattle.world.proofs.EndsNames.{or_left, or_right}
 use Rattle.world.proofs.EndsPairs.{IsChange}
 
 -- every end that changes so does so by these bytes
-abbrev pub Changes : List ℕ → (Endpoint → Option (Told Endpoint Bool)) → Type 0
-Changes bytes change = (e : Endpoint) (t : Told Endpoint Bool) → change e ≡ Some t → IsChange bytes e t
+abbrev pub Changes : List ℕ → (EndState → Option (Told EndState Bool)) → Type 0
+Changes bytes change = (e : EndState) (t : Told EndState Bool) → change e ≡ Some t → IsChange bytes e t
 
 pub guarded : {X : Type 0} (P : X → Type 0) (b : Bool) (x t : X) → guard b x ≡ Some t → (b ≡ true → P x) → P t
 guarded P true x t e f = let same : x ≡ t = cc in subst P same (f refl)

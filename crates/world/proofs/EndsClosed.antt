@@ -10,20 +10,20 @@ use Rattle.token.specs.declared.direction.Direction.TheVariants.{Up, Down}
 use Rattle.token.specs.Sides.{source, destination, side_number}
 use Rattle.flow.specs.Stream.{Stream, waiting}
 use Rattle.kernel_model.specs.declared.both.Sockets.{Sockets}
-use Rattle.kernel_model.specs.Ends.{Endpoint}
+use Rattle.kernel_model.specs.Ends.{EndState}
 use Rattle.kernel_model.specs.Outcome.{Told}
 use Rattle.kernel_model.specs.Kernel as kernel
-use Rattle.kernel_model.specs.Kernel.{Watcher}
+use Rattle.kernel_model.specs.Kernel.{KernelState}
 use Rattle.relay_core.specs.declared.verdict.Fault.{Fault}
 use Rattle.relay_core.specs.declared.verdict.Verdict.TheVariants.{Done}
-use Rattle.relay_core.specs.Pairs.{Relay, stream_of, verdict_of, verdict}
+use Rattle.relay_core.specs.Pairs.{PairState, stream_of, verdict_of, verdict}
 use Rattle.world.specs.declared.connection.Connection.{Connection}
 use Rattle.world.specs.declared.past.Past.{Past}
 use Rattle.world.specs.declared.limits.Limits.{Limits}
 use Rattle.world.specs.declared.event.Event.{Event}
 use Rattle.world.specs.declared.event.Event.TheVariants as event
 use Rattle.world.specs.declared.event.Change.TheVariants.{Arrive, Fin, Reset, Room}
-use Rattle.world.specs.Places.{Place}
+use Rattle.world.specs.Slots.{SlotState}
 use Rattle.world.specs.States.{State, opening}
 use Rattle.world.specs.Steps.{connection_at, step}
 use Rattle.world.specs.Runs.{run}
@@ -42,8 +42,8 @@ use Rattle.world.proofs.EndsTheorem.{history, all_sent, own_preamble}
 use Rattle.world.proofs.EndsFailures.{step_shape}
 
 pub record ClosedOk (past : History) (st : State) (e : Past) : Type 0 where
-  pub older : (p : Place) → slice_get st.slots e.slot ≡ Some p → e.generation ≤ p.generation
-  pub over : (p : Place) (c : Connection) → slice_get st.slots e.slot ≡ Some p → p.connection ≡ Some c → e.generation < p.generation
+  pub older : (p : SlotState) → slice_get st.slots e.slot ≡ Some p → e.generation ≤ p.generation
+  pub over : (p : SlotState) (c : Connection) → slice_get st.slots e.slot ≡ Some p → p.connection ≡ Some c → e.generation < p.generation
   pub beginning : (d : Direction) → (rest : List ℕ) × (past e.slot e.generation (source d) ≡ (socket_of e.ends (destination d)).taken ++ rest)
   pub all : e.verdict ≡ Done → (d : Direction) → past e.slot e.generation (source d) ≡ (socket_of e.ends (destination d)).taken
 
@@ -52,8 +52,8 @@ pub record AllClosed (past : History) (st : State) : Type 0 where
 
 -- with the same bytes, in slots that are no younger
 aged : (past next : History) (st q : State) (e : Past) → ((side : Side) → next e.slot e.generation side ≡ past e.slot e.generation side)
-    → ((p : Place) → slice_get q.slots e.slot ≡ Some p → e.generation ≤ p.generation)
-    → ((p : Place) (c : Connection) → slice_get q.slots e.slot ≡ Some p → p.connection ≡ Some c → e.generation < p.generation)
+    → ((p : SlotState) → slice_get q.slots e.slot ≡ Some p → e.generation ≤ p.generation)
+    → ((p : SlotState) (c : Connection) → slice_get q.slots e.slot ≡ Some p → p.connection ≡ Some c → e.generation < p.generation)
     → ClosedOk past st e → ClosedOk next q e
 aged past next st q e same older over ok = record {
   older = older;
@@ -66,19 +66,19 @@ still_closed : (past next : History) (st : State) (e : Past) → ((side : Side) 
 still_closed past next st e same ok = aged past next st st e same ok.older ok.over ok
 
 -- one slot changed, and is no younger
-slot_aged : (past next : History) (st q : State) (e : Past) (s : ℕ) (old new : Place) → ((side : Side) → next e.slot e.generation side ≡ past e.slot e.generation side)
+slot_aged : (past next : History) (st q : State) (e : Past) (s : ℕ) (old new : SlotState) → ((side : Side) → next e.slot e.generation side ≡ past e.slot e.generation side)
     → slice_get st.slots s ≡ Some old → q.slots ≡ slice_set st.slots s new → old.generation ≤ new.generation
     → ((c : Connection) → new.connection ≡ Some c → ((b : Connection) × (old.connection ≡ Some b)) ⊎ (old.generation < new.generation))
     → ClosedOk past st e → ClosedOk next q e
 slot_aged past next st q e s old new same was set grows comes ok = elim (tell (e.slot == s)) [
   | Yes h ↦ (let here : e.slot ≡ s = eqb-true e.slot s h in
       let there : slice_get st.slots e.slot ≡ Some old = rw here was in
-      let new_there : (p : Place) → slice_get q.slots e.slot ≡ Some p → p ≡ new = (λ p stands. (let is : slice_get (slice_set st.slots s new) s ≡ Some new = get-set_same st.slots s old new was in
+      let new_there : (p : SlotState) → slice_get q.slots e.slot ≡ Some p → p ≡ new = (λ p stands. (let is : slice_get (slice_set st.slots s new) s ≡ Some new = get-set_same st.slots s old new was in
       let at_s : slice_get (slice_set st.slots s new) s ≡ Some p = rw (here, set) at stands in cc)) in
       let before : e.generation ≤ old.generation = ok.older old there in
       aged past next st q e same
       (λ p stands. (let is : p ≡ new = new_there p stands in rw is (omega arith)))
-      (λ p c stands lying. (let is : p ≡ new = new_there p stands in rw is (⊎_elim (λ b. (let less : e.generation < old.generation = ok.over old b.0 there b.1 in omega arith)) (λ less. omega arith) (comes c (ap (λ (r : Place). r.connection) (sym is) ∙ lying)))))
+      (λ p c stands lying. (let is : p ≡ new = new_there p stands in rw is (⊎_elim (λ b. (let less : e.generation < old.generation = ok.over old b.0 there b.1 in omega arith)) (λ less. omega arith) (comes c (ap (λ (r : SlotState). r.connection) (sym is) ∙ lying)))))
       ok)
   | No h ↦ (let differ : e.slot ≡ s → ⊥ = λ same. (let is : (s == s) ≡ false = rw same at h in let is_not : (s == s) ≡ true = eq-eqb s s refl in absurd (cc)) in
       aged past next st q e same
@@ -136,31 +136,31 @@ done_when None true h = refl
 done_when None false h = absurd (cc)
 done_when (Some fault) b h = absurd (cc)
 
-both_shut : (p : Relay) → verdict p ≡ Done → (d : Direction) → (stream_of p d).shut ≡ true
+both_shut : (p : PairState) → verdict p ≡ Done → (d : Direction) → (stream_of p d).shut ≡ true
 both_shut p done Up = first_so p.up.shut p.down.shut (done_when p.failure (p.up.shut && p.down.shut) done)
 both_shut p done Down = second_so p.up.shut p.down.shut (done_when p.failure (p.up.shut && p.down.shut) done)
 
-wholly_sent : (gave : List ℕ) (s : Stream) (x y : Endpoint) → DirectionOk gave s x y → s.shut ≡ true → gave ≡ y.taken
+wholly_sent : (gave : List ℕ) (s : Stream) (x y : EndState) → DirectionOk gave s x y → s.shut ≡ true → gave ≡ y.taken
 wholly_sent gave s x y ok shut =
     all_sent gave (waiting s) x.unread y.taken ok.bytes (ok.last.empty shut) (ok.read (ok.last.ended shut))
 
-same_value : (x y : Told Watcher Sockets) → Some x ≡ Some y → x ≡ y
+same_value : (x y : Told KernelState Sockets) → Some x ≡ Some y → x ≡ y
 same_value x y e = cc
 
-ended_ok : (past : History) (st q : State) (s : ℕ) (old : Place) (c : Connection) (ends : Sockets) (k : Watcher) → slice_get st.slots s ≡ Some old → old.connection ≡ Some c → q.slots ≡ slice_set st.slots s (record old { connection = None })
+ended_ok : (past : History) (st q : State) (s : ℕ) (old : SlotState) (c : Connection) (ends : Sockets) (k : KernelState) → slice_get st.slots s ≡ Some old → old.connection ≡ Some c → q.slots ≡ slice_set st.slots s (record old { connection = None })
     → kernel.close_both st.kernel c.ends ≡ Some (record { value = k; told = ends }) → SlotOk past st s old
     → ClosedOk past q (record { slot = s; generation = c.pair.generation; verdict = verdict c.pair; ends = ends })
 ended_ok past st q s old c ends k was lying set closing slot =
     let ok : ConnectionOk past st s old.generation old.notes c = slot.connection c lying in
-    let here : Told Watcher Sockets = record { value = k; told = ends } in
-    let there : Told Watcher Sockets = record { value = without_both st.kernel s old.generation c; told = ok.ends } in
-    let both : ◌≡◌ {A = Option (Told Watcher Sockets)} (Some there) (Some here) = sym (closes past st s old.generation old.notes c ok) ∙ closing in
-    let are : ok.ends ≡ ends = ap (λ (t : Told Watcher Sockets). t.told) (same_value there here both) in
-    let stands : (p : Place) → slice_get q.slots s ≡ Some p → p ≡ record old { connection = None } = (λ p here. (let is : slice_get (slice_set st.slots s (record old { connection = None })) s ≡ Some (record old { connection = None }) = get-set_same st.slots s old (record old { connection = None }) was in
+    let here : Told KernelState Sockets = record { value = k; told = ends } in
+    let there : Told KernelState Sockets = record { value = without_both st.kernel s old.generation c; told = ok.ends } in
+    let both : ◌≡◌ {A = Option (Told KernelState Sockets)} (Some there) (Some here) = sym (closes past st s old.generation old.notes c ok) ∙ closing in
+    let are : ok.ends ≡ ends = ap (λ (t : Told KernelState Sockets). t.told) (same_value there here both) in
+    let stands : (p : SlotState) → slice_get q.slots s ≡ Some p → p ≡ record old { connection = None } = (λ p here. (let is : slice_get (slice_set st.slots s (record old { connection = None })) s ≡ Some (record old { connection = None }) = get-set_same st.slots s old (record old { connection = None }) was in
     let at_s : slice_get (slice_set st.slots s (record old { connection = None })) s ≡ Some p = rw set at here in cc)) in
     rw (ok.generation, ← are) (record {
       older = λ p here. (let is : p ≡ record old { connection = None } = stands p here in rw is (omega arith));
-      over = λ p b here lies_there. (let is : p ≡ record old { connection = None } = stands p here in let none : p.connection ≡ None = ap (λ (r : Place). r.connection) is in absurd (cc));
+      over = λ p b here lies_there. (let is : p ≡ record old { connection = None } = stands p here in let none : p.connection ≡ None = ap (λ (r : SlotState). r.connection) is in absurd (cc));
       beginning = λ d. (waiting (stream_of c.pair d) ++ (socket_of ok.ends (source d)).unread, (ok.pair.directions d).bytes);
       all = λ done d. wholly_sent (past s old.generation (source d)) (stream_of c.pair d) (socket_of ok.ends (source d)) (socket_of ok.ends (destination d)) (ok.pair.directions d) (both_shut c.pair done d);
     })

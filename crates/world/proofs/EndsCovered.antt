@@ -1,6 +1,6 @@
 -- Flags that are down stay covered when a report comes, goes, or the end changes.
 use Rattle.std.proofs.Common.{◌≡◌, Bool, true, false, ◌||◌, refl}
-use Rattle.kernel_model.specs.Ends.{Endpoint, is_readable, is_writable}
+use Rattle.kernel_model.specs.Ends.{EndState, is_readable, is_writable}
 use Rattle.relay_core.specs.declared.flags.Flags.{Flags}
 use Rattle.world.specs.Support.{is_covered, EndCovered}
 
@@ -12,7 +12,7 @@ cover_more false false true r q more h = more h
 cover_more false true false r q more h = refl
 cover_more false false false r q more h = absurd (cc)
 
-pub end_more : (flags : Flags) (e : Endpoint) (r q : Bool) → (r ≡ true → q ≡ true) → EndCovered flags e r → EndCovered flags e q
+pub end_more : (flags : Flags) (e : EndState) (r q : Bool) → (r ≡ true → q ≡ true) → EndCovered flags e r → EndCovered flags e q
 end_more flags e r q more h = record {
   read = cover_more flags.read e.read_armed (is_readable e) r q more h.read;
   write = cover_more flags.write e.write_armed (is_writable e) r q more h.write;

@@ -18,7 +18,7 @@ use Rattle.kernel_model.specs.declared.reply.Reply.{Reply}
 use Rattle.kernel_model.specs.declared.reply.Reply.TheVariants as reply
 use Rattle.relay_core.specs.declared.call.Call.{Call}
 use Rattle.relay_core.specs.Order.{next_call}
-use Rattle.world.specs.Places.{Place, Actor}
+use Rattle.world.specs.Slots.{SlotState, WorkerState}
 use Rattle.world.specs.States.{State, opening, unused}
 use Rattle.world.specs.Steps.{connection_at, watched_of, acted, step}
 use Rattle.world.specs.Runs.{run}
@@ -33,7 +33,7 @@ use Rattle.world.proofs.EndsFaults.{call_shape}
 use Rattle.world.proofs.EndsTimes.{goes_on, run_further, TimesOk, times_after, opening_times}
 use Rattle.world.proofs.EndsMoves.{step_moves, expires_idle}
 
-acted_shape : (laws : CoreLaws) (st : State) (w : ℕ) (k : Actor) (a : Act) → slice_get st.workers w ≡ Some k → Kept (Shape st (event.Work w a)) (acted st w k a)
+acted_shape : (laws : CoreLaws) (st : State) (w : ℕ) (k : WorkerState) (a : Act) → slice_get st.workers w ≡ Some k → Kept (Shape st (event.Work w a)) (acted st w k a)
 acted_shape laws st w k act.Put there = put_shape st _ w k k.hand
 acted_shape laws st w k act.Pop there = pop_shape st _ w k k.doing
 acted_shape laws st w k act.Claim there = claim_shape st _ w k k.doing
@@ -59,27 +59,27 @@ step_shape laws st (event.Work w a) = kept_bind _ (slice_get st.workers w) (λ k
 
 -- every failure so far, live and closed, is one that this tells of
 pub record FailuresOk (failed : Failure → Type 0) (st : State) : Type 0 where
-  pub lying : (s : ℕ) (p : Place) (c : Connection) (fault : Fault) → slice_get st.slots s ≡ Some p → p.connection ≡ Some c → verdict c.pair ≡ Failed fault → failed (failure s c.pair.generation fault)
+  pub lying : (s : ℕ) (p : SlotState) (c : Connection) (fault : Fault) → slice_get st.slots s ≡ Some p → p.connection ≡ Some c → verdict c.pair ≡ Failed fault → failed (failure s c.pair.generation fault)
   pub closed : (i : ℕ) (p : Past) (fault : Fault) → slice_get st.past i ≡ Some p → p.verdict ≡ Failed fault → failed (failure p.slot p.generation fault)
 
 abbrev pub or_by : (Failure → Type 0) → State → Event → Failure → Type 0
 or_by failed st e f = failed f ⊎ (cause_by st e ≡ Some f)
 
 -- a slot changed, and what lies in it has a known failure
-one_changed : (failed : Failure → Type 0) (st q : State) (e : Event) (s : ℕ) (old new : Place) → FailuresOk failed st → slice_get st.slots s ≡ Some old → q.slots ≡ slice_set st.slots s new
+one_changed : (failed : Failure → Type 0) (st q : State) (e : Event) (s : ℕ) (old new : SlotState) → FailuresOk failed st → slice_get st.slots s ≡ Some old → q.slots ≡ slice_set st.slots s new
     → ((c : Connection) (fault : Fault) → new.connection ≡ Some c → verdict c.pair ≡ Failed fault → or_by failed st e (failure s c.pair.generation fault))
-    → (i : ℕ) (p : Place) (c : Connection) (fault : Fault) → slice_get q.slots i ≡ Some p → p.connection ≡ Some c → verdict c.pair ≡ Failed fault → or_by failed st e (failure i c.pair.generation fault)
+    → (i : ℕ) (p : SlotState) (c : Connection) (fault : Fault) → slice_get q.slots i ≡ Some p → p.connection ≡ Some c → verdict c.pair ≡ Failed fault → or_by failed st e (failure i c.pair.generation fault)
 one_changed failed st q e s old new ok was set f i p c fault here lying failing = elim (tell (i == s)) [
   | Yes h ↦ (let same : i ≡ s = eqb-true i s h in
       let is : slice_get (slice_set st.slots s new) s ≡ Some new = get-set_same st.slots s old new was in
       let stands : slice_get (slice_set st.slots s new) s ≡ Some p = rw (same, set) at here in
       let one : p ≡ new = cc in
-      rw same (f c fault (ap (λ (r : Place). r.connection) (sym one) ∙ lying) failing))
+      rw same (f c fault (ap (λ (r : SlotState). r.connection) (sym one) ∙ lying) failing))
   | No h ↦ (let differ : i ≡ s → ⊥ = λ same. (let is : (s == s) ≡ false = rw same at h in let is_not : (s == s) ≡ true = eq-eqb s s refl in absurd (cc)) in
       inl (ok.lying i p c fault (sym (get-set_other st.slots s i new (λ same. differ (sym same))) ∙ (rw set at here)) lying failing))
 ]
 
-continued : (failed : Failure → Type 0) (st : State) (e : Event) (s : ℕ) (old : Place) (b c : Connection) (fault : Fault) → FailuresOk failed st → slice_get st.slots s ≡ Some old → old.connection ≡ Some b → Continues st e s b c
+continued : (failed : Failure → Type 0) (st : State) (e : Event) (s : ℕ) (old : SlotState) (b c : Connection) (fault : Fault) → FailuresOk failed st → slice_get st.slots s ≡ Some old → old.connection ≡ Some b → Continues st e s b c
     → (verdict b.pair ≡ Failed fault) ⊎ (cause_by st e ≡ Some (failure s b.pair.generation fault)) → or_by failed st e (failure s c.pair.generation fault)
 continued failed st e s old b c fault ok was lying goes (inl before) = rw (goes.generation) (inl (ok.lying s old b fault was lying before))
 continued failed st e s old b c fault ok was lying goes (inr by_this) = rw (goes.generation) (inr by_this)
@@ -238,7 +238,7 @@ run_known laws first st q done (e ∷ events) ran all rest =
 opening_fails : (l : Limits) → FailuresOk (known (opening l) []) (opening l)
 opening_fails l = record {
   lying = λ s p c fault here lying failing. (let is : unused l.generation ≡ p = get-replicate l.slots s (unused l.generation) p here in
-      let none : p.connection ≡ None = ap (λ (r : Place). r.connection) (sym is) in absurd (cc));
+      let none : p.connection ≡ None = ap (λ (r : SlotState). r.connection) (sym is) in absurd (cc));
   closed = λ i p fault here failing. absurd (cc);
 }
 

@@ -8,11 +8,11 @@ use Rattle.token.specs.Names.{EndName}
 use Rattle.kernel_model.specs.Names.{has}
 use Rattle.kernel_model.specs.declared.both.Sockets.{Sockets}
 use Rattle.kernel_model.specs.Kernel.{Registered, end_at}
-use Rattle.relay_core.specs.Pairs.{Relay, stream_of, flags_of}
+use Rattle.relay_core.specs.Pairs.{PairState, stream_of, flags_of}
 use Rattle.kernel_model.specs.Ends.{is_nonempty}
 use Rattle.world.specs.declared.connection.Connection.{Connection}
 use Rattle.world.specs.declared.limits.Limits.{Limits}
-use Rattle.world.specs.Places.{Place}
+use Rattle.world.specs.Slots.{SlotState}
 use Rattle.world.specs.States.{State}
 use Rattle.world.specs.Calls.{descriptor}
 use Rattle.world.specs.Headline.{socket_of}
@@ -31,7 +31,7 @@ pub record Better (past next : History) (st q : State) (s : ℕ) : Type 0 where
   pub ends : (d : ℕ) (r : Registered) → end_at st.kernel.ends d ≡ Some r → r.token.slot ≡ s → end_at q.kernel.ends d ≡ Some r
   pub pending : (side : Side) (g : ℕ) → slice_get st.table s ≡ Some g → is_pending st (token_at s side g) ≡ true → is_pending q (token_at s side g) ≡ true
 
-pub pair_more : (h i : Side → List ℕ) (r q : Side → Bool) (p : Relay) (ends : Sockets) → ((side : Side) → i side ≡ h side) → ((side : Side) → r side ≡ true → q side ≡ true)
+pub pair_more : (h i : Side → List ℕ) (r q : Side → Bool) (p : PairState) (ends : Sockets) → ((side : Side) → i side ≡ h side) → ((side : Side) → r side ≡ true → q side ≡ true)
     → PairOk h r p ends → PairOk i q p ends
 pair_more h i r q p ends same more ok = record {
   covered = λ side. end_more (flags_of p side) (socket_of ends side) (r side) (q side) (more side) (ok.covered side);
@@ -63,7 +63,7 @@ connection_better past next st q s g notes c f entry ok = record {
 pub same_before : (l m : Limits) (side : Side) → m ≡ l → before l side ≡ before m side
 same_before l m side same = ap (λ (k : Limits). before k side) (sym same)
 
-pub better : (past next : History) (st q : State) (s : ℕ) (p : Place) → Better past next st q s → SlotOk past st s p → SlotOk next q s p
+pub better : (past next : History) (st q : State) (s : ℕ) (p : SlotState) → Better past next st q s → SlotOk past st s p → SlotOk next q s p
 better past next st q s p f ok = record {
   entry = f.table ∙ ok.entry;
   later = λ g side younger. f.history g side ∙ (ok.later g side younger ∙ same_before st.limits q.limits side f.limits);
@@ -72,9 +72,9 @@ better past next st q s p f ok = record {
 
 -- slot s is in order, and every other has at least what it had
 pub keep_but : (past next : History) (st q : State) (s : ℕ)
-    → ((i : ℕ) (p : Place) → (i ≡ s → ⊥) → slice_get q.slots i ≡ Some p → slice_get st.slots i ≡ Some p)
+    → ((i : ℕ) (p : SlotState) → (i ≡ s → ⊥) → slice_get q.slots i ≡ Some p → slice_get st.slots i ≡ Some p)
     → ((i : ℕ) → (i ≡ s → ⊥) → Better past next st q i)
-    → ((p : Place) → slice_get q.slots s ≡ Some p → SlotOk next q s p)
+    → ((p : SlotState) → slice_get q.slots s ≡ Some p → SlotOk next q s p)
     → AllOk past st → AllOk next q
 keep_but past next st q s others f this all = record {
   each = λ i p here. elim (tell (i == s)) [
@@ -85,7 +85,7 @@ keep_but past next st q s others f this all = record {
 }
 
 -- slot s becomes p, which is in order
-pub keep_place : (past next : History) (st q : State) (s : ℕ) (old p : Place)
+pub keep_place : (past next : History) (st q : State) (s : ℕ) (old p : SlotState)
     → slice_get st.slots s ≡ Some old → q.slots ≡ slice_set st.slots s p
     → ((i : ℕ) → (i ≡ s → ⊥) → Better past next st q i)
     → SlotOk next q s p → AllOk past st → AllOk next q
@@ -95,7 +95,7 @@ keep_place past next st q s old p was set f this all = keep_but past next st q s
     (λ r here. let is : slice_get (slice_set st.slots s p) s ≡ Some p = get-set_same st.slots s old p was in
     let stands : slice_get (slice_set st.slots s p) s ≡ Some r = rw set at here in
     let same : p ≡ r = cc in
-    subst (λ (place : Place). SlotOk next q s place) same this)
+    subst (λ (place : SlotState). SlotOk next q s place) same this)
     all
 
 -- no slot changes, and each has at least what it had

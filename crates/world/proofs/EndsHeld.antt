@@ -10,14 +10,14 @@ use Rattle.token.specs.Names.{EndName}
 use Rattle.token.specs.Sides.{source, destination}
 use Rattle.flow.specs.Stream.{Stream, waiting}
 use Rattle.kernel_model.specs.declared.both.Sockets.{Sockets}
-use Rattle.kernel_model.specs.Ends.{Endpoint, is_nonempty}
+use Rattle.kernel_model.specs.Ends.{EndState, is_nonempty}
 use Rattle.kernel_model.specs.Names.{has}
 use Rattle.kernel_model.specs.Kernel.{Registered}
-use Rattle.relay_core.specs.Pairs.{Relay, stream_of, flags_of}
+use Rattle.relay_core.specs.Pairs.{PairState, stream_of, flags_of}
 use Rattle.relay_core.specs.Laws.{IsClosedLast}
 use Rattle.world.specs.declared.connection.Connection.{Connection}
 use Rattle.world.specs.declared.limits.Limits.{Limits}
-use Rattle.world.specs.Places.{Place}
+use Rattle.world.specs.Slots.{SlotState}
 use Rattle.world.specs.States.{State}
 use Rattle.world.specs.Headline.{preamble, socket_of, end_of}
 use Rattle.world.specs.Support.{EndCovered}
@@ -37,19 +37,19 @@ preamble_is l Up = refl
 preamble_is l Down = refl
 
 -- these bytes are the sent bytes, then all that wait, then the unread bytes
-abbrev pub KeepsAll : List ℕ → Stream → Endpoint → Endpoint → Type 0
+abbrev pub KeepsAll : List ℕ → Stream → EndState → EndState → Type 0
 KeepsAll gave stream x y = gave ≡ y.taken ++ (waiting stream ++ x.unread)
 
 -- a direction: the bytes keep their order, the end that was seen was the source's last word, and it was
 -- passed on only after every byte
-pub record DirectionOk (gave : List ℕ) (stream : Stream) (x y : Endpoint) : Type 0 where
+pub record DirectionOk (gave : List ℕ) (stream : Stream) (x y : EndState) : Type 0 where
   pub bytes : KeepsAll gave stream x y
   pub ended : stream.end_seen ≡ true → x.fin ≡ true
   pub read : stream.end_seen ≡ true → x.unread ≡ []
   pub last : IsClosedLast stream
 
 -- a pair and its two ends, whatever is reported of them
-pub record PairOk (history : Side → List ℕ) (reported : Side → Bool) (pair : Relay) (ends : Sockets) : Type 0 where
+pub record PairOk (history : Side → List ℕ) (reported : Side → Bool) (pair : PairState) (ends : Sockets) : Type 0 where
   pub covered : (side : Side) → EndCovered (flags_of pair side) (socket_of ends side) (reported side)
   pub directions : (d : Direction) → DirectionOk (history (source d)) (stream_of pair d) (socket_of ends (source d)) (socket_of ends (destination d))
 
@@ -62,7 +62,7 @@ abbrev pub is_pending : State → EndName → Bool
 is_pending st n = has (name.End n) st.kernel.queue || has (name.End n) st.batch
 
 -- an end that is open under that token
-abbrev pub registered : ℕ → ℕ → Side → Endpoint → Registered
+abbrev pub registered : ℕ → ℕ → Side → EndState → Registered
 registered s g side e = record { token = token_at s side g; socket = e }
 
 -- the connection in slot s, of generation g and with these notes: both of its ends are open under its
@@ -76,10 +76,10 @@ pub record ConnectionOk (past : History) (st : State) (s g : ℕ) (notes : List 
   pub pair : PairOk (past s g) (λ side. is_pending st (token_at s side g) || is_nonempty notes) c.pair ends
 
 -- a slot: the poller's table tells its generation, a later one has its preamble alone, and its connection is in order
-pub record SlotOk (past : History) (st : State) (s : ℕ) (p : Place) : Type 0 where
+pub record SlotOk (past : History) (st : State) (s : ℕ) (p : SlotState) : Type 0 where
   pub entry : slice_get st.table s ≡ Some p.generation
   pub later : (g : ℕ) (side : Side) → p.generation < g → past s g side ≡ before st.limits side
   pub connection : (c : Connection) → p.connection ≡ Some c → ConnectionOk past st s p.generation p.notes c
 
 pub record AllOk (past : History) (st : State) : Type 0 where
-  pub each : (s : ℕ) (p : Place) → slice_get st.slots s ≡ Some p → SlotOk past st s p
+  pub each : (s : ℕ) (p : SlotState) → slice_get st.slots s ≡ Some p → SlotOk past st s p

@@ -5,7 +5,7 @@ use Rattle.token.specs.declared.side.Side.TheVariants.{Client, Target}
 use Rattle.kernel_model.specs.declared.reply.Reply.{Reply}
 use Rattle.kernel_model.specs.declared.reply.Reply.TheVariants as reply
 use Rattle.kernel_model.specs.Kernel as kernel
-use Rattle.kernel_model.specs.Kernel.{Watcher}
+use Rattle.kernel_model.specs.Kernel.{KernelState}
 use Rattle.relay_core.specs.declared.call.Call.{Call}
 use Rattle.relay_core.specs.declared.call.Call.TheVariants.{Write, Join, Shut, Read}
 use Rattle.relay_core.specs.Order.{next_call}
@@ -20,11 +20,11 @@ use Rattle.world.specs.declared.limits.Limits.{Limits}
 use Rattle.world.specs.declared.event.Event.TheVariants as event
 use Rattle.world.specs.declared.event.Polling.TheVariants as polling
 use Rattle.world.specs.declared.event.Act.TheVariants as act
-use Rattle.world.specs.Places.{Place, Actor}
+use Rattle.world.specs.Slots.{SlotState, WorkerState}
 use Rattle.world.specs.States.{State}
-use Rattle.world.specs.Calls.{Line, plain, told_of, made, called}
+use Rattle.world.specs.Calls.{OpenConnection, plain, told_of, made, called}
 use Rattle.world.specs.Steps
-use Rattle.world.specs.Steps.{connection_at, token_of, opened_place, opened_world, opening_of, with_place, expired_place, Lodging, lodged_call, worked, step}
+use Rattle.world.specs.Steps.{connection_at, token_of, opened_place, opened_world, opening_of, with_place, expired_place, OpenSlot, slot_call, worked, step}
 use Rattle.world.specs.Headline.{Throughout, Named, named, next_opened, held_connection, is_movement, moved_by, LiesBack}
 use Rattle.world.specs.CoreLaws.{CoreLaws}
 use Rattle.world.proofs.TurnsTotals.{get-set_same}
@@ -60,7 +60,7 @@ bytes_move : (o : Option (List ℕ)) (t : answer.AnswerValue) → option_map (λ
 bytes_move None t told = absurd (cc)
 bytes_move (Some bytes) t told = let same : answer.Bytes bytes ≡ t = cc in rw (← same) refl
 
-told_moves : (l : Line) (call : Call) (r : Reply) (t : answer.AnswerValue) → told_of l call r ≡ Some t → is_movement r ≡ true → moves t ≡ true
+told_moves : (l : OpenConnection) (call : Call) (r : Reply) (t : answer.AnswerValue) → told_of l call r ≡ Some t → is_movement r ≡ true → moves t ≡ true
 told_moves l (Read side most) (reply.Bytes n) t told is = bytes_move _ t told
 told_moves l (Read side most) reply.End t told is = plain_moves reply.End t told is
 told_moves l (Read side most) (reply.Wrote n full) t told is = plain_moves (reply.Wrote n full) t told is
@@ -77,7 +77,7 @@ if_so : (b : Bool) (m n : ℕ) → b ≡ true → (if b then n else m) ≡ n
 if_so true m n is = refl
 if_so false m n is = absurd (cc)
 
-called_moves : (now : ℕ) (l : Line) (r : Reply) → is_movement r ≡ true → Kept (λ (m : Line). m.connection.pair.moved ≡ now) (called now l r)
+called_moves : (now : ℕ) (l : OpenConnection) (r : Reply) → is_movement r ≡ true → Kept (λ (m : OpenConnection). m.connection.pair.moved ≡ now) (called now l r)
 unfolding called
 called_moves now l r is = kept_bind _ (next_call l.connection.pair) (λ call next.
     kept_bind _ (told_of l call r) (λ t told.
@@ -85,51 +85,51 @@ called_moves now l r is = kept_bind _ (next_call l.connection.pair) (λ call nex
     kept_map _ (made l call r) (λ k done. if_so (moves t) l.connection.pair.moved now (told_moves l call r t told is)))))
 
 -- the place has a connection that moved at this second
-pub record MovedPlace (now : ℕ) (p : Place) : Type 0 where
+pub record MovedPlace (now : ℕ) (p : SlotState) : Type 0 where
   pub connection : Connection
   pub is : p.connection ≡ Some connection
   pub moved : connection.pair.moved ≡ now
 
-lodged_moves : (now : ℕ) (l : Lodging) (r : Reply) → is_movement r ≡ true → Kept (λ (m : Lodging). MovedPlace now m.place) (lodged_call now l r)
-unfolding lodged_call
+lodged_moves : (now : ℕ) (l : OpenSlot) (r : Reply) → is_movement r ≡ true → Kept (λ (m : OpenSlot). MovedPlace now m.place) (slot_call now l r)
+unfolding slot_call
 lodged_moves now l r is = kept_bind _ l.place.connection (λ c was.
     kept_then _ (called now (record { kernel = l.kernel; connection = c }) r) (λ line moved. record { connection = line.connection; is = refl; moved = moved })
     (called_moves now (record { kernel = l.kernel; connection = c }) r is))
 
-held_is : (st : State) (w s left : ℕ) (k : Actor) (p : Place) (c : Connection) → slice_get st.workers w ≡ Some k → k.doing ≡ Holds s left → slice_get st.slots s ≡ Some p → p.connection ≡ Some c
+held_is : (st : State) (w s left : ℕ) (k : WorkerState) (p : SlotState) (c : Connection) → slice_get st.workers w ≡ Some k → k.doing ≡ Holds s left → slice_get st.slots s ≡ Some p → p.connection ≡ Some c
     → held_connection st w ≡ Some (named s c.pair.generation)
 held_is st w s left k p c there does here lying = rw (there, does, here, lying) refl
 
 -- a slot changed, and has a connection that moved now
-here_now : (st q : State) (s : ℕ) (old new : Place) → slice_get st.slots s ≡ Some old → q.slots ≡ slice_set st.slots s new → MovedPlace st.second new
-    → (i : ℕ) (p : Place) (c : Connection) → slice_get q.slots i ≡ Some p → p.connection ≡ Some c → s ≡ i → st.second ≤ c.pair.moved
+here_now : (st q : State) (s : ℕ) (old new : SlotState) → slice_get st.slots s ≡ Some old → q.slots ≡ slice_set st.slots s new → MovedPlace st.second new
+    → (i : ℕ) (p : SlotState) (c : Connection) → slice_get q.slots i ≡ Some p → p.connection ≡ Some c → s ≡ i → st.second ≤ c.pair.moved
 here_now st q s old new was set moved i p c here lying same =
     let is : slice_get (slice_set st.slots s new) s ≡ Some new = get-set_same st.slots s old new was in
     let stands : slice_get (slice_set st.slots s new) s ≡ Some p = rw (← same, set) at here in
     let one : new ≡ p = cc in
-    let both : moved.connection ≡ c = (let lies : new.connection ≡ Some c = ap (λ (r : Place). r.connection) one ∙ lying in let is_there : new.connection ≡ Some moved.connection = moved.is in cc) in
+    let both : moved.connection ≡ c = (let lies : new.connection ≡ Some c = ap (λ (r : SlotState). r.connection) one ∙ lying in let is_there : new.connection ≡ Some moved.connection = moved.is in cc) in
     rw (← both, moved.moved) (le_refl st.second)
 
 names_slot : (o : Option Named) (s g i h : ℕ) → o ≡ Some (named s g) → o ≡ Some (named i h) → s ≡ i
 names_slot o s g i h one other = let same : named s g ≡ named i h = cc in ap (λ (x : Named). x.slot) same
 
 -- and the worker held the slot's connection before it
-pub record CallMoves (st : State) (w s : ℕ) (new : Place) : Type 0 where
+pub record CallMoves (st : State) (w s : ℕ) (new : SlotState) : Type 0 where
   pub generation : ℕ
   pub held : held_connection st w ≡ Some (named s generation)
   pub moved : MovedPlace st.second new
 
-there_before : (st : State) (w s left : ℕ) (k : Actor) (p : Place) (r : Reply) (o : Option Connection) → p.connection ≡ o → slice_get st.workers w ≡ Some k → k.doing ≡ Holds s left → slice_get st.slots s ≡ Some p
-    → Kept (λ (m : Lodging). MovedPlace st.second m.place) (lodged_call st.second (record { kernel = st.kernel; place = p }) r) → Kept (λ (m : Lodging). CallMoves st w s m.place) (lodged_call st.second (record { kernel = st.kernel; place = p }) r)
-unfolding lodged_call
+there_before : (st : State) (w s left : ℕ) (k : WorkerState) (p : SlotState) (r : Reply) (o : Option Connection) → p.connection ≡ o → slice_get st.workers w ≡ Some k → k.doing ≡ Holds s left → slice_get st.slots s ≡ Some p
+    → Kept (λ (m : OpenSlot). MovedPlace st.second m.place) (slot_call st.second (record { kernel = st.kernel; place = p }) r) → Kept (λ (m : OpenSlot). CallMoves st w s m.place) (slot_call st.second (record { kernel = st.kernel; place = p }) r)
+unfolding slot_call
 there_before st w s left k p r None lying there does here moved = rw lying (record { kept = tt })
 there_before st w s left k p r (Some c) lying there does here moved = kept_more (λ m h. record { generation = c.pair.generation; held = held_is st w s left k p c there does here lying; moved = h }) _ moved
 
-call_moves : (st : State) (w : ℕ) (k : Actor) (d : Doing) (r : Reply) → slice_get st.workers w ≡ Some k → k.doing ≡ d → is_movement r ≡ true
-    → Kept (λ (q : State). (i : ℕ) (p : Place) (c : Connection) → slice_get q.slots i ≡ Some p → p.connection ≡ Some c → held_connection st w ≡ Some (named i c.pair.generation) → st.second ≤ c.pair.moved) (Steps.call st w k d r)
+call_moves : (st : State) (w : ℕ) (k : WorkerState) (d : Doing) (r : Reply) → slice_get st.workers w ≡ Some k → k.doing ≡ d → is_movement r ≡ true
+    → Kept (λ (q : State). (i : ℕ) (p : SlotState) (c : Connection) → slice_get q.slots i ≡ Some p → p.connection ≡ Some c → held_connection st w ≡ Some (named i c.pair.generation) → st.second ≤ c.pair.moved) (Steps.call st w k d r)
 call_moves st w k (Holds s left) r there does is = kept_when (nat_lt 0 left) _ (λ some.
     kept_bind _ (slice_get st.slots s) (λ old was.
-    kept_then _ (lodged_call st.second (record { kernel = st.kernel; place = old }) r)
+    kept_then _ (slot_call st.second (record { kernel = st.kernel; place = old }) r)
     (λ l by i p c here lying holds. here_now st (Steps.doing (with_place (record st { kernel = l.kernel }) s l.place) w k (Holds s (left - 1))) s old l.place was refl by.moved i p c here lying
     (names_slot (held_connection st w) s by.generation i c.pair.generation by.held holds))
     (there_before st w s left k old r old.connection refl there does was (lodged_moves st.second (record { kernel = st.kernel; place = old }) r is))))
@@ -142,7 +142,7 @@ not_moved : (b : Bool) (o : Option Named) (x : Named) → (if b then o else None
 not_moved true o x h = (refl, h)
 not_moved false o x h = absurd (cc)
 
-worker_moves : (st : State) (w : ℕ) (k : Actor) (r : Reply) (b : Bool) → is_movement r ≡ b → slice_get st.workers w ≡ Some k → Kept (MovesNow st (event.Work w (act.Call r))) (Steps.call st w k k.doing r)
+worker_moves : (st : State) (w : ℕ) (k : WorkerState) (r : Reply) (b : Bool) → is_movement r ≡ b → slice_get st.workers w ≡ Some k → Kept (MovesNow st (event.Work w (act.Call r))) (Steps.call st w k k.doing r)
 worker_moves st w k r true is there = kept_more
     (λ q moved i p c here lying moves_it. moved i p c here lying (not_moved (is_movement r) (held_connection st w) (named i c.pair.generation) moves_it).1)
     _ (call_moves st w k k.doing r there refl is)
@@ -187,7 +187,7 @@ step_moves st (event.Work w act.Free) = still st (event.Work w act.Free) refl
 abbrev pub IdleSo : State → State → List Event → ℕ → Type 0
 IdleSo first st done w = (x : Named) → held_connection st w ≡ Some x → Throughout (LiesBack st.second first.limits.idle x) first done
 
-idle_at : (laws : CoreLaws) (first st : State) (done : List Event) (w s left : ℕ) (k : Actor) (p q : Place) → TimesOk first done st → slice_get st.workers w ≡ Some k → k.doing ≡ Holds s left → slice_get st.slots s ≡ Some p
+idle_at : (laws : CoreLaws) (first st : State) (done : List Event) (w s left : ℕ) (k : WorkerState) (p q : SlotState) → TimesOk first done st → slice_get st.workers w ≡ Some k → k.doing ≡ Holds s left → slice_get st.slots s ≡ Some p
     → Expired st.second st.limits.idle p q → IdleSo first st done w
 idle_at laws first st done w s left k p q times there does here x y holds =
     let c : Connection = x.connection in
@@ -199,9 +199,9 @@ idle_at laws first st done w s left k p q times there does here x y holds =
     subst (λ (n : Named). Throughout (LiesBack st.second first.limits.idle n) first done) is (throughout_more (MovesBy c.pair.moved (named s c.pair.generation)) (LiesBack st.second first.limits.idle (named s c.pair.generation))
     (λ m e by moved. (let early : m.second ≤ c.pair.moved = by moved in omega arith)) first done (times.moved s p c here x.was).each)
 
-doing_idle : (laws : CoreLaws) (first st : State) (done : List Event) (w : ℕ) (k : Actor) (d : Doing) → TimesOk first done st → slice_get st.workers w ≡ Some k → k.doing ≡ d → Kept (λ (q : State). IdleSo first st done w) (Steps.expire st d)
+doing_idle : (laws : CoreLaws) (first st : State) (done : List Event) (w : ℕ) (k : WorkerState) (d : Doing) → TimesOk first done st → slice_get st.workers w ≡ Some k → k.doing ≡ d → Kept (λ (q : State). IdleSo first st done w) (Steps.expire st d)
 doing_idle laws first st done w k (Holds s left) times there does = kept_bind _ (slice_get st.slots s) (λ p here.
-    kept_then (λ (q : Place). with_place st s q) (expired_place st.second st.limits.idle p) (λ q x. idle_at laws first st done w s left k p q times there does here x)
+    kept_then (λ (q : SlotState). with_place st s q) (expired_place st.second st.limits.idle p) (λ q x. idle_at laws first st done w s left k p q times there does here x)
     (expired_so st.second st.limits.idle p))
 doing_idle laws first st done w k Idle times there does = kept_none
 doing_idle laws first st done w k (Tries t) times there does = kept_none

@@ -8,10 +8,10 @@ use Rattle.token.specs.Names.{EndName}
 use Rattle.token.specs.Sides.{side_number, other_side}
 use Rattle.kernel_model.specs.declared.both.Sockets.{Sockets}
 use Rattle.kernel_model.specs.Outcome.{Told}
-use Rattle.kernel_model.specs.Ends.{Endpoint, is_nonempty}
+use Rattle.kernel_model.specs.Ends.{EndState, is_nonempty}
 use Rattle.kernel_model.specs.Kernel.{Registered, end_at, reported, changed}
 use Rattle.world.specs.declared.connection.Connection.{Connection}
-use Rattle.world.specs.Places.{Place}
+use Rattle.world.specs.Slots.{SlotState}
 use Rattle.world.specs.States.{State}
 use Rattle.world.specs.Calls.{descriptor}
 use Rattle.world.specs.Steps.{over_kernel, connection_at}
@@ -26,12 +26,12 @@ use Rattle.world.proofs.EndsKernel.{end_same, end_kept}
 use Rattle.world.proofs.EndsFrame.{Better, keep_but}
 
 -- the place of a connection
-pub record Lies (o : Option Place) (c : Connection) : Type 0 where
-  pub place : Place
+pub record Lies (o : Option SlotState) (c : Connection) : Type 0 where
+  pub place : SlotState
   pub there : o ≡ Some place
   pub connection : place.connection ≡ Some c
 
-pub lies : (o : Option Place) (c : Connection) → option_and_then (λ (p : Place). p.connection) o ≡ Some c → Lies o c
+pub lies : (o : Option SlotState) (c : Connection) → option_and_then (λ (p : SlotState). p.connection) o ≡ Some c → Lies o c
 lies None c e = absurd (cc)
 lies (Some p) c e = record { place = p; there = refl; connection = e }
 
@@ -49,7 +49,7 @@ all_if true xs bytes h = refl
 all_if false xs bytes h = absurd (cc)
 
 -- the state after it
-abbrev pub after_change : State → ℕ → Registered → Told Endpoint Bool → State
+abbrev pub after_change : State → ℕ → Registered → Told EndState Bool → State
 after_change st d r t = record st {
   kernel = record st.kernel {
     ends = slice_set st.kernel.ends d (Some (record r { socket = t.value }));
@@ -61,7 +61,7 @@ and_false : (a b : Bool) → a ≡ false → (a && b) ≡ false
 and_false true b h = absurd (cc)
 and_false false b h = refl
 
-others_better : (past next : History) (st : State) (s : ℕ) (side : Side) (bytes : List ℕ) (d : ℕ) (r : Registered) (t : Told Endpoint Bool)
+others_better : (past next : History) (st : State) (s : ℕ) (side : Side) (bytes : List ℕ) (d : ℕ) (r : Registered) (t : Told EndState Bool)
     → BringsTo st s side bytes past next → end_at st.kernel.ends d ≡ Some r → r.token.slot ≡ s
     → (i : ℕ) → (i ≡ s → ⊥) → Better past next st (after_change st d r t) i
 others_better past next st s side bytes d r t brings here of_s i differ = record {
@@ -77,7 +77,7 @@ others_better past next st s side bytes d r t brings here of_s i differ = record
 }
 
 -- the end of the other side is left, and this one changes
-pub ends_there : (st : State) (s g : ℕ) (c : Connection) (ends : Sockets) (side : Side) (t : Told Endpoint Bool)
+pub ends_there : (st : State) (s g : ℕ) (c : Connection) (ends : Sockets) (side : Side) (t : Told EndState Bool)
     → ((other : Side) → end_of st c other ≡ Some (registered s g other (socket_of ends other)))
     → (other : Side) → end_at (slice_set st.kernel.ends (descriptor c.ends side) (Some (registered s g side t.value))) (descriptor c.ends other)
     ≡ Some (registered s g other (socket_of (with_socket ends side t.value) other))
@@ -107,7 +107,7 @@ third_false : (a b : Bool) → b ≡ false → (a && b) ≡ false
 third_false true b h = h
 third_false false b h = refl
 
-this_place : (past next : History) (st : State) (s : ℕ) (side : Side) (bytes : List ℕ) (p : Place) (c : Connection) (t : Told Endpoint Bool) (ok : ConnectionOk past st s p.generation p.notes c)
+this_place : (past next : History) (st : State) (s : ℕ) (side : Side) (bytes : List ℕ) (p : SlotState) (c : Connection) (t : Told EndState Bool) (ok : ConnectionOk past st s p.generation p.notes c)
     → BringsTo st s side bytes past next → slice_get st.slots s ≡ Some p → p.connection ≡ Some c → IsChange bytes (socket_of ok.ends side) t
     → SlotOk past st s p → SlotOk next (after_change st (descriptor c.ends side) (registered s p.generation side (socket_of ok.ends side)) t) s p
 this_place past next st s side bytes p c t ok brings here lying change slot = record {
@@ -133,16 +133,16 @@ this_place past next st s side bytes p c t ok brings here lying change slot = re
   }));
 }
 
-pub network_keeps : (past next : History) (st : State) (s : ℕ) (side : Side) (bytes : List ℕ) (change : Endpoint → Option (Told Endpoint Bool)) (c : Connection)
+pub network_keeps : (past next : History) (st : State) (s : ℕ) (side : Side) (bytes : List ℕ) (change : EndState → Option (Told EndState Bool)) (c : Connection)
     → Changes bytes change → BringsTo st s side bytes past next → connection_at st s ≡ Some c → AllOk past st
     → Kept (AllOk next) (over_kernel st (changed st.kernel (descriptor c.ends side) change))
 network_keeps past next st s side bytes change c changes brings at_s all =
     let l : Lies (slice_get st.slots s) c = lies (slice_get st.slots s) c at_s in
     let slot : SlotOk past st s l.place = all.each s l.place l.there in
     let ok : ConnectionOk past st s l.place.generation l.place.notes c = slot.connection c l.connection in
-    let e : Endpoint = socket_of ok.ends side in
+    let e : EndState = socket_of ok.ends side in
     rw (ok.there side) (elim (change e) as (λ o. change e ≡ o → Kept (AllOk next) (over_kernel st (option_map
-    (λ (t : Told Endpoint Bool). record st.kernel {
+    (λ (t : Told EndState Bool). record st.kernel {
       ends = slice_set st.kernel.ends (descriptor c.ends side) (Some (registered s l.place.generation side t.value));
       queue = reported st.kernel.queue (name.End (token_at s side l.place.generation)) t.told;
     }) o))) [
@@ -152,7 +152,7 @@ network_keeps past next st s side bytes change c changes brings at_s all =
             (λ i p differ here. here)
             (others_better past next st s side bytes (descriptor c.ends side) (registered s l.place.generation side e) t brings (ok.there side) refl)
             (λ p here. let same : l.place ≡ p = (let was : slice_get st.slots s ≡ Some l.place = l.there in cc) in
-            subst (λ (q : Place). SlotOk next (after_change st (descriptor c.ends side) (registered s l.place.generation side e) t) s q) same
+            subst (λ (q : SlotState). SlotOk next (after_change st (descriptor c.ends side) (registered s l.place.generation side e) t) s q) same
             (this_place past next st s side bytes l.place c t ok brings l.there l.connection (changes e t is) slot))
             all;
       }

@@ -6,12 +6,12 @@ use Rattle.token.specs.declared.side.Side.TheVariants.{Client, Target}
 use Rattle.token.specs.Names.{EndName}
 use Rattle.kernel_model.specs.declared.both.Sockets.{Sockets}
 use Rattle.kernel_model.specs.Ends.{opened}
-use Rattle.kernel_model.specs.Kernel.{Watcher, Registered, end_at, lowest_free, with_end, open_both}
+use Rattle.kernel_model.specs.Kernel.{KernelState, Registered, end_at, lowest_free, with_end, open_both}
 use Rattle.flow.specs.Stream.{empty_stream}
 use Rattle.relay_core.specs.Pairs.{fresh}
 use Rattle.world.specs.declared.connection.Connection.{Connection}
 use Rattle.world.specs.declared.limits.Limits.{Limits}
-use Rattle.world.specs.Places.{Place}
+use Rattle.world.specs.Slots.{SlotState}
 use Rattle.world.specs.States.{State}
 use Rattle.world.specs.Steps.{token_of, opened_place, opened_world, opening_of}
 use Rattle.world.proofs.TurnsKept.{Kept, kept_bind, kept_map}
@@ -28,24 +28,24 @@ abbrev pub both_opened : Sockets
 both_opened = record { client = opened Client; target = opened Target }
 
 -- the ends by descriptor with the client's end, and with both
-abbrev pub with_client : Watcher → ℕ → ℕ → List (Option Registered)
+abbrev pub with_client : KernelState → ℕ → ℕ → List (Option Registered)
 with_client k s g = with_end k.ends (lowest_free k.ends) (registered s g Client (opened Client))
 
-abbrev pub with_both : Watcher → ℕ → ℕ → List (Option Registered)
+abbrev pub with_both : KernelState → ℕ → ℕ → List (Option Registered)
 with_both k s g = with_end (with_client k s g) (lowest_free (with_client k s g)) (registered s g Target (opened Target))
 
 -- an end that was open stays so
-others_open : (k : Watcher) (s g d : ℕ) (b : Registered) → end_at k.ends d ≡ Some b → end_at (with_both k s g) d ≡ Some b
+others_open : (k : KernelState) (s g d : ℕ) (b : Registered) → end_at k.ends d ≡ Some b → end_at (with_both k s g) d ≡ Some b
 others_open k s g d b here =
     opened_other (with_client k s g) (lowest_free (with_client k s g)) d (registered s g Target (opened Target)) b (lowest_is_free (with_client k s g))
     (opened_other k.ends (lowest_free k.ends) d (registered s g Client (opened Client)) b (lowest_is_free k.ends) here)
 
-client_opens : (k : Watcher) (s g : ℕ) → end_at (with_both k s g) (lowest_free k.ends) ≡ Some (registered s g Client (opened Client))
+client_opens : (k : KernelState) (s g : ℕ) → end_at (with_both k s g) (lowest_free k.ends) ≡ Some (registered s g Client (opened Client))
 client_opens k s g =
     opened_other (with_client k s g) (lowest_free (with_client k s g)) (lowest_free k.ends) (registered s g Target (opened Target)) (registered s g Client (opened Client)) (lowest_is_free (with_client k s g))
     (opened_here k.ends (lowest_free k.ends) (registered s g Client (opened Client)) (lowest_is_free k.ends))
 
-target_opens : (k : Watcher) (s g : ℕ) → end_at (with_both k s g) (lowest_free (with_client k s g)) ≡ Some (registered s g Target (opened Target))
+target_opens : (k : KernelState) (s g : ℕ) → end_at (with_both k s g) (lowest_free (with_client k s g)) ≡ Some (registered s g Target (opened Target))
 target_opens k s g = opened_here (with_client k s g) (lowest_free (with_client k s g)) (registered s g Target (opened Target)) (lowest_is_free (with_client k s g))
 
 fresh_direction : (gave : List ℕ) (ring : ℕ) (lead : List ℕ) (x y : Side) → gave ≡ lead → DirectionOk gave (empty_stream ring lead) (opened x) (opened y)
@@ -70,7 +70,7 @@ own_token s side g n is = guarded (λ (m : EndName). token_at s side g ≡ m) _ 
 abbrev pub fresh_world : State → ℕ → ℕ → State
 fresh_world st s g = opened_world st s g (open_both st.kernel (token_at s Client g) (token_at s Target g))
 
-fresh_slot : (past next : History) (st : State) (s g : ℕ) (p : Place) → Quiet past next → slice_get st.table s ≡ Some g → SlotOk past st s p
+fresh_slot : (past next : History) (st : State) (s g : ℕ) (p : SlotState) → Quiet past next → slice_get st.table s ≡ Some g → SlotOk past st s p
     → SlotOk next (fresh_world st s (g + 1)) s (opened_place s (g + 1) st.limits st.second (record { client = lowest_free st.kernel.ends; target = lowest_free (with_client st.kernel s (g + 1)) }))
 fresh_slot past next st s g p quiet entry ok =
     let same : p.generation ≡ g = (let is : slice_get st.table s ≡ Some p.generation = ok.entry in cc) in record {
@@ -87,7 +87,7 @@ fresh_slot past next st s g p quiet entry ok =
           }));
     }
 
-fresh_keeps : (past next : History) (st : State) (s g : ℕ) (p : Place) → Quiet past next → slice_get st.slots s ≡ Some p → slice_get st.table s ≡ Some g → AllOk past st
+fresh_keeps : (past next : History) (st : State) (s g : ℕ) (p : SlotState) → Quiet past next → slice_get st.slots s ≡ Some p → slice_get st.table s ≡ Some g → AllOk past st
     → AllOk next (fresh_world st s (g + 1))
 fresh_keeps past next st s g p quiet here entry all = keep_place past next st (fresh_world st s (g + 1)) s p _ here refl
     (λ i differ. record {

@@ -8,9 +8,9 @@ use Rattle.token.specs.Sides.{other_side}
 use Rattle.flow.specs.Stream.{Stream, waiting}
 use Rattle.kernel_model.specs.declared.both.Sockets.{Sockets}
 use Rattle.kernel_model.specs.Outcome.{Told}
-use Rattle.kernel_model.specs.Ends.{Endpoint}
+use Rattle.kernel_model.specs.Ends.{EndState}
 use Rattle.relay_core.specs.declared.flags.Flags.{Flags}
-use Rattle.relay_core.specs.Pairs.{Relay}
+use Rattle.relay_core.specs.Pairs.{PairState}
 use Rattle.world.specs.Headline.{socket_of}
 use Rattle.world.specs.Support.{EndCovered}
 use Rattle.world.proofs.EndsHeld.{KeepsAll, DirectionOk, PairOk}
@@ -25,25 +25,25 @@ pub by_direction : (P : Direction → Type 0) → P Up → P Down → (d : Direc
 by_direction P up down Up = up
 by_direction P up down Down = down
 
-abbrev pub with_socket : Sockets → Side → Endpoint → Sockets
+abbrev pub with_socket : Sockets → Side → EndState → Sockets
 with_socket ends Client e = record ends { client = e }
 with_socket ends Target e = record ends { target = e }
 
 -- what a change of the network, that brings these bytes, does to an end
-pub record IsChange (bytes : List ℕ) (e : Endpoint) (t : Told Endpoint Bool) : Type 0 where
+pub record IsChange (bytes : List ℕ) (e : EndState) (t : Told EndState Bool) : Type 0 where
   pub unread : t.value.unread ≡ e.unread ++ bytes
   pub taken : t.value.taken ≡ e.taken
   pub fin : e.fin ≡ true → t.value.fin ≡ true
   pub none : e.fin ≡ true → bytes ≡ []
   pub covered : (flags : Flags) (r : Bool) → EndCovered flags e r → EndCovered flags t.value (r || t.told)
 
-arrived : (gave bytes : List ℕ) (stream : Stream) (x y z : Endpoint) → z.unread ≡ x.unread ++ bytes → KeepsAll gave stream x y
+arrived : (gave bytes : List ℕ) (stream : Stream) (x y z : EndState) → z.unread ≡ x.unread ++ bytes → KeepsAll gave stream x y
     → KeepsAll (gave ++ bytes) stream z y
 arrived gave bytes stream x y z more kept = rw (kept, more)
     (append_assoc y.taken (waiting stream ++ x.unread) bytes ∙ ap (λ (all : List ℕ). y.taken ++ all) (append_assoc (waiting stream) x.unread bytes))
 
 -- at the source of a direction
-pub source_changed : (gave bytes : List ℕ) (stream : Stream) (x y : Endpoint) (t : Told Endpoint Bool) → IsChange bytes x t
+pub source_changed : (gave bytes : List ℕ) (stream : Stream) (x y : EndState) (t : Told EndState Bool) → IsChange bytes x t
     → DirectionOk gave stream x y → DirectionOk (gave ++ bytes) stream t.value y
 source_changed gave bytes stream x y t change ok = record {
   bytes = arrived gave bytes stream x y t.value change.unread ok.bytes;
@@ -53,7 +53,7 @@ source_changed gave bytes stream x y t change ok = record {
 }
 
 -- at its destination
-pub destination_changed : (gave bytes : List ℕ) (stream : Stream) (x y : Endpoint) (t : Told Endpoint Bool) → IsChange bytes y t
+pub destination_changed : (gave bytes : List ℕ) (stream : Stream) (x y : EndState) (t : Told EndState Bool) → IsChange bytes y t
     → DirectionOk gave stream x y → DirectionOk gave stream x t.value
 destination_changed gave bytes stream x y t change ok = record {
   bytes = rw (change.taken) (ok.bytes);
@@ -63,10 +63,10 @@ destination_changed gave bytes stream x y t change ok = record {
 }
 
 -- the two ends of a direction keep what they have where the history does
-pub same_gave : (gave other : List ℕ) (stream : Stream) (x y : Endpoint) → other ≡ gave → DirectionOk gave stream x y → DirectionOk other stream x y
+pub same_gave : (gave other : List ℕ) (stream : Stream) (x y : EndState) → other ≡ gave → DirectionOk gave stream x y → DirectionOk other stream x y
 same_gave gave other stream x y e ok = rw e ok
 
-pub pair_changed : (h i : Side → List ℕ) (r q : Side → Bool) (p : Relay) (ends : Sockets) (side : Side) (bytes : List ℕ) (t : Told Endpoint Bool)
+pub pair_changed : (h i : Side → List ℕ) (r q : Side → Bool) (p : PairState) (ends : Sockets) (side : Side) (bytes : List ℕ) (t : Told EndState Bool)
     → IsChange bytes (socket_of ends side) t → i side ≡ h side ++ bytes → i (other_side side) ≡ h (other_side side)
     → ((s : Side) → r s ≡ true → q s ≡ true) → (t.told ≡ true → q side ≡ true)
     → PairOk h r p ends → PairOk i q p (with_socket ends side t.value)

@@ -17,8 +17,8 @@ use Rattle.kernel_model.specs.Outcome.{guard}
 use Rattle.kernel_model.specs.Ends.{is_readable, is_writable, is_nonempty}
 use Rattle.kernel_model.specs.Names.{has, same, without_name}
 use Rattle.kernel_model.specs.Kernel as kernel
-use Rattle.kernel_model.specs.Kernel.{Watcher, Registered, end_at, name_of, is_quiet, is_quiet_end}
-use Rattle.relay_core.specs.Pairs.{Relay}
+use Rattle.kernel_model.specs.Kernel.{KernelState, Registered, end_at, name_of, is_quiet, is_quiet_end}
+use Rattle.relay_core.specs.Pairs.{PairState}
 use Rattle.world.specs.declared.connection.Connection.{Connection}
 use Rattle.world.specs.declared.event.Reported.{Reported}
 use Rattle.world.specs.declared.event.Reported.TheVariants as reported
@@ -57,11 +57,11 @@ rests_keep past next st q quiet r all = keep_all past next st q r.slots (λ i. r
   pending = λ side g entry h. r.pending i side g entry h;
 }) all
 
-pub over_map : {X : Type 0} (P : State → Type 0) (st : State) (f : X → Watcher) (o : Option X) → ((x : X) → o ≡ Some x → P (record st { kernel = f x })) → Kept P (over_kernel st (option_map f o))
+pub over_map : {X : Type 0} (P : State → Type 0) (st : State) (f : X → KernelState) (o : Option X) → ((x : X) → o ≡ Some x → P (record st { kernel = f x })) → Kept P (over_kernel st (option_map f o))
 over_map P st f None h = record { kept = tt }
 over_map P st f (Some x) h = record { kept = h x refl }
 
-pub over_guard : (P : State → Type 0) (st : State) (b : Bool) (k : Watcher) → (b ≡ true → P (record st { kernel = k })) → Kept P (over_kernel st (guard b k))
+pub over_guard : (P : State → Type 0) (st : State) (b : Bool) (k : KernelState) → (b ≡ true → P (record st { kernel = k })) → Kept P (over_kernel st (guard b k))
 over_guard P st true k h = record { kept = h refl }
 over_guard P st false k h = record { kept = tt }
 
@@ -84,7 +84,7 @@ spurious_keeps past next st who quiet all =
 
 -- A report is taken back
 
-pair_unready : (h i : Side → List ℕ) (r q : Side → Bool) (p : Relay) (ends : Sockets) (side : Side)
+pair_unready : (h i : Side → List ℕ) (r q : Side → Bool) (p : PairState) (ends : Sockets) (side : Side)
     → is_readable (socket_of ends side) ≡ false → is_writable (socket_of ends side) ≡ false
     → ((t : Side) → i t ≡ h t) → (r (other_side side) ≡ true → q (other_side side) ≡ true)
     → PairOk h r p ends → PairOk i q p ends

@@ -10,7 +10,7 @@ use Rattle.kernel_model.specs.declared.both.Descriptors.{Descriptors}
 use Rattle.kernel_model.specs.declared.both.Sockets.{Sockets}
 use Rattle.kernel_model.specs.declared.accepting.Accepting.TheVariants.{Accepted, Blocked, Again, Starved}
 use Rattle.kernel_model.specs.Kernel as kernel
-use Rattle.kernel_model.specs.Kernel.{Watcher}
+use Rattle.kernel_model.specs.Kernel.{KernelState}
 use Rattle.relay_core.specs.declared.verdict.Fault.{Fault}
 use Rattle.relay_core.specs.declared.verdict.Fault.TheVariants as reason
 use Rattle.relay_core.specs.Idle.{timed_out}
@@ -28,15 +28,15 @@ use Rattle.world.specs.declared.event.Listening.{Listening}
 use Rattle.world.specs.declared.event.Listening.TheVariants as listening
 use Rattle.world.specs.declared.event.Polling.{Polling}
 use Rattle.world.specs.declared.event.Polling.TheVariants as polling
-use Rattle.world.specs.Places.{Place, Actor, is_held}
+use Rattle.world.specs.Slots.{SlotState, WorkerState, is_held}
 use Rattle.world.specs.States.{State}
 use Rattle.world.specs.Steps
-use Rattle.world.specs.Steps.{over_kernel, connection_at, watched_of, change_at, may_accept, after_accept, token_of, opened_world, with_note, posted, post_at, delivered_at, delivered, put_by_poller, put_by_worker, popped, heard, noted_place, is_limited, expired_place, with_place, Lodging, lodged_call, may_release, closed_world, doing, step}
+use Rattle.world.specs.Steps.{over_kernel, connection_at, watched_of, change_at, may_accept, after_accept, token_of, opened_world, with_note, posted, post_at, delivered_at, delivered, put_by_poller, put_by_worker, popped, heard, noted_slot, is_limited, expired_place, with_place, OpenSlot, slot_call, may_release, closed_world, doing, step}
 use Rattle.world.specs.Given.{given_by}
 use Rattle.world.specs.Headline.{Failure, failure, failure_by, Named, held_connection}
 use Rattle.world.proofs.TurnsKept.{Kept, kept_bind, kept_map, kept_guard, kept_when, kept_then, kept_map_map}
 use Rattle.world.proofs.TurnsExpired.{Expired, expired_so}
-use Rattle.world.proofs.EndsPlaces.{behind, kept_map_if}
+use Rattle.world.proofs.EndsSlots.{behind, kept_map_if}
 
 -- the failure that an event brings, by a call or by the idle limit
 abbrev pub cause_by : State → Event → Option Failure
@@ -50,7 +50,7 @@ pub record Continues (st : State) (e : Event) (s : ℕ) (old new : Connection) :
   pub since : old.pair.moved ≤ st.second → (old.pair.moved ≤ new.pair.moved) × (new.pair.moved ≤ st.second)
 
 -- a slot keeps its connection, or has none afterwards
-pub record Stays (st : State) (e : Event) (s : ℕ) (old new : Place) : Type 0 where
+pub record Stays (st : State) (e : Event) (s : ℕ) (old new : SlotState) : Type 0 where
   pub generation : new.generation ≡ old.generation
   pub connection : (c : Connection) → new.connection ≡ Some c → (b : Connection) × (old.connection ≡ Some b) × Continues st e s b c
 
@@ -66,20 +66,20 @@ pub record Clock (st q : State) : Type 0 where
 
 pub data Shape (st : State) (e : Event) (q : State) : Type 0 where
   Same : q.slots ≡ st.slots → q.past ≡ st.past → Clock st q → Shape st e q
-  Changed : (s : ℕ) (old new : Place) → slice_get st.slots s ≡ Some old → q.slots ≡ slice_set st.slots s new → q.past ≡ st.past → Clock st q → Stays st e s old new → Shape st e q
-  Opened : (s g : ℕ) (old new : Place) → slice_get st.slots s ≡ Some old → slice_get st.table s ≡ Some g → q.slots ≡ slice_set st.slots s new → q.past ≡ st.past → Clock st q
+  Changed : (s : ℕ) (old new : SlotState) → slice_get st.slots s ≡ Some old → q.slots ≡ slice_set st.slots s new → q.past ≡ st.past → Clock st q → Stays st e s old new → Shape st e q
+  Opened : (s g : ℕ) (old new : SlotState) → slice_get st.slots s ≡ Some old → slice_get st.table s ≡ Some g → q.slots ≡ slice_set st.slots s new → q.past ≡ st.past → Clock st q
       → new.generation ≡ g + 1 → ((c : Connection) → new.connection ≡ Some c → IsFresh st c) → Shape st e q
-  Ended : (s : ℕ) (old : Place) (c : Connection) (ends : Sockets) (k : Watcher) → slice_get st.slots s ≡ Some old → old.connection ≡ Some c → q.slots ≡ slice_set st.slots s (record old { connection = None })
+  Ended : (s : ℕ) (old : SlotState) (c : Connection) (ends : Sockets) (k : KernelState) → slice_get st.slots s ≡ Some old → old.connection ≡ Some c → q.slots ≡ slice_set st.slots s (record old { connection = None })
       → q.past ≡ st.past ++ record { slot = s; generation = c.pair.generation; verdict = verdict c.pair; ends = ends } ∷ [] → Clock st q
       → kernel.close_both st.kernel c.ends ≡ Some (record { value = k; told = ends }) → ((i g : ℕ) (side : Side) → given_by st i g side e ≡ []) → Shape st e q
 
-same_connection : (st : State) (e : Event) (s : ℕ) (old new : Place) → new.generation ≡ old.generation → new.connection ≡ old.connection → Stays st e s old new
+same_connection : (st : State) (e : Event) (s : ℕ) (old new : SlotState) → new.generation ≡ old.generation → new.connection ≡ old.connection → Stays st e s old new
 same_connection st e s old new generation connection = record {
   generation = generation;
   connection = λ c here. (c, sym connection ∙ here, record { generation = refl; fails = λ fault failed. inl failed; since = λ moved. (le_refl _, moved) });
 }
 
-pub over_same : (st m : State) (e : Event) (o : Option Watcher) → m.slots ≡ st.slots → m.past ≡ st.past → Clock st m → Kept (Shape st e) (over_kernel m o)
+pub over_same : (st m : State) (e : Event) (o : Option KernelState) → m.slots ≡ st.slots → m.past ≡ st.past → Clock st m → Kept (Shape st e) (over_kernel m o)
 over_same st m e None slots past on = record { kept = tt }
 over_same st m e (Some k) slots past on = record { kept = Same slots past (record { limits = on.limits; second = on.second }) }
 
@@ -97,7 +97,7 @@ delivered_shape st e name.Waker = record { kept = Same refl refl (record { limit
 delivered_shape st e (name.End n) = elim (slice_get st.table n.slot) as (λ o. Kept (Shape st e) (option_map (behind st) (delivered_at st n o))) [
   | None ↦ record { kept = Same refl refl (record { limits = refl; second = le_refl _ }) }
   | Some g ↦ kept_map_if (Shape st e) (behind st) (g == n.generation) (post_at st n.slot g) (Some st)
-      (λ same. kept_map_map (behind st) (λ (p : Place). posted st n.slot g p) (slice_get st.slots n.slot) (λ p here.
+      (λ same. kept_map_map (behind st) (λ (p : SlotState). posted st n.slot g p) (slice_get st.slots n.slot) (λ p here.
       Changed n.slot p (with_note p g) here refl refl (record { limits = refl; second = le_refl _ }) (same_connection st e n.slot p (with_note p g) refl refl)))
       (λ other. record { kept = Same refl refl (record { limits = refl; second = le_refl _ }) })
 ]
@@ -127,15 +127,15 @@ polled_shape st e polling.Put = put_by_poller_shape st e st.hand
 
 -- The workers
 
-pub put_shape : (st : State) (e : Event) (w : ℕ) (k : Actor) (hand : List Ticket) → Kept (Shape st e) (put_by_worker st w k hand)
+pub put_shape : (st : State) (e : Event) (w : ℕ) (k : WorkerState) (hand : List Ticket) → Kept (Shape st e) (put_by_worker st w k hand)
 put_shape st e w k [] = record { kept = tt }
 put_shape st e w k (t ∷ rest) = record { kept = Same refl refl (record { limits = refl; second = le_refl _ }) }
 
-popped_shape : (st : State) (e : Event) (w : ℕ) (k : Actor) (ready : List Ticket) → Kept (Shape st e) (popped st w k ready)
+popped_shape : (st : State) (e : Event) (w : ℕ) (k : WorkerState) (ready : List Ticket) → Kept (Shape st e) (popped st w k ready)
 popped_shape st e w k [] = record { kept = tt }
 popped_shape st e w k (t ∷ rest) = record { kept = Same refl refl (record { limits = refl; second = le_refl _ }) }
 
-pub pop_shape : (st : State) (e : Event) (w : ℕ) (k : Actor) (d : Doing) → Kept (Shape st e) (Steps.pop st w k d)
+pub pop_shape : (st : State) (e : Event) (w : ℕ) (k : WorkerState) (d : Doing) → Kept (Shape st e) (Steps.pop st w k d)
 pop_shape st e w k Idle = kept_when (length k.hand == 0) _ (λ none. popped_shape st e w k st.ready)
 pop_shape st e w k (Tries t) = record { kept = tt }
 pop_shape st e w k (Holds s left) = record { kept = tt }
@@ -146,7 +146,7 @@ either_way : (P : State → Type 0) (b : Bool) (q r : State) → P q → P r →
 either_way P true q r this that = this
 either_way P false q r this that = that
 
-pub claim_shape : (st : State) (e : Event) (w : ℕ) (k : Actor) (d : Doing) → Kept (Shape st e) (Steps.claim st w k d)
+pub claim_shape : (st : State) (e : Event) (w : ℕ) (k : WorkerState) (d : Doing) → Kept (Shape st e) (Steps.claim st w k d)
 claim_shape st e w k (Tries t) = kept_map _ (slice_get st.slots t.slot) (λ p here.
     either_way (Shape st e) (is_held p.holder) _ _ (Same refl refl (record { limits = refl; second = le_refl _ })) (Changed t.slot p _ here refl refl (record { limits = refl; second = le_refl _ }) (same_connection st e t.slot p _ refl refl)))
 claim_shape st e w k Idle = record { kept = tt }
@@ -166,7 +166,7 @@ heard_verdict : (c : Connection) (b : Bool) → verdict (if b then record c { pa
 heard_verdict c true = refl
 heard_verdict c false = refl
 
-noted_stays : (st : State) (e : Event) (s : ℕ) (p : Place) (o : Option Connection) → p.connection ≡ o → Kept (Stays st e s p) (option_map (λ (c : Connection). record p { notes = []; connection = Some (heard c p.notes) }) o)
+noted_stays : (st : State) (e : Event) (s : ℕ) (p : SlotState) (o : Option Connection) → p.connection ≡ o → Kept (Stays st e s p) (option_map (λ (c : Connection). record p { notes = []; connection = Some (heard c p.notes) }) o)
 noted_stays st e s p None lying = record { kept = tt }
 noted_stays st e s p (Some c) lying = record {
   kept = record {
@@ -185,7 +185,7 @@ noted_stays st e s p (Some c) lying = record {
 
 pub take_shape : (st : State) (e : Event) (d : Doing) → Kept (Shape st e) (Steps.take st d)
 take_shape st e (Holds s left) = kept_bind _ (slice_get st.slots s) (λ p here.
-    kept_then (λ (q : Place). with_place st s q) (noted_place p) (λ q stays. Changed s p q here refl refl (record { limits = refl; second = le_refl _ }) stays) (noted_stays st e s p p.connection refl))
+    kept_then (λ (q : SlotState). with_place st s q) (noted_slot p) (λ q stays. Changed s p q here refl refl (record { limits = refl; second = le_refl _ }) stays) (noted_stays st e s p p.connection refl))
 take_shape st e Idle = record { kept = tt }
 take_shape st e (Tries t) = record { kept = tt }
 take_shape st e (Closed s) = record { kept = tt }
@@ -196,11 +196,11 @@ take_shape st e (Retired s) = record { kept = tt }
 the_fault : (fault : Fault) → Failed reason.Idle ≡ Failed fault → reason.Idle ≡ fault
 the_fault fault h = cc
 
-expired_stays : (st : State) (w s left : ℕ) (k : Actor) (p q : Place) → slice_get st.workers w ≡ Some k → k.doing ≡ Holds s left → slice_get st.slots s ≡ Some p → Expired st.second st.limits.idle p q
+expired_stays : (st : State) (w s left : ℕ) (k : WorkerState) (p q : SlotState) → slice_get st.workers w ≡ Some k → k.doing ≡ Holds s left → slice_get st.slots s ≡ Some p → Expired st.second st.limits.idle p q
     → Stays st (event.Work w act.Expire) s p q
 expired_stays st w s left k p q there holds here x = record {
-  generation = ap (λ (r : Place). r.generation) x.is;
-  connection = λ c lying. (let one : q.connection ≡ Some (record x.connection { pair = timed_out x.connection.pair }) = ap (λ (r : Place). r.connection) x.is in
+  generation = ap (λ (r : SlotState). r.generation) x.is;
+  connection = λ c lying. (let one : q.connection ≡ Some (record x.connection { pair = timed_out x.connection.pair }) = ap (λ (r : SlotState). r.connection) x.is in
       let is : record x.connection { pair = timed_out x.connection.pair } ≡ c = cc in (
         x.connection,
         x.was,
@@ -212,9 +212,9 @@ expired_stays st w s left k p q there holds here x = record {
       ));
 }
 
-pub expire_shape : (st : State) (w : ℕ) (k : Actor) (d : Doing) → slice_get st.workers w ≡ Some k → k.doing ≡ d → Kept (Shape st (event.Work w act.Expire)) (Steps.expire st d)
+pub expire_shape : (st : State) (w : ℕ) (k : WorkerState) (d : Doing) → slice_get st.workers w ≡ Some k → k.doing ≡ d → Kept (Shape st (event.Work w act.Expire)) (Steps.expire st d)
 expire_shape st w k (Holds s left) there holds = kept_bind _ (slice_get st.slots s) (λ p here.
-    kept_then (λ (q : Place). with_place st s q) (expired_place st.second st.limits.idle p) (λ q x. Changed s p q here refl refl (record { limits = refl; second = le_refl _ }) (expired_stays st w s left k p q there holds here x))
+    kept_then (λ (q : SlotState). with_place st s q) (expired_place st.second st.limits.idle p) (λ q x. Changed s p q here refl refl (record { limits = refl; second = le_refl _ }) (expired_stays st w s left k p q there holds here x))
     (expired_so st.second st.limits.idle p))
 expire_shape st w k Idle there holds = record { kept = tt }
 expire_shape st w k (Tries t) there holds = record { kept = tt }
@@ -230,7 +230,7 @@ post_shape st e (Tries t) = record { kept = tt }
 post_shape st e (Closed s) = record { kept = tt }
 post_shape st e (Retired s) = record { kept = tt }
 
-pub release_shape : (st : State) (e : Event) (w : ℕ) (k : Actor) (d : Doing) → Kept (Shape st e) (Steps.release st w k d)
+pub release_shape : (st : State) (e : Event) (w : ℕ) (k : WorkerState) (d : Doing) → Kept (Shape st e) (Steps.release st w k d)
 release_shape st e w k (Holds s left) = kept_bind _ (slice_get st.slots s) (λ p here.
     kept_bind _ p.connection (λ c lying.
     kept_guard (may_release c (is_nonempty p.notes)) _ (λ may. Changed s p _ here refl refl (record { limits = refl; second = le_refl _ }) (same_connection st e s p _ refl refl))))
@@ -239,21 +239,21 @@ release_shape st e w k (Tries t) = record { kept = tt }
 release_shape st e w k (Closed s) = record { kept = tt }
 release_shape st e w k (Retired s) = record { kept = tt }
 
-pub retire_shape : (st : State) (e : Event) (w : ℕ) (k : Actor) (d : Doing) → Kept (Shape st e) (Steps.retire st w k d)
+pub retire_shape : (st : State) (e : Event) (w : ℕ) (k : WorkerState) (d : Doing) → Kept (Shape st e) (Steps.retire st w k d)
 retire_shape st e w k (Closed s) = kept_map _ (slice_get st.slots s) (λ p here. Changed s p _ here refl refl (record { limits = refl; second = le_refl _ }) (same_connection st e s p _ refl refl))
 retire_shape st e w k Idle = record { kept = tt }
 retire_shape st e w k (Tries t) = record { kept = tt }
 retire_shape st e w k (Holds s left) = record { kept = tt }
 retire_shape st e w k (Retired s) = record { kept = tt }
 
-pub free_shape : (st : State) (e : Event) (w : ℕ) (k : Actor) (d : Doing) → Kept (Shape st e) (Steps.free st w k d)
+pub free_shape : (st : State) (e : Event) (w : ℕ) (k : WorkerState) (d : Doing) → Kept (Shape st e) (Steps.free st w k d)
 free_shape st e w k (Retired s) = kept_map _ (slice_get st.slots s) (λ p here. Same refl refl (record { limits = refl; second = le_refl _ }))
 free_shape st e w k Idle = record { kept = tt }
 free_shape st e w k (Tries t) = record { kept = tt }
 free_shape st e w k (Holds s left) = record { kept = tt }
 free_shape st e w k (Closed s) = record { kept = tt }
 
-pub close_shape : (st : State) (e : Event) (w : ℕ) (k : Actor) (d : Doing) → ((i g : ℕ) (side : Side) → given_by st i g side e ≡ []) → Kept (Shape st e) (Steps.close st w k d)
+pub close_shape : (st : State) (e : Event) (w : ℕ) (k : WorkerState) (d : Doing) → ((i g : ℕ) (side : Side) → given_by st i g side e ≡ []) → Kept (Shape st e) (Steps.close st w k d)
 close_shape st e w k (Holds s left) brings = kept_bind _ (slice_get st.slots s) (λ p here.
     kept_bind _ p.connection (λ c lying.
     kept_when (not (is_live (verdict c.pair))) _ (λ over.

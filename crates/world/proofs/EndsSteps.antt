@@ -4,7 +4,7 @@ use Rattle.std.specs.Prelude.{slice_get, if◌then◌else◌, ◌==◌, nat_le}
 use Rattle.token.specs.declared.side.Side.{Side}
 use Rattle.token.specs.Sides.{side_number}
 use Rattle.kernel_model.specs.Ends.{arrival, finish, failure, new_room}
-use Rattle.kernel_model.specs.Kernel.{Watcher}
+use Rattle.kernel_model.specs.Kernel.{KernelState}
 use Rattle.world.specs.declared.limits.Limits.{Limits}
 use Rattle.world.specs.declared.event.Event.{Event}
 use Rattle.world.specs.declared.event.Event.TheVariants as event
@@ -14,7 +14,7 @@ use Rattle.world.specs.declared.event.Polling.{Polling}
 use Rattle.world.specs.declared.event.Polling.TheVariants as polling
 use Rattle.world.specs.declared.event.Act.{Act}
 use Rattle.world.specs.declared.event.Act.TheVariants as act
-use Rattle.world.specs.Places.{Place, Actor}
+use Rattle.world.specs.Slots.{SlotState, WorkerState}
 use Rattle.world.specs.States.{State, opening, unused}
 use Rattle.world.specs.Calls.{when}
 use Rattle.world.specs.Steps.{over_kernel, connection_at, network, polled, acted, step, opening_of}
@@ -26,7 +26,7 @@ use Rattle.world.proofs.EndsHeld.{History, before, SlotOk, AllOk}
 use Rattle.world.proofs.EndsChanges.{arrival_changes, finish_changes, failure_changes, room_changes}
 use Rattle.world.proofs.EndsNetwork.{BringsTo, network_keeps}
 use Rattle.world.proofs.EndsQueue.{Quiet, rests_keep, spurious_keeps, vanish_keeps, listen_keeps, batched_keeps}
-use Rattle.world.proofs.EndsPlaces.{deliver_keeps}
+use Rattle.world.proofs.EndsSlots.{deliver_keeps}
 use Rattle.world.proofs.EndsWorkers.{put_by_poller_keeps, put_by_worker_keeps, pop_keeps, claim_keeps, take_keeps, expire_keeps, sweep_keeps, tick_keeps, post_keeps, release_keeps, close_keeps, retire_keeps, free_keeps}
 use Rattle.world.proofs.EndsOpening.{open_keeps}
 use Rattle.world.proofs.EndsCalls.{call_keeps}
@@ -42,7 +42,7 @@ same_history past = λ s g side. past s g side ++ []
 quiet : (past : History) → Quiet past (same_history past)
 quiet past = λ s g side. append-nil (past s g side)
 
-over_when : (P : State → Type 0) (st : State) (b : Bool) (o : Option Watcher) → Kept P (over_kernel st o) → Kept P (over_kernel st (when b o))
+over_when : (P : State → Type 0) (st : State) (b : Bool) (o : Option KernelState) → Kept P (over_kernel st o) → Kept P (over_kernel st (when b o))
 over_when P st true o h = h
 over_when P st false o h = record { kept = tt }
 
@@ -71,7 +71,7 @@ polled_keeps past next st polling.Deliver quiet all = deliver_keeps past next st
 polled_keeps past next st (polling.Sweep s) quiet all = sweep_keeps past next st s quiet all
 polled_keeps past next st polling.Put quiet all = put_by_poller_keeps past next st st.hand quiet all
 
-acted_keeps : (past next : History) (st : State) (w : ℕ) (k : Actor) (a : Act) → Quiet past next → AllOk past st → Kept (AllOk next) (acted st w k a)
+acted_keeps : (past next : History) (st : State) (w : ℕ) (k : WorkerState) (a : Act) → Quiet past next → AllOk past st → Kept (AllOk next) (acted st w k a)
 acted_keeps past next st w k act.Put quiet all = put_by_worker_keeps past next st w k k.hand quiet all
 acted_keeps past next st w k act.Pop quiet all = pop_keeps past next st w k k.doing quiet all
 acted_keeps past next st w k act.Claim quiet all = claim_keeps past next st w k k.doing quiet all
@@ -122,7 +122,7 @@ first_history l = λ s g side. before l side
 
 pub opening_ok : (l : Limits) → AllOk (first_history l) (opening l)
 opening_ok l = record {
-  each = λ s p here. subst (λ (place : Place). SlotOk (first_history l) (opening l) s place) (get-replicate l.slots s (unused l.generation) p here) (record {
+  each = λ s p here. subst (λ (place : SlotState). SlotOk (first_history l) (opening l) s place) (get-replicate l.slots s (unused l.generation) p here) (record {
     entry = get_beside l.slots s (unused l.generation) p l.generation here;
     later = λ g side younger. refl;
     connection = λ c is. absurd (cc);

@@ -5,7 +5,7 @@ use Rattle.token.specs.declared.direction.Direction.{Direction}
 use Rattle.token.specs.Sides.{source, destination}
 use Rattle.flow.specs.Stream.{Stream, waiting}
 use Rattle.flow.proofs.Front.{waiting_ends}
-use Rattle.kernel_model.specs.Ends.{Endpoint}
+use Rattle.kernel_model.specs.Ends.{EndState}
 use Rattle.kernel_model.specs.Kernel.{Registered}
 use Rattle.relay_core.specs.Pairs.{stream_of}
 use Rattle.world.specs.declared.connection.Connection.{Connection}
@@ -31,7 +31,7 @@ reached l events st ran = run_keeps (first_history l) (opening l) st events (ope
 pub all_sent : (gave waits unread taken : List ℕ) → gave ≡ taken ++ (waits ++ unread) → waits ≡ [] → unread ≡ [] → gave ≡ taken
 all_sent gave waits unread taken bytes empty read = bytes ∙ rw (empty, read) (append-nil taken)
 
-direction_holds : (first gave : List ℕ) (s : Stream) (x y : Endpoint) → DirectionOk (first ++ gave) s x y → DirectionHolds first gave s x y
+direction_holds : (first gave : List ℕ) (s : Stream) (x y : EndState) → DirectionOk (first ++ gave) s x y → DirectionHolds first gave s x y
 direction_holds first gave s x y ok = record {
   bytes = ok.bytes ∙ ap (λ (all : List ℕ). y.taken ++ all) (append_assoc s.lead s.ring x.unread);
   last = λ shut. record {

@@ -5,7 +5,7 @@ use Rattle.std.specs.Prelude.{slice_get, slice_set, ◌==◌}
 use Rattle.world.specs.declared.connection.Connection.{Connection}
 use Rattle.world.specs.declared.limits.Limits.{Limits}
 use Rattle.world.specs.declared.event.Event.{Event}
-use Rattle.world.specs.Places.{Place}
+use Rattle.world.specs.Slots.{SlotState}
 use Rattle.world.specs.States.{State, opening, unused}
 use Rattle.world.specs.Steps.{step}
 use Rattle.world.specs.Runs.{run}
@@ -52,10 +52,10 @@ pub record LastMoved (first : State) (done : List Event) (st : State) (s : ℕ) 
 pub record TimesOk (first : State) (done : List Event) (st : State) : Type 0 where
   pub limits : st.limits ≡ first.limits
   pub past : Throughout (ComesBy st.second) first done
-  pub moved : (s : ℕ) (p : Place) (c : Connection) → slice_get st.slots s ≡ Some p → p.connection ≡ Some c → LastMoved first done st s c
+  pub moved : (s : ℕ) (p : SlotState) (c : Connection) → slice_get st.slots s ≡ Some p → p.connection ≡ Some c → LastMoved first done st s c
 
 -- what lies in a slot after one slot changed
-at_one : (st q : State) (s i : ℕ) (old new p : Place) → slice_get st.slots s ≡ Some old → q.slots ≡ slice_set st.slots s new → slice_get q.slots i ≡ Some p → ((i ≡ s) × (p ≡ new)) ⊎ (slice_get st.slots i ≡ Some p)
+at_one : (st q : State) (s i : ℕ) (old new p : SlotState) → slice_get st.slots s ≡ Some old → q.slots ≡ slice_set st.slots s new → slice_get q.slots i ≡ Some p → ((i ≡ s) × (p ≡ new)) ⊎ (slice_get st.slots i ≡ Some p)
 at_one st q s i old new p was set here = elim (tell (i == s)) [
   | Yes h ↦ (let same : i ≡ s = eqb-true i s h in
       let is : slice_get (slice_set st.slots s new) s ≡ Some new = get-set_same st.slots s old new was in
@@ -81,21 +81,21 @@ fresh_now first st done s c fresh times = record {
 }
 
 -- before this event, what lies in a slot after it had moved so
-lasts : (first st q : State) (done : List Event) (e : Event) → Shape st e q → TimesOk first done st → (i : ℕ) (p : Place) (c : Connection) → slice_get q.slots i ≡ Some p → p.connection ≡ Some c → LastMoved first done st i c
+lasts : (first st q : State) (done : List Event) (e : Event) → Shape st e q → TimesOk first done st → (i : ℕ) (p : SlotState) (c : Connection) → slice_get q.slots i ≡ Some p → p.connection ≡ Some c → LastMoved first done st i c
 lasts first st q done e (Same slots past on) times i p c here lying = times.moved i p c (rw slots at here) lying
 lasts first st q done e (Changed s old new was set past on stays) times i p c here lying = elim (at_one st q s i old new p was set here) [
-  | inl h ↦ (let at_new : new.connection ≡ Some c = ap (λ (r : Place). r.connection) (sym h.1) ∙ lying in
+  | inl h ↦ (let at_new : new.connection ≡ Some c = ap (λ (r : SlotState). r.connection) (sym h.1) ∙ lying in
       let b : (b : Connection) × (old.connection ≡ Some b) × Continues st e s b c = stays.connection c at_new in
       rw (h.0) (continued first st done e s b.0 c b.2 (times.moved s old b.0 was b.1)))
   | inr h ↦ times.moved i p c h lying
 ]
 lasts first st q done e (Opened s g old new was entry set past on generation fresh) times i p c here lying = elim (at_one st q s i old new p was set here) [
-  | inl h ↦ (let at_new : new.connection ≡ Some c = ap (λ (r : Place). r.connection) (sym h.1) ∙ lying in
+  | inl h ↦ (let at_new : new.connection ≡ Some c = ap (λ (r : SlotState). r.connection) (sym h.1) ∙ lying in
       fresh_now first st done i c (fresh c at_new) times)
   | inr h ↦ times.moved i p c h lying
 ]
 lasts first st q done e (Ended s old b ends k was at_s set past on closes brings) times i p c here lying = elim (at_one st q s i old (record old { connection = None }) p was set here) [
-  | inl h ↦ (let none : p.connection ≡ None = ap (λ (r : Place). r.connection) h.1 in absurd (cc))
+  | inl h ↦ (let none : p.connection ≡ None = ap (λ (r : SlotState). r.connection) h.1 in absurd (cc))
   | inr h ↦ times.moved i p c h lying
 ]
 
@@ -107,7 +107,7 @@ clock st q e (Ended s old b ends k was at_s set past on closes brings) = on
 
 -- the connection that an event opened or moved has moved now
 abbrev pub MovesNow : State → Event → State → Type 0
-MovesNow st e q = (i : ℕ) (p : Place) (c : Connection) → slice_get q.slots i ≡ Some p → p.connection ≡ Some c → moved_by st e ≡ Some (named i c.pair.generation) → st.second ≤ c.pair.moved
+MovesNow st e q = (i : ℕ) (p : SlotState) (c : Connection) → slice_get q.slots i ≡ Some p → p.connection ≡ Some c → moved_by st e ≡ Some (named i c.pair.generation) → st.second ≤ c.pair.moved
 
 pub times_after : (first st q : State) (done : List Event) (e : Event) → run first done ≡ Some st → Shape st e q → MovesNow st e q → TimesOk first done st → TimesOk first (done ++ e ∷ []) q
 times_after first st q done e ran shape moves times =
@@ -128,5 +128,5 @@ opening_times l = record {
   limits = refl;
   past = tt;
   moved = λ s p c here lying. (let is : unused l.generation ≡ p = get-replicate l.slots s (unused l.generation) p here in
-      let none : p.connection ≡ None = ap (λ (r : Place). r.connection) (sym is) in absurd (cc));
+      let none : p.connection ≡ None = ap (λ (r : SlotState). r.connection) (sym is) in absurd (cc));
 }

@@ -8,7 +8,7 @@ use Rattle.token.specs.declared.name.Name.TheVariants as name
 use Rattle.token.specs.Names.{EndName}
 use Rattle.kernel_model.specs.Names.{without_name}
 use Rattle.kernel_model.specs.Kernel as kernel
-use Rattle.kernel_model.specs.Kernel.{Watcher, Registered, end_at}
+use Rattle.kernel_model.specs.Kernel.{KernelState, Registered, end_at}
 use Rattle.relay_core.specs.Idle.{timed_out}
 use Rattle.token.specs.declared.direction.Direction.TheVariants.{Up, Down}
 use Rattle.relay_core.specs.Pairs.{verdict, is_live}
@@ -18,9 +18,9 @@ use Rattle.world.specs.declared.actors.Ticket.{Ticket}
 use Rattle.world.specs.declared.actors.Holder.{Holder}
 use Rattle.world.specs.declared.actors.Doing.{Doing}
 use Rattle.world.specs.declared.actors.Doing.TheVariants.{Idle, Tries, Holds, Closed, Retired}
-use Rattle.world.specs.Places.{Place, Actor, is_held}
+use Rattle.world.specs.Slots.{SlotState, WorkerState, is_held}
 use Rattle.world.specs.States.{State}
-use Rattle.world.specs.Steps.{is_limited, tick, sweep, posted, post_at, with_note, put_by_poller, put_by_worker, popped, pop, claim, noted_place, take, with_place, post, expired_place, expire, may_release, release, closed_world, close, retire, free}
+use Rattle.world.specs.Steps.{is_limited, tick, sweep, posted, post_at, with_note, put_by_poller, put_by_worker, popped, pop, claim, noted_slot, take, with_place, post, expired_place, expire, may_release, release, closed_world, close, retire, free}
 use Rattle.world.proofs.TurnsKept.{Kept, kept_bind, kept_map, kept_then, kept_guard, kept_when}
 use Rattle.world.proofs.TurnsExpired.{Expired, expired_so}
 use Rattle.world.proofs.EndsPairs.{by_side, by_direction}
@@ -29,7 +29,7 @@ use Rattle.world.proofs.EndsNames.{has_without, other_slot}
 use Rattle.world.proofs.EndsKernel.{end_kept}
 use Rattle.world.proofs.EndsFrame.{Better, same_before, keep_place, pending_more}
 use Rattle.world.proofs.EndsQueue.{Quiet, rests_keep}
-use Rattle.world.proofs.EndsPlaces.{Steady, place_keeps, note_keeps, take_ok}
+use Rattle.world.proofs.EndsSlots.{Steady, place_keeps, note_keeps, take_ok}
 
 -- tickets alone move
 
@@ -37,15 +37,15 @@ pub put_by_poller_keeps : (past next : History) (st : State) (hand : List Ticket
 put_by_poller_keeps past next st [] quiet all = record { kept = tt }
 put_by_poller_keeps past next st (t ∷ rest) quiet all = record { kept = rests_keep past next st _ quiet (record { slots = refl; table = refl; limits = refl; ends = refl; pending = λ i side g entry h. h }) all }
 
-pub put_by_worker_keeps : (past next : History) (st : State) (w : ℕ) (k : Actor) (hand : List Ticket) → Quiet past next → AllOk past st → Kept (AllOk next) (put_by_worker st w k hand)
+pub put_by_worker_keeps : (past next : History) (st : State) (w : ℕ) (k : WorkerState) (hand : List Ticket) → Quiet past next → AllOk past st → Kept (AllOk next) (put_by_worker st w k hand)
 put_by_worker_keeps past next st w k [] quiet all = record { kept = tt }
 put_by_worker_keeps past next st w k (t ∷ rest) quiet all = record { kept = rests_keep past next st _ quiet (record { slots = refl; table = refl; limits = refl; ends = refl; pending = λ i side g entry h. h }) all }
 
-popped_keeps : (past next : History) (st : State) (w : ℕ) (k : Actor) (ready : List Ticket) → Quiet past next → AllOk past st → Kept (AllOk next) (popped st w k ready)
+popped_keeps : (past next : History) (st : State) (w : ℕ) (k : WorkerState) (ready : List Ticket) → Quiet past next → AllOk past st → Kept (AllOk next) (popped st w k ready)
 popped_keeps past next st w k [] quiet all = record { kept = tt }
 popped_keeps past next st w k (t ∷ rest) quiet all = record { kept = rests_keep past next st _ quiet (record { slots = refl; table = refl; limits = refl; ends = refl; pending = λ i side g entry h. h }) all }
 
-pub pop_keeps : (past next : History) (st : State) (w : ℕ) (k : Actor) (d : Doing) → Quiet past next → AllOk past st → Kept (AllOk next) (pop st w k d)
+pub pop_keeps : (past next : History) (st : State) (w : ℕ) (k : WorkerState) (d : Doing) → Quiet past next → AllOk past st → Kept (AllOk next) (pop st w k d)
 pop_keeps past next st w k Idle quiet all = kept_when (length k.hand == 0) _ (λ none. popped_keeps past next st w k st.ready quiet all)
 pop_keeps past next st w k (Tries t) quiet all = record { kept = tt }
 pop_keeps past next st w k (Holds s left) quiet all = record { kept = tt }
@@ -62,14 +62,14 @@ steady st q table limits kernel batch i = record {
   pending = λ side g entry h. pending_more st q (token_at i side g) (λ k. rw kernel k) (λ k. rw batch k) h;
 }
 
-pub held_by : (past : History) (st : State) (s : ℕ) (p : Place) (h : Holder) → SlotOk past st s p → SlotOk past st s (record p { holder = h })
+pub held_by : (past : History) (st : State) (s : ℕ) (p : SlotState) (h : Holder) → SlotOk past st s p → SlotOk past st s (record p { holder = h })
 held_by past st s p h ok = record { entry = ok.entry; later = ok.later; connection = ok.connection }
 
 either_way : (P : State → Type 0) (b : Bool) (q r : State) → P q → P r → P (if b then q else r)
 either_way P true q r this that = this
 either_way P false q r this that = that
 
-pub claim_keeps : (past next : History) (st : State) (w : ℕ) (k : Actor) (d : Doing) → Quiet past next → AllOk past st → Kept (AllOk next) (claim st w k d)
+pub claim_keeps : (past next : History) (st : State) (w : ℕ) (k : WorkerState) (d : Doing) → Quiet past next → AllOk past st → Kept (AllOk next) (claim st w k d)
 claim_keeps past next st w k (Tries t) quiet all = kept_map _ (slice_get st.slots t.slot) (λ p here.
     either_way (AllOk next) (is_held p.holder) _ _
     (rests_keep past next st _ quiet (record { slots = refl; table = refl; limits = refl; ends = refl; pending = λ i side g entry h. h }) all)
@@ -81,7 +81,7 @@ claim_keeps past next st w k (Retired s) quiet all = record { kept = tt }
 
 pub take_keeps : (past next : History) (st : State) (d : Doing) → Quiet past next → AllOk past st → Kept (AllOk next) (take st d)
 take_keeps past next st (Holds s left) quiet all = kept_bind _ (slice_get st.slots s) (λ p here.
-    kept_map (λ (q : Place). with_place st s q) (noted_place p) (λ q is.
+    kept_map (λ (q : SlotState). with_place st s q) (noted_slot p) (λ q is.
     place_keeps past next st (with_place st s q) s p q quiet here refl (steady st (with_place st s q) refl refl refl refl) (take_ok next (with_place st s q) s p q is) all))
 take_keeps past next st Idle quiet all = record { kept = tt }
 take_keeps past next st (Tries t) quiet all = record { kept = tt }
@@ -102,8 +102,8 @@ timed_out_ok past st s g notes c ok = record {
   };
 }
 
-expired_ok : (past : History) (st : State) (s now limit : ℕ) (p q : Place) → Expired now limit p q → SlotOk past st s p → SlotOk past st s q
-expired_ok past st s now limit p q x ok = subst (λ (r : Place). SlotOk past st s r) (sym x.is) (record {
+expired_ok : (past : History) (st : State) (s now limit : ℕ) (p q : SlotState) → Expired now limit p q → SlotOk past st s p → SlotOk past st s q
+expired_ok past st s now limit p q x ok = subst (λ (r : SlotState). SlotOk past st s r) (sym x.is) (record {
   entry = ok.entry;
   later = ok.later;
   connection = λ b here. (let this : record x.connection { pair = timed_out x.connection.pair } ≡ b = cc in
@@ -112,7 +112,7 @@ expired_ok past st s now limit p q x ok = subst (λ (r : Place). SlotOk past st 
 
 pub expire_keeps : (past next : History) (st : State) (d : Doing) → Quiet past next → AllOk past st → Kept (AllOk next) (expire st d)
 expire_keeps past next st (Holds s left) quiet all = kept_bind _ (slice_get st.slots s) (λ p here.
-    kept_then (λ (q : Place). with_place st s q) (expired_place st.second st.limits.idle p) (λ q x.
+    kept_then (λ (q : SlotState). with_place st s q) (expired_place st.second st.limits.idle p) (λ q x.
     place_keeps past next st (with_place st s q) s p q quiet here refl (steady st (with_place st s q) refl refl refl refl) (expired_ok next (with_place st s q) s st.second st.limits.idle p q x) all)
     (expired_so st.second st.limits.idle p))
 expire_keeps past next st Idle quiet all = record { kept = tt }
@@ -142,7 +142,7 @@ post_keeps past next st (Tries t) quiet all = record { kept = tt }
 post_keeps past next st (Closed s) quiet all = record { kept = tt }
 post_keeps past next st (Retired s) quiet all = record { kept = tt }
 
-pub release_keeps : (past next : History) (st : State) (w : ℕ) (k : Actor) (d : Doing) → Quiet past next → AllOk past st → Kept (AllOk next) (release st w k d)
+pub release_keeps : (past next : History) (st : State) (w : ℕ) (k : WorkerState) (d : Doing) → Quiet past next → AllOk past st → Kept (AllOk next) (release st w k d)
 release_keeps past next st w k (Holds s left) quiet all = kept_bind _ (slice_get st.slots s) (λ p here.
     kept_bind _ p.connection (λ c lying.
     kept_guard (may_release c (is_nonempty p.notes)) _ (λ may.
@@ -152,7 +152,7 @@ release_keeps past next st w k (Tries t) quiet all = record { kept = tt }
 release_keeps past next st w k (Closed s) quiet all = record { kept = tt }
 release_keeps past next st w k (Retired s) quiet all = record { kept = tt }
 
-pub retire_keeps : (past next : History) (st : State) (w : ℕ) (k : Actor) (d : Doing) → Quiet past next → AllOk past st → Kept (AllOk next) (retire st w k d)
+pub retire_keeps : (past next : History) (st : State) (w : ℕ) (k : WorkerState) (d : Doing) → Quiet past next → AllOk past st → Kept (AllOk next) (retire st w k d)
 retire_keeps past next st w k (Closed s) quiet all = kept_map _ (slice_get st.slots s) (λ p here.
     place_keeps past next st _ s p _ quiet here refl (steady st _ refl refl refl refl) (held_by next _ s p _) all)
 retire_keeps past next st w k Idle quiet all = record { kept = tt }
@@ -160,7 +160,7 @@ retire_keeps past next st w k (Tries t) quiet all = record { kept = tt }
 retire_keeps past next st w k (Holds s left) quiet all = record { kept = tt }
 retire_keeps past next st w k (Retired s) quiet all = record { kept = tt }
 
-pub free_keeps : (past next : History) (st : State) (w : ℕ) (k : Actor) (d : Doing) → Quiet past next → AllOk past st → Kept (AllOk next) (free st w k d)
+pub free_keeps : (past next : History) (st : State) (w : ℕ) (k : WorkerState) (d : Doing) → Quiet past next → AllOk past st → Kept (AllOk next) (free st w k d)
 free_keeps past next st w k (Retired s) quiet all = kept_map _ (slice_get st.slots s) (λ p here.
     rests_keep past next st _ quiet (record { slots = refl; table = refl; limits = refl; ends = refl; pending = λ i side g entry h. h }) all)
 free_keeps past next st w k Idle quiet all = record { kept = tt }
@@ -171,7 +171,7 @@ free_keeps past next st w k (Closed s) quiet all = record { kept = tt }
 -- Both ends of a connection are closed
 
 -- the kernel without them
-abbrev pub without_both : Watcher → ℕ → ℕ → Connection → Watcher
+abbrev pub without_both : KernelState → ℕ → ℕ → Connection → KernelState
 without_both k s g c = record k {
   ends = slice_set (slice_set k.ends c.ends.client None) c.ends.target None;
   queue = without_name (name.End (token_at s Target g)) (without_name (name.End (token_at s Client g)) k.queue);
@@ -205,14 +205,14 @@ others_closed past next st q s g notes c quiet ok table limits batch kernel i di
       (λ taken. rw batch taken) k;
 }
 
-vacated : (past next : History) (st q : State) (s : ℕ) (p : Place) → Quiet past next → q.table ≡ st.table → q.limits ≡ st.limits → SlotOk past st s p → SlotOk next q s (record p { connection = None })
+vacated : (past next : History) (st q : State) (s : ℕ) (p : SlotState) → Quiet past next → q.table ≡ st.table → q.limits ≡ st.limits → SlotOk past st s p → SlotOk next q s (record p { connection = None })
 vacated past next st q s p quiet table limits ok = record {
   entry = rw table (ok.entry);
   later = λ g side younger. quiet s g side ∙ (ok.later g side younger ∙ same_before st.limits q.limits side limits);
   connection = λ c here. absurd (cc);
 }
 
-closed_keeps : (past next : History) (st : State) (w : ℕ) (k : Actor) (s : ℕ) (p : Place) (c : Connection) → Quiet past next → slice_get st.slots s ≡ Some p → (ok : ConnectionOk past st s p.generation p.notes c) → AllOk past st
+closed_keeps : (past next : History) (st : State) (w : ℕ) (k : WorkerState) (s : ℕ) (p : SlotState) (c : Connection) → Quiet past next → slice_get st.slots s ≡ Some p → (ok : ConnectionOk past st s p.generation p.notes c) → AllOk past st
     → AllOk next (closed_world st w k s p c (record { value = without_both st.kernel s p.generation c; told = ok.ends }))
 closed_keeps past next st w k s p c quiet here ok all =
     let q : State = closed_world st w k s p c (record { value = without_both st.kernel s p.generation c; told = ok.ends }) in
@@ -220,7 +220,7 @@ closed_keeps past next st w k s p c quiet here ok all =
     (others_closed past next st q s p.generation p.notes c quiet ok refl refl refl refl)
     (vacated past next st q s p quiet refl refl (all.each s p here)) all
 
-pub close_keeps : (past next : History) (st : State) (w : ℕ) (k : Actor) (d : Doing) → Quiet past next → AllOk past st → Kept (AllOk next) (close st w k d)
+pub close_keeps : (past next : History) (st : State) (w : ℕ) (k : WorkerState) (d : Doing) → Quiet past next → AllOk past st → Kept (AllOk next) (close st w k d)
 close_keeps past next st w k (Holds s left) quiet all = kept_bind _ (slice_get st.slots s) (λ p here.
     kept_bind _ p.connection (λ c lying.
     kept_when (not (is_live (verdict c.pair))) _ (λ over.

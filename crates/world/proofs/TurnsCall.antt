@@ -1,30 +1,30 @@
 -- A connection's call with its reply leaves it what it is: the same slot, generation and rings.
 use Rattle.std.proofs.Common.{◌≡◌, ℕ, Some, refl, option_map}
 use Rattle.kernel_model.specs.declared.reply.Reply.{Reply}
-use Rattle.kernel_model.specs.Kernel.{Watcher}
+use Rattle.kernel_model.specs.Kernel.{KernelState}
 use Rattle.relay_core.specs.declared.call.Call.{Call}
 use Rattle.relay_core.specs.Order.{next_call}
 use Rattle.relay_core.specs.Replies.{fits, after}
 use Rattle.relay_core.specs.Laws.{place_of}
 use Rattle.world.specs.declared.connection.Connection.{Connection}
-use Rattle.world.specs.Places.{Place}
-use Rattle.world.specs.Calls.{Line, told_of, made, replied, called}
-use Rattle.world.specs.Steps.{Lodging, lodged_call}
+use Rattle.world.specs.Slots.{SlotState}
+use Rattle.world.specs.Calls.{OpenConnection, told_of, made, replied, called}
+use Rattle.world.specs.Steps.{OpenSlot, slot_call}
 use Rattle.world.specs.CoreLaws.{CoreLaws}
 use Rattle.world.proofs.TurnsKept.{Kept, kept_bind, kept_map, kept_when, kept_then}
 
-abbrev StandsAs : Connection → Line → Type 0
+abbrev StandsAs : Connection → OpenConnection → Type 0
 StandsAs c line = place_of line.connection.pair ≡ place_of c.pair
 
-replied_stands : (laws : CoreLaws) (now : ℕ) (l : Line) (call : Call) (r : Reply) → Kept (StandsAs l.connection) (replied now l call r)
-replied_stands laws now l call r = kept_bind _ (told_of l call r) (λ t is. kept_when (fits l.connection.pair call t) (option_map (λ (k : Watcher). record { kernel = k; connection = record l.connection { pair = after now l.connection.pair call t } }) (made l call r)) (λ fit. kept_map _ (made l call r) (λ k done. laws.place now l.connection.pair call t)))
+replied_stands : (laws : CoreLaws) (now : ℕ) (l : OpenConnection) (call : Call) (r : Reply) → Kept (StandsAs l.connection) (replied now l call r)
+replied_stands laws now l call r = kept_bind _ (told_of l call r) (λ t is. kept_when (fits l.connection.pair call t) (option_map (λ (k : KernelState). record { kernel = k; connection = record l.connection { pair = after now l.connection.pair call t } }) (made l call r)) (λ fit. kept_map _ (made l call r) (λ k done. laws.place now l.connection.pair call t)))
 
-called_stands : (laws : CoreLaws) (now : ℕ) (l : Line) (r : Reply) → Kept (StandsAs l.connection) (called now l r)
+called_stands : (laws : CoreLaws) (now : ℕ) (l : OpenConnection) (r : Reply) → Kept (StandsAs l.connection) (called now l r)
 unfolding called
 called_stands laws now l r = kept_bind _ (next_call l.connection.pair) (λ call next. replied_stands laws now l call r)
 
 -- the slot keeps all but the connection, and the connection what it is
-pub record StaysIn (p q : Place) : Type 0 where
+pub record StaysIn (p q : SlotState) : Type 0 where
   pub generation : q.generation ≡ p.generation
   pub holder : q.holder ≡ p.holder
   pub notes : q.notes ≡ p.notes
@@ -34,8 +34,8 @@ pub record StaysIn (p q : Place) : Type 0 where
   pub is : q.connection ≡ Some new
   pub stands : place_of new.pair ≡ place_of old.pair
 
-pub lodged_stays : (laws : CoreLaws) (now : ℕ) (l : Lodging) (r : Reply) → Kept (λ (m : Lodging). StaysIn l.place m.place) (lodged_call now l r)
-unfolding lodged_call
+pub lodged_stays : (laws : CoreLaws) (now : ℕ) (l : OpenSlot) (r : Reply) → Kept (λ (m : OpenSlot). StaysIn l.place m.place) (slot_call now l r)
+unfolding slot_call
 lodged_stays laws now l r = kept_bind _ l.place.connection (λ c is. kept_then _ (called now (record { kernel = l.kernel; connection = c }) r) (λ line same. record {
   generation = refl;
   holder = refl;

@@ -15,16 +15,16 @@ use Rattle.kernel_model.specs.Ends.{is_readable, is_writable, is_nonempty}
 use Rattle.kernel_model.specs.Kernel.{Registered}
 use Rattle.relay_core.specs.declared.verdict.Verdict.{Verdict}
 use Rattle.relay_core.specs.declared.verdict.Verdict.TheVariants.{Live, Done, Failed}
-use Rattle.relay_core.specs.Pairs.{Relay, stream_of, flags_of, is_joined, verdict, is_live}
+use Rattle.relay_core.specs.Pairs.{PairState, stream_of, flags_of, is_joined, verdict, is_live}
 use Rattle.relay_core.specs.Order.{is_waiting, is_drained}
-use Rattle.relay_core.specs.Laws.{Place as Standing, place_of, IsDrained, IsAtRest}
+use Rattle.relay_core.specs.Laws.{SlotState as Standing, place_of, IsDrained, IsAtRest}
 use Rattle.world.specs.declared.connection.Connection.{Connection}
 use Rattle.world.specs.declared.actors.Ticket.{Ticket}
 use Rattle.world.specs.declared.actors.Holder.{Holder}
 use Rattle.world.specs.declared.actors.Holder.TheVariants.{Nobody, By, Free}
 use Rattle.world.specs.declared.actors.Doing.{Doing}
 use Rattle.world.specs.declared.actors.Doing.TheVariants.{Idle, Tries, Holds, Closed, Retired}
-use Rattle.world.specs.Places.{Place, is_by_worker}
+use Rattle.world.specs.Slots.{SlotState, is_by_worker}
 use Rattle.world.specs.States.{State}
 use Rattle.world.specs.Due.{gives, takes, has_place, flows, moves, is_report, is_ticket, tries, has_ticket, is_reported, is_ticketed, moves_if_any, movable_at, movable, due_place, due_at, due}
 use Rattle.world.specs.Headline.{end_of}
@@ -120,7 +120,7 @@ uncovered false true true rep down is h = h
 uncovered false false true rep down is h = h
 
 -- a connection that rests, in a slot that nobody holds, without notes
-record Rests (st : State) (s : ℕ) (p : Place) (c : Connection) : Type 0 where
+record Rests (st : State) (s : ℕ) (p : SlotState) (c : Connection) : Type 0 where
   lies : slice_get st.slots s ≡ Some p
   is : p.connection ≡ Some c
   none : p.notes ≡ []
@@ -135,20 +135,20 @@ room_one : (o : Option Registered) → takes o ≡ true → (x : Registered) × 
 room_one None h = absurd (cc)
 room_one (Some x) h = (x, refl, h)
 
-reads_due : (st : State) (s : ℕ) (p : Place) (c : Connection) (side : Side) → Rests st s p c → EdgesHold st → (flags_of c.pair side).read ≡ false → gives (end_of st c side) ≡ true → is_reported st s c.pair.generation ≡ true
+reads_due : (st : State) (s : ℕ) (p : SlotState) (c : Connection) (side : Side) → Rests st s p c → EdgesHold st → (flags_of c.pair side).read ≡ false → gives (end_of st c side) ≡ true → is_reported st s c.pair.generation ≡ true
 reads_due st s p c side r edges down ready =
     let x : (x : Registered) × (end_of st c side ≡ Some x) × (is_readable x.socket ≡ true) = open_one (end_of st c side) ready in
     let cover : EndCovered (flags_of c.pair side) x.0.socket (has_report st (record { slot = s; side = side; generation = c.pair.generation }) p.notes) = edges s p c side x.0 r.lies r.is x.1 in
     reported st (record { slot = s; side = side; generation = c.pair.generation }) p.notes r.none (uncovered (flags_of c.pair side).read x.0.socket.read_armed (is_readable x.0.socket) (has_report st (record { slot = s; side = side; generation = c.pair.generation }) p.notes) down x.2 cover.read)
 
-writes_due : (st : State) (s : ℕ) (p : Place) (c : Connection) (side : Side) → Rests st s p c → EdgesHold st → (flags_of c.pair side).write ≡ false → takes (end_of st c side) ≡ true → is_reported st s c.pair.generation ≡ true
+writes_due : (st : State) (s : ℕ) (p : SlotState) (c : Connection) (side : Side) → Rests st s p c → EdgesHold st → (flags_of c.pair side).write ≡ false → takes (end_of st c side) ≡ true → is_reported st s c.pair.generation ≡ true
 writes_due st s p c side r edges down ready =
     let x : (x : Registered) × (end_of st c side ≡ Some x) × (is_writable x.socket ≡ true) = room_one (end_of st c side) ready in
     let cover : EndCovered (flags_of c.pair side) x.0.socket (has_report st (record { slot = s; side = side; generation = c.pair.generation }) p.notes) = edges s p c side x.0 r.lies r.is x.1 in
     reported st (record { slot = s; side = side; generation = c.pair.generation }) p.notes r.none (uncovered (flags_of c.pair side).write x.0.socket.write_armed (is_writable x.0.socket) (has_report st (record { slot = s; side = side; generation = c.pair.generation }) p.notes) down x.2 cover.write)
 
 -- the rings are as long as the limits say
-capacity_of : (p : Relay) (s g r : ℕ) (d : Direction) → place_of p ≡ record { slot = s; generation = g; up_capacity = r; down_capacity = r } → (stream_of p d).capacity ≡ r
+capacity_of : (p : PairState) (s g r : ℕ) (d : Direction) → place_of p ≡ record { slot = s; generation = g; up_capacity = r; down_capacity = r } → (stream_of p d).capacity ≡ r
 capacity_of p s g r Up e = ap (λ (x : Standing). x.up_capacity) e
 capacity_of p s g r Down e = ap (λ (x : Standing). x.down_capacity) e
 
@@ -156,14 +156,14 @@ unseen : (b : Bool) → not b ≡ true → b ≡ false
 unseen true h = absurd (cc)
 unseen false h = refl
 
-comes_in : (st : State) (s : ℕ) (p : Place) (c : Connection) (d : Direction) → Rests st s p c → EdgesHold st → has_place st.limits.ring (stream_of c.pair d) ≡ true → gives (end_of st c (source d)) ≡ true → is_reported st s c.pair.generation ≡ true
+comes_in : (st : State) (s : ℕ) (p : SlotState) (c : Connection) (d : Direction) → Rests st s p c → EdgesHold st → has_place st.limits.ring (stream_of c.pair d) ≡ true → gives (end_of st c (source d)) ≡ true → is_reported st s c.pair.generation ≡ true
 comes_in st s p c d r edges place ready =
     let parts : (not (stream_of c.pair d).end_seen ≡ true) × (nat_lt (length (stream_of c.pair d).ring) st.limits.ring ≡ true) = and_parts (not (stream_of c.pair d).end_seen) (nat_lt (length (stream_of c.pair d).ring) st.limits.ring) place in
     let short : length (stream_of c.pair d).ring < st.limits.ring = ltb-true (length (stream_of c.pair d).ring) st.limits.ring parts.1 in
     let all : (stream_of c.pair d).capacity ≡ st.limits.ring = capacity_of c.pair s p.generation st.limits.ring d r.stands in
     reads_due st s p c (source d) r edges ((r.rest d).unread (unseen (stream_of c.pair d).end_seen parts.0) (omega arith)) ready
 
-goes_out : (st : State) (s : ℕ) (p : Place) (c : Connection) (d : Direction) → Rests st s p c → EdgesHold st → is_waiting (stream_of c.pair d) ≡ true → takes (end_of st c (destination d)) ≡ true → is_reported st s c.pair.generation ≡ true
+goes_out : (st : State) (s : ℕ) (p : SlotState) (c : Connection) (d : Direction) → Rests st s p c → EdgesHold st → is_waiting (stream_of c.pair d) ≡ true → takes (end_of st c (destination d)) ≡ true → is_reported st s c.pair.generation ≡ true
 goes_out st s p c d r edges wait ready =
     let some : 0 < length (waiting (stream_of c.pair d)) = ltb-true 0 (length (waiting (stream_of c.pair d))) wait in
     writes_due st s p c (destination d) r edges ((r.rest d).waits (omega arith)) ready
@@ -178,11 +178,11 @@ drained s h =
     let seen : (s.end_seen ≡ true) × (not (is_waiting s) ≡ true) = and_parts s.end_seen (not (is_waiting s)) parts.0 in
     record { ended = seen.0; empty = none_wait (waiting s) seen.1; kept = unseen s.shut parts.1 }
 
-passes_on : (st : State) (s : ℕ) (p : Place) (c : Connection) (d : Direction) → Rests st s p c → EdgesHold st → IsDrained (stream_of c.pair d) → (is_joined c.pair (destination d) ≡ true) ⊎ (takes (end_of st c (destination d)) ≡ true) → is_reported st s c.pair.generation ≡ true
+passes_on : (st : State) (s : ℕ) (p : SlotState) (c : Connection) (d : Direction) → Rests st s p c → EdgesHold st → IsDrained (stream_of c.pair d) → (is_joined c.pair (destination d) ≡ true) ⊎ (takes (end_of st c (destination d)) ≡ true) → is_reported st s c.pair.generation ≡ true
 passes_on st s p c d r edges dry (inl joined) = absurd (let un : is_joined c.pair (destination d) ≡ false = (r.rest d).unjoined dry in (cc))
 passes_on st s p c d r edges dry (inr ready) = writes_due st s p c (destination d) r edges ((r.rest d).unasked dry) ready
 
-out_due : (st : State) (s : ℕ) (p : Place) (c : Connection) (d : Direction) → Rests st s p c → EdgesHold st
+out_due : (st : State) (s : ℕ) (p : SlotState) (c : Connection) (d : Direction) → Rests st s p c → EdgesHold st
     → ((is_waiting (stream_of c.pair d) && takes (end_of st c (destination d))) || (is_drained (stream_of c.pair d) && (is_joined c.pair (destination d) || takes (end_of st c (destination d))))) ≡ true → is_reported st s c.pair.generation ≡ true
 out_due st s p c d r edges h =
     elim (or_cases (is_waiting (stream_of c.pair d) && takes (end_of st c (destination d))) (is_drained (stream_of c.pair d) && (is_joined c.pair (destination d) || takes (end_of st c (destination d)))) h)
@@ -192,7 +192,7 @@ out_due st s p c d r edges h =
           passes_on st s p c d r edges (drained (stream_of c.pair d) parts.0) (or_cases (is_joined c.pair (destination d)) (takes (end_of st c (destination d))) parts.1))
     ]
 
-flows_due : (st : State) (s : ℕ) (p : Place) (c : Connection) (d : Direction) → Rests st s p c → EdgesHold st → flows st.limits.ring st.kernel c d ≡ true → is_reported st s c.pair.generation ≡ true
+flows_due : (st : State) (s : ℕ) (p : SlotState) (c : Connection) (d : Direction) → Rests st s p c → EdgesHold st → flows st.limits.ring st.kernel c d ≡ true → is_reported st s c.pair.generation ≡ true
 flows_due st s p c d r edges h =
     elim (or_cases (has_place st.limits.ring (stream_of c.pair d) && gives (end_of st c (source d))) ((is_waiting (stream_of c.pair d) && takes (end_of st c (destination d))) || (is_drained (stream_of c.pair d) && (is_joined c.pair (destination d) || takes (end_of st c (destination d))))) h)
     as (λ o. is_reported st s c.pair.generation ≡ true) [
@@ -211,12 +211,12 @@ empty_notes : (xs : List ℕ) → is_nonempty xs ≡ false → xs ≡ []
 empty_notes [] h = refl
 empty_notes (x ∷ xs) h = absurd (let most : length (x ∷ xs) ≤ 0 = ltb-false 0 (length (x ∷ xs)) h in omega arith)
 
-either_way : (st : State) (s : ℕ) (p : Place) (c : Connection) → Rests st s p c → EdgesHold st → (live : Bool) → live ≡ true → (not live || (flows st.limits.ring st.kernel c Up || flows st.limits.ring st.kernel c Down)) ≡ true → is_reported st s c.pair.generation ≡ true
+either_way : (st : State) (s : ℕ) (p : SlotState) (c : Connection) → Rests st s p c → EdgesHold st → (live : Bool) → live ≡ true → (not live || (flows st.limits.ring st.kernel c Up || flows st.limits.ring st.kernel c Down)) ≡ true → is_reported st s c.pair.generation ≡ true
 either_way st s p c r edges false live h = absurd (cc)
 either_way st s p c r edges true live h = elim (or_cases (flows st.limits.ring st.kernel c Up) (flows st.limits.ring st.kernel c Down) h) as (λ o. is_reported st s c.pair.generation ≡ true) [ inl up ↦ flows_due st s p c Up r edges up | inr down ↦ flows_due st s p c Down r edges down ]
 
 -- nobody holds it: with notes there is a ticket, and without notes the connection rests
-unheld_due : (laws : CoreLaws) (st : State) (s : ℕ) (p : Place) (c : Connection) (some : Bool) → is_nonempty p.notes ≡ some → p.holder ≡ Nobody → slice_get st.slots s ≡ Some p → p.connection ≡ Some c → SlotOk (facts st s p.generation) p → EdgesHold st → moves st.limits.ring st.kernel c ≡ true
+unheld_due : (laws : CoreLaws) (st : State) (s : ℕ) (p : SlotState) (c : Connection) (some : Bool) → is_nonempty p.notes ≡ some → p.holder ≡ Nobody → slice_get st.slots s ≡ Some p → p.connection ≡ Some c → SlotOk (facts st s p.generation) p → EdgesHold st → moves st.limits.ring st.kernel c ≡ true
     → (is_reported st s c.pair.generation || is_ticketed st s c.pair.generation) ≡ true
 unheld_due laws st s p c true noted none lies is sv edges moving =
     let own : c.pair.generation ≡ p.generation = own_generation (facts st s p.generation) p c (sv.connection c is).stands in
@@ -236,17 +236,17 @@ unheld_due laws st s p c false noted none lies is sv edges moving =
     } in
     or_first (is_reported st s c.pair.generation) (is_ticketed st s c.pair.generation) (either_way st s p c rest edges (is_live (verdict c.pair)) live moving)
 
-held_due : (laws : CoreLaws) (st : State) (s : ℕ) (p : Place) (c : Connection) (h : Holder) → p.holder ≡ h → slice_get st.slots s ≡ Some p → p.connection ≡ Some c → SlotOk (facts st s p.generation) p → EdgesHold st → moves st.limits.ring st.kernel c ≡ true
+held_due : (laws : CoreLaws) (st : State) (s : ℕ) (p : SlotState) (c : Connection) (h : Holder) → p.holder ≡ h → slice_get st.slots s ≡ Some p → p.connection ≡ Some c → SlotOk (facts st s p.generation) p → EdgesHold st → moves st.limits.ring st.kernel c ≡ true
     → (is_by_worker h || (is_reported st s c.pair.generation || is_ticketed st s c.pair.generation)) ≡ true
 held_due laws st s p c Nobody held lies is sv edges moving = unheld_due laws st s p c (is_nonempty p.notes) refl held lies is sv edges moving
 held_due laws st s p c (By w) held lies is sv edges moving = refl
 held_due laws st s p c Free held lies is sv edges moving = absurd (let none : is_shaped Free true ≡ true = rw (held, is) at sv.shape in (cc))
 
-due_there : (laws : CoreLaws) (st : State) (s : ℕ) (p : Place) (o : Option Connection) → p.connection ≡ o → slice_get st.slots s ≡ Some p → Turns st → EdgesHold st → moves_if_any st.limits.ring st.kernel o ≡ true → due_place st s p o ≡ true
+due_there : (laws : CoreLaws) (st : State) (s : ℕ) (p : SlotState) (o : Option Connection) → p.connection ≡ o → slice_get st.slots s ≡ Some p → Turns st → EdgesHold st → moves_if_any st.limits.ring st.kernel o ≡ true → due_place st s p o ≡ true
 due_there laws st s p None is lies turns edges moving = absurd (cc)
 due_there laws st s p (Some c) is lies turns edges moving = held_due laws st s p c p.holder refl lies is (turns.each s p lies) edges moving
 
-due_from : (laws : CoreLaws) (st : State) (s : ℕ) (o : Option Place) → slice_get st.slots s ≡ o → Turns st → EdgesHold st → movable_at st o ≡ true → due_at st s o ≡ true
+due_from : (laws : CoreLaws) (st : State) (s : ℕ) (o : Option SlotState) → slice_get st.slots s ≡ o → Turns st → EdgesHold st → movable_at st o ≡ true → due_at st s o ≡ true
 due_from laws st s None lies turns edges moving = absurd (cc)
 due_from laws st s (Some p) lies turns edges moving = due_there laws st s p p.connection refl lies turns edges moving
 

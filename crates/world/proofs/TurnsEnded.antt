@@ -4,16 +4,16 @@ use Rattle.std.proofs.lemmas.Bool.{and_parts}
 use Rattle.kernel_model.specs.declared.both.Sockets.{Sockets}
 use Rattle.kernel_model.specs.Outcome.{Told}
 use Rattle.kernel_model.specs.Kernel as kernel
-use Rattle.kernel_model.specs.Kernel.{Watcher}
+use Rattle.kernel_model.specs.Kernel.{KernelState}
 use Rattle.relay_core.specs.Pairs.{verdict, is_live}
 use Rattle.relay_core.specs.Order.{next_call}
-use Rattle.relay_core.specs.Laws.{Place as Standing, place_of}
+use Rattle.relay_core.specs.Laws.{SlotState as Standing, place_of}
 use Rattle.kernel_model.specs.Ends.{is_nonempty}
 use Rattle.world.specs.declared.connection.Connection.{Connection}
 use Rattle.world.specs.declared.actors.Holder.TheVariants.{Nobody, Free}
 use Rattle.world.specs.declared.actors.Doing.{Doing}
 use Rattle.world.specs.declared.actors.Doing.TheVariants.{Idle, Tries, Holds, Closed, Retired}
-use Rattle.world.specs.Places.{Place, Actor}
+use Rattle.world.specs.Slots.{SlotState, WorkerState}
 use Rattle.world.specs.States.{State}
 use Rattle.world.specs.Steps.{with_note, with_ticket, with_worker, with_place, doing, post, may_release, release, closed_world, close, retire, is_worn, freed, free}
 use Rattle.world.specs.Support.{one, total, of_slot, tried}
@@ -31,10 +31,10 @@ use Rattle.world.proofs.TurnsHeld.{Held, held_by, closed_by, stays_held, by_is_s
 
 -- it posts to its own slot
 
-pub own_generation : (f : Facts) (p : Place) (c : Connection) → place_of c.pair ≡ standing f p.generation → c.pair.generation ≡ p.generation
+pub own_generation : (f : Facts) (p : SlotState) (c : Connection) → place_of c.pair ≡ standing f p.generation → c.pair.generation ≡ p.generation
 own_generation f p c stands = ap (λ (x : Standing). x.generation) stands
 
-posted_turns : (st : State) (w : ℕ) (k : Actor) (s left : ℕ) (p : Place) (c : Connection) → slice_get st.workers w ≡ Some k → k.doing ≡ Holds s left → slice_get st.slots s ≡ Some p → p.connection ≡ Some c → Turns st
+posted_turns : (st : State) (w : ℕ) (k : WorkerState) (s left : ℕ) (p : SlotState) (c : Connection) → slice_get st.workers w ≡ Some k → k.doing ≡ Holds s left → slice_get st.slots s ≡ Some p → p.connection ≡ Some c → Turns st
     → Turns (with_place st s (with_note p c.pair.generation))
 posted_turns st w k s left p c there does lies is turns =
     let sv : SlotOk (facts st s p.generation) p = turns.each s p lies in
@@ -47,7 +47,7 @@ posted_turns st w k s left p c there does lies is turns =
     (λ d at. (sv.connection d at).stands))
     turns
 
-post_turns : (st : State) (w : ℕ) (k : Actor) (d : Doing) → slice_get st.workers w ≡ Some k → k.doing ≡ d → Turns st → Kept Turns (post st d)
+post_turns : (st : State) (w : ℕ) (k : WorkerState) (d : Doing) → slice_get st.workers w ≡ Some k → k.doing ≡ d → Turns st → Kept Turns (post st d)
 post_turns st w k (Holds s left) there does turns = kept_bind _ (slice_get st.slots s) (λ p lies. kept_bind _ p.connection (λ c is. kept_guard (is_live (verdict c.pair)) (with_place st s (with_note p c.pair.generation)) (λ live. posted_turns st w k s left p c there does lies is turns)))
 post_turns st w k Idle there does turns = kept_none
 post_turns st w k (Tries t) there does turns = kept_none
@@ -70,7 +70,7 @@ lets_go c some may =
     let parts : (is_live (verdict c.pair) ≡ true) × ((is_none (next_call c.pair) || some) ≡ true) = and_parts (is_live (verdict c.pair)) (is_none (next_call c.pair) || some) may in
     (parts.0, λ none. none_there (next_call c.pair) (let left : (is_none (next_call c.pair) || false) ≡ true = rw none at parts.1 in or_none (is_none (next_call c.pair)) left))
 
-released_turns : (st : State) (w : ℕ) (k : Actor) (s left : ℕ) (p : Place) (c : Connection) → slice_get st.workers w ≡ Some k → k.doing ≡ Holds s left → slice_get st.slots s ≡ Some p → p.connection ≡ Some c → may_release c (is_nonempty p.notes) ≡ true → Turns st
+released_turns : (st : State) (w : ℕ) (k : WorkerState) (s left : ℕ) (p : SlotState) (c : Connection) → slice_get st.workers w ≡ Some k → k.doing ≡ Holds s left → slice_get st.slots s ≡ Some p → p.connection ≡ Some c → may_release c (is_nonempty p.notes) ≡ true → Turns st
     → Turns (with_worker (with_place st s (record p { holder = Nobody })) w (record { doing = Idle; hand = with_ticket (is_nonempty p.notes) s p.generation k.hand }))
 released_turns st w k s left p c there does lies is may turns =
     let sv : SlotOk (facts st s p.generation) p = turns.each s p lies in
@@ -122,7 +122,7 @@ released_turns st w k s left p c there does lies is may turns =
           };
     }) turns
 
-release_turns : (st : State) (w : ℕ) (k : Actor) (d : Doing) → slice_get st.workers w ≡ Some k → k.doing ≡ d → Turns st → Kept Turns (release st w k d)
+release_turns : (st : State) (w : ℕ) (k : WorkerState) (d : Doing) → slice_get st.workers w ≡ Some k → k.doing ≡ d → Turns st → Kept Turns (release st w k d)
 release_turns st w k (Holds s left) there does turns = kept_bind _ (slice_get st.slots s) (λ p lies. kept_bind _ p.connection (λ c is. kept_guard (may_release c (is_nonempty p.notes))
     (with_worker (with_place st s (record p { holder = Nobody })) w (record { doing = Idle; hand = with_ticket (is_nonempty p.notes) s p.generation k.hand }))
     (λ may. released_turns st w k s left p c there does lies is may turns)))
@@ -133,7 +133,7 @@ release_turns st w k (Retired s) there does turns = kept_none
 
 -- it closes the connection
 
-closed_turns : (st : State) (w : ℕ) (k : Actor) (s left : ℕ) (p : Place) (c : Connection) (t : Told Watcher Sockets) → slice_get st.workers w ≡ Some k → k.doing ≡ Holds s left → slice_get st.slots s ≡ Some p → Turns st
+closed_turns : (st : State) (w : ℕ) (k : WorkerState) (s left : ℕ) (p : SlotState) (c : Connection) (t : Told KernelState Sockets) → slice_get st.workers w ≡ Some k → k.doing ≡ Holds s left → slice_get st.slots s ≡ Some p → Turns st
     → Turns (closed_world st w k s p c t)
 closed_turns st w k s left p c t there does lies turns =
     let sv : SlotOk (facts st s p.generation) p = turns.each s p lies in
@@ -154,9 +154,9 @@ closed_turns st w k s left p c t there does lies turns =
       connection = λ d at. absurd (cc);
     }) turns
 
-close_turns : (st : State) (w : ℕ) (k : Actor) (d : Doing) → slice_get st.workers w ≡ Some k → k.doing ≡ d → Turns st → Kept Turns (close st w k d)
+close_turns : (st : State) (w : ℕ) (k : WorkerState) (d : Doing) → slice_get st.workers w ≡ Some k → k.doing ≡ d → Turns st → Kept Turns (close st w k d)
 close_turns st w k (Holds s left) there does turns = kept_bind _ (slice_get st.slots s) (λ p lies. kept_bind _ p.connection (λ c is. kept_when (not (is_live (verdict c.pair)))
-    (option_map (λ (t : Told Watcher Sockets). closed_world st w k s p c t) (kernel.close_both st.kernel c.ends))
+    (option_map (λ (t : Told KernelState Sockets). closed_world st w k s p c t) (kernel.close_both st.kernel c.ends))
     (λ dead. kept_map _ (kernel.close_both st.kernel c.ends) (λ t both. closed_turns st w k s left p c t there does lies turns))))
 close_turns st w k Idle there does turns = kept_none
 close_turns st w k (Tries t) there does turns = kept_none
@@ -165,7 +165,7 @@ close_turns st w k (Retired s) there does turns = kept_none
 
 -- the slot is free
 
-retired_turns : (st : State) (w : ℕ) (k : Actor) (s : ℕ) (p : Place) → slice_get st.workers w ≡ Some k → k.doing ≡ Closed s → slice_get st.slots s ≡ Some p → Turns st
+retired_turns : (st : State) (w : ℕ) (k : WorkerState) (s : ℕ) (p : SlotState) → slice_get st.workers w ≡ Some k → k.doing ≡ Closed s → slice_get st.slots s ≡ Some p → Turns st
     → Turns (doing (with_place st s (record p { holder = Free })) w k (Retired s))
 retired_turns st w k s p there does lies turns =
     let sv : SlotOk (facts st s p.generation) p = turns.each s p lies in
@@ -186,17 +186,17 @@ retired_turns st w k s p there does lies turns =
       connection = λ c at. absurd (let some : is_some p.connection ≡ true = rw at refl in (cc));
     }) turns
 
-retire_turns : (st : State) (w : ℕ) (k : Actor) (d : Doing) → slice_get st.workers w ≡ Some k → k.doing ≡ d → Turns st → Kept Turns (retire st w k d)
+retire_turns : (st : State) (w : ℕ) (k : WorkerState) (d : Doing) → slice_get st.workers w ≡ Some k → k.doing ≡ d → Turns st → Kept Turns (retire st w k d)
 retire_turns st w k (Closed s) there does turns = kept_map _ (slice_get st.slots s) (λ p lies. retired_turns st w k s p there does lies turns)
 retire_turns st w k Idle there does turns = kept_none
 retire_turns st w k (Tries t) there does turns = kept_none
 retire_turns st w k (Holds s left) there does turns = kept_none
 retire_turns st w k (Retired s) there does turns = kept_none
 
-freed_most : (i : ℕ) (slots : List ℕ) (s : ℕ) (p : Place) → total (is_number i) (freed slots s p) ≤ total (is_number i) slots + one (s == i)
+freed_most : (i : ℕ) (slots : List ℕ) (s : ℕ) (p : SlotState) → total (is_number i) (freed slots s p) ≤ total (is_number i) slots + one (s == i)
 freed_most i slots s p = elim (is_worn p.generation) as (λ b. total (is_number i) (if b then slots else slots ++ s ∷ []) ≤ total (is_number i) slots + one (s == i)) [ true ↦ omega arith | false ↦ (let more : total (is_number i) (slots ++ s ∷ []) ≡ total (is_number i) slots + one (s == i) = total_push (is_number i) slots s in omega arith) ]
 
-free_turns : (st : State) (w : ℕ) (k : Actor) (d : Doing) → slice_get st.workers w ≡ Some k → k.doing ≡ d → Turns st → Kept Turns (free st w k d)
+free_turns : (st : State) (w : ℕ) (k : WorkerState) (d : Doing) → slice_get st.workers w ≡ Some k → k.doing ≡ d → Turns st → Kept Turns (free st w k d)
 free_turns st w k (Retired s) there does turns = kept_map _ (slice_get st.slots s) (λ p lies. keep_slots st (doing (record st { free = freed st.free s p }) w k Idle) refl (λ i g.
     let r : Turned st w k (Retired s) Idle i g = turned st w k (Retired s) Idle i g there does in
     let most : total (is_number i) (freed st.free s p) ≤ total (is_number i) st.free + one (s == i) = freed_most i st.free s p in
@@ -217,7 +217,7 @@ free_turns st w k (Closed s) there does turns = kept_none
 
 -- each act of a worker
 
-acted_turns : (laws : CoreLaws) (st : State) (w : ℕ) (k : Actor) (a : Act) → slice_get st.workers w ≡ Some k → Turns st → Kept Turns (acted st w k a)
+acted_turns : (laws : CoreLaws) (st : State) (w : ℕ) (k : WorkerState) (a : Act) → slice_get st.workers w ≡ Some k → Turns st → Kept Turns (acted st w k a)
 acted_turns laws st w k act.Put there turns = put_turns st w k k.hand there refl turns
 acted_turns laws st w k act.Pop there turns = pop_turns st w k k.doing there refl turns
 acted_turns laws st w k act.Claim there turns = claim_turns st w k k.doing there refl turns

@@ -4,7 +4,7 @@ use Rattle.relay_core.specs.Idle.{is_overdue, timed_out}
 use Rattle.world.specs.declared.connection.Connection.{Connection}
 use Rattle.world.specs.declared.actors.Doing.{Doing}
 use Rattle.world.specs.declared.actors.Doing.TheVariants.{Idle, Tries, Holds, Closed, Retired}
-use Rattle.world.specs.Places.{Place, Actor}
+use Rattle.world.specs.Slots.{SlotState, WorkerState}
 use Rattle.world.specs.States.{State}
 use Rattle.world.specs.Steps.{with_place, expired, expired_place, expire}
 use Rattle.world.proofs.TurnsKept.{Kept, kept_none, kept_bind, kept_then, kept_guard}
@@ -12,18 +12,18 @@ use Rattle.world.proofs.TurnsFacts.{facts, SlotOk, Turns, same_self, keep_others
 use Rattle.world.proofs.TurnsHeld.{Held, held_by, stays_held}
 
 -- the connection of p was overdue, and in q it has failed
-pub record Expired (now limit : ℕ) (p q : Place) : Type 0 where
+pub record Expired (now limit : ℕ) (p q : SlotState) : Type 0 where
   pub connection : Connection
   pub was : p.connection ≡ Some connection
   pub overdue : is_overdue now limit connection.pair ≡ true
   pub is : q ≡ record p { connection = Some (record connection { pair = timed_out connection.pair }) }
 
-pub expired_so : (now limit : ℕ) (p : Place) → Kept (Expired now limit p) (expired_place now limit p)
+pub expired_so : (now limit : ℕ) (p : SlotState) → Kept (Expired now limit p) (expired_place now limit p)
 expired_so now limit p = kept_bind _ p.connection (λ c was. kept_then (λ (d : Connection). record p { connection = Some d }) (expired now limit c)
     (λ d x. x)
     (kept_guard {P = λ (d : Connection). Expired now limit p (record p { connection = Some d })} (is_overdue now limit c.pair) (record c { pair = timed_out c.pair }) (λ overdue. record { connection = c; was = was; overdue = overdue; is = refl })))
 
-expired_turns : (st : State) (w : ℕ) (k : Actor) (s left : ℕ) (p : Place) (c : Connection) → slice_get st.workers w ≡ Some k → k.doing ≡ Holds s left → slice_get st.slots s ≡ Some p → p.connection ≡ Some c → Turns st
+expired_turns : (st : State) (w : ℕ) (k : WorkerState) (s left : ℕ) (p : SlotState) (c : Connection) → slice_get st.workers w ≡ Some k → k.doing ≡ Holds s left → slice_get st.slots s ≡ Some p → p.connection ≡ Some c → Turns st
     → Turns (with_place st s (record p { connection = Some (record c { pair = timed_out c.pair }) }))
 expired_turns st w k s left p c there does lies was turns =
     let sv : SlotOk (facts st s p.generation) p = turns.each s p lies in
@@ -36,9 +36,9 @@ expired_turns st w k s left p c there does lies was turns =
     rw (← same) ((sv.connection c was).stands)))
     turns
 
-pub expire_turns : (st : State) (w : ℕ) (k : Actor) (d : Doing) → slice_get st.workers w ≡ Some k → k.doing ≡ d → Turns st → Kept Turns (expire st d)
-expire_turns st w k (Holds s left) there does turns = kept_bind _ (slice_get st.slots s) (λ p lies. kept_then (λ (q : Place). with_place st s q) (expired_place st.second st.limits.idle p)
-    (λ q x. subst (λ (r : Place). Turns (with_place st s r)) (sym x.is) (expired_turns st w k s left p x.connection there does lies x.was turns))
+pub expire_turns : (st : State) (w : ℕ) (k : WorkerState) (d : Doing) → slice_get st.workers w ≡ Some k → k.doing ≡ d → Turns st → Kept Turns (expire st d)
+expire_turns st w k (Holds s left) there does turns = kept_bind _ (slice_get st.slots s) (λ p lies. kept_then (λ (q : SlotState). with_place st s q) (expired_place st.second st.limits.idle p)
+    (λ q x. subst (λ (r : SlotState). Turns (with_place st s r)) (sym x.is) (expired_turns st w k s left p x.connection there does lies x.was turns))
     (expired_so st.second st.limits.idle p))
 expire_turns st w k Idle there does turns = kept_none
 expire_turns st w k (Tries t) there does turns = kept_none

@@ -4,7 +4,7 @@ use Rattle.std.proofs.lemmas.Bool.{cases_eq}
 use Rattle.std.specs.List.{list_all}
 use Rattle.relay_core.specs.Pairs.{verdict, is_live}
 use Rattle.relay_core.specs.Order.{next_call}
-use Rattle.relay_core.specs.Laws.{Place as Standing, place_of}
+use Rattle.relay_core.specs.Laws.{SlotState as Standing, place_of}
 use Rattle.kernel_model.specs.Ends.{is_nonempty}
 use Rattle.world.specs.declared.connection.Connection.{Connection}
 use Rattle.world.specs.declared.actors.Ticket.{Ticket}
@@ -12,7 +12,7 @@ use Rattle.world.specs.declared.actors.Holder.{Holder}
 use Rattle.world.specs.declared.actors.Holder.TheVariants.{Nobody, By, Free}
 use Rattle.world.specs.declared.actors.Doing.{Doing}
 use Rattle.world.specs.declared.actors.Doing.TheVariants.{Idle, Tries, Holds, Closed, Retired}
-use Rattle.world.specs.Places.{Place, Actor, is_held, is_by_worker}
+use Rattle.world.specs.Slots.{SlotState, WorkerState, is_held, is_by_worker}
 use Rattle.world.specs.States.{State}
 use Rattle.world.specs.Steps.{doing}
 use Rattle.world.specs.Due.{is_ticket}
@@ -29,7 +29,7 @@ abbrev pub tried_right : ℕ → ℕ → Doing → ℕ
 tried_right s g (Tries t) = names s g t
 tried_right s g d = 0
 
-abbrev pub worker_right : ℕ → ℕ → Actor → ℕ
+abbrev pub worker_right : ℕ → ℕ → WorkerState → ℕ
 worker_right s g k = tried_right s g k.doing + total (names s g) k.hand
 
 abbrev pub holds : ℕ → Doing → ℕ
@@ -44,13 +44,13 @@ abbrev pub retires : ℕ → Doing → ℕ
 retires s (Retired t) = one (t == s)
 retires s d = 0
 
-abbrev pub worker_holds : ℕ → Actor → ℕ
+abbrev pub worker_holds : ℕ → WorkerState → ℕ
 worker_holds s k = holds s k.doing
 
-abbrev pub worker_closes : ℕ → Actor → ℕ
+abbrev pub worker_closes : ℕ → WorkerState → ℕ
 worker_closes s k = closes s k.doing
 
-abbrev pub worker_retires : ℕ → Actor → ℕ
+abbrev pub worker_retires : ℕ → WorkerState → ℕ
 worker_retires s k = retires s k.doing
 
 abbrev pub is_number : ℕ → ℕ → ℕ
@@ -95,7 +95,7 @@ standing f g = record { slot = f.slot; generation = g; up_capacity = f.ring; dow
 
 -- the connection in a slot is the slot's own, and while nobody holds the slot it is live, and without a
 -- note it has no call to make
-pub record ConnectionOk (f : Facts) (p : Place) (c : Connection) : Type 0 where
+pub record ConnectionOk (f : Facts) (p : SlotState) (c : Connection) : Type 0 where
   pub stands : place_of c.pair ≡ standing f p.generation
   pub live : p.holder ≡ Nobody → is_live (verdict c.pair) ≡ true
   pub rest : p.holder ≡ Nobody → p.notes ≡ [] → next_call c.pair ≡ None
@@ -103,7 +103,7 @@ pub record ConnectionOk (f : Facts) (p : Place) (c : Connection) : Type 0 where
 abbrev pub are_own : ℕ → List ℕ → Bool
 are_own g notes = list_all (λ (n : ℕ). n == g) notes
 
-pub record SlotOk (f : Facts) (p : Place) : Type 0 where
+pub record SlotOk (f : Facts) (p : SlotState) : Type 0 where
   pub entry : f.entry ≡ Some p.generation
   pub notes : are_own p.generation p.notes ≡ true
   pub tickets : f.tickets ≡ one (not (is_held p.holder) && is_nonempty p.notes)
@@ -116,7 +116,7 @@ pub record SlotOk (f : Facts) (p : Place) : Type 0 where
 
 -- each slot has what it has to
 pub record Turns (st : State) : Type 0 where
-  pub each : (s : ℕ) (p : Place) → slice_get st.slots s ≡ Some p → SlotOk (facts st s p.generation) p
+  pub each : (s : ℕ) (p : SlotState) → slice_get st.slots s ≡ Some p → SlotOk (facts st s p.generation) p
 
 -- the same numbers, but for those that are gone, which may be fewer
 pub record Same (f g : Facts) : Type 0 where
@@ -132,14 +132,14 @@ pub record Same (f g : Facts) : Type 0 where
 pub same_self : (f : Facts) → Same f f
 same_self f = record { ring = refl; slot = refl; entry = refl; tickets = refl; right = refl; holding = refl; closing = refl; gone = omega arith }
 
-same_connection : (f g : Facts) (p : Place) (c : Connection) → Same f g → ConnectionOk f p c → ConnectionOk g p c
+same_connection : (f g : Facts) (p : SlotState) (c : Connection) → Same f g → ConnectionOk f p c → ConnectionOk g p c
 same_connection f g p c m ok = record {
   stands = rw (← m.ring, ← m.slot) ok.stands;
   live = ok.live;
   rest = ok.rest;
 }
 
-pub same_ok : (f g : Facts) (p : Place) → Same f g → SlotOk f p → SlotOk g p
+pub same_ok : (f g : Facts) (p : SlotState) → Same f g → SlotOk f p → SlotOk g p
 same_ok f g p m ok = record {
   entry = rw (← m.entry) ok.entry;
   notes = ok.notes;
@@ -158,8 +158,8 @@ keep_slots st next all same turns = record {
   each = λ s p there. same_ok (facts st s p.generation) (facts next s p.generation) p (same s p.generation) (turns.each s p (rw all at there));
 }
 
-other_slot : (st next : State) (s i : ℕ) (old new p : Place) → (s ≡ i) ⊎ (s ≢ i) → slice_get st.slots s ≡ Some old → next.slots ≡ slice_set st.slots s new
-    → ((j : ℕ) (q : Place) → s ≢ j → slice_get st.slots j ≡ Some q → Same (facts st j q.generation) (facts next j q.generation))
+other_slot : (st next : State) (s i : ℕ) (old new p : SlotState) → (s ≡ i) ⊎ (s ≢ i) → slice_get st.slots s ≡ Some old → next.slots ≡ slice_set st.slots s new
+    → ((j : ℕ) (q : SlotState) → s ≢ j → slice_get st.slots j ≡ Some q → Same (facts st j q.generation) (facts next j q.generation))
     → SlotOk (facts next s new.generation) new → Turns st → slice_get next.slots i ≡ Some p → SlotOk (facts next i p.generation) p
 other_slot st next s i old new p (inl same) there all others ok turns here =
     let set : slice_get (slice_set st.slots s new) s ≡ Some p = rw (← all, same) here in
@@ -171,22 +171,22 @@ other_slot st next s i old new p (inr apart) there all others ok turns here =
     same_ok (facts st i p.generation) (facts next i p.generation) p (others i p apart was) (turns.each i p was)
 
 -- an event that changes one slot, s
-pub keep_others : (st next : State) (s : ℕ) (old new : Place) → slice_get st.slots s ≡ Some old → next.slots ≡ slice_set st.slots s new
-    → ((j : ℕ) (q : Place) → s ≢ j → slice_get st.slots j ≡ Some q → Same (facts st j q.generation) (facts next j q.generation))
+pub keep_others : (st next : State) (s : ℕ) (old new : SlotState) → slice_get st.slots s ≡ Some old → next.slots ≡ slice_set st.slots s new
+    → ((j : ℕ) (q : SlotState) → s ≢ j → slice_get st.slots j ≡ Some q → Same (facts st j q.generation) (facts next j q.generation))
     → SlotOk (facts next s new.generation) new → Turns st → Turns next
 keep_others st next s old new there all others ok turns = record {
   each = λ i p here. other_slot st next s i old new p (cases_eq s i) there all others ok turns here;
 }
 
 -- the numbers of a slot where one worker is replaced
-pub record Replaced (st : State) (w : ℕ) (k j : Actor) (s g : ℕ) : Type 0 where
+pub record Replaced (st : State) (w : ℕ) (k j : WorkerState) (s g : ℕ) : Type 0 where
   pub tickets : total (worker_tickets s) (slice_set st.workers w j) + worker_tickets s k ≡ total (worker_tickets s) st.workers + worker_tickets s j
   pub right : total (worker_right s g) (slice_set st.workers w j) + worker_right s g k ≡ total (worker_right s g) st.workers + worker_right s g j
   pub holding : total (worker_holds s) (slice_set st.workers w j) + worker_holds s k ≡ total (worker_holds s) st.workers + worker_holds s j
   pub closing : total (worker_closes s) (slice_set st.workers w j) + worker_closes s k ≡ total (worker_closes s) st.workers + worker_closes s j
   pub gone : total (worker_retires s) (slice_set st.workers w j) + worker_retires s k ≡ total (worker_retires s) st.workers + worker_retires s j
 
-pub replaced : (st : State) (w : ℕ) (k j : Actor) (s g : ℕ) → slice_get st.workers w ≡ Some k → Replaced st w k j s g
+pub replaced : (st : State) (w : ℕ) (k j : WorkerState) (s g : ℕ) → slice_get st.workers w ≡ Some k → Replaced st w k j s g
 replaced st w k j s g there = record {
   tickets = total-set (worker_tickets s) st.workers w k j there;
   right = total-set (worker_right s g) st.workers w k j there;
@@ -223,14 +223,14 @@ tried_less s g (Closed t) = omega arith
 tried_less s g (Retired t) = omega arith
 
 -- the numbers of a slot where one worker, that does d, goes on to e
-pub record Turned (st : State) (w : ℕ) (k : Actor) (d e : Doing) (s g : ℕ) : Type 0 where
+pub record Turned (st : State) (w : ℕ) (k : WorkerState) (d e : Doing) (s g : ℕ) : Type 0 where
   pub tickets : total (worker_tickets s) (slice_set st.workers w (record k { doing = e })) + tried s d ≡ total (worker_tickets s) st.workers + tried s e
   pub right : total (worker_right s g) (slice_set st.workers w (record k { doing = e })) + tried_right s g d ≡ total (worker_right s g) st.workers + tried_right s g e
   pub holding : total (worker_holds s) (slice_set st.workers w (record k { doing = e })) + holds s d ≡ total (worker_holds s) st.workers + holds s e
   pub closing : total (worker_closes s) (slice_set st.workers w (record k { doing = e })) + closes s d ≡ total (worker_closes s) st.workers + closes s e
   pub gone : total (worker_retires s) (slice_set st.workers w (record k { doing = e })) + retires s d ≡ total (worker_retires s) st.workers + retires s e
 
-pub turned : (st : State) (w : ℕ) (k : Actor) (d e : Doing) (s g : ℕ) → slice_get st.workers w ≡ Some k → k.doing ≡ d → Turned st w k d e s g
+pub turned : (st : State) (w : ℕ) (k : WorkerState) (d e : Doing) (s g : ℕ) → slice_get st.workers w ≡ Some k → k.doing ≡ d → Turned st w k d e s g
 turned st w k d e s g there does =
     let r : Replaced st w k (record k { doing = e }) s g = replaced st w k (record k { doing = e }) s g there in
     let a : tried s k.doing ≡ tried s d = ap (tried s) does in
@@ -247,7 +247,7 @@ turned st w k d e s g there does =
     }
 
 -- where neither has a part in slot i, its numbers stay
-pub turned_elsewhere : (st : State) (w : ℕ) (k : Actor) (d e : Doing) (i g : ℕ) → slice_get st.workers w ≡ Some k → k.doing ≡ d
+pub turned_elsewhere : (st : State) (w : ℕ) (k : WorkerState) (d e : Doing) (i g : ℕ) → slice_get st.workers w ≡ Some k → k.doing ≡ d
     → tried i d + (holds i d + (closes i d + retires i d)) ≡ 0 → tried i e + (holds i e + (closes i e + retires i e)) ≡ 0 → Same (facts st i g) (facts (doing st w k e) i g)
 turned_elsewhere st w k d e i g there does before after =
     let m : Turned st w k d e i g = turned st w k d e i g there does in

@@ -15,7 +15,7 @@ use Rattle.kernel_model.specs.declared.watched.Watched.TheVariants as watched
 use Rattle.kernel_model.specs.Outcome.{Told}
 use Rattle.kernel_model.specs.Names.{same, has, without_name, without_names}
 use Rattle.kernel_model.specs.Kernel as kernel
-use Rattle.kernel_model.specs.Kernel.{Watcher, Registered, end_at}
+use Rattle.kernel_model.specs.Kernel.{KernelState, Registered, end_at}
 use Rattle.relay_core.specs.Pairs.{verdict, is_live}
 use Rattle.relay_core.specs.Order.{next_call}
 use Rattle.relay_core.specs.Replies.{fits, after}
@@ -35,10 +35,10 @@ use Rattle.world.specs.declared.event.Polling.TheVariants as polling
 use Rattle.world.specs.declared.event.Act.{Act}
 use Rattle.world.specs.declared.event.Act.TheVariants as act
 use Rattle.world.specs.declared.limits.Limits.{Limits}
-use Rattle.world.specs.Places.{Place, Actor, is_held}
+use Rattle.world.specs.Slots.{SlotState, WorkerState, is_held}
 use Rattle.world.specs.States.{State, opening}
-use Rattle.world.specs.Calls.{Line, descriptor, told_of, made, called}
-use Rattle.world.specs.Steps.{connection_at, over_kernel, change_at, network, watched_of, spurious, vanish, may_accept, after_accept, listen, post_at, delivered_at, delivered, put_by_poller, batched, opened_world, opening_of, token_of, polled, put_by_worker, popped, pop, claim, noted_place, is_limited, expired_place, expire, with_place, take, Lodging, lodged_call, doing, call, with_note, post, may_release, release, closed_world, close, retire, free, acted, step}
+use Rattle.world.specs.Calls.{OpenConnection, descriptor, told_of, made, called}
+use Rattle.world.specs.Steps.{connection_at, over_kernel, change_at, network, watched_of, spurious, vanish, may_accept, after_accept, listen, post_at, delivered_at, delivered, put_by_poller, batched, opened_world, opening_of, token_of, polled, put_by_worker, popped, pop, claim, noted_slot, is_limited, expired_place, expire, with_place, take, OpenSlot, slot_call, doing, call, with_note, post, may_release, release, closed_world, close, retire, free, acted, step}
 use Rattle.world.specs.Runs.{run}
 use Rattle.world.specs.Headline.{ListenerHolds}
 use Rattle.world.specs.Support.{is_covered}
@@ -47,8 +47,8 @@ use Rattle.world.proofs.TurnsListener.{hears_with, hears_it, hears_without_end, 
 
 -- what the network and the kernel do
 
-over_hears : (st : State) (o : Option Watcher) → Kept (HearsOn st.kernel) o → Listens st → Kept Listens (over_kernel st o)
-over_hears st o k l = kept_then (λ (q : Watcher). record st { kernel = q }) o (λ q on. goes_on st (record st { kernel = q }) refl refl on l) k
+over_hears : (st : State) (o : Option KernelState) → Kept (HearsOn st.kernel) o → Listens st → Kept Listens (over_kernel st o)
+over_hears st o k l = kept_then (λ (q : KernelState). record st { kernel = q }) o (λ q on. goes_on st (record st { kernel = q }) refl refl on l) k
 
 network_listens : (st : State) (s : ℕ) (side : Side) (change : Change) → Listens st → Kept Listens (network st s side change)
 network_listens st s side change l = kept_bind _ (connection_at st s) (λ c is. over_hears st (change_at st.kernel (descriptor c.ends side) change) (change_hears st.kernel (descriptor c.ends side) change) l)
@@ -57,12 +57,12 @@ spurious_listens : (st : State) (who : Reported) → Listens st → Kept Listens
 spurious_listens st who l = kept_bind _ (watched_of st who) (λ w is. over_hears st (kernel.spurious st.kernel w) (kept_map _ (kernel.name_of st.kernel w) (λ n named. record { armed = refl; backlog = refl; queue = hears_with n st.kernel.queue })) l)
 
 -- nobody waits, so that the listener's report may vanish
-record NobodyWaits (k q : Watcher) : Type 0 where
+record NobodyWaits (k q : KernelState) : Type 0 where
   armed : q.armed ≡ k.armed
   backlog : q.backlog ≡ 0
   none : k.backlog ≡ 0
 
-nobody_waits : (st : State) (q : Watcher) → NobodyWaits st.kernel q → Listens st → Listens (record st { kernel = q })
+nobody_waits : (st : State) (q : KernelState) → NobodyWaits st.kernel q → Listens st → Listens (record st { kernel = q })
 nobody_waits st q n l = record {
   covered =
       let was : is_covered st.flag st.kernel.armed (nat_lt 0 0) (hears st.kernel.queue || hears st.batch) ≡ true = rw n.none at l.covered in
@@ -70,7 +70,7 @@ nobody_waits st q n l = record {
 }
 
 vanished_listens : (st : State) (w : Watched) → Listens st → Kept Listens (over_kernel st (kernel.vanish st.kernel w))
-vanished_listens st watched.Listener l = kept_then (λ (q : Watcher). record st { kernel = q }) (kernel.vanish st.kernel watched.Listener) (λ q n. nobody_waits st q n l)
+vanished_listens st watched.Listener l = kept_then (λ (q : KernelState). record st { kernel = q }) (kernel.vanish st.kernel watched.Listener) (λ q n. nobody_waits st q n l)
     (kept_guard (hears st.kernel.queue && (st.kernel.backlog == 0)) (record st.kernel { queue = without_name Listener st.kernel.queue }) (λ may.
     let parts : (hears st.kernel.queue ≡ true) × ((st.kernel.backlog == 0) ≡ true) = and_parts (hears st.kernel.queue) (st.kernel.backlog == 0) may in
     let none : st.kernel.backlog ≡ 0 = eqb-true st.kernel.backlog 0 parts.1 in
@@ -95,7 +95,7 @@ connected false false true queue r h = h
 connected false false false queue r h = absurd (cc)
 
 connect_listens : (st : State) → Listens st → Kept Listens (listen st listening.Connect)
-connect_listens st l = kept_then (λ (q : Watcher). record st { kernel = q }) (kernel.connect_in st.kernel) (λ q h. h)
+connect_listens st l = kept_then (λ (q : KernelState). record st { kernel = q }) (kernel.connect_in st.kernel) (λ q h. h)
     (kept_guard (nat_lt st.kernel.backlog 4096) (record st.kernel { backlog = st.kernel.backlog + 1; queue = kernel.reported st.kernel.queue Listener st.kernel.armed; armed = false }) (λ room. record {
       covered =
           let some : nat_lt 0 (st.kernel.backlog + 1) ≡ true = lt-ltb 0 (st.kernel.backlog + 1) (omega arith) in
@@ -104,7 +104,7 @@ connect_listens st l = kept_then (λ (q : Watcher). record st { kernel = q }) (k
 
 accepted_listens : (st : State) (reply : Accepting) → st.flag ≡ true → Kept Listens (over_kernel (after_accept st reply) (kernel.accept st.kernel reply))
 accepted_listens st Accepted up = kept_map _ (kernel.accept st.kernel Accepted) (λ q is. with_flag (record st { accepted = true; kernel = q }) up)
-accepted_listens st Blocked up = kept_then (λ (q : Watcher). record (after_accept st Blocked) { kernel = q }) (kernel.accept st.kernel Blocked) (λ q h. h)
+accepted_listens st Blocked up = kept_then (λ (q : KernelState). record (after_accept st Blocked) { kernel = q }) (kernel.accept st.kernel Blocked) (λ q h. h)
     (kept_guard (st.kernel.backlog == 0) (record st.kernel { armed = true }) (λ may. record { covered = let none : st.kernel.backlog ≡ 0 = eqb-true st.kernel.backlog 0 may in rw none refl }))
 accepted_listens st Again up = kept_map _ (kernel.accept st.kernel Again) (λ q is. with_flag (record st { kernel = q }) up)
 accepted_listens st Starved up = kept_map _ (kernel.accept st.kernel Starved) (λ q is. with_flag (record st { kernel = q }) up)
@@ -130,7 +130,7 @@ or_none false b none h = absurd (cc)
 
 batched_listens : (st : State) (names : List Name) → Listens st → Kept Listens (batched st names)
 batched_listens st names l = kept_when (length st.batch == 0) (over_kernel (record st { batch = names }) (kernel.poll st.kernel names)) (λ none.
-    kept_then (λ (q : Watcher). record st { batch = names; kernel = q }) (kernel.poll st.kernel names) (λ q h. h)
+    kept_then (λ (q : KernelState). record st { batch = names; kernel = q }) (kernel.poll st.kernel names) (λ q h. h)
     (kept_guard _ (record st.kernel { queue = without_names names st.kernel.queue }) (λ may. record {
       covered = more_reported st.flag st.kernel.armed (nat_lt 0 st.kernel.backlog) (hears st.kernel.queue || hears st.batch) (hears (without_names names st.kernel.queue) || hears names)
           (λ h. hears_taken names st.kernel.queue (hears names) refl (or_none (hears st.kernel.queue) (hears st.batch) (unheard st.batch none) h)) l.covered;
@@ -181,30 +181,30 @@ polled_listens st polling.Put l = put_listens st st.hand l
 
 -- what a worker does
 
-called_line_hears : (now : ℕ) (l : Line) (r : Reply) → Kept (λ (m : Line). HearsOn l.kernel m.kernel) (called now l r)
+called_line_hears : (now : ℕ) (l : OpenConnection) (r : Reply) → Kept (λ (m : OpenConnection). HearsOn l.kernel m.kernel) (called now l r)
 unfolding called
-called_line_hears now l r = kept_bind _ (next_call l.connection.pair) (λ c next. kept_bind _ (told_of l c r) (λ t is. kept_when (fits l.connection.pair c t) (option_map (λ (k : Watcher). record { kernel = k; connection = record l.connection { pair = after now l.connection.pair c t } }) (made l c r)) (λ fit. kept_then (λ (k : Watcher). record { kernel = k; connection = record l.connection { pair = after now l.connection.pair c t } }) (made l c r) (λ k on. on) (made_hears l c r))))
+called_line_hears now l r = kept_bind _ (next_call l.connection.pair) (λ c next. kept_bind _ (told_of l c r) (λ t is. kept_when (fits l.connection.pair c t) (option_map (λ (k : KernelState). record { kernel = k; connection = record l.connection { pair = after now l.connection.pair c t } }) (made l c r)) (λ fit. kept_then (λ (k : KernelState). record { kernel = k; connection = record l.connection { pair = after now l.connection.pair c t } }) (made l c r) (λ k on. on) (made_hears l c r))))
 
-lodged_hears : (now : ℕ) (l : Lodging) (r : Reply) → Kept (λ (m : Lodging). HearsOn l.kernel m.kernel) (lodged_call now l r)
-unfolding lodged_call
-lodged_hears now l r = kept_bind _ l.place.connection (λ c is. kept_then (λ (line : Line). record { kernel = line.kernel; place = record l.place { connection = Some line.connection } }) (called now (record { kernel = l.kernel; connection = c }) r) (λ line on. on) (called_line_hears now (record { kernel = l.kernel; connection = c }) r))
+lodged_hears : (now : ℕ) (l : OpenSlot) (r : Reply) → Kept (λ (m : OpenSlot). HearsOn l.kernel m.kernel) (slot_call now l r)
+unfolding slot_call
+lodged_hears now l r = kept_bind _ l.place.connection (λ c is. kept_then (λ (line : OpenConnection). record { kernel = line.kernel; place = record l.place { connection = Some line.connection } }) (called now (record { kernel = l.kernel; connection = c }) r) (λ line on. on) (called_line_hears now (record { kernel = l.kernel; connection = c }) r))
 
-worker_put_listens : (st : State) (w : ℕ) (k : Actor) (hand : List Ticket) → Listens st → Kept Listens (put_by_worker st w k hand)
+worker_put_listens : (st : State) (w : ℕ) (k : WorkerState) (hand : List Ticket) → Listens st → Kept Listens (put_by_worker st w k hand)
 worker_put_listens st w k [] l = kept_none
 worker_put_listens st w k (t ∷ rest) l = kept_some (record { covered = l.covered })
 
-popped_listens : (st : State) (w : ℕ) (k : Actor) (ready : List Ticket) → Listens st → Kept Listens (popped st w k ready)
+popped_listens : (st : State) (w : ℕ) (k : WorkerState) (ready : List Ticket) → Listens st → Kept Listens (popped st w k ready)
 popped_listens st w k [] l = kept_none
 popped_listens st w k (t ∷ rest) l = kept_some (record { covered = l.covered })
 
-pop_listens : (st : State) (w : ℕ) (k : Actor) (d : Doing) → Listens st → Kept Listens (pop st w k d)
+pop_listens : (st : State) (w : ℕ) (k : WorkerState) (d : Doing) → Listens st → Kept Listens (pop st w k d)
 pop_listens st w k Idle l = kept_when (length k.hand == 0) (popped st w k st.ready) (λ none. popped_listens st w k st.ready l)
 pop_listens st w k (Tries t) l = kept_none
 pop_listens st w k (Holds s left) l = kept_none
 pop_listens st w k (Closed s) l = kept_none
 pop_listens st w k (Retired s) l = kept_none
 
-claim_listens : (st : State) (w : ℕ) (k : Actor) (d : Doing) → Listens st → Kept Listens (claim st w k d)
+claim_listens : (st : State) (w : ℕ) (k : WorkerState) (d : Doing) → Listens st → Kept Listens (claim st w k d)
 claim_listens st w k (Tries t) l = kept_map _ (slice_get st.slots t.slot) (λ p lies. either_of Listens (is_held p.holder) (doing st w k Idle) (doing (with_place st t.slot (record p { holder = By w })) w k (Holds t.slot st.limits.budget)) (record { covered = l.covered }) (record { covered = l.covered }))
 claim_listens st w k Idle l = kept_none
 claim_listens st w k (Holds s left) l = kept_none
@@ -212,18 +212,18 @@ claim_listens st w k (Closed s) l = kept_none
 claim_listens st w k (Retired s) l = kept_none
 
 take_listens : (st : State) (d : Doing) → Listens st → Kept Listens (take st d)
-take_listens st (Holds s left) l = kept_bind _ (slice_get st.slots s) (λ p lies. kept_map (λ (q : Place). with_place st s q) (noted_place p) (λ q is. record { covered = l.covered }))
+take_listens st (Holds s left) l = kept_bind _ (slice_get st.slots s) (λ p lies. kept_map (λ (q : SlotState). with_place st s q) (noted_slot p) (λ q is. record { covered = l.covered }))
 take_listens st Idle l = kept_none
 take_listens st (Tries t) l = kept_none
 take_listens st (Closed s) l = kept_none
 take_listens st (Retired s) l = kept_none
 
-call_listens : (st : State) (w : ℕ) (k : Actor) (d : Doing) (r : Reply) → Listens st → Kept Listens (call st w k d r)
+call_listens : (st : State) (w : ℕ) (k : WorkerState) (d : Doing) (r : Reply) → Listens st → Kept Listens (call st w k d r)
 call_listens st w k (Holds s left) r l = kept_when (nat_lt 0 left) (option_and_then
-    (λ (p : Place). option_map
-    (λ (m : Lodging). doing (with_place (record st { kernel = m.kernel }) s m.place) w k (Holds s (left - 1)))
-    (lodged_call st.second (record { kernel = st.kernel; place = p }) r))
-    (slice_get st.slots s)) (λ some. kept_bind _ (slice_get st.slots s) (λ p lies. kept_then (λ (m : Lodging). doing (with_place (record st { kernel = m.kernel }) s m.place) w k (Holds s (left - 1))) (lodged_call st.second (record { kernel = st.kernel; place = p }) r)
+    (λ (p : SlotState). option_map
+    (λ (m : OpenSlot). doing (with_place (record st { kernel = m.kernel }) s m.place) w k (Holds s (left - 1)))
+    (slot_call st.second (record { kernel = st.kernel; place = p }) r))
+    (slice_get st.slots s)) (λ some. kept_bind _ (slice_get st.slots s) (λ p lies. kept_then (λ (m : OpenSlot). doing (with_place (record st { kernel = m.kernel }) s m.place) w k (Holds s (left - 1))) (slot_call st.second (record { kernel = st.kernel; place = p }) r)
     (λ m on. goes_on st (doing (with_place (record st { kernel = m.kernel }) s m.place) w k (Holds s (left - 1))) refl refl on l) (lodged_hears st.second (record { kernel = st.kernel; place = p }) r)))
 call_listens st w k Idle r l = kept_none
 call_listens st w k (Tries t) r l = kept_none
@@ -237,7 +237,7 @@ post_listens st (Tries t) l = kept_none
 post_listens st (Closed s) l = kept_none
 post_listens st (Retired s) l = kept_none
 
-release_listens : (st : State) (w : ℕ) (k : Actor) (d : Doing) → Listens st → Kept Listens (release st w k d)
+release_listens : (st : State) (w : ℕ) (k : WorkerState) (d : Doing) → Listens st → Kept Listens (release st w k d)
 release_listens st w k (Holds s left) l = kept_bind _ (slice_get st.slots s) (λ p lies. kept_bind _ p.connection (λ c is. kept_guard (may_release c (is_nonempty p.notes)) _ (λ may. record { covered = l.covered })))
 release_listens st w k Idle l = kept_none
 release_listens st w k (Tries t) l = kept_none
@@ -245,36 +245,36 @@ release_listens st w k (Closed s) l = kept_none
 release_listens st w k (Retired s) l = kept_none
 
 expire_listens : (st : State) (d : Doing) → Listens st → Kept Listens (expire st d)
-expire_listens st (Holds s left) l = kept_bind _ (slice_get st.slots s) (λ p lies. kept_map (λ (q : Place). with_place st s q) (expired_place st.second st.limits.idle p) (λ q is. record { covered = l.covered }))
+expire_listens st (Holds s left) l = kept_bind _ (slice_get st.slots s) (λ p lies. kept_map (λ (q : SlotState). with_place st s q) (expired_place st.second st.limits.idle p) (λ q is. record { covered = l.covered }))
 expire_listens st Idle l = kept_none
 expire_listens st (Tries t) l = kept_none
 expire_listens st (Closed s) l = kept_none
 expire_listens st (Retired s) l = kept_none
 
-close_listens : (st : State) (w : ℕ) (k : Actor) (d : Doing) → Listens st → Kept Listens (close st w k d)
+close_listens : (st : State) (w : ℕ) (k : WorkerState) (d : Doing) → Listens st → Kept Listens (close st w k d)
 close_listens st w k (Holds s left) l = kept_bind _ (slice_get st.slots s) (λ p lies. kept_bind _ p.connection (λ c is. kept_when (not (is_live (verdict c.pair)))
-    (option_map (λ (t : Told Watcher Sockets). closed_world st w k s p c t) (kernel.close_both st.kernel c.ends))
-    (λ dead. kept_then (λ (t : Told Watcher Sockets). closed_world st w k s p c t) (kernel.close_both st.kernel c.ends) (λ t on. goes_on st (closed_world st w k s p c t) refl refl on l) (both_hear st.kernel c.ends))))
+    (option_map (λ (t : Told KernelState Sockets). closed_world st w k s p c t) (kernel.close_both st.kernel c.ends))
+    (λ dead. kept_then (λ (t : Told KernelState Sockets). closed_world st w k s p c t) (kernel.close_both st.kernel c.ends) (λ t on. goes_on st (closed_world st w k s p c t) refl refl on l) (both_hear st.kernel c.ends))))
 close_listens st w k Idle l = kept_none
 close_listens st w k (Tries t) l = kept_none
 close_listens st w k (Closed s) l = kept_none
 close_listens st w k (Retired s) l = kept_none
 
-retire_listens : (st : State) (w : ℕ) (k : Actor) (d : Doing) → Listens st → Kept Listens (retire st w k d)
+retire_listens : (st : State) (w : ℕ) (k : WorkerState) (d : Doing) → Listens st → Kept Listens (retire st w k d)
 retire_listens st w k (Closed s) l = kept_map _ (slice_get st.slots s) (λ p lies. record { covered = l.covered })
 retire_listens st w k Idle l = kept_none
 retire_listens st w k (Tries t) l = kept_none
 retire_listens st w k (Holds s left) l = kept_none
 retire_listens st w k (Retired s) l = kept_none
 
-free_listens : (st : State) (w : ℕ) (k : Actor) (d : Doing) → Listens st → Kept Listens (free st w k d)
+free_listens : (st : State) (w : ℕ) (k : WorkerState) (d : Doing) → Listens st → Kept Listens (free st w k d)
 free_listens st w k (Retired s) l = kept_map _ (slice_get st.slots s) (λ p lies. record { covered = l.covered })
 free_listens st w k Idle l = kept_none
 free_listens st w k (Tries t) l = kept_none
 free_listens st w k (Holds s left) l = kept_none
 free_listens st w k (Closed s) l = kept_none
 
-acted_listens : (st : State) (w : ℕ) (k : Actor) (a : Act) → Listens st → Kept Listens (acted st w k a)
+acted_listens : (st : State) (w : ℕ) (k : WorkerState) (a : Act) → Listens st → Kept Listens (acted st w k a)
 acted_listens st w k act.Put l = worker_put_listens st w k k.hand l
 acted_listens st w k act.Pop l = pop_listens st w k k.doing l
 acted_listens st w k act.Claim l = claim_listens st w k k.doing l

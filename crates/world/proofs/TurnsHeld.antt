@@ -9,9 +9,9 @@ use Rattle.world.specs.declared.actors.Holder.{Holder}
 use Rattle.world.specs.declared.actors.Holder.TheVariants.{Nobody, By, Free}
 use Rattle.world.specs.declared.actors.Doing.{Doing}
 use Rattle.world.specs.declared.actors.Doing.TheVariants.{Idle, Tries, Holds, Closed, Retired}
-use Rattle.world.specs.Places.{Place, Actor, is_held, is_by_worker}
+use Rattle.world.specs.Slots.{SlotState, WorkerState, is_held, is_by_worker}
 use Rattle.world.specs.States.{State}
-use Rattle.world.specs.Steps.{with_place, doing, heard, take, Lodging, lodged_call, call, free}
+use Rattle.world.specs.Steps.{with_place, doing, heard, take, OpenSlot, slot_call, call, free}
 use Rattle.world.specs.Support.{one, total}
 use Rattle.world.specs.CoreLaws.{CoreLaws}
 use Rattle.world.proofs.TurnsTotals.{total_at}
@@ -20,7 +20,7 @@ use Rattle.world.proofs.TurnsFacts.{Facts, facts, SlotOk, Turns, Same, same_self
 use Rattle.world.proofs.TurnsCall.{StaysIn, lodged_stays}
 
 -- a slot that a worker holds, with its connection or after that was closed; and the slot's numbers
-pub record Held (f : Facts) (p : Place) (has : Bool) : Type 0 where
+pub record Held (f : Facts) (p : SlotState) (has : Bool) : Type 0 where
   pub by : is_by_worker p.holder ≡ true
   pub held : is_held p.holder ≡ true
   pub free : is_free p.holder ≡ false
@@ -59,7 +59,7 @@ true_not_false true false h = (refl, refl)
 true_not_false true true h = absurd (omega arith)
 true_not_false false b h = absurd (omega arith)
 
-held_so : (f : Facts) (p : Place) (has : Bool) → SlotOk f p → is_by_worker p.holder ≡ true → is_some p.connection ≡ has → Held f p has
+held_so : (f : Facts) (p : SlotState) (has : Bool) → SlotOk f p → is_by_worker p.holder ≡ true → is_some p.connection ≡ has → Held f p has
 held_so f p has sv by some =
     let held : is_held p.holder ≡ true = by_is_held p.holder by in
     let free : is_free p.holder ≡ false = by_is_not_free p.holder by in
@@ -76,7 +76,7 @@ held_so f p has sv by some =
       gone = rw free at sv.gone;
     }
 
-pub held_by : (st : State) (w : ℕ) (k : Actor) (s left : ℕ) (p : Place) → slice_get st.workers w ≡ Some k → k.doing ≡ Holds s left → slice_get st.slots s ≡ Some p → Turns st → Held (facts st s p.generation) p true
+pub held_by : (st : State) (w : ℕ) (k : WorkerState) (s left : ℕ) (p : SlotState) → slice_get st.workers w ≡ Some k → k.doing ≡ Holds s left → slice_get st.slots s ≡ Some p → Turns st → Held (facts st s p.generation) p true
 held_by st w k s left p there does lies turns =
     let sv : SlotOk (facts st s p.generation) p = turns.each s p lies in
     let least : worker_holds s k ≤ total (worker_holds s) st.workers = total_at (worker_holds s) st.workers w k there in
@@ -86,7 +86,7 @@ held_by st w k s left p there does lies turns =
     let parts : (is_by_worker p.holder ≡ true) × (is_some p.connection ≡ true) = both_true (is_by_worker p.holder) (is_some p.connection) (omega arith) in
     held_so (facts st s p.generation) p true sv parts.0 parts.1
 
-pub closed_by : (st : State) (w : ℕ) (k : Actor) (s : ℕ) (p : Place) → slice_get st.workers w ≡ Some k → k.doing ≡ Closed s → slice_get st.slots s ≡ Some p → Turns st → Held (facts st s p.generation) p false
+pub closed_by : (st : State) (w : ℕ) (k : WorkerState) (s : ℕ) (p : SlotState) → slice_get st.workers w ≡ Some k → k.doing ≡ Closed s → slice_get st.slots s ≡ Some p → Turns st → Held (facts st s p.generation) p false
 closed_by st w k s p there does lies turns =
     let sv : SlotOk (facts st s p.generation) p = turns.each s p lies in
     let least : worker_closes s k ≤ total (worker_closes s) st.workers = total_at (worker_closes s) st.workers w k there in
@@ -97,7 +97,7 @@ closed_by st w k s p there does lies turns =
     held_so (facts st s p.generation) p false sv parts.0 parts.1
 
 -- the same worker still holds the slot: its numbers stay, and the notes and the connection may change
-pub stays_held : (f g : Facts) (p q : Place) (has : Bool) → Same f g → SlotOk f p → Held f p has → q.generation ≡ p.generation → q.holder ≡ p.holder → is_some q.connection ≡ is_some p.connection
+pub stays_held : (f g : Facts) (p q : SlotState) (has : Bool) → Same f g → SlotOk f p → Held f p has → q.generation ≡ p.generation → q.holder ≡ p.holder → is_some q.connection ≡ is_some p.connection
     → are_own p.generation q.notes ≡ true → ((c : Connection) → q.connection ≡ Some c → place_of c.pair ≡ standing g p.generation) → SlotOk g q
 stays_held f g p q has m sv h generation holder some own stands = record {
   entry = rw (generation, ← m.entry) sv.entry;
@@ -121,7 +121,7 @@ heard_stands : (c : Connection) (some : Bool) → place_of (if some then record 
 heard_stands c true = refl
 heard_stands c false = refl
 
-taken_turns : (st : State) (w : ℕ) (k : Actor) (s left : ℕ) (p : Place) (c : Connection) → slice_get st.workers w ≡ Some k → k.doing ≡ Holds s left → slice_get st.slots s ≡ Some p → p.connection ≡ Some c → Turns st
+taken_turns : (st : State) (w : ℕ) (k : WorkerState) (s left : ℕ) (p : SlotState) (c : Connection) → slice_get st.workers w ≡ Some k → k.doing ≡ Holds s left → slice_get st.slots s ≡ Some p → p.connection ≡ Some c → Turns st
     → Turns (with_place st s (record p { notes = []; connection = Some (heard c p.notes) }))
 taken_turns st w k s left p c there does lies is turns =
     let sv : SlotOk (facts st s p.generation) p = turns.each s p lies in
@@ -134,8 +134,8 @@ taken_turns st w k s left p c there does lies is turns =
     rw (← same) (heard_stands c (is_nonempty p.notes) ∙ (sv.connection c is).stands)))
     turns
 
-pub take_turns : (st : State) (w : ℕ) (k : Actor) (d : Doing) → slice_get st.workers w ≡ Some k → k.doing ≡ d → Turns st → Kept Turns (take st d)
-take_turns st w k (Holds s left) there does turns = kept_bind _ (slice_get st.slots s) (λ p lies. kept_map_map (λ (q : Place). with_place st s q) (λ (c : Connection). record p { notes = []; connection = Some (heard c p.notes) }) p.connection (λ c is. taken_turns st w k s left p c there does lies is turns))
+pub take_turns : (st : State) (w : ℕ) (k : WorkerState) (d : Doing) → slice_get st.workers w ≡ Some k → k.doing ≡ d → Turns st → Kept Turns (take st d)
+take_turns st w k (Holds s left) there does turns = kept_bind _ (slice_get st.slots s) (λ p lies. kept_map_map (λ (q : SlotState). with_place st s q) (λ (c : Connection). record p { notes = []; connection = Some (heard c p.notes) }) p.connection (λ c is. taken_turns st w k s left p c there does lies is turns))
 take_turns st w k Idle there does turns = kept_none
 take_turns st w k (Tries t) there does turns = kept_none
 take_turns st w k (Closed s) there does turns = kept_none
@@ -147,7 +147,7 @@ some_is : (o : Option Connection) (c : Connection) → o ≡ Some c → is_some 
 some_is o c is = rw is refl
 
 -- the worker's calls left do not count
-less_left : (st next : State) (w : ℕ) (k : Actor) (s left i g : ℕ) → slice_get st.workers w ≡ Some k → k.doing ≡ Holds s left → next.limits ≡ st.limits → next.table ≡ st.table → next.ready ≡ st.ready → next.hand ≡ st.hand → next.free ≡ st.free → next.workers ≡ slice_set st.workers w (record k { doing = Holds s (left - 1) })
+less_left : (st next : State) (w : ℕ) (k : WorkerState) (s left i g : ℕ) → slice_get st.workers w ≡ Some k → k.doing ≡ Holds s left → next.limits ≡ st.limits → next.table ≡ st.table → next.ready ≡ st.ready → next.hand ≡ st.hand → next.free ≡ st.free → next.workers ≡ slice_set st.workers w (record k { doing = Holds s (left - 1) })
     → Same (facts st i g) (facts next i g)
 less_left st next w k s left i g there does limits table ready hand free workers =
     let r : Turned st w k (Holds s left) (Holds s (left - 1)) i g = turned st w k (Holds s left) (Holds s (left - 1)) i g there does in
@@ -162,10 +162,10 @@ less_left st next w k s left i g there does limits table ready hand free workers
       gone = rw (free, workers) (omega arith);
     }
 
-at_generation : (st : State) (s : ℕ) (p q : Place) → q.generation ≡ p.generation → SlotOk (facts st s p.generation) q → SlotOk (facts st s q.generation) q
+at_generation : (st : State) (s : ℕ) (p q : SlotState) → q.generation ≡ p.generation → SlotOk (facts st s p.generation) q → SlotOk (facts st s q.generation) q
 at_generation st s p q same ok = subst (λ (g : ℕ). SlotOk (facts st s g) q) (sym same) ok
 
-called_turns : (st : State) (w : ℕ) (k : Actor) (s left : ℕ) (p : Place) (l : Lodging) → slice_get st.workers w ≡ Some k → k.doing ≡ Holds s left → slice_get st.slots s ≡ Some p → StaysIn p l.place → Turns st
+called_turns : (st : State) (w : ℕ) (k : WorkerState) (s left : ℕ) (p : SlotState) (l : OpenSlot) → slice_get st.workers w ≡ Some k → k.doing ≡ Holds s left → slice_get st.slots s ≡ Some p → StaysIn p l.place → Turns st
     → Turns (doing (with_place (record st { kernel = l.kernel }) s l.place) w k (Holds s (left - 1)))
 called_turns st w k s left p l there does lies stays turns =
     let sv : SlotOk (facts st s p.generation) p = turns.each s p lies in
@@ -182,13 +182,13 @@ called_turns st w k s left p l there does lies stays turns =
     rw (← same) (stays.stands ∙ (sv.connection stays.old stays.was).stands))))
     turns
 
-pub call_turns : (laws : CoreLaws) (st : State) (w : ℕ) (k : Actor) (d : Doing) (r : Reply) → slice_get st.workers w ≡ Some k → k.doing ≡ d → Turns st → Kept Turns (call st w k d r)
+pub call_turns : (laws : CoreLaws) (st : State) (w : ℕ) (k : WorkerState) (d : Doing) (r : Reply) → slice_get st.workers w ≡ Some k → k.doing ≡ d → Turns st → Kept Turns (call st w k d r)
 call_turns laws st w k (Holds s left) r there does turns = kept_when (nat_lt 0 left) (option_and_then
-    (λ (p : Place). option_map
-    (λ (l : Lodging). doing (with_place (record st { kernel = l.kernel }) s l.place) w k (Holds s (left - 1)))
-    (lodged_call st.second (record { kernel = st.kernel; place = p }) r))
-    (slice_get st.slots s)) (λ some. kept_bind _ (slice_get st.slots s) (λ p lies. kept_map _ (lodged_call st.second (record { kernel = st.kernel; place = p }) r) (λ l is. called_turns st w k s left p l there does lies
-    (kept_at (lodged_call st.second (record { kernel = st.kernel; place = p }) r) l is (lodged_stays laws st.second (record { kernel = st.kernel; place = p }) r)) turns)))
+    (λ (p : SlotState). option_map
+    (λ (l : OpenSlot). doing (with_place (record st { kernel = l.kernel }) s l.place) w k (Holds s (left - 1)))
+    (slot_call st.second (record { kernel = st.kernel; place = p }) r))
+    (slice_get st.slots s)) (λ some. kept_bind _ (slice_get st.slots s) (λ p lies. kept_map _ (slot_call st.second (record { kernel = st.kernel; place = p }) r) (λ l is. called_turns st w k s left p l there does lies
+    (kept_at (slot_call st.second (record { kernel = st.kernel; place = p }) r) l is (lodged_stays laws st.second (record { kernel = st.kernel; place = p }) r)) turns)))
 call_turns laws st w k Idle r there does turns = kept_none
 call_turns laws st w k (Tries t) r there does turns = kept_none
 call_turns laws st w k (Closed s) r there does turns = kept_none

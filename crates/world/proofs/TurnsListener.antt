@@ -9,15 +9,15 @@ use Rattle.kernel_model.specs.declared.both.Descriptors.{Descriptors}
 use Rattle.kernel_model.specs.declared.both.Sockets.{Sockets}
 use Rattle.kernel_model.specs.Outcome.{Told}
 use Rattle.kernel_model.specs.Names.{same, has, with_name, without_name, without_names}
-use Rattle.kernel_model.specs.Ends.{Endpoint}
+use Rattle.kernel_model.specs.Ends.{EndState}
 use Rattle.kernel_model.specs.Kernel as kernel
-use Rattle.kernel_model.specs.Kernel.{Watcher, Registered, end_at}
+use Rattle.kernel_model.specs.Kernel.{KernelState, Registered, end_at}
 use Rattle.relay_core.specs.declared.call.Call.{Call}
 use Rattle.relay_core.specs.declared.call.Call.TheVariants.{Write, Join, Shut, Read}
 use Rattle.world.specs.declared.event.Change.{Change}
 use Rattle.world.specs.declared.event.Change.TheVariants.{Arrive, Fin, Reset, Room}
 use Rattle.world.specs.States.{State}
-use Rattle.world.specs.Calls.{Line, descriptor, made}
+use Rattle.world.specs.Calls.{OpenConnection, descriptor, made}
 use Rattle.world.specs.Steps.{change_at}
 use Rattle.world.specs.Support.{is_covered}
 use Rattle.world.proofs.TurnsKept.{Kept, kept_bind, kept_map, kept_when, kept_then, kept_next}
@@ -103,15 +103,15 @@ or_rest true b c more h = refl
 or_rest false b c more h = more h
 
 -- a kernel that has the listener as it was, and its name at least where it was queued
-pub record HearsOn (k q : Watcher) : Type 0 where
+pub record HearsOn (k q : KernelState) : Type 0 where
   pub armed : q.armed ≡ k.armed
   pub backlog : q.backlog ≡ k.backlog
   pub queue : hears k.queue ≡ true → hears q.queue ≡ true
 
-pub hears_self : (k : Watcher) → HearsOn k k
+pub hears_self : (k : KernelState) → HearsOn k k
 hears_self k = record { armed = refl; backlog = refl; queue = λ h. h }
 
-pub hears_through : (k q r : Watcher) → HearsOn k q → HearsOn q r → HearsOn k r
+pub hears_through : (k q r : KernelState) → HearsOn k q → HearsOn q r → HearsOn k r
 hears_through k q r a b = record { armed = b.armed ∙ a.armed; backlog = b.backlog ∙ a.backlog; queue = λ h. b.queue (a.queue h) }
 
 -- a state over such a kernel, with the flag and the batch as they were
@@ -123,26 +123,26 @@ goes_on st next flag batch on l = record {
 
 -- calls on the kernel
 
-pub changed_hears : (k : Watcher) (d : ℕ) (f : Endpoint → Option (Told Endpoint Bool)) → Kept (HearsOn k) (kernel.changed k d f)
+pub changed_hears : (k : KernelState) (d : ℕ) (f : EndState → Option (Told EndState Bool)) → Kept (HearsOn k) (kernel.changed k d f)
 changed_hears k d f = kept_bind _ (end_at k.ends d) (λ r there. kept_map _ (f r.socket) (λ t now. record { armed = refl; backlog = refl; queue = hears_reported k.queue (End r.token) t.told }))
 
-pub change_hears : (k : Watcher) (d : ℕ) (c : Change) → Kept (HearsOn k) (change_at k d c)
+pub change_hears : (k : KernelState) (d : ℕ) (c : Change) → Kept (HearsOn k) (change_at k d c)
 change_hears k d (Arrive bytes) = kept_when _ (kernel.arrive k d bytes.items) (λ few. changed_hears k d _)
 change_hears k d Fin = changed_hears k d _
 change_hears k d Reset = changed_hears k d _
 change_hears k d Room = changed_hears k d _
 
-pub called_hears : (k : Watcher) (d : ℕ) (f : Endpoint → Option Endpoint) → Kept (HearsOn k) (kernel.called k d f)
+pub called_hears : (k : KernelState) (d : ℕ) (f : EndState → Option EndState) → Kept (HearsOn k) (kernel.called k d f)
 called_hears k d f = kept_bind _ (end_at k.ends d) (λ r there. kept_map _ (f r.socket) (λ e now. record { armed = refl; backlog = refl; queue = λ h. h }))
 
-pub made_hears : (l : Line) (call : Call) (r : Reply) → Kept (HearsOn l.kernel) (made l call r)
+pub made_hears : (l : OpenConnection) (call : Call) (r : Reply) → Kept (HearsOn l.kernel) (made l call r)
 made_hears l (Read side most) r = called_hears l.kernel (descriptor l.connection.ends side) _
 made_hears l (Write side) r = called_hears l.kernel (descriptor l.connection.ends side) _
 made_hears l (Join side) r = called_hears l.kernel (descriptor l.connection.ends side) _
 made_hears l (Shut side) r = called_hears l.kernel (descriptor l.connection.ends side) _
 
-pub closed_hears : (k : Watcher) (d : ℕ) → Kept (λ (t : Told Watcher Endpoint). HearsOn k t.value) (kernel.close k d)
+pub closed_hears : (k : KernelState) (d : ℕ) → Kept (λ (t : Told KernelState EndState). HearsOn k t.value) (kernel.close k d)
 closed_hears k d = kept_map _ (end_at k.ends d) (λ r there. record { armed = refl; backlog = refl; queue = hears_without_end r.token k.queue })
 
-pub both_hear : (k : Watcher) (ends : Descriptors) → Kept (λ (t : Told Watcher Sockets). HearsOn k t.value) (kernel.close_both k ends)
+pub both_hear : (k : KernelState) (ends : Descriptors) → Kept (λ (t : Told KernelState Sockets). HearsOn k t.value) (kernel.close_both k ends)
 both_hear k ends = kept_next _ (kernel.close k ends.client) (λ one a. kept_then _ (kernel.close one.value ends.target) (λ two b. hears_through k one.value two.value a b) (closed_hears one.value ends.target)) (closed_hears k ends.client)

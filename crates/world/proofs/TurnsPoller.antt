@@ -8,7 +8,7 @@ use Rattle.token.specs.Names.{EndName}
 use Rattle.kernel_model.specs.declared.both.Descriptors.{Descriptors}
 use Rattle.kernel_model.specs.Outcome.{Told}
 use Rattle.kernel_model.specs.Kernel as kernel
-use Rattle.kernel_model.specs.Kernel.{Watcher}
+use Rattle.kernel_model.specs.Kernel.{KernelState}
 use Rattle.relay_core.specs.Pairs.{fresh}
 use Rattle.kernel_model.specs.Ends.{is_nonempty}
 use Rattle.world.specs.declared.connection.Connection.{Connection}
@@ -24,7 +24,7 @@ use Rattle.world.specs.declared.event.Polling.{Polling}
 use Rattle.world.specs.declared.event.Polling.TheVariants as polling
 use Rattle.kernel_model.specs.declared.accepting.Accepting.{Accepting}
 use Rattle.kernel_model.specs.declared.accepting.Accepting.TheVariants.{Accepted, Blocked, Again, Starved}
-use Rattle.world.specs.Places.{Place, Actor, is_held, is_by_worker}
+use Rattle.world.specs.Slots.{SlotState, WorkerState, is_held, is_by_worker}
 use Rattle.world.specs.States.{State}
 use Rattle.world.specs.Steps.{connection_at, over_kernel, is_limited, tick, sweep, network, watched_of, spurious, vanish, may_accept, after_accept, listen, with_note, brings_ticket, with_ticket, posted, post_at, delivered_at, delivered, deliver, put_by_poller, batched, opened_place, opened_world, opening_of, token_of, polled}
 use Rattle.world.specs.Support.{one, total, of_slot, tried, worker_tickets, tickets}
@@ -34,10 +34,10 @@ use Rattle.world.proofs.TurnsFacts.{Facts, facts, SlotOk, ConnectionOk, Turns, k
 
 -- what changes neither slots nor tickets nor what a worker does
 
-over : (st : State) (k : Watcher) → Turns st → Turns (record st { kernel = k })
+over : (st : State) (k : KernelState) → Turns st → Turns (record st { kernel = k })
 over st k turns = record { each = turns.each }
 
-over_kept : (st : State) (o : Option Watcher) → Turns st → Kept Turns (over_kernel st o)
+over_kept : (st : State) (o : Option KernelState) → Turns st → Kept Turns (over_kernel st o)
 over_kept st o turns = kept_map _ o (λ k is. over st k turns)
 
 -- time passes
@@ -112,7 +112,7 @@ hand_own f true s g hand this = let more : total f (hand ++ record { slot = s; g
 hand_own f false s g hand this = omega arith
 
 -- the poller posts to a slot of its own generation
-posted_turns : (st : State) (s : ℕ) (p : Place) → slice_get st.slots s ≡ Some p → Turns st → Turns (posted st s p.generation p)
+posted_turns : (st : State) (s : ℕ) (p : SlotState) → slice_get st.slots s ≡ Some p → Turns st → Turns (posted st s p.generation p)
 posted_turns st s p there turns =
     let sv : SlotOk (facts st s p.generation) p = turns.each s p there in
     let more : total (of_slot s) (with_ticket (brings_ticket p) s p.generation st.hand) ≡ total (of_slot s) st.hand + one (brings_ticket p) = hand_own (of_slot s) (brings_ticket p) s p.generation st.hand (one_same s) in
@@ -143,7 +143,7 @@ posted_turns st s p there turns =
       };
     }) turns
 
-posted_at_turns : (st : State) (s g : ℕ) (p : Place) → slice_get st.table s ≡ Some g → slice_get st.slots s ≡ Some p → Turns st → Turns (posted st s g p)
+posted_at_turns : (st : State) (s g : ℕ) (p : SlotState) → slice_get st.table s ≡ Some g → slice_get st.slots s ≡ Some p → Turns st → Turns (posted st s g p)
 posted_at_turns st s g p entry there turns =
     let own : slice_get st.table s ≡ Some p.generation = (turns.each s p there).entry in
     let same : p.generation ≡ g = (cc) in
@@ -188,7 +188,7 @@ free_by_none Nobody free = refl
 free_by_none (By w) free = absurd (cc)
 free_by_none Free free = refl
 
-pub right_is_less : (s g : ℕ) (k : Actor) → worker_right s g k ≤ worker_tickets s k
+pub right_is_less : (s g : ℕ) (k : WorkerState) → worker_right s g k ≤ worker_tickets s k
 right_is_less s g k = let hand : total (names s g) k.hand ≤ total (of_slot s) k.hand = total_le (names s g) (of_slot s) k.hand (names_of_slot s g) in let own : tried_right s g k.doing ≤ tried s k.doing = tried_less s g k.doing in omega arith
 
 pub right_within : (st : State) (s g : ℕ) → right_tickets st s g ≤ tickets st s
@@ -199,7 +199,7 @@ right_within st s g =
     omega arith
 
 -- a slot of the free queue is free: so it has no ticket, and no worker holds it
-pub record FirstFree (st : State) (s : ℕ) (p : Place) : Type 0 where
+pub record FirstFree (st : State) (s : ℕ) (p : SlotState) : Type 0 where
   pub held : is_held p.holder ≡ true
   pub free : is_free p.holder ≡ true
   pub tickets : tickets st s ≡ 0
@@ -207,7 +207,7 @@ pub record FirstFree (st : State) (s : ℕ) (p : Place) : Type 0 where
   pub closing : total (worker_closes s) st.workers ≡ 0
   pub gone : total (worker_retires s) st.workers + total (is_number s) (drop 1 st.free) ≡ 0
 
-pub first_free : (st : State) (s : ℕ) (p : Place) → slice_get st.slots s ≡ Some p → slice_get st.free 0 ≡ Some s → Turns st → FirstFree st s p
+pub first_free : (st : State) (s : ℕ) (p : SlotState) → slice_get st.slots s ≡ Some p → slice_get st.free 0 ≡ Some s → Turns st → FirstFree st s p
 first_free st s p there first turns =
     let sv : SlotOk (facts st s p.generation) p = turns.each s p there in
     let split : total (is_number s) st.free ≡ one (s == s) + total (is_number s) (drop 1 st.free) = total_first (is_number s) st.free s first in
@@ -235,7 +235,7 @@ opened_connection st s g ends f c slot ring is =
       rest = λ nobody none. absurd (cc);
     })
 
-opened_turns : (st : State) (s g : ℕ) (p : Place) (t : Told Watcher Descriptors) → slice_get st.slots s ≡ Some p → slice_get st.free 0 ≡ Some s → Turns st → Turns (opened_world st s g t)
+opened_turns : (st : State) (s g : ℕ) (p : SlotState) (t : Told KernelState Descriptors) → slice_get st.slots s ≡ Some p → slice_get st.free 0 ≡ Some s → Turns st → Turns (opened_world st s g t)
 opened_turns st s g p t there first turns =
     let sv : SlotOk (facts st s p.generation) p = turns.each s p there in
     let free : FirstFree st s p = first_free st s p there first turns in

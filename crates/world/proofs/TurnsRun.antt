@@ -9,7 +9,7 @@ use Rattle.world.specs.declared.actors.Doing.TheVariants.{Idle, Tries, Holds, Cl
 use Rattle.world.specs.declared.event.Event.{Event}
 use Rattle.world.specs.declared.event.Event.TheVariants as event
 use Rattle.world.specs.declared.event.Act.TheVariants as act
-use Rattle.world.specs.Places.{Place, Actor}
+use Rattle.world.specs.Slots.{SlotState, WorkerState}
 use Rattle.world.specs.States.{State, opening, unused, resting, numbers_below}
 use Rattle.world.specs.Steps.{connection_at, claimed, claim, worked, step}
 use Rattle.world.specs.Runs.{run}
@@ -87,7 +87,7 @@ opening_turns : (l : Limits) → Turns (opening l)
 opening_turns l = record {
   each = λ s p there.
       let same : unused l.generation ≡ p = get-replicate l.slots s (unused l.generation) p there in
-      subst (λ (q : Place). SlotOk (facts (opening l) s q.generation) q) same (unused_ok l s (get_beside l.slots s (unused l.generation) p l.generation there));
+      subst (λ (q : SlotState). SlotOk (facts (opening l) s q.generation) q) same (unused_ok l s (get_beside l.slots s (unused l.generation) p l.generation there));
 }
 
 -- so every world that a run reaches has it
@@ -117,7 +117,7 @@ takes_own st (Closed s) turns = tt
 takes_own st (Retired s) turns = tt
 
 -- a worker's ticket is among those that name the slot's generation, as all are
-right_at : (st : State) (w : ℕ) (k : Actor) (s g : ℕ) → slice_get st.workers w ≡ Some k → right_tickets st s g + tried s k.doing ≤ tickets st s + tried_right s g k.doing
+right_at : (st : State) (w : ℕ) (k : WorkerState) (s g : ℕ) → slice_get st.workers w ≡ Some k → right_tickets st s g + tried s k.doing ≤ tickets st s + tried_right s g k.doing
 right_at st w k s g there =
     let a : total (names s g) st.ready ≤ total (of_slot s) st.ready = total_le (names s g) (of_slot s) st.ready (names_of_slot s g) in
     let b : total (names s g) st.hand ≤ total (of_slot s) st.hand = total_le (names s g) (of_slot s) st.hand (names_of_slot s g) in
@@ -125,7 +125,7 @@ right_at st w k s g there =
     let d : total (worker_right s g) st.workers + worker_tickets s k ≤ total (worker_tickets s) st.workers + worker_right s g k = total_le_at (worker_right s g) (worker_tickets s) st.workers w k (right_is_less s g) there in
     omega arith
 
-names_it : (st : State) (w : ℕ) (k : Actor) (t : Ticket) (p : Place) → slice_get st.workers w ≡ Some k → k.doing ≡ Tries t → slice_get st.slots t.slot ≡ Some p → Turns st → t.generation ≡ p.generation
+names_it : (st : State) (w : ℕ) (k : WorkerState) (t : Ticket) (p : SlotState) → slice_get st.workers w ≡ Some k → k.doing ≡ Tries t → slice_get st.slots t.slot ≡ Some p → Turns st → t.generation ≡ p.generation
 names_it st w k t p there does lies turns =
     let sv : SlotOk (facts st t.slot p.generation) p = turns.each t.slot p lies in
     let same : right_tickets st t.slot p.generation ≡ tickets st t.slot = sv.right in
@@ -144,12 +144,12 @@ mapped : {X Y : Type 0} (f : X → Y) (o : Option X) (y : Y) → option_map f o 
 mapped f None y h = absurd (cc)
 mapped f (Some x) y h = (x, refl)
 
-lies_at : (st : State) (s : ℕ) (p : Place) (c : Connection) → slice_get st.slots s ≡ Some p → p.connection ≡ Some c → connection_at st s ≡ Some c
+lies_at : (st : State) (s : ℕ) (p : SlotState) (c : Connection) → slice_get st.slots s ≡ Some p → p.connection ≡ Some c → connection_at st s ≡ Some c
 lies_at st s p c lies is = rw lies is
 
-claims_own : (st : State) (w : ℕ) (k : Actor) (d : Doing) (q : State) → slice_get st.workers w ≡ Some k → k.doing ≡ d → claim st w k d ≡ Some q → Turns st → ClaimsByOwnTicket st d
+claims_own : (st : State) (w : ℕ) (k : WorkerState) (d : Doing) (q : State) → slice_get st.workers w ≡ Some k → k.doing ≡ d → claim st w k d ≡ Some q → Turns st → ClaimsByOwnTicket st d
 claims_own st w k (Tries t) q there does made turns =
-    let found : (p : Place) × (slice_get st.slots t.slot ≡ Some p) = mapped (λ (p : Place). claimed st w k t.slot p) (slice_get st.slots t.slot) q made in
+    let found : (p : SlotState) × (slice_get st.slots t.slot ≡ Some p) = mapped (λ (p : SlotState). claimed st w k t.slot p) (slice_get st.slots t.slot) q made in
     let sv : SlotOk (facts st t.slot found.0.generation) found.0 = turns.each t.slot found.0 found.1 in
     let wait : Waiting found.0 = waiting st w k t found.0 there does found.1 turns in
     let has : (c : Connection) × (found.0.connection ≡ Some c) = there_is found.0.connection wait.lies in

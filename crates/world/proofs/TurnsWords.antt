@@ -14,7 +14,7 @@ use Rattle.kernel_model.specs.declared.both.Descriptors.{Descriptors}
 use Rattle.kernel_model.specs.declared.both.Sockets.{Sockets}
 use Rattle.kernel_model.specs.Outcome.{Told, Meets}
 use Rattle.kernel_model.specs.Kernel as kernel
-use Rattle.kernel_model.specs.Kernel.{Watcher}
+use Rattle.kernel_model.specs.Kernel.{KernelState}
 use Rattle.relay_core.specs.Pairs.{verdict, is_live}
 use Rattle.kernel_model.specs.Ends.{is_nonempty}
 use Rattle.world.specs.declared.connection.Connection.{Connection}
@@ -30,9 +30,9 @@ use Rattle.world.specs.declared.event.Polling.{Polling}
 use Rattle.world.specs.declared.event.Polling.TheVariants as polling
 use Rattle.world.specs.declared.event.Act.{Act}
 use Rattle.world.specs.declared.event.Act.TheVariants as act
-use Rattle.world.specs.Places.{Place, Actor, is_held}
+use Rattle.world.specs.Slots.{SlotState, WorkerState, is_held}
 use Rattle.world.specs.States.{State, is_entry}
-use Rattle.world.specs.Steps.{connection_at, over_kernel, watched_of, may_accept, after_accept, listen, with_note, brings_ticket, with_ticket, posted, post_at, delivered_at, delivered, put_by_poller, batched, opened_place, opened_world, opening_of, token_of, polled, is_limited, sweep, expired_place, expire, with_worker, with_place, doing, put_by_worker, popped, pop, claim, heard, take, Lodging, lodged_call, call, post, may_release, release, closed_world, close, retire, freed, free, acted, step}
+use Rattle.world.specs.Steps.{connection_at, over_kernel, watched_of, may_accept, after_accept, listen, with_note, brings_ticket, with_ticket, posted, post_at, delivered_at, delivered, put_by_poller, batched, opened_place, opened_world, opening_of, token_of, polled, is_limited, sweep, expired_place, expire, with_worker, with_place, doing, put_by_worker, popped, pop, claim, heard, take, OpenSlot, slot_call, call, post, may_release, release, closed_world, close, retire, freed, free, acted, step}
 use Rattle.world.specs.Support.{one, total, of_slot, tried, worker_tickets, tickets}
 use Rattle.world.specs.Words.{word_at, after_all, is_wake, count_wakes, claims, at_slot, delivery_steps, steps, WordMoves, WordsMove, WordsMoveInRuns}
 use Rattle.claims.specs.Words as words
@@ -57,7 +57,7 @@ untouched st next e all none same s p there = record {
   tickets = rw (none s) (let still : tickets next s ≡ tickets st s = same s in omega arith);
 }
 
-moves_at : (st next : State) (e : Event) (s i : ℕ) (p r old : Place) (kinds : List StepKind) → (s ≡ i) ⊎ (s ≢ i) → slice_get st.slots s ≡ Some p → next.slots ≡ slice_set st.slots s r → steps st e i ≡ at_slot i s kinds
+moves_at : (st next : State) (e : Event) (s i : ℕ) (p r old : SlotState) (kinds : List StepKind) → (s ≡ i) ⊎ (s ≢ i) → slice_get st.slots s ≡ Some p → next.slots ≡ slice_set st.slots s r → steps st e i ≡ at_slot i s kinds
     → word_at r ≡ after_all kinds (word_at p) → tickets next s + claims kinds ≡ tickets st s + count_wakes kinds (word_at p) → (s ≢ i → tickets next i ≡ tickets st i)
     → slice_get st.slots i ≡ Some old → WordMoves st next e i old
 moves_at st next e s i p r old kinds (inl same) there all made word count others here =
@@ -79,7 +79,7 @@ moves_at st next e s i p r old kinds (inr apart) there all made word count other
     }
 
 -- an event that makes steps at one slot
-touched : (st next : State) (e : Event) (s : ℕ) (p r : Place) (kinds : List StepKind) → slice_get st.slots s ≡ Some p → next.slots ≡ slice_set st.slots s r → ((i : ℕ) → steps st e i ≡ at_slot i s kinds)
+touched : (st next : State) (e : Event) (s : ℕ) (p r : SlotState) (kinds : List StepKind) → slice_get st.slots s ≡ Some p → next.slots ≡ slice_set st.slots s r → ((i : ℕ) → steps st e i ≡ at_slot i s kinds)
     → word_at r ≡ after_all kinds (word_at p) → tickets next s + claims kinds ≡ tickets st s + count_wakes kinds (word_at p) → ((i : ℕ) → s ≢ i → tickets next i ≡ tickets st i) → WordsMove st e next
 touched st next e s p r kinds there all made word count others i old here = moves_at st next e s i p r old kinds (cases_eq s i) there all (made i) word count (others i) here
 
@@ -91,15 +91,15 @@ none_here : (i s : ℕ) → [] ≡ at_slot i s []
 none_here i s = neither (s == i) []
 
 -- the tickets of slot i where worker w goes on from d to e
-tickets_on : (st : State) (w : ℕ) (k : Actor) (d e : Doing) (i : ℕ) → slice_get st.workers w ≡ Some k → k.doing ≡ d → total (worker_tickets i) (slice_set st.workers w (record k { doing = e })) + tried i d ≡ total (worker_tickets i) st.workers + tried i e
+tickets_on : (st : State) (w : ℕ) (k : WorkerState) (d e : Doing) (i : ℕ) → slice_get st.workers w ≡ Some k → k.doing ≡ d → total (worker_tickets i) (slice_set st.workers w (record k { doing = e })) + tried i d ≡ total (worker_tickets i) st.workers + tried i e
 tickets_on st w k d e i there does = (turned st w k d e i 0 there does).tickets
 
 -- the network, the kernel and the listener make no step
 
-over_words : (st : State) (e : Event) (o : Option Watcher) → ((s : ℕ) → steps st e s ≡ []) → Kept (WordsMove st e) (over_kernel st o)
+over_words : (st : State) (e : Event) (o : Option KernelState) → ((s : ℕ) → steps st e s ≡ []) → Kept (WordsMove st e) (over_kernel st o)
 over_words st e o none = kept_map _ o (λ k is. untouched st (record st { kernel = k }) e refl none (λ s. refl))
 
-accepted_words : (st : State) (reply : Accepting) (e : Event) (o : Option Watcher) → ((s : ℕ) → steps st e s ≡ []) → Kept (WordsMove st e) (over_kernel (after_accept st reply) o)
+accepted_words : (st : State) (reply : Accepting) (e : Event) (o : Option KernelState) → ((s : ℕ) → steps st e s ≡ []) → Kept (WordsMove st e) (over_kernel (after_accept st reply) o)
 accepted_words st Accepted e o none = kept_map _ o (λ k is. untouched st (record (after_accept st Accepted) { kernel = k }) e refl none (λ s. refl))
 accepted_words st Blocked e o none = kept_map _ o (λ k is. untouched st (record (after_accept st Blocked) { kernel = k }) e refl none (λ s. refl))
 accepted_words st Again e o none = kept_map _ o (λ k is. untouched st (record st { kernel = k }) e refl none (λ s. refl))
@@ -126,7 +126,7 @@ put_words st (t ∷ rest) e none is = kept_some (untouched st (record st { hand 
 one_longer : (xs : List ℕ) (g : ℕ) → length (xs ++ g ∷ []) ≡ suc (length xs)
 one_longer xs g = let more : length (xs ++ g ∷ []) ≡ length xs + 1 = length-append xs (g ∷ []) in omega arith
 
-noted_word : (p : Place) (g : ℕ) → word_at (with_note p g) ≡ after_all (words.post ∷ []) (word_at p)
+noted_word : (p : SlotState) (g : ℕ) → word_at (with_note p g) ≡ after_all (words.post ∷ []) (word_at p)
 noted_word p g = rw (one_longer p.notes g) refl
 
 -- the one step that makes a ticket
@@ -143,7 +143,7 @@ wakes_so true n = refl
 wakes_so false zero = refl
 wakes_so false (suc n) = rw (lt-ltb 0 (suc n) (omega arith)) refl
 
-posted_words : (st : State) (e : Event) (s g : ℕ) (p : Place) → ((i : ℕ) → steps st e i ≡ at_slot i s (words.post ∷ [])) → slice_get st.slots s ≡ Some p → WordsMove st e (posted st s g p)
+posted_words : (st : State) (e : Event) (s g : ℕ) (p : SlotState) → ((i : ℕ) → steps st e i ≡ at_slot i s (words.post ∷ [])) → slice_get st.slots s ≡ Some p → WordsMove st e (posted st s g p)
 posted_words st e s g p made there =
     let more : total (of_slot s) (with_ticket (brings_ticket p) s g st.hand) ≡ total (of_slot s) st.hand + one (brings_ticket p) = hand_own (of_slot s) (brings_ticket p) s g st.hand (one_same s) in
     let woken : one (is_wake (if words.wakes (word_at p) then words.wake else words.quiet)) ≡ one (brings_ticket p) = rw (wakes_so (is_held p.holder) (length p.notes)) (wake_once (brings_ticket p)) in
@@ -177,7 +177,7 @@ sweep_words st s = kept_when (is_limited st) _ (λ limited. kept_bind _ (slice_g
     kept_map _ (slice_get st.slots s) (λ p there. posted_words st (event.Poll (polling.Sweep s)) s g p (λ i. refl) there))))
 
 -- a slot is opened
-opened_words : (st : State) (e : Event) (s g : ℕ) (p : Place) (t : Told Watcher Descriptors) → ((i : ℕ) → steps st e i ≡ at_slot i s (words.adopt ∷ words.take ∷ words.post ∷ words.release ∷ [])) → slice_get st.slots s ≡ Some p → slice_get st.free 0 ≡ Some s → Turns st → WordsMove st e (opened_world st s g t)
+opened_words : (st : State) (e : Event) (s g : ℕ) (p : SlotState) (t : Told KernelState Descriptors) → ((i : ℕ) → steps st e i ≡ at_slot i s (words.adopt ∷ words.take ∷ words.post ∷ words.release ∷ [])) → slice_get st.slots s ≡ Some p → slice_get st.free 0 ≡ Some s → Turns st → WordsMove st e (opened_world st s g t)
 opened_words st e s g p t made there first turns =
     let f : FirstFree st s p = first_free st s p there first turns in
     let more : total (of_slot s) (st.hand ++ record { slot = s; generation = g } ∷ []) ≡ total (of_slot s) st.hand + one (s == s) = total_push (of_slot s) st.hand _ in
@@ -201,7 +201,7 @@ polled_words st polling.Put turns = put_words st st.hand (event.Poll polling.Put
 
 -- a worker: those acts that make no step
 
-worker_put_words : (st : State) (w : ℕ) (k : Actor) (hand : List Ticket) (e : Event) → ((s : ℕ) → steps st e s ≡ []) → slice_get st.workers w ≡ Some k → k.hand ≡ hand → Kept (WordsMove st e) (put_by_worker st w k hand)
+worker_put_words : (st : State) (w : ℕ) (k : WorkerState) (hand : List Ticket) (e : Event) → ((s : ℕ) → steps st e s ≡ []) → slice_get st.workers w ≡ Some k → k.hand ≡ hand → Kept (WordsMove st e) (put_by_worker st w k hand)
 worker_put_words st w k [] e none there is = kept_none
 worker_put_words st w k (t ∷ rest) e none there is = kept_some (untouched st (with_worker (record st { ready = st.ready ++ t ∷ [] }) w (record k { hand = rest })) e refl none (λ s.
     let r : Replaced st w k (record k { hand = rest }) s 0 = replaced st w k (record k { hand = rest }) s 0 there in
@@ -209,14 +209,14 @@ worker_put_words st w k (t ∷ rest) e none there is = kept_some (untouched st (
     let had : total (of_slot s) k.hand ≡ of_slot s t + total (of_slot s) rest = ap (total (of_slot s)) is in
     omega arith))
 
-popped_words : (st : State) (w : ℕ) (k : Actor) (ready : List Ticket) (e : Event) → ((s : ℕ) → steps st e s ≡ []) → slice_get st.workers w ≡ Some k → k.doing ≡ Idle → st.ready ≡ ready → Kept (WordsMove st e) (popped st w k ready)
+popped_words : (st : State) (w : ℕ) (k : WorkerState) (ready : List Ticket) (e : Event) → ((s : ℕ) → steps st e s ≡ []) → slice_get st.workers w ≡ Some k → k.doing ≡ Idle → st.ready ≡ ready → Kept (WordsMove st e) (popped st w k ready)
 popped_words st w k [] e none there idle is = kept_none
 popped_words st w k (t ∷ rest) e none there idle is = kept_some (untouched st (doing (record st { ready = rest }) w k (Tries t)) e refl none (λ s.
     let r : total (worker_tickets s) (slice_set st.workers w (record k { doing = Tries t })) + tried s Idle ≡ total (worker_tickets s) st.workers + tried s (Tries t) = tickets_on st w k Idle (Tries t) s there idle in
     let had : total (of_slot s) st.ready ≡ of_slot s t + total (of_slot s) rest = ap (total (of_slot s)) is in
     omega arith))
 
-pop_words : (st : State) (w : ℕ) (k : Actor) (d : Doing) (e : Event) → ((s : ℕ) → steps st e s ≡ []) → slice_get st.workers w ≡ Some k → k.doing ≡ d → Kept (WordsMove st e) (pop st w k d)
+pop_words : (st : State) (w : ℕ) (k : WorkerState) (d : Doing) (e : Event) → ((s : ℕ) → steps st e s ≡ []) → slice_get st.workers w ≡ Some k → k.doing ≡ d → Kept (WordsMove st e) (pop st w k d)
 pop_words st w k Idle e none there does = kept_when (length k.hand == 0) (popped st w k st.ready) (λ empty. popped_words st w k st.ready e none there does refl)
 pop_words st w k (Tries t) e none there does = kept_none
 pop_words st w k (Holds s left) e none there does = kept_none
@@ -224,15 +224,15 @@ pop_words st w k (Closed s) e none there does = kept_none
 pop_words st w k (Retired s) e none there does = kept_none
 
 -- the slot's notes and holder stay
-stays_word : (st next : State) (e : Event) (s : ℕ) (p r : Place) → slice_get st.slots s ≡ Some p → next.slots ≡ slice_set st.slots s r → ((i : ℕ) → steps st e i ≡ []) → r.notes ≡ p.notes → r.holder ≡ p.holder → ((i : ℕ) → tickets next i ≡ tickets st i) → WordsMove st e next
+stays_word : (st next : State) (e : Event) (s : ℕ) (p r : SlotState) → slice_get st.slots s ≡ Some p → next.slots ≡ slice_set st.slots s r → ((i : ℕ) → steps st e i ≡ []) → r.notes ≡ p.notes → r.holder ≡ p.holder → ((i : ℕ) → tickets next i ≡ tickets st i) → WordsMove st e next
 stays_word st next e s p r there all none notes holder same = touched st next e s p r [] there all (λ i. none i ∙ none_here i s) (rw (notes, holder) refl) (let still : tickets next s ≡ tickets st s = same s in omega arith) (λ i apart. same i)
 
-call_words : (laws : CoreLaws) (st : State) (w : ℕ) (k : Actor) (d : Doing) (r : Reply) (e : Event) → ((s : ℕ) → steps st e s ≡ []) → slice_get st.workers w ≡ Some k → k.doing ≡ d → Kept (WordsMove st e) (call st w k d r)
+call_words : (laws : CoreLaws) (st : State) (w : ℕ) (k : WorkerState) (d : Doing) (r : Reply) (e : Event) → ((s : ℕ) → steps st e s ≡ []) → slice_get st.workers w ≡ Some k → k.doing ≡ d → Kept (WordsMove st e) (call st w k d r)
 call_words laws st w k (Holds s left) r e none there does = kept_when (nat_lt 0 left) (option_and_then
-    (λ (p : Place). option_map
-    (λ (l : Lodging). doing (with_place (record st { kernel = l.kernel }) s l.place) w k (Holds s (left - 1)))
-    (lodged_call st.second (record { kernel = st.kernel; place = p }) r))
-    (slice_get st.slots s)) (λ some. kept_bind _ (slice_get st.slots s) (λ p lies. kept_then (λ (l : Lodging). doing (with_place (record st { kernel = l.kernel }) s l.place) w k (Holds s (left - 1))) (lodged_call st.second (record { kernel = st.kernel; place = p }) r)
+    (λ (p : SlotState). option_map
+    (λ (l : OpenSlot). doing (with_place (record st { kernel = l.kernel }) s l.place) w k (Holds s (left - 1)))
+    (slot_call st.second (record { kernel = st.kernel; place = p }) r))
+    (slice_get st.slots s)) (λ some. kept_bind _ (slice_get st.slots s) (λ p lies. kept_then (λ (l : OpenSlot). doing (with_place (record st { kernel = l.kernel }) s l.place) w k (Holds s (left - 1))) (slot_call st.second (record { kernel = st.kernel; place = p }) r)
     (λ l stays. stays_word st (doing (with_place (record st { kernel = l.kernel }) s l.place) w k (Holds s (left - 1))) e s p l.place lies refl none stays.notes stays.holder (λ i.
     let m : total (worker_tickets i) (slice_set st.workers w (record k { doing = Holds s (left - 1) })) + tried i (Holds s left) ≡ total (worker_tickets i) st.workers + tried i (Holds s (left - 1)) = tickets_on st w k (Holds s left) (Holds s (left - 1)) i there does in
     omega arith)) (lodged_stays laws st.second (record { kernel = st.kernel; place = p }) r)))
@@ -242,17 +242,17 @@ call_words laws st w k (Closed s) r e none there does = kept_none
 call_words laws st w k (Retired s) r e none there does = kept_none
 
 expire_words : (st : State) (d : Doing) (e : Event) → ((s : ℕ) → steps st e s ≡ []) → Kept (WordsMove st e) (expire st d)
-expire_words st (Holds s left) e none = kept_bind _ (slice_get st.slots s) (λ p lies. kept_then (λ (q : Place). with_place st s q) (expired_place st.second st.limits.idle p)
-    (λ q x. stays_word st (with_place st s q) e s p q lies refl none (ap (λ (r : Place). r.notes) x.is) (ap (λ (r : Place). r.holder) x.is) (λ i. refl))
+expire_words st (Holds s left) e none = kept_bind _ (slice_get st.slots s) (λ p lies. kept_then (λ (q : SlotState). with_place st s q) (expired_place st.second st.limits.idle p)
+    (λ q x. stays_word st (with_place st s q) e s p q lies refl none (ap (λ (r : SlotState). r.notes) x.is) (ap (λ (r : SlotState). r.holder) x.is) (λ i. refl))
     (expired_so st.second st.limits.idle p))
 expire_words st Idle e none = kept_none
 expire_words st (Tries t) e none = kept_none
 expire_words st (Closed s) e none = kept_none
 expire_words st (Retired s) e none = kept_none
 
-close_words : (st : State) (w : ℕ) (k : Actor) (d : Doing) (e : Event) → ((s : ℕ) → steps st e s ≡ []) → slice_get st.workers w ≡ Some k → k.doing ≡ d → Kept (WordsMove st e) (close st w k d)
+close_words : (st : State) (w : ℕ) (k : WorkerState) (d : Doing) (e : Event) → ((s : ℕ) → steps st e s ≡ []) → slice_get st.workers w ≡ Some k → k.doing ≡ d → Kept (WordsMove st e) (close st w k d)
 close_words st w k (Holds s left) e none there does = kept_bind _ (slice_get st.slots s) (λ p lies. kept_bind _ p.connection (λ c is. kept_when (not (is_live (verdict c.pair)))
-    (option_map (λ (t : Told Watcher Sockets). closed_world st w k s p c t) (kernel.close_both st.kernel c.ends))
+    (option_map (λ (t : Told KernelState Sockets). closed_world st w k s p c t) (kernel.close_both st.kernel c.ends))
     (λ dead. kept_map _ (kernel.close_both st.kernel c.ends) (λ t both. stays_word st (closed_world st w k s p c t) e s p (record p { connection = None }) lies refl none refl refl (λ i.
     let m : total (worker_tickets i) (slice_set st.workers w (record k { doing = Closed s })) + tried i (Holds s left) ≡ total (worker_tickets i) st.workers + tried i (Closed s) = tickets_on st w k (Holds s left) (Closed s) i there does in
     omega arith)))))
@@ -261,7 +261,7 @@ close_words st w k (Tries t) e none there does = kept_none
 close_words st w k (Closed s) e none there does = kept_none
 close_words st w k (Retired s) e none there does = kept_none
 
-free_words : (st : State) (w : ℕ) (k : Actor) (d : Doing) (e : Event) → ((s : ℕ) → steps st e s ≡ []) → slice_get st.workers w ≡ Some k → k.doing ≡ d → Kept (WordsMove st e) (free st w k d)
+free_words : (st : State) (w : ℕ) (k : WorkerState) (d : Doing) (e : Event) → ((s : ℕ) → steps st e s ≡ []) → slice_get st.workers w ≡ Some k → k.doing ≡ d → Kept (WordsMove st e) (free st w k d)
 free_words st w k (Retired s) e none there does = kept_map _ (slice_get st.slots s) (λ p lies. untouched st (doing (record st { free = freed st.free s p }) w k Idle) e refl none (λ i.
     let m : total (worker_tickets i) (slice_set st.workers w (record k { doing = Idle })) + tried i (Retired s) ≡ total (worker_tickets i) st.workers + tried i Idle = tickets_on st w k (Retired s) Idle i there does in
     omega arith))
@@ -272,7 +272,7 @@ free_words st w k (Closed s) e none there does = kept_none
 
 -- and those that make one
 
-claim_words : (st : State) (w : ℕ) (k : Actor) (d : Doing) → slice_get st.workers w ≡ Some k → k.doing ≡ d → Turns st → Kept (WordsMove st (event.Work w act.Claim)) (claim st w k d)
+claim_words : (st : State) (w : ℕ) (k : WorkerState) (d : Doing) → slice_get st.workers w ≡ Some k → k.doing ≡ d → Turns st → Kept (WordsMove st (event.Work w act.Claim)) (claim st w k d)
 claim_words st w k (Tries t) there does turns = kept_map _ (slice_get st.slots t.slot) (λ p lies.
     let wait : Waiting p = waiting st w k t p there does lies turns in
     let none : is_held p.holder ≡ false = rw wait.holder refl in
@@ -287,15 +287,15 @@ claim_words st w k (Holds s left) there does turns = kept_none
 claim_words st w k (Closed s) there does turns = kept_none
 claim_words st w k (Retired s) there does turns = kept_none
 
-take_words : (st : State) (w : ℕ) (k : Actor) (d : Doing) → slice_get st.workers w ≡ Some k → k.doing ≡ d → Kept (WordsMove st (event.Work w act.Take)) (take st d)
-take_words st w k (Holds s left) there does = kept_bind _ (slice_get st.slots s) (λ p lies. kept_map_map (λ (q : Place). with_place st s q) (λ (c : Connection). record p { notes = []; connection = Some (heard c p.notes) }) p.connection (λ c is.
+take_words : (st : State) (w : ℕ) (k : WorkerState) (d : Doing) → slice_get st.workers w ≡ Some k → k.doing ≡ d → Kept (WordsMove st (event.Work w act.Take)) (take st d)
+take_words st w k (Holds s left) there does = kept_bind _ (slice_get st.slots s) (λ p lies. kept_map_map (λ (q : SlotState). with_place st s q) (λ (c : Connection). record p { notes = []; connection = Some (heard c p.notes) }) p.connection (λ c is.
     touched st (with_place st s (record p { notes = []; connection = Some (heard c p.notes) })) (event.Work w act.Take) s p (record p { notes = []; connection = Some (heard c p.notes) }) (words.take ∷ []) lies refl (λ i. rw (there, does) refl) refl refl (λ i apart. refl)))
 take_words st w k Idle there does = kept_none
 take_words st w k (Tries t) there does = kept_none
 take_words st w k (Closed s) there does = kept_none
 take_words st w k (Retired s) there does = kept_none
 
-post_words : (st : State) (w : ℕ) (k : Actor) (d : Doing) → slice_get st.workers w ≡ Some k → k.doing ≡ d → Turns st → Kept (WordsMove st (event.Work w act.Post)) (post st d)
+post_words : (st : State) (w : ℕ) (k : WorkerState) (d : Doing) → slice_get st.workers w ≡ Some k → k.doing ≡ d → Turns st → Kept (WordsMove st (event.Work w act.Post)) (post st d)
 post_words st w k (Holds s left) there does turns = kept_bind _ (slice_get st.slots s) (λ p lies. kept_bind _ p.connection (λ c is. kept_guard (is_live (verdict c.pair)) (with_place st s (with_note p c.pair.generation)) (λ live.
     let h : Held (facts st s p.generation) p true = held_by st w k s left p there does lies turns in
     touched st (with_place st s (with_note p c.pair.generation)) (event.Work w act.Post) s p (with_note p c.pair.generation) (words.post ∷ []) lies refl (λ i. rw (there, does) refl) (noted_word p c.pair.generation) (rw h.held refl) (λ i apart. refl))))
@@ -304,7 +304,7 @@ post_words st w k (Tries t) there does turns = kept_none
 post_words st w k (Closed s) there does turns = kept_none
 post_words st w k (Retired s) there does turns = kept_none
 
-released_words : (st : State) (w : ℕ) (k : Actor) (s left : ℕ) (p : Place) → slice_get st.workers w ≡ Some k → k.doing ≡ Holds s left → slice_get st.slots s ≡ Some p → Turns st
+released_words : (st : State) (w : ℕ) (k : WorkerState) (s left : ℕ) (p : SlotState) → slice_get st.workers w ≡ Some k → k.doing ≡ Holds s left → slice_get st.slots s ≡ Some p → Turns st
     → WordsMove st (event.Work w act.Release) (with_worker (with_place st s (record p { holder = Nobody })) w (record { doing = Idle; hand = with_ticket (is_nonempty p.notes) s p.generation k.hand }))
 released_words st w k s left p there does lies turns =
     let h : Held (facts st s p.generation) p true = held_by st w k s left p there does lies turns in
@@ -318,7 +318,7 @@ released_words st w k s left p there does lies turns =
     let x : total (of_slot i) (with_ticket (is_nonempty p.notes) s p.generation k.hand) ≡ total (of_slot i) k.hand = hand_other (of_slot i) (is_nonempty p.notes) s p.generation k.hand (one_other s i apart) in
     omega arith)
 
-release_words : (st : State) (w : ℕ) (k : Actor) (d : Doing) → slice_get st.workers w ≡ Some k → k.doing ≡ d → Turns st → Kept (WordsMove st (event.Work w act.Release)) (release st w k d)
+release_words : (st : State) (w : ℕ) (k : WorkerState) (d : Doing) → slice_get st.workers w ≡ Some k → k.doing ≡ d → Turns st → Kept (WordsMove st (event.Work w act.Release)) (release st w k d)
 release_words st w k (Holds s left) there does turns = kept_bind _ (slice_get st.slots s) (λ p lies. kept_bind _ p.connection (λ c is. kept_guard (may_release c (is_nonempty p.notes))
     (with_worker (with_place st s (record p { holder = Nobody })) w (record { doing = Idle; hand = with_ticket (is_nonempty p.notes) s p.generation k.hand }))
     (λ may. released_words st w k s left p there does lies turns)))
@@ -327,7 +327,7 @@ release_words st w k (Tries t) there does turns = kept_none
 release_words st w k (Closed s) there does turns = kept_none
 release_words st w k (Retired s) there does turns = kept_none
 
-retire_words : (st : State) (w : ℕ) (k : Actor) (d : Doing) → slice_get st.workers w ≡ Some k → k.doing ≡ d → Turns st → Kept (WordsMove st (event.Work w act.Retire)) (retire st w k d)
+retire_words : (st : State) (w : ℕ) (k : WorkerState) (d : Doing) → slice_get st.workers w ≡ Some k → k.doing ≡ d → Turns st → Kept (WordsMove st (event.Work w act.Retire)) (retire st w k d)
 retire_words st w k (Closed s) there does turns = kept_map _ (slice_get st.slots s) (λ p lies.
     let h : Held (facts st s p.generation) p false = closed_by st w k s p there does lies turns in
     let on : (i : ℕ) → tickets (doing (with_place st s (record p { holder = Free })) w k (Retired s)) i ≡ tickets st i = λ i.
@@ -339,7 +339,7 @@ retire_words st w k (Tries t) there does turns = kept_none
 retire_words st w k (Holds s left) there does turns = kept_none
 retire_words st w k (Retired s) there does turns = kept_none
 
-acted_words : (laws : CoreLaws) (st : State) (w : ℕ) (k : Actor) (a : Act) → slice_get st.workers w ≡ Some k → Turns st → Kept (WordsMove st (event.Work w a)) (acted st w k a)
+acted_words : (laws : CoreLaws) (st : State) (w : ℕ) (k : WorkerState) (a : Act) → slice_get st.workers w ≡ Some k → Turns st → Kept (WordsMove st (event.Work w a)) (acted st w k a)
 acted_words laws st w k act.Put there turns = worker_put_words st w k k.hand (event.Work w act.Put) (λ i. rw there refl) there refl
 acted_words laws st w k act.Pop there turns = pop_words st w k k.doing (event.Work w act.Pop) (λ i. rw there refl) there refl
 acted_words laws st w k act.Claim there turns = claim_words st w k k.doing there refl turns

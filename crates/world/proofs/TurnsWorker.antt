@@ -6,7 +6,7 @@ use Rattle.world.specs.declared.actors.Holder.{Holder}
 use Rattle.world.specs.declared.actors.Holder.TheVariants.{Nobody, By, Free}
 use Rattle.world.specs.declared.actors.Doing.{Doing}
 use Rattle.world.specs.declared.actors.Doing.TheVariants.{Idle, Tries, Holds, Closed, Retired}
-use Rattle.world.specs.Places.{Place, Actor, is_held}
+use Rattle.world.specs.Slots.{SlotState, WorkerState, is_held}
 use Rattle.world.specs.States.{State}
 use Rattle.world.specs.Steps.{with_worker, with_place, doing, put_by_worker, popped, pop, claim}
 use Rattle.world.specs.Support.{one, total, of_slot, tried, worker_tickets, tickets}
@@ -16,7 +16,7 @@ use Rattle.world.proofs.TurnsFacts.{Facts, facts, SlotOk, Turns, keep_slots, kee
 use Rattle.world.proofs.TurnsPoller.{right_within}
 
 -- its first ticket goes from a worker to the ready queue
-pub put_turns : (st : State) (w : ℕ) (k : Actor) (hand : List Ticket) → slice_get st.workers w ≡ Some k → k.hand ≡ hand → Turns st → Kept Turns (put_by_worker st w k hand)
+pub put_turns : (st : State) (w : ℕ) (k : WorkerState) (hand : List Ticket) → slice_get st.workers w ≡ Some k → k.hand ≡ hand → Turns st → Kept Turns (put_by_worker st w k hand)
 put_turns st w k [] there is turns = kept_none
 put_turns st w k (t ∷ rest) there is turns = kept_some (keep_slots st (with_worker (record st { ready = st.ready ++ t ∷ [] }) w (record k { hand = rest })) refl (λ s g.
     let r : Replaced st w k (record k { hand = rest }) s g = replaced st w k (record k { hand = rest }) s g there in record {
@@ -31,7 +31,7 @@ put_turns st w k (t ∷ rest) there is turns = kept_some (keep_slots st (with_wo
     }) turns)
 
 -- a ticket goes from the ready queue to a worker
-popped_turns : (st : State) (w : ℕ) (k : Actor) (ready : List Ticket) → slice_get st.workers w ≡ Some k → k.doing ≡ Idle → st.ready ≡ ready → Turns st → Kept Turns (popped st w k ready)
+popped_turns : (st : State) (w : ℕ) (k : WorkerState) (ready : List Ticket) → slice_get st.workers w ≡ Some k → k.doing ≡ Idle → st.ready ≡ ready → Turns st → Kept Turns (popped st w k ready)
 popped_turns st w k [] there idle is turns = kept_none
 popped_turns st w k (t ∷ rest) there idle is turns = kept_some (keep_slots st (doing (record st { ready = rest }) w k (Tries t)) refl (λ s g.
     let r : Turned st w k Idle (Tries t) s g = turned st w k Idle (Tries t) s g there idle in record {
@@ -45,7 +45,7 @@ popped_turns st w k (t ∷ rest) there idle is turns = kept_some (keep_slots st 
       gone = omega arith;
     }) turns)
 
-pub pop_turns : (st : State) (w : ℕ) (k : Actor) (d : Doing) → slice_get st.workers w ≡ Some k → k.doing ≡ d → Turns st → Kept Turns (pop st w k d)
+pub pop_turns : (st : State) (w : ℕ) (k : WorkerState) (d : Doing) → slice_get st.workers w ≡ Some k → k.doing ≡ d → Turns st → Kept Turns (pop st w k d)
 pop_turns st w k Idle there does turns = kept_when (length k.hand == 0) (popped st w k st.ready) (λ none. popped_turns st w k st.ready there does refl turns)
 pop_turns st w k (Tries t) there does turns = kept_none
 pop_turns st w k (Holds s left) there does turns = kept_none
@@ -55,7 +55,7 @@ pop_turns st w k (Retired s) there does turns = kept_none
 -- a ticket is claimed
 
 -- a slot of which there is a ticket is held by nobody, and has notes
-pub record Waiting (p : Place) : Type 0 where
+pub record Waiting (p : SlotState) : Type 0 where
   pub holder : p.holder ≡ Nobody
   pub some : is_nonempty p.notes ≡ true
   pub lies : is_some p.connection ≡ true
@@ -70,7 +70,7 @@ unheld false true h = (refl, refl)
 unheld false false h = absurd (omega arith)
 unheld true some h = absurd (omega arith)
 
-waiting_for : (f : Facts) (p : Place) → SlotOk f p → 1 ≤ f.tickets → Waiting p
+waiting_for : (f : Facts) (p : SlotState) → SlotOk f p → 1 ≤ f.tickets → Waiting p
 waiting_for f p sv some =
     let count : f.tickets ≡ one (not (is_held p.holder) && is_nonempty p.notes) = sv.tickets in
     let parts : (is_held p.holder ≡ false) × (is_nonempty p.notes ≡ true) = unheld (is_held p.holder) (is_nonempty p.notes) (omega arith) in
@@ -81,7 +81,7 @@ waiting_for f p sv some =
       lies = rw none at sv.shape;
     }
 
-pub waiting : (st : State) (w : ℕ) (k : Actor) (t : Ticket) (p : Place) → slice_get st.workers w ≡ Some k → k.doing ≡ Tries t → slice_get st.slots t.slot ≡ Some p → Turns st → Waiting p
+pub waiting : (st : State) (w : ℕ) (k : WorkerState) (t : Ticket) (p : SlotState) → slice_get st.workers w ≡ Some k → k.doing ≡ Tries t → slice_get st.slots t.slot ≡ Some p → Turns st → Waiting p
 waiting st w k t p there does lies turns =
     let sv : SlotOk (facts st t.slot p.generation) p = turns.each t.slot p lies in
     let least : worker_tickets t.slot k ≤ total (worker_tickets t.slot) st.workers = total_at (worker_tickets t.slot) st.workers w k there in
@@ -89,7 +89,7 @@ waiting st w k t p there does lies turns =
     let this : one (t.slot == t.slot) ≡ 1 = one_same t.slot in
     waiting_for (facts st t.slot p.generation) p sv (omega arith)
 
-claimed_turns : (st : State) (w : ℕ) (k : Actor) (t : Ticket) (p : Place) → slice_get st.workers w ≡ Some k → k.doing ≡ Tries t → slice_get st.slots t.slot ≡ Some p → Turns st → Turns (doing (with_place st t.slot (record p { holder = By w })) w k (Holds t.slot st.limits.budget))
+claimed_turns : (st : State) (w : ℕ) (k : WorkerState) (t : Ticket) (p : SlotState) → slice_get st.workers w ≡ Some k → k.doing ≡ Tries t → slice_get st.slots t.slot ≡ Some p → Turns st → Turns (doing (with_place st t.slot (record p { holder = By w })) w k (Holds t.slot st.limits.budget))
 claimed_turns st w k t p there does lies turns =
     let sv : SlotOk (facts st t.slot p.generation) p = turns.each t.slot p lies in
     let wait : Waiting p = waiting st w k t p there does lies turns in
@@ -119,7 +119,7 @@ claimed_turns st w k t p there does lies turns =
       };
     }) turns
 
-pub claim_turns : (st : State) (w : ℕ) (k : Actor) (d : Doing) → slice_get st.workers w ≡ Some k → k.doing ≡ d → Turns st → Kept Turns (claim st w k d)
+pub claim_turns : (st : State) (w : ℕ) (k : WorkerState) (d : Doing) → slice_get st.workers w ≡ Some k → k.doing ≡ d → Turns st → Kept Turns (claim st w k d)
 claim_turns st w k (Tries t) there does turns = kept_map _ (slice_get st.slots t.slot) (λ p lies.
     let wait : Waiting p = waiting st w k t p there does lies turns in
     let none : is_held p.holder ≡ false = rw wait.holder refl in

@@ -3,10 +3,10 @@ use Rattle.std.specs.Prelude.{◌≡◌, Bool, [], Option, Some, None, IsSome, I
 use Rattle.kernel_model.specs.declared.refusal.Refusal.{Refusal}
 use Rattle.kernel_model.specs.declared.refusal.Refusal.TheVariants.{NotAllowed, NoMemory}
 use Rattle.world.specs.declared.actors.Doing.{Doing}
-use Rattle.world.specs.Places.{Actor}
+use Rattle.world.specs.Slots.{WorkerState}
 
 -- a worker that is about this, and has no ticket to put
-abbrev pub busy : Doing → Actor
+abbrev pub busy : Doing → WorkerState
 busy d = record { doing = d; hand = [] }
 
 -- the call made the value that is defined, or was refused and left the old one; only where it may need memory was that

@@ -6,7 +6,7 @@ use Rattle.kernel_model.specs.declared.reply.Reply.{Reply}
 use Rattle.kernel_model.specs.declared.reply.Reply.TheVariants as reply
 use Rattle.kernel_model.specs.declared.both.Descriptors.{Descriptors}
 use Rattle.kernel_model.specs.Replies.{bytes_read}
-use Rattle.kernel_model.specs.Kernel.{Watcher, Registered, end_at, read, write, join, shut}
+use Rattle.kernel_model.specs.Kernel.{KernelState, Registered, end_at, read, write, join, shut}
 use Rattle.relay_core.specs.declared.call.Call.{Call}
 use Rattle.relay_core.specs.declared.call.Call.TheVariants.{Write, Join, Shut, Read}
 use Rattle.relay_core.specs.Order.{next_call, offer}
@@ -19,8 +19,8 @@ abbrev pub when : {X : Type 0} → Bool → Option X → Option X
 when allowed o = if allowed then o else None
 
 -- a connection, and the kernel that has its ends
-pub record Line : Type 0 where
-  pub kernel : Watcher
+pub record OpenConnection : Type 0 where
+  pub kernel : KernelState
   pub connection : Connection
 
 -- the descriptor of one side
@@ -40,28 +40,28 @@ plain reply.Interrupted = Some answer.Interrupted
 plain (reply.Failed kind) = Some (answer.Failed kind)
 
 -- what the pair is told of a reply: with the bytes that a read handed over
-abbrev pub told_of : Line → Call → Reply → Option answer.AnswerValue
+abbrev pub told_of : OpenConnection → Call → Reply → Option answer.AnswerValue
 told_of l (Read side most) (reply.Bytes n) =
     option_map (λ (bytes : List ℕ). answer.Bytes bytes)
     (option_and_then (λ (r : Registered). bytes_read r.socket most n) (end_at l.kernel.ends (descriptor l.connection.ends side)))
 told_of l call r = plain r
 
 -- the kernel after the call, where it may reply so
-abbrev pub made : Line → Call → Reply → Option Watcher
+abbrev pub made : OpenConnection → Call → Reply → Option KernelState
 made l (Read side most) r = read l.kernel (descriptor l.connection.ends side) most r
 made l (Write side) r = write l.kernel (descriptor l.connection.ends side) (offer l.connection.pair side) r
 made l (Join side) r = join l.kernel (descriptor l.connection.ends side) r
 made l (Shut side) r = shut l.kernel (descriptor l.connection.ends side) r
 
 -- one call with its reply at the second `now`: the kernel may reply so, and the pair takes it in
-abbrev pub replied : ℕ → Line → Call → Reply → Option Line
+abbrev pub replied : ℕ → OpenConnection → Call → Reply → Option OpenConnection
 replied now l call r = option_and_then
     (λ (t : answer.AnswerValue). when (fits l.connection.pair call t)
     (option_map
-    (λ (k : Watcher). record { kernel = k; connection = record l.connection { pair = after now l.connection.pair call t } })
+    (λ (k : KernelState). record { kernel = k; connection = record l.connection { pair = after now l.connection.pair call t } })
     (made l call r)))
     (told_of l call r)
 
 -- the same for the connection's next call; without one, no reply can come
-unfoldable pub called : ℕ → Line → Reply → Option Line
+unfoldable pub called : ℕ → OpenConnection → Reply → Option OpenConnection
 called now l r = option_and_then (λ (call : Call). replied now l call r) (next_call l.connection.pair)

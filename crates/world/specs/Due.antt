@@ -8,14 +8,14 @@ use Rattle.token.specs.declared.name.Name.TheVariants.{Listener, Waker, End}
 use Rattle.token.specs.Sides.{source, destination}
 use Rattle.flow.specs.Stream.{Stream}
 use Rattle.kernel_model.specs.Ends.{is_readable, is_writable}
-use Rattle.kernel_model.specs.Kernel.{Watcher, Registered, end_at}
+use Rattle.kernel_model.specs.Kernel.{KernelState, Registered, end_at}
 use Rattle.relay_core.specs.Pairs.{stream_of, is_joined, verdict, is_live}
 use Rattle.relay_core.specs.Order.{is_waiting, is_drained}
 use Rattle.world.specs.declared.connection.Connection.{Connection}
 use Rattle.world.specs.declared.actors.Ticket.{Ticket}
 use Rattle.world.specs.declared.actors.Doing.{Doing}
 use Rattle.world.specs.declared.actors.Doing.TheVariants.{Tries}
-use Rattle.world.specs.Places.{Place, Actor, is_by_worker}
+use Rattle.world.specs.Slots.{SlotState, WorkerState, is_by_worker}
 use Rattle.world.specs.States.{State}
 use Rattle.world.specs.Calls.{descriptor}
 
@@ -34,14 +34,14 @@ abbrev pub has_place : ℕ → Stream → Bool
 has_place r stream = not stream.end_seen && nat_lt (length stream.ring) r
 
 -- one direction could move: bytes or an end could come in, bytes could go out, or the end could be passed on
-abbrev pub flows : ℕ → Watcher → Connection → Direction → Bool
+abbrev pub flows : ℕ → KernelState → Connection → Direction → Bool
 flows r k c d =
     (has_place r (stream_of c.pair d) && gives (end_at k.ends (descriptor c.ends (source d))))
     || ((is_waiting (stream_of c.pair d) && takes (end_at k.ends (descriptor c.ends (destination d))))
     || (is_drained (stream_of c.pair d) && (is_joined c.pair (destination d) || takes (end_at k.ends (descriptor c.ends (destination d))))))
 
 -- a connection could move: it is done or failed and to be closed, or one of its directions could
-abbrev pub moves : ℕ → Watcher → Connection → Bool
+abbrev pub moves : ℕ → KernelState → Connection → Bool
 moves r k c = not (is_live (verdict c.pair)) || (flows r k c Up || flows r k c Down)
 
 -- the name is that of one of the two ends of this slot's connection of this generation
@@ -58,7 +58,7 @@ tries s g (Tries t) = is_ticket s g t
 tries s g d = false
 
 -- a worker has a ticket for it
-abbrev pub has_ticket : ℕ → ℕ → Actor → Bool
+abbrev pub has_ticket : ℕ → ℕ → WorkerState → Bool
 has_ticket s g k = tries s g k.doing || list_any (is_ticket s g) k.hand
 
 -- a report of it is queued or in the batch
@@ -69,11 +69,11 @@ is_reported st s g = list_any (is_report s g) st.kernel.queue || list_any (is_re
 abbrev pub is_ticketed : State → ℕ → ℕ → Bool
 is_ticketed st s g = list_any (is_ticket s g) st.ready || (list_any (is_ticket s g) st.hand || list_any (has_ticket s g) st.workers)
 
-abbrev pub moves_if_any : ℕ → Watcher → Option Connection → Bool
+abbrev pub moves_if_any : ℕ → KernelState → Option Connection → Bool
 moves_if_any r k None = false
 moves_if_any r k (Some c) = moves r k c
 
-abbrev pub movable_at : State → Option Place → Bool
+abbrev pub movable_at : State → Option SlotState → Bool
 movable_at st None = false
 movable_at st (Some p) = moves_if_any st.limits.ring st.kernel p.connection
 
@@ -81,11 +81,11 @@ movable_at st (Some p) = moves_if_any st.limits.ring st.kernel p.connection
 abbrev pub movable : State → ℕ → Bool
 movable st s = movable_at st (slice_get st.slots s)
 
-abbrev pub due_place : State → ℕ → Place → Option Connection → Bool
+abbrev pub due_place : State → ℕ → SlotState → Option Connection → Bool
 due_place st s p None = false
 due_place st s p (Some c) = is_by_worker p.holder || (is_reported st s c.pair.generation || is_ticketed st s c.pair.generation)
 
-abbrev pub due_at : State → ℕ → Option Place → Bool
+abbrev pub due_at : State → ℕ → Option SlotState → Bool
 due_at st s None = false
 due_at st s (Some p) = due_place st s p p.connection
 

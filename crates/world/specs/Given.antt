@@ -5,12 +5,12 @@ use Rattle.token.specs.Sides.{side_number}
 use Rattle.world.specs.declared.event.Event.{Event}
 use Rattle.world.specs.declared.event.Event.TheVariants as event
 use Rattle.world.specs.declared.event.Change.TheVariants.{Arrive}
-use Rattle.world.specs.Places.{Place}
+use Rattle.world.specs.Slots.{SlotState}
 use Rattle.world.specs.States.{State}
 use Rattle.world.specs.Steps.{step}
 
 -- the slot has this generation
-abbrev pub has_generation : Option Place → ℕ → Bool
+abbrev pub has_generation : Option SlotState → ℕ → Bool
 has_generation None g = false
 has_generation (Some p) g = p.generation == g
 

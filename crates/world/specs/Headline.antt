@@ -13,7 +13,7 @@ use Rattle.flow.specs.Stream.{Stream}
 use Rattle.kernel_model.specs.declared.both.Sockets.{Sockets}
 use Rattle.kernel_model.specs.declared.reply.Reply.{Reply}
 use Rattle.kernel_model.specs.declared.reply.Reply.TheVariants as reply
-use Rattle.kernel_model.specs.Ends.{Endpoint}
+use Rattle.kernel_model.specs.Ends.{EndState}
 use Rattle.kernel_model.specs.Kernel.{Registered, end_at}
 use Rattle.kernel_model.specs.Names.{has}
 use Rattle.relay_core.specs.declared.call.Call.{Call}
@@ -32,7 +32,7 @@ use Rattle.world.specs.declared.event.Act.TheVariants as act
 use Rattle.world.specs.declared.event.Polling.TheVariants as polling
 use Rattle.world.specs.declared.limits.Limits.{Limits}
 use Rattle.world.specs.declared.past.Past.{Past}
-use Rattle.world.specs.Places.{Place, Actor}
+use Rattle.world.specs.Slots.{SlotState, WorkerState}
 use Rattle.world.specs.States.{State, opening}
 use Rattle.world.specs.Calls.{descriptor}
 use Rattle.world.specs.Steps.{step, connection_at}
@@ -54,11 +54,11 @@ preamble l Down = []
 
 -- the preamble and then the arrived bytes are the sent bytes, then the rest of the preamble, then the ring, then the
 -- unread bytes
-abbrev pub KeepsBytes : List ℕ → List ℕ → Stream → Endpoint → Endpoint → Type 0
+abbrev pub KeepsBytes : List ℕ → List ℕ → Stream → EndState → EndState → Type 0
 KeepsBytes before gave stream x y = before ++ gave ≡ y.taken ++ (stream.lead ++ (stream.ring ++ x.unread))
 
 -- an end that was passed on came last: the source is at its end of input, and every byte was sent
-pub record EndCameLast (before gave : List ℕ) (stream : Stream) (x y : Endpoint) : Type 0 where
+pub record EndCameLast (before gave : List ℕ) (stream : Stream) (x y : EndState) : Type 0 where
   pub ended : x.fin ≡ true
   pub read : x.unread ≡ []
   pub gone : stream.lead ≡ []
@@ -66,7 +66,7 @@ pub record EndCameLast (before gave : List ℕ) (stream : Stream) (x y : Endpoin
   pub sent : before ++ gave ≡ y.taken
 
 -- both clauses of one direction
-pub record DirectionHolds (before gave : List ℕ) (stream : Stream) (x y : Endpoint) : Type 0 where
+pub record DirectionHolds (before gave : List ℕ) (stream : Stream) (x y : EndState) : Type 0 where
   pub bytes : KeepsBytes before gave stream x y
   pub last : stream.shut ≡ true → EndCameLast before gave stream x y
 
@@ -80,7 +80,7 @@ abbrev pub BytesAndEndsHold : State → State → List Event → Type 0
 BytesAndEndsHold first st events = (s : ℕ) (c : Connection) → connection_at st s ≡ Some c → ConnectionHolds first st events s c
 
 -- the end of one side, among the two that a connection had
-abbrev pub socket_of : Sockets → Side → Endpoint
+abbrev pub socket_of : Sockets → Side → EndState
 socket_of ends Client = ends.client
 socket_of ends Target = ends.target
 
@@ -105,7 +105,7 @@ Throughout Each st (e ∷ es) = Each st e × ((q : State) → step st e ≡ Some
 -- a worker that holds a slot takes notes of its connection's generation alone
 abbrev pub TakesOwnNotes : State → Doing → Type 0
 TakesOwnNotes st (Holds s left) =
-    (p : Place) (c : Connection) → slice_get st.slots s ≡ Some p → p.connection ≡ Some c → list_all (λ g. g == c.pair.generation) p.notes ≡ true
+    (p : SlotState) (c : Connection) → slice_get st.slots s ≡ Some p → p.connection ≡ Some c → list_all (λ g. g == c.pair.generation) p.notes ≡ true
 TakesOwnNotes st d = Unit {0}
 
 -- a ticket names the generation of its slot's connection
@@ -115,8 +115,8 @@ ClaimsByOwnTicket st d = Unit {0}
 
 -- a connection is tried on reports and tickets of its own generation alone
 abbrev pub TriedOnOwn : State → Event → Type 0
-TriedOnOwn st (event.Work w act.Take) = (k : Actor) → slice_get st.workers w ≡ Some k → TakesOwnNotes st k.doing
-TriedOnOwn st (event.Work w act.Claim) = (k : Actor) → slice_get st.workers w ≡ Some k → ClaimsByOwnTicket st k.doing
+TriedOnOwn st (event.Work w act.Take) = (k : WorkerState) → slice_get st.workers w ≡ Some k → TakesOwnNotes st k.doing
+TriedOnOwn st (event.Work w act.Claim) = (k : WorkerState) → slice_get st.workers w ≡ Some k → ClaimsByOwnTicket st k.doing
 TriedOnOwn st e = Unit {0}
 
 -- Failures
@@ -127,7 +127,7 @@ slot_held (Holds s left) = Some s
 slot_held d = None
 
 abbrev pub held_by : State → ℕ → Option ℕ
-held_by st w = option_and_then (λ (k : Actor). slot_held k.doing) (slice_get st.workers w)
+held_by st w = option_and_then (λ (k : WorkerState). slot_held k.doing) (slice_get st.workers w)
 
 -- the fault that tells of this call, and that it failed with this kind
 abbrev pub fault_of : Kind → Call → Fault

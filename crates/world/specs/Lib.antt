@@ -1,7 +1,7 @@
 -- The crate's definitions. The first line of each file says whether the promises need it.
 pub mod Leads
 pub mod LeadLaws
-pub mod Places
+pub mod Slots
 pub mod States
 pub mod Calls
 pub mod Steps

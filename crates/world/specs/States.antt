@@ -1,13 +1,13 @@
 -- The state of the whole machine, its limits, and how it begins. Part of the promises.
 use Rattle.std.specs.Prelude.{ℕ, suc, zero, ◌==◌, ◌<◌, ◌≤◌, Bool, true, false, List, [], ◌∷◌, ◌++◌, replicate, Option, Some, None}
 use Rattle.token.specs.declared.name.Name.{Name}
-use Rattle.kernel_model.specs.Kernel.{Watcher, idle}
+use Rattle.kernel_model.specs.Kernel.{KernelState, idle}
 use Rattle.world.specs.declared.limits.Limits.{Limits}
 use Rattle.world.specs.declared.actors.Ticket.{Ticket}
 use Rattle.world.specs.declared.actors.Holder.TheVariants.{Free}
 use Rattle.world.specs.declared.actors.Doing.TheVariants.{Idle}
 use Rattle.world.specs.declared.past.Past.{Past}
-use Rattle.world.specs.Places.{Place, Actor}
+use Rattle.world.specs.Slots.{SlotState, WorkerState}
 
 -- `second` is the second that it is; nothing but the clock changes it. `kernel` has the ends, the readiness queue and the listener's backlog. The poller has `flag`, which says
 -- that an accept is worth a try, perhaps an `accepted` connection, its `table` of the slots' generations,
@@ -16,7 +16,7 @@ use Rattle.world.specs.Places.{Place, Actor}
 pub record State : Type 0 where
   pub limits : Limits
   pub second : ℕ
-  pub kernel : Watcher
+  pub kernel : KernelState
   pub flag : Bool
   pub accepted : Bool
   pub table : List ℕ
@@ -24,8 +24,8 @@ pub record State : Type 0 where
   pub hand : List Ticket
   pub ready : List Ticket
   pub free : List ℕ
-  pub slots : List Place
-  pub workers : List Actor
+  pub slots : List SlotState
+  pub workers : List WorkerState
   pub past : List Past
 
 -- the sizes that a world may have
@@ -47,11 +47,11 @@ is_entry None g = false
 is_entry (Some entry) g = entry == g
 
 -- a slot without a connection
-abbrev pub unused : ℕ → Place
+abbrev pub unused : ℕ → SlotState
 unused generation = record { generation = generation; connection = None; holder = Free; notes = [] }
 
 -- a worker with nothing to do
-abbrev pub resting : Actor
+abbrev pub resting : WorkerState
 resting = record { doing = Idle; hand = [] }
 
 -- the world as it begins

@@ -17,7 +17,7 @@ use Rattle.kernel_model.specs.declared.both.Sockets.{Sockets}
 use Rattle.kernel_model.specs.Outcome.{guard, Told}
 use Rattle.kernel_model.specs.Ends.{is_nonempty}
 use Rattle.kernel_model.specs.Kernel as kernel
-use Rattle.kernel_model.specs.Kernel.{Watcher}
+use Rattle.kernel_model.specs.Kernel.{KernelState}
 use Rattle.relay_core.specs.Pairs.{fresh, noted, verdict, is_live}
 use Rattle.relay_core.specs.Order.{next_call}
 use Rattle.relay_core.specs.Idle.{is_overdue, timed_out}
@@ -39,17 +39,17 @@ use Rattle.world.specs.declared.event.Polling.{Polling}
 use Rattle.world.specs.declared.event.Polling.TheVariants as polling
 use Rattle.world.specs.declared.event.Act.{Act}
 use Rattle.world.specs.declared.event.Act.TheVariants as act
-use Rattle.world.specs.Places.{Place, Actor, is_held}
+use Rattle.world.specs.Slots.{SlotState, WorkerState, is_held}
 use Rattle.world.specs.States.{State}
-use Rattle.world.specs.Calls.{when, Line, descriptor, called}
+use Rattle.world.specs.Calls.{when, OpenConnection, descriptor, called}
 
 -- the connection in a slot
 abbrev pub connection_at : State → ℕ → Option Connection
-connection_at st s = option_and_then (λ (p : Place). p.connection) (slice_get st.slots s)
+connection_at st s = option_and_then (λ (p : SlotState). p.connection) (slice_get st.slots s)
 
 -- the same state over another kernel
-abbrev pub over_kernel : State → Option Watcher → Option State
-over_kernel st k = option_map (λ (q : Watcher). record st { kernel = q }) k
+abbrev pub over_kernel : State → Option KernelState → Option State
+over_kernel st k = option_map (λ (q : KernelState). record st { kernel = q }) k
 
 -- Time
 
@@ -64,7 +64,7 @@ tick st n = guard (is_limited st && (nat_le 1 n && (nat_le n 4294967295 && nat_l
 -- The network
 
 -- at most 1,024 bytes come at once
-abbrev pub change_at : Watcher → ℕ → Change → Option Watcher
+abbrev pub change_at : KernelState → ℕ → Change → Option KernelState
 change_at k d (Arrive bytes) = when (nat_le (length bytes.items) 1024) (kernel.arrive k d bytes.items)
 change_at k d Fin = kernel.fin k d
 change_at k d Reset = kernel.reset k d
@@ -112,11 +112,11 @@ abbrev pub token_of : ℕ → Side → ℕ → Option EndName
 token_of s side g = guard (nat_le s 32767 && (nat_le 1 g && nat_le g 140737488355327)) (record { slot = s; side = side; generation = g })
 
 -- a slot with the fresh connection of this second, made as the limits say, and the note of its opening
-abbrev pub opened_place : ℕ → ℕ → Limits → ℕ → Descriptors → Place
+abbrev pub opened_place : ℕ → ℕ → Limits → ℕ → Descriptors → SlotState
 opened_place s g l now ends = record { generation = g; connection = Some (record { pair = fresh s g l.ring now l.lead; ends = ends }); holder = Nobody; notes = g ∷ [] }
 
 -- the world once both ends are open
-abbrev pub opened_world : State → ℕ → ℕ → Told Watcher Descriptors → State
+abbrev pub opened_world : State → ℕ → ℕ → Told KernelState Descriptors → State
 opened_world st s g t = record st {
   kernel = t.value;
   accepted = false;
@@ -129,7 +129,7 @@ opened_world st s g t = record st {
 -- a slot is opened for the generation after the table's; its old notes are thrown away
 abbrev pub opening_of : State → ℕ → Option State
 opening_of st s = option_and_then
-    (λ (p : Place). option_and_then
+    (λ (p : SlotState). option_and_then
     (λ (g : ℕ). option_and_then
     (λ (client : EndName). option_map
     (λ (target : EndName). opened_world st s (g + 1) (kernel.open_both st.kernel client target))
@@ -139,11 +139,11 @@ opening_of st s = option_and_then
     (slice_get st.slots s)
 
 -- a note is added
-abbrev pub with_note : Place → ℕ → Place
+abbrev pub with_note : SlotState → ℕ → SlotState
 with_note p g = record p { notes = p.notes ++ g ∷ [] }
 
 -- a note brings a ticket: it is the first, and nobody holds the slot
-abbrev pub brings_ticket : Place → Bool
+abbrev pub brings_ticket : SlotState → Bool
 brings_ticket p = not (is_held p.holder || is_nonempty p.notes)
 
 -- the hand with the ticket that was made, if one was
@@ -152,14 +152,14 @@ with_ticket true s g hand = hand ++ record { slot = s; generation = g } ∷ []
 with_ticket false s g hand = hand
 
 -- the poller posts to a slot
-abbrev pub posted : State → ℕ → ℕ → Place → State
+abbrev pub posted : State → ℕ → ℕ → SlotState → State
 posted st s g p = record st {
   slots = slice_set st.slots s (with_note p g);
   hand = with_ticket (brings_ticket p) s g st.hand;
 }
 
 abbrev pub post_at : State → ℕ → ℕ → Option State
-post_at st s g = option_map (λ (p : Place). posted st s g p) (slice_get st.slots s)
+post_at st s g = option_map (λ (p : SlotState). posted st s g p) (slice_get st.slots s)
 
 -- a report of an end: only where its generation is the table's
 abbrev pub delivered_at : State → EndName → Option ℕ → Option State
@@ -200,81 +200,81 @@ polled st polling.Put = put_by_poller st st.hand
 -- A worker, by its number w and as it is, k
 
 -- what becomes of the world where the worker is there
-abbrev pub of_worker : State → ℕ → (Actor → Option State) → Option State
+abbrev pub of_worker : State → ℕ → (WorkerState → Option State) → Option State
 of_worker st w f = option_and_then f (slice_get st.workers w)
 
-abbrev pub with_worker : State → ℕ → Actor → State
+abbrev pub with_worker : State → ℕ → WorkerState → State
 with_worker st w k = record st { workers = slice_set st.workers w k }
 
-abbrev pub with_place : State → ℕ → Place → State
+abbrev pub with_place : State → ℕ → SlotState → State
 with_place st s p = record st { slots = slice_set st.slots s p }
 
 -- it does something else
-abbrev pub doing : State → ℕ → Actor → Doing → State
+abbrev pub doing : State → ℕ → WorkerState → Doing → State
 doing st w k d = with_worker st w (record k { doing = d })
 
 -- its first ticket goes to the end of the ready queue
-abbrev pub put_by_worker : State → ℕ → Actor → List Ticket → Option State
+abbrev pub put_by_worker : State → ℕ → WorkerState → List Ticket → Option State
 put_by_worker st w k [] = None
 put_by_worker st w k (t ∷ rest) = Some (with_worker (record st { ready = st.ready ++ t ∷ [] }) w (record k { hand = rest }))
 
 -- with nothing to put, it takes the first ticket of the ready queue
-abbrev pub popped : State → ℕ → Actor → List Ticket → Option State
+abbrev pub popped : State → ℕ → WorkerState → List Ticket → Option State
 popped st w k [] = None
 popped st w k (t ∷ rest) = Some (doing (record st { ready = rest }) w k (Tries t))
 
-abbrev pub pop : State → ℕ → Actor → Doing → Option State
+abbrev pub pop : State → ℕ → WorkerState → Doing → Option State
 pop st w k Idle = when (length k.hand == 0) (popped st w k st.ready)
 pop st w k d = None
 
 -- it holds its ticket's slot with a whole budget, or drops the ticket where the slot is held
-abbrev pub claimed : State → ℕ → Actor → ℕ → Place → State
+abbrev pub claimed : State → ℕ → WorkerState → ℕ → SlotState → State
 claimed st w k s p =
     if is_held p.holder then doing st w k Idle
     else doing (with_place st s (record p { holder = By w })) w k (Holds s st.limits.budget)
 
-abbrev pub claim : State → ℕ → Actor → Doing → Option State
-claim st w k (Tries t) = option_map (λ (p : Place). claimed st w k t.slot p) (slice_get st.slots t.slot)
+abbrev pub claim : State → ℕ → WorkerState → Doing → Option State
+claim st w k (Tries t) = option_map (λ (p : SlotState). claimed st w k t.slot p) (slice_get st.slots t.slot)
 claim st w k d = None
 
 -- all notes leave the slot; if there was one, every call is worth a try again
 abbrev pub heard : Connection → List ℕ → Connection
 heard c notes = if is_nonempty notes then record c { pair = noted c.pair } else c
 
-abbrev pub noted_place : Place → Option Place
-noted_place p = option_map (λ (c : Connection). record p { notes = []; connection = Some (heard c p.notes) }) p.connection
+abbrev pub noted_slot : SlotState → Option SlotState
+noted_slot p = option_map (λ (c : Connection). record p { notes = []; connection = Some (heard c p.notes) }) p.connection
 
 abbrev pub take : State → Doing → Option State
 take st (Holds s left) = option_and_then
-    (λ (p : Place). option_map (λ (q : Place). with_place st s q) (noted_place p))
+    (λ (p : SlotState). option_map (λ (q : SlotState). with_place st s q) (noted_slot p))
     (slice_get st.slots s)
 take st d = None
 
 -- a slot, and the kernel that has the ends of its connection
-pub record Lodging : Type 0 where
-  pub kernel : Watcher
-  pub place : Place
+pub record OpenSlot : Type 0 where
+  pub kernel : KernelState
+  pub place : SlotState
 
 -- its connection's next call gets a reply at the second `now`
-unfoldable pub lodged_call : ℕ → Lodging → Reply → Option Lodging
-lodged_call now l r = option_and_then
+unfoldable pub slot_call : ℕ → OpenSlot → Reply → Option OpenSlot
+slot_call now l r = option_and_then
     (λ (c : Connection). option_map
-    (λ (line : Line). record { kernel = line.kernel; place = record l.place { connection = Some line.connection } })
+    (λ (line : OpenConnection). record { kernel = line.kernel; place = record l.place { connection = Some line.connection } })
     (called now (record { kernel = l.kernel; connection = c }) r))
     l.place.connection
 
-abbrev pub call : State → ℕ → Actor → Doing → Reply → Option State
+abbrev pub call : State → ℕ → WorkerState → Doing → Reply → Option State
 call st w k (Holds s left) r = when (nat_lt 0 left) (option_and_then
-    (λ (p : Place). option_map
-    (λ (l : Lodging). doing (with_place (record st { kernel = l.kernel }) s l.place) w k (Holds s (left - 1)))
-    (lodged_call st.second (record { kernel = st.kernel; place = p }) r))
+    (λ (p : SlotState). option_map
+    (λ (l : OpenSlot). doing (with_place (record st { kernel = l.kernel }) s l.place) w k (Holds s (left - 1)))
+    (slot_call st.second (record { kernel = st.kernel; place = p }) r))
     (slice_get st.slots s))
 call st w k d r = None
 
 -- it posts to its slot, which it holds: so no ticket
 abbrev pub post : State → Doing → Option State
 post st (Holds s left) = option_and_then
-    (λ (p : Place). option_and_then
+    (λ (p : SlotState). option_and_then
     (λ (c : Connection). guard (is_live (verdict c.pair)) (with_place st s (with_note p c.pair.generation)))
     p.connection)
     (slice_get st.slots s)
@@ -285,9 +285,9 @@ unfoldable pub may_release : Connection → Bool → Bool
 may_release c has_note = is_live (verdict c.pair) && (is_none (next_call c.pair) || has_note)
 
 -- with notes in the slot, it takes their ticket in hand
-abbrev pub release : State → ℕ → Actor → Doing → Option State
+abbrev pub release : State → ℕ → WorkerState → Doing → Option State
 release st w k (Holds s left) = option_and_then
-    (λ (p : Place). option_and_then
+    (λ (p : SlotState). option_and_then
     (λ (c : Connection). guard (may_release c (is_nonempty p.notes))
     (with_worker (with_place st s (record p { holder = Nobody })) w
     (record { doing = Idle; hand = with_ticket (is_nonempty p.notes) s p.generation k.hand })))
@@ -299,37 +299,37 @@ release st w k d = None
 abbrev pub expired : ℕ → ℕ → Connection → Option Connection
 expired now limit c = guard (is_overdue now limit c.pair) (record c { pair = timed_out c.pair })
 
-abbrev pub expired_place : ℕ → ℕ → Place → Option Place
+abbrev pub expired_place : ℕ → ℕ → SlotState → Option SlotState
 expired_place now limit p = option_and_then (λ (c : Connection). option_map (λ (d : Connection). record p { connection = Some d }) (expired now limit c)) p.connection
 
 -- the connection of its slot fails, since it moved nothing for the idle limit and has no call to make
 abbrev pub expire : State → Doing → Option State
 expire st (Holds s left) = option_and_then
-    (λ (p : Place). option_map (λ (q : Place). with_place st s q) (expired_place st.second st.limits.idle p))
+    (λ (p : SlotState). option_map (λ (q : SlotState). with_place st s q) (expired_place st.second st.limits.idle p))
     (slice_get st.slots s)
 expire st d = None
 
 -- both ends of a connection that is done or failed are closed, and it is kept as it was
-abbrev pub closed_world : State → ℕ → Actor → ℕ → Place → Connection → Told Watcher Sockets → State
+abbrev pub closed_world : State → ℕ → WorkerState → ℕ → SlotState → Connection → Told KernelState Sockets → State
 closed_world st w k s p c t =
     doing (with_place (record st {
       kernel = t.value;
       past = st.past ++ record { slot = s; generation = c.pair.generation; verdict = verdict c.pair; ends = t.told } ∷ [];
     }) s (record p { connection = None })) w k (Closed s)
 
-abbrev pub close : State → ℕ → Actor → Doing → Option State
+abbrev pub close : State → ℕ → WorkerState → Doing → Option State
 close st w k (Holds s left) = option_and_then
-    (λ (p : Place). option_and_then
+    (λ (p : SlotState). option_and_then
     (λ (c : Connection). when (not (is_live (verdict c.pair)))
-    (option_map (λ (t : Told Watcher Sockets). closed_world st w k s p c t) (kernel.close_both st.kernel c.ends)))
+    (option_map (λ (t : Told KernelState Sockets). closed_world st w k s p c t) (kernel.close_both st.kernel c.ends)))
     p.connection)
     (slice_get st.slots s)
 close st w k d = None
 
 -- the slot is free
-abbrev pub retire : State → ℕ → Actor → Doing → Option State
+abbrev pub retire : State → ℕ → WorkerState → Doing → Option State
 retire st w k (Closed s) = option_map
-    (λ (p : Place). doing (with_place st s (record p { holder = IsFree })) w k (Retired s))
+    (λ (p : SlotState). doing (with_place st s (record p { holder = IsFree })) w k (Retired s))
     (slice_get st.slots s)
 retire st w k d = None
 
@@ -337,16 +337,16 @@ retire st w k d = None
 abbrev pub is_worn : ℕ → Bool
 is_worn g = nat_le 140737488355327 g
 
-abbrev pub freed : List ℕ → ℕ → Place → List ℕ
+abbrev pub freed : List ℕ → ℕ → SlotState → List ℕ
 freed slots s p = if is_worn p.generation then slots else slots ++ s ∷ []
 
-abbrev pub free : State → ℕ → Actor → Doing → Option State
+abbrev pub free : State → ℕ → WorkerState → Doing → Option State
 free st w k (Retired s) = option_map
-    (λ (p : Place). doing (record st { free = freed st.free s p }) w k Idle)
+    (λ (p : SlotState). doing (record st { free = freed st.free s p }) w k Idle)
     (slice_get st.slots s)
 free st w k d = None
 
-abbrev pub acted : State → ℕ → Actor → Act → Option State
+abbrev pub acted : State → ℕ → WorkerState → Act → Option State
 acted st w k act.Put = put_by_worker st w k k.hand
 acted st w k act.Pop = pop st w k k.doing
 acted st w k act.Claim = claim st w k k.doing
@@ -360,7 +360,7 @@ acted st w k act.Retire = retire st w k k.doing
 acted st w k act.Free = free st w k k.doing
 
 abbrev pub worked : State → ℕ → Act → Option State
-worked st w a = of_worker st w (λ (k : Actor). acted st w k a)
+worked st w a = of_worker st w (λ (k : WorkerState). acted st w k a)
 
 -- One event
 abbrev pub step : State → Event → Option State

@@ -4,7 +4,7 @@ use Rattle.std.specs.Prelude.{◌≡◌, ℕ, ◌+◌, ◌==◌, Bool, true, fal
 use Rattle.token.specs.declared.side.Side.{Side}
 use Rattle.token.specs.declared.name.Name.TheVariants as name
 use Rattle.token.specs.Names.{EndName}
-use Rattle.kernel_model.specs.Ends.{Endpoint, is_nonempty, is_readable, is_writable}
+use Rattle.kernel_model.specs.Ends.{EndState, is_nonempty, is_readable, is_writable}
 use Rattle.kernel_model.specs.Kernel.{Registered}
 use Rattle.kernel_model.specs.Names.{has}
 use Rattle.relay_core.specs.declared.flags.Flags.{Flags}
@@ -15,7 +15,7 @@ use Rattle.world.specs.declared.actors.Ticket.{Ticket}
 use Rattle.world.specs.declared.actors.Holder.TheVariants.{Nobody}
 use Rattle.world.specs.declared.actors.Doing.{Doing}
 use Rattle.world.specs.declared.actors.Doing.TheVariants.{Tries}
-use Rattle.world.specs.Places.{Place, Actor, is_held}
+use Rattle.world.specs.Slots.{SlotState, WorkerState, is_held}
 use Rattle.world.specs.States.{State}
 use Rattle.world.specs.Headline.{end_of}
 
@@ -36,7 +36,7 @@ tried s (Tries t) = of_slot s t
 tried s d = 0
 
 -- the tickets of a slot that a worker has
-abbrev pub worker_tickets : ℕ → Actor → ℕ
+abbrev pub worker_tickets : ℕ → WorkerState → ℕ
 worker_tickets s k = tried s k.doing + total (of_slot s) k.hand
 
 -- the tickets of a slot in the ready queue, with the poller and with the workers
@@ -45,16 +45,16 @@ tickets st s = total (of_slot s) st.ready + (total (of_slot s) st.hand + total (
 
 -- a slot with notes that is neither held nor free has one ticket, and every other none
 abbrev pub TicketsHold : State → Type 0
-TicketsHold st = (s : ℕ) (p : Place) → slice_get st.slots s ≡ Some p → tickets st s ≡ one (not (is_held p.holder) && is_nonempty p.notes)
+TicketsHold st = (s : ℕ) (p : SlotState) → slice_get st.slots s ≡ Some p → tickets st s ≡ one (not (is_held p.holder) && is_nonempty p.notes)
 
 -- a live connection that nobody holds and that has no notes has no call to make
 abbrev pub RestHolds : State → Type 0
-RestHolds st = (s : ℕ) (p : Place) (c : Connection) → slice_get st.slots s ≡ Some p → p.connection ≡ Some c
+RestHolds st = (s : ℕ) (p : SlotState) (c : Connection) → slice_get st.slots s ≡ Some p → p.connection ≡ Some c
     → p.holder ≡ Nobody → p.notes ≡ [] → next_call c.pair ≡ None
 
 -- the poller's table tells each slot's generation
 abbrev pub TableHolds : State → Type 0
-TableHolds st = (s : ℕ) (p : Place) → slice_get st.slots s ≡ Some p → slice_get st.table s ≡ Some p.generation
+TableHolds st = (s : ℕ) (p : SlotState) → slice_get st.slots s ≡ Some p → slice_get st.table s ≡ Some p.generation
 
 -- A flag that is down is covered: the end is armed for the kind and not ready for it, or ready for it and
 -- reported
@@ -66,12 +66,12 @@ abbrev pub has_report : State → EndName → List ℕ → Bool
 has_report st token notes = (has (name.End token) st.kernel.queue || has (name.End token) st.batch) || is_nonempty notes
 
 -- both flags of one end
-pub record EndCovered (flags : Flags) (x : Endpoint) (reported : Bool) : Type 0 where
+pub record EndCovered (flags : Flags) (x : EndState) (reported : Bool) : Type 0 where
   pub read : is_covered flags.read x.read_armed (is_readable x) reported ≡ true
   pub write : is_covered flags.write x.write_armed (is_writable x) reported ≡ true
 
 -- no flag of a connection's ends is down without cover
 abbrev pub EdgesHold : State → Type 0
-EdgesHold st = (s : ℕ) (p : Place) (c : Connection) (side : Side) (x : Registered)
+EdgesHold st = (s : ℕ) (p : SlotState) (c : Connection) (side : Side) (x : Registered)
     → slice_get st.slots s ≡ Some p → p.connection ≡ Some c → end_of st c side ≡ Some x
     → EndCovered (flags_of c.pair side) x.socket (has_report st (record { slot = s; side = side; generation = c.pair.generation }) p.notes)

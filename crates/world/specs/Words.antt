@@ -14,7 +14,7 @@ use Rattle.world.specs.declared.event.Polling.TheVariants as polling
 use Rattle.world.specs.declared.event.Act.{Act}
 use Rattle.world.specs.declared.event.Act.TheVariants as act
 use Rattle.world.specs.declared.limits.Limits.{Limits}
-use Rattle.world.specs.Places.{Place, Actor, is_held}
+use Rattle.world.specs.Slots.{SlotState, WorkerState, is_held}
 use Rattle.world.specs.States.{State, is_entry, opening}
 use Rattle.world.specs.Runs.{run}
 use Rattle.world.specs.Support.{one, tickets}
@@ -25,7 +25,7 @@ is_free (By worker) = false
 is_free Free = true
 
 -- the claim word of a place: a free slot counts as held
-abbrev pub word_at : Place → WordState
+abbrev pub word_at : SlotState → WordState
 word_at p = record { pending = length p.notes; free = is_free p.holder; held = is_held p.holder }
 
 -- some steps, one after the other
@@ -77,7 +77,7 @@ act_steps act.Release (Holds t left) s = at_slot s t (release ∷ [])
 act_steps act.Retire (Closed t) s = at_slot s t (retire ∷ [])
 act_steps a d s = []
 
-abbrev pub worker_steps : Option Actor → Act → ℕ → List StepKind
+abbrev pub worker_steps : Option WorkerState → Act → ℕ → List StepKind
 worker_steps None a s = []
 worker_steps (Some k) a s = act_steps a k.doing s
 
@@ -90,15 +90,15 @@ steps st e s = []
 
 -- By an event slot s goes from p on to a place whose word is what the event's steps make of the word of p, and a
 -- ticket of the slot is made exactly where a step answers Wake
-pub record WordMoves (st next : State) (e : Event) (s : ℕ) (p : Place) : Type 0 where
-  pub place : Place
+pub record WordMoves (st next : State) (e : Event) (s : ℕ) (p : SlotState) : Type 0 where
+  pub place : SlotState
   pub there : slice_get next.slots s ≡ Some place
   pub word : word_of (word_at place) ≡ word_of (after_all (steps st e s) (word_at p))
   pub tickets : tickets next s + claims (steps st e s) ≡ tickets st s + count_wakes (steps st e s) (word_at p)
 
 -- in every slot
 abbrev pub WordsMove : State → Event → State → Type 0
-WordsMove st e next = (s : ℕ) (p : Place) → slice_get st.slots s ≡ Some p → WordMoves st next e s p
+WordsMove st e next = (s : ℕ) (p : SlotState) → slice_get st.slots s ≡ Some p → WordMoves st next e s p
 
 -- in every world that a run reaches
 abbrev pub WordsMoveInRuns : State → Event → State → Type 0

@@ -22,7 +22,7 @@ impl Connection {
     ghost use Rattle.kernel_model.specs.Outcome.{Meets, MeetsAlways};
     ghost use Rattle.kernel_model.specs.Replies.{needs_memory};
     ghost use Rattle.relay_core.specs.Answers.{reply_of};
-    ghost use Rattle.world.specs.Calls.{descriptor, Line, made, replied, called};
+    ghost use Rattle.world.specs.Calls.{descriptor, OpenConnection, made, replied, called};
     ghost use Rattle.world.specs.Steps.{may_release, expired};
 
     /// The descriptor of one side's end.

@@ -24,7 +24,7 @@
 //! limit, and whatever could move is due to be tried. Events have no textual form here, and a slot's word is not one
 //! atomic number: a slot has its holder and its notes.
 //!
-//! The definitions are in `specs/`: a lead in `Leads.antt`, slots and workers in `Places.antt`, the whole state in
+//! The definitions are in `specs/`: a lead in `Leads.antt`, slots and workers in `Slots.antt`, the whole state in
 //! `States.antt`, a connection's calls in `Calls.antt`, one event in `Steps.antt`, for which events memory may run out
 //! in `Memory.antt`, lists of events in `Runs.antt`, what could move and what is due in `Due.antt`, the bytes that
 //! arrived in `Given.antt`, what holds after every list of events in `Headline.antt`, what that depends on in

@@ -15,9 +15,9 @@ pub struct Slot {
 }
 
 impl Model for Slot {
-    ghost use Rattle.world.specs.Places.{Place};
+    ghost use Rattle.world.specs.Slots.{SlotState};
 
-    ghost Value = { Place };
+    ghost Value = { SlotState };
 
     ghost view = { λ p. record { generation = p.generation; connection = p.connection; holder = p.holder; notes = p.notes.items } };
 }
@@ -29,9 +29,9 @@ impl Slot {
     ghost use Rattle.kernel_model.specs.Ends.{is_nonempty};
     ghost use Rattle.kernel_model.specs.Outcome.{Meets, MeetsAlways, Tells};
     ghost use Rattle.kernel_model.specs.Replies.{needs_memory};
-    ghost use Rattle.world.specs.Places.{is_held};
+    ghost use Rattle.world.specs.Slots.{is_held};
     ghost use Rattle.world.specs.States.{unused};
-    ghost use Rattle.world.specs.Steps.{with_note, brings_ticket, noted_place, expired_place, Lodging, lodged_call};
+    ghost use Rattle.world.specs.Steps.{with_note, brings_ticket, noted_slot, expired_place, OpenSlot, slot_call};
 
     /// A slot without a connection.
     pub fn new(alloc: Global, generation: u64) -> Slot
@@ -131,7 +131,7 @@ impl Slot {
     ///
     /// Refuses with `NotAllowed`, and changes nothing, if there is no connection.
     pub fn take_notes(&mut self) -> Result<(), Refusal>
-        ensures { MeetsAlways (noted_place self.old) self.old self.new result }
+        ensures { MeetsAlways (noted_slot self.old) self.old self.new result }
     {
         let any = self.has_notes();
         match &mut self.connection {
@@ -157,9 +157,9 @@ impl Slot {
     /// Makes the connection's next call, which gets this reply at the second `now` ([`Connection::call`]).
     ///
     /// Also refuses with `NotAllowed`, and changes nothing, if there is no connection.
-    #[tactic(auto, unfolding(crate::specs::Steps::lodged_call))]
+    #[tactic(auto, unfolding(crate::specs::Steps::slot_call))]
     pub fn call(&mut self, kernel: &mut Kernel, reply: Reply, now: u64) -> Result<(), Refusal>
-        ensures outcome { Meets (lodged_call now (record { kernel = kernel.old; place = self.old }) reply) (record { kernel = kernel.old; place = self.old }) (record { kernel = kernel.new; place = self.new }) result }
+        ensures outcome { Meets (slot_call now (record { kernel = kernel.old; place = self.old }) reply) (record { kernel = kernel.old; place = self.old }) (record { kernel = kernel.new; place = self.new }) result }
         ensures memory { IsErrOf result Refusal.NoMemory → IsTrue (needs_memory reply) }
     {
         match &mut self.connection {

@@ -16,9 +16,9 @@ impl Model for Worker {
     ghost use Rattle.std.specs.Prelude.{◌≡◌, ◌⊎◌, None};
     ghost use Rattle.std.specs.Option.{option_to_list};
     ghost use Rattle.world.specs.declared.actors.Doing.TheVariants.{Idle};
-    ghost use Rattle.world.specs.Places.{Actor};
+    ghost use Rattle.world.specs.Slots.{WorkerState};
 
-    ghost Value = { Actor };
+    ghost Value = { WorkerState };
 
     ghost view = { λ w. record { doing = w.doing; hand = option_to_list w.hand } };
 

@@ -27,7 +27,7 @@ impl World {
     ghost use Rattle.kernel_model.specs.Replies.{needs_memory};
     ghost use Rattle.world.specs.Acts.{busy, MeetsIn};
     ghost use Rattle.world.specs.Memory.{act_allocates};
-    ghost use Rattle.world.specs.Places.{Actor};
+    ghost use Rattle.world.specs.Slots.{WorkerState};
     ghost use Rattle.world.specs.Steps.{of_worker, claim, take, call, post, release, expire, close, retire, free, pop, worked};
 
     /// A worker does something.
@@ -48,7 +48,7 @@ impl World {
 
     /// A worker that is idle does something.
     fn act_idle(&mut self, worker: usize, act: Act) -> Result<(), Refusal>
-        requires { option_map (λ (k : Actor). k.doing) (slice_get self.old.workers worker) ≡ Some Doing.Idle }
+        requires { option_map (λ (k : WorkerState). k.doing) (slice_get self.old.workers worker) ≡ Some Doing.Idle }
         ensures { MeetsIn (act_allocates act) (worked self.old worker act) self.old self.new result }
     {
         match act {
@@ -130,7 +130,7 @@ impl World {
     /// With nothing to put, it takes the first ticket from the ready queue.
     fn pop(&mut self, worker: usize) -> Result<(), Refusal>
         requires { worker < length self.old.workers }
-        ensures { MeetsAlways (of_worker self.old worker (λ (k : Actor). pop self.old worker k Doing.Idle)) self.old self.new result }
+        ensures { MeetsAlways (of_worker self.old worker (λ (k : WorkerState). pop self.old worker k Doing.Idle)) self.old self.new result }
     {
         if !self.workers[worker].hand().is_empty() || self.ready.is_empty() {
             return Err(Refusal::NotAllowed);

@@ -12,9 +12,9 @@ use Rattle.relay_core.specs.Pairs.{noted}
 use Rattle.kernel_model.specs.Ends.{is_nonempty}
 use Rattle.world.specs.declared.connection.Connection.{Connection}
 use Rattle.world.specs.declared.limits.Limits.{Limits}
-use Rattle.world.specs.Places.{Place}
+use Rattle.world.specs.Slots.{SlotState}
 use Rattle.world.specs.States.{State}
-use Rattle.world.specs.Steps.{with_note, posted, post_at, delivered_at, delivered, deliver, heard, noted_place}
+use Rattle.world.specs.Steps.{with_note, posted, post_at, delivered_at, delivered, deliver, heard, noted_slot}
 use Rattle.world.proofs.TurnsKept.{Kept, kept_bind, kept_map_map}
 use Rattle.world.proofs.EndsHeld.{History, token_at, is_pending, ConnectionOk, SlotOk, AllOk}
 use Rattle.world.proofs.EndsLists.{Yes, No, tell}
@@ -40,7 +40,7 @@ steady_better past next st q s quiet r = record {
   pending = r.pending;
 }
 
-pub place_keeps : (past next : History) (st q : State) (s : ℕ) (old p : Place) → Quiet past next → slice_get st.slots s ≡ Some old → q.slots ≡ slice_set st.slots s p
+pub place_keeps : (past next : History) (st q : State) (s : ℕ) (old p : SlotState) → Quiet past next → slice_get st.slots s ≡ Some old → q.slots ≡ slice_set st.slots s p
     → ((i : ℕ) → Steady st q i) → (SlotOk next q s old → SlotOk next q s p) → AllOk past st → AllOk next q
 place_keeps past next st q s old p quiet was set steady f all = keep_place past next st q s old p was set
     (λ i differ. steady_better past next st q i quiet (steady i))
@@ -49,7 +49,7 @@ place_keeps past next st q s old p quiet was set steady f all = keep_place past 
 some_notes : (notes : List ℕ) (g : ℕ) → is_nonempty (notes ++ g ∷ []) ≡ true
 some_notes notes g = nonempty_more notes (g ∷ []) refl
 
-pub note_keeps : (past next : History) (st q : State) (s : ℕ) (p : Place) (g : ℕ) → Quiet past next → slice_get q.table s ≡ slice_get st.table s → q.limits ≡ st.limits → q.kernel.ends ≡ st.kernel.ends
+pub note_keeps : (past next : History) (st q : State) (s : ℕ) (p : SlotState) (g : ℕ) → Quiet past next → slice_get q.table s ≡ slice_get st.table s → q.limits ≡ st.limits → q.kernel.ends ≡ st.kernel.ends
     → SlotOk past st s p → SlotOk next q s (with_note p g)
 note_keeps past next st q s p g quiet table limits ends ok = record {
   entry = table ∙ ok.entry;
@@ -101,7 +101,7 @@ pub kept_map_if : (P : State → Type 0) (f : State → State) (b : Bool) (o u :
 kept_map_if P f true o u this that = this refl
 kept_map_if P f false o u this that = that refl
 
-posted_keeps : (past next : History) (st : State) (n : EndName) (p : Place) → Quiet past next → slice_get st.batch 0 ≡ Some (name.End n) → slice_get st.slots n.slot ≡ Some p → AllOk past st
+posted_keeps : (past next : History) (st : State) (n : EndName) (p : SlotState) → Quiet past next → slice_get st.batch 0 ≡ Some (name.End n) → slice_get st.slots n.slot ≡ Some p → AllOk past st
     → AllOk next (behind st (posted st n.slot n.generation p))
 posted_keeps past next st n p quiet first here all =
     let q : State = behind st (posted st n.slot n.generation p) in
@@ -125,7 +125,7 @@ delivered_keeps past next st name.Waker quiet first all = record { kept = left_b
 delivered_keeps past next st (name.End n) quiet first all = elim (slice_get st.table n.slot) as (λ o. slice_get st.table n.slot ≡ o → Kept (AllOk next) (option_map (behind st) (delivered_at st n o))) [
   | None ↦ λ is. record { kept = left_behind past next st (behind st st) (name.End n) quiet first (λ i side g entry. not_this st n i side g (λ h. absurd (cc)) entry) refl refl refl refl refl all }
   | Some g ↦ λ is. kept_map_if (AllOk next) (behind st) (g == n.generation) (post_at st n.slot g) (Some st)
-      (λ same. let e : g ≡ n.generation = eqb-true g n.generation same in rw e (kept_map_map (behind st) (λ (p : Place). posted st n.slot n.generation p) (slice_get st.slots n.slot) (λ p here. posted_keeps past next st n p quiet first here all)))
+      (λ same. let e : g ≡ n.generation = eqb-true g n.generation same in rw e (kept_map_map (behind st) (λ (p : SlotState). posted st n.slot n.generation p) (slice_get st.slots n.slot) (λ p here. posted_keeps past next st n p quiet first here all)))
       (λ other. record {
         kept = left_behind past next st (behind st st) (name.End n) quiet first
             (λ i side h entry. not_this st n i side h (λ now. (let e : g ≡ n.generation = cc in let stale : (n.generation == n.generation) ≡ false = rw e at other in let is_not : (n.generation == n.generation) ≡ true = eq-eqb n.generation n.generation refl in absurd (cc))) entry) refl refl refl refl refl all;
@@ -159,10 +159,10 @@ heard_ok past st s g notes c false none ok = record {
   pair = pair_more (past s g) (past s g) _ _ c.pair ok.ends (λ side. refl) (λ side h. or_left (is_pending st (token_at s side g)) false (or_then (is_pending st (token_at s side g)) (is_nonempty notes) (is_pending st (token_at s side g)) (λ k. k) (λ k. absurd (cc)) h)) ok.pair;
 }
 
-pub take_ok : (past : History) (st : State) (s : ℕ) (p q : Place) → noted_place p ≡ Some q → SlotOk past st s p → SlotOk past st s q
+pub take_ok : (past : History) (st : State) (s : ℕ) (p q : SlotState) → noted_slot p ≡ Some q → SlotOk past st s p → SlotOk past st s q
 take_ok past st s p q is ok = elim (p.connection) as (λ o. p.connection ≡ o → option_map (λ (c : Connection). record p { notes = []; connection = Some (heard c p.notes) }) o ≡ Some q → SlotOk past st s q) [
   | None ↦ λ lying e. absurd (cc)
-  | Some c ↦ λ lying e. (let same : record p { notes = []; connection = Some (heard c p.notes) } ≡ q = cc in subst (λ (r : Place). SlotOk past st s r) same (record {
+  | Some c ↦ λ lying e. (let same : record p { notes = []; connection = Some (heard c p.notes) } ≡ q = cc in subst (λ (r : SlotState). SlotOk past st s r) same (record {
     entry = ok.entry;
     later = ok.later;
     connection = λ b here. (let this : heard c p.notes ≡ b = cc in subst (λ (r : Connection). ConnectionOk past st s p.generation [] r) this

@@ -8,14 +8,14 @@ use Rattle.world.specs.declared.actors.Doing.{Doing}
 
 -- A place for one connection. `generation` is that of the connection that was opened in it last. Each note is a
 -- report that was delivered, by the generation that it was for
-pub record Place : Type 0 where
+pub record SlotState : Type 0 where
   pub generation : ℕ
   pub connection : Option Connection
   pub holder : Holder
   pub notes : List ℕ
 
 -- what the worker is about, and the tickets that it has to put
-pub record Actor : Type 0 where
+pub record WorkerState : Type 0 where
   pub doing : Doing
   pub hand : List Ticket
 
