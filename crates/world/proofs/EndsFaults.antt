@@ -13,7 +13,7 @@ use Rattle.relay_core.specs.Pairs.{verdict}
 use Rattle.relay_core.specs.Order.{next_call}
 use Rattle.relay_core.specs.Replies.{fits, moves, after}
 use Rattle.relay_core.specs.Replies as answer
-use Rattle.relay_core.specs.Laws.{SlotState as Standing, AnswersNext, TellsOf}
+use Rattle.relay_core.specs.Laws.{Place as Standing, AnswersNext, TellsOf}
 use Rattle.world.specs.declared.connection.Connection.{Connection}
 use Rattle.world.specs.declared.actors.Doing.{Doing}
 use Rattle.world.specs.declared.actors.Doing.TheVariants.{Idle, Tries, Holds, Closed, Retired}

@@ -17,7 +17,7 @@ use Rattle.relay_core.specs.declared.verdict.Verdict.{Verdict}
 use Rattle.relay_core.specs.declared.verdict.Verdict.TheVariants.{Live, Done, Failed}
 use Rattle.relay_core.specs.Pairs.{PairState, stream_of, flags_of, is_joined, verdict, is_live}
 use Rattle.relay_core.specs.Order.{is_waiting, is_drained}
-use Rattle.relay_core.specs.Laws.{SlotState as Standing, place_of, IsDrained, IsAtRest}
+use Rattle.relay_core.specs.Laws.{Place as Standing, place_of, IsDrained, IsAtRest}
 use Rattle.world.specs.declared.connection.Connection.{Connection}
 use Rattle.world.specs.declared.actors.Ticket.{Ticket}
 use Rattle.world.specs.declared.actors.Holder.{Holder}

@@ -7,7 +7,7 @@ use Rattle.kernel_model.specs.Kernel as kernel
 use Rattle.kernel_model.specs.Kernel.{KernelState}
 use Rattle.relay_core.specs.Pairs.{verdict, is_live}
 use Rattle.relay_core.specs.Order.{next_call}
-use Rattle.relay_core.specs.Laws.{SlotState as Standing, place_of}
+use Rattle.relay_core.specs.Laws.{Place as Standing, place_of}
 use Rattle.kernel_model.specs.Ends.{is_nonempty}
 use Rattle.world.specs.declared.connection.Connection.{Connection}
 use Rattle.world.specs.declared.actors.Holder.TheVariants.{Nobody, Free}
