@@ -6,4 +6,5 @@ pub mod Shares
 pub mod Splits
 pub mod Sweeps
 pub mod Turns
+pub mod Worn
 pub mod WholeRounds

@@ -7,7 +7,7 @@ use Rattle.dispatch.specs.declared.faults.ServerFault.{ServerFault}
 use Rattle.dispatch.specs.declared.shared.Own.{Own}
 use Rattle.dispatch.specs.declared.worker.Worked.{Worked}
 use Rattle.dispatch.specs.declared.worker.Worked.TheVariants as worked
-use Rattle.dispatch.specs.Outgoing.{Inserted, tickets_out, slots_out}
+use Rattle.dispatch.specs.Outgoing.{Inserted, TookNothing, tickets_out, slots_out}
 use Rattle.dispatch.specs.Turns.{Rose, TurnChange, TicketsKept, SlotsKept, TurnDone}
 
 -- the slot was held
@@ -66,17 +66,18 @@ slots_after t (Err fault) a b c same kept = kept ∙ same
 -- the connection of the ticket was run, and then the turn came to its end
 ended_after : (t : Ticket) (r : Result Worked ServerFault) (a b c : Own) → WasHeld r → OnlyAt t.slot a.seat b.seat
     → Rose 0 0 (account_at a.seat t.slot) (account_at b.seat t.slot) → tickets_out b ≡ tickets_out a → slots_out b ≡ slots_out a
-    → TurnDone t r b c → TurnDone t r a c
-ended_after t r a b c held only rose tickets slots done = record {
+    → TookNothing a b → TurnDone t r b c → TurnDone t r a c
+ended_after t r a b c held only rose tickets slots took done = record {
   idle = done.idle;
   only = record { table = done.only.table ∙ only.table; others = λ other ne. done.only.others other ne ∙ only.others other ne };
   change = change_after (account_at a.seat t.slot) (account_at b.seat t.slot) (account_at c.seat t.slot) r held rose done.change;
   tickets = tickets_after t a b c rose tickets done.tickets;
   slots = slots_after t r a b c slots done.slots;
+  took = record { tickets = done.took.tickets ∙ took.tickets; slots = done.took.slots ∙ took.slots };
 }
 
 pub turn_after : {a b c : Own} {s t : Ticket} {r : Result Worked ServerFault} → TurnDone s r b c → s ≡ t → WasHeld r → OnlyAt t.slot a.seat b.seat
     → Rose 0 0 (account_at a.seat t.slot) (account_at b.seat t.slot) → tickets_out b ≡ tickets_out a → slots_out b ≡ slots_out a
-    → TurnDone t r a c
-turn_after {a} {b} {c} {s} {t} {r} done same held only rose tickets slots =
-    ended_after t r a b c held only rose tickets slots (subst (λ (u : Ticket). TurnDone u r b c) same done)
+    → TookNothing a b → TurnDone t r a c
+turn_after {a} {b} {c} {s} {t} {r} done same held only rose tickets slots took =
+    ended_after t r a b c held only rose tickets slots took (subst (λ (u : Ticket). TurnDone u r b c) same done)

@@ -31,9 +31,15 @@ tickets_out own = outgoing own.ready.history own.hand.tickets
 abbrev pub slots_out : Own → List ℕ
 slots_out own = outgoing own.free.history own.hand.slots
 
+-- a thread took nothing from the queue of tickets, and nothing from its queue of free slots
+pub record TookNothing (old new : Own) : Type 0 where
+  pub tickets : new.ready.history.taken ≡ old.ready.history.taken
+  pub slots : new.free.history.taken ≡ old.free.history.taken
+
 -- what a thread owns once the tickets in hand were put, each or until one was refused
 pub record TicketsPut (old new : Own) : Type 0 where
   pub tickets : tickets_out new ≡ tickets_out old
+  pub took : new.ready.history.taken ≡ old.ready.history.taken
   pub seat : new.seat ≡ old.seat
   pub free : new.free ≡ old.free
   pub slots : new.hand.slots ≡ old.hand.slots
@@ -46,6 +52,7 @@ without_first own = record own { hand = record own.hand { tickets = drop 1 own.h
 -- be put as before
 pub record KeepsOut (old new : Own) : Type 0 where
   pub tickets : (slot : ℕ) → at_slot slot (tickets_out new) ≡ at_slot slot (tickets_out old)
+  pub took : new.ready.history.taken ≡ old.ready.history.taken
   pub seat : new.seat ≡ old.seat
   pub free : new.free ≡ old.free
   pub slots : new.hand.slots ≡ old.hand.slots

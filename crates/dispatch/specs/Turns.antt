@@ -1,15 +1,25 @@
 -- What a worker's turn does to what its thread owns, by its answer. Part of the promises.
-use Rattle.std.specs.Prelude.{◌≡◌, ◌≢◌, ◌⊎◌, ℕ, ◌+◌, ◌-◌, ◌<◌, ◌≤◌, nat_lt, if◌then◌else◌, Option, Some, None, Result, Ok, Err}
+use Rattle.std.specs.Prelude.{◌≡◌, ◌≢◌, ◌⊎◌, ℕ, ◌+◌, ◌-◌, ◌^◌, ◌<◌, ◌≤◌, nat_lt, sum_by, if◌then◌else◌, Option, Some, None, Result, Ok, Err, [], length}
 use Rattle.claims.specs.declared.view.Account.{Account}
+use Rattle.claims.specs.Views.{posted_of}
 use Rattle.claims.specs.Seats.{SeatState, TableId, account_at, Holds, HoldsNot, HoldsNothing, OnlyAt}
 use Rattle.ready.specs.declared.ticket.Ticket.{Ticket}
 use Rattle.relay_core.specs.Pairs.{PairState, noted}
 use Rattle.dispatch.specs.declared.faults.ServerFault.{ServerFault}
+use Rattle.dispatch.specs.declared.faults.ServerFault.TheVariants as server_fault
 use Rattle.dispatch.specs.declared.shared.Own.{Own}
 use Rattle.dispatch.specs.declared.worker.Worked.{Worked}
 use Rattle.dispatch.specs.declared.worker.Worked.TheVariants as worked
 use Rattle.dispatch.specs.Hands.{HasRoom}
-use Rattle.dispatch.specs.Outgoing.{Inserted, KeepsTicket, KeepsSlot, tickets_out, slots_out, without_first}
+use Rattle.dispatch.specs.Outgoing.{Inserted, KeepsTicket, KeepsSlot, TookNothing, tickets_out, slots_out, without_first}
+
+-- the seat has posted 2^56 times, and posts no more
+abbrev pub IsWorn : SeatState → Type 0
+IsWorn seat = sum_by posted_of seat.accounts ≡ 2 ^ 56
+
+-- a turn or a round is refused so only where its seat is worn
+abbrev pub OnlyWorn : ServerFault → SeatState → Type 0
+OnlyWorn fault seat = (fault ≡ server_fault.Worn) × IsWorn seat
 
 -- the seat posted this many more notes, and this many more of its exchanges obliged it to put a ticket
 pub record Rose (posts mints : ℕ) (old new : Account) : Type 0 where
@@ -94,13 +104,27 @@ pub record TurnDone (ticket : Ticket) (result : Result Worked ServerFault) (old 
   pub change : TurnChange (account_at old.seat ticket.slot) result (account_at new.seat ticket.slot)
   pub tickets : TicketsKept ticket old new
   pub slots : SlotsKept ticket result old new
+  pub took : TookNothing old new
 
--- A poller's own turn with the oldest ticket in hand, by its answer: where it answers None nothing changes, and else it does to tickets
--- and slots what a worker's turn with that ticket does, which is no longer in hand.
-abbrev pub OwnTurn : Ticket → Result (Option Worked) ServerFault → Own → Own → Type 0
-OwnTurn ticket (Ok None) old new = new ≡ old
-OwnTurn ticket (Ok (Some worked)) old new = TicketsKept ticket (without_first old) new × SlotsKept ticket (Ok worked) old new
-OwnTurn ticket (Err fault) old new = TicketsKept ticket (without_first old) new × SlotsKept ticket (Err fault) old new
+-- What a turn does to what its thread owns, with the exchanges that it makes. Claim words that lack the slot are not touched, and the
+-- answer is Gone then
+pub record TurnMade (words : ℕ) (ticket : Ticket) (result : Result Worked ServerFault) (old new : Own) : Type 0 where
+  pub change : TurnChange (account_at old.seat ticket.slot) result (account_at new.seat ticket.slot)
+  pub exchanges : ticket.slot < words → new.seat.steps ≡ old.seat.steps + exchanges result
+  pub tickets : TicketsKept ticket old new
+  pub slots : SlotsKept ticket result old new
+  pub outside : words ≤ ticket.slot → (result ≡ Ok worked.Gone) × (new.seat ≡ old.seat)
+
+-- A poller's own turn with the oldest ticket in hand, by its answer: where it answers None nothing changes, and else it is a turn with
+-- that ticket, which is no longer in hand
+abbrev pub OwnTurn : ℕ → Ticket → Result (Option Worked) ServerFault → Own → Own → Type 0
+OwnTurn words ticket (Ok None) old new = new ≡ old
+OwnTurn words ticket (Ok (Some worked)) old new = TurnMade words ticket (Ok worked) (without_first old) new
+OwnTurn words ticket (Err fault) old new = TurnMade words ticket (Err fault) (without_first old) new
+
+-- why a poller's thread runs no turn: no ticket is in hand, or no slot more fits there
+abbrev pub NoOwnTurn : Own → Type 0
+NoOwnTurn own = (own.hand.tickets ≡ []) ⊎ (own.hand.capacity ≤ length own.hand.slots)
 
 -- the pair, noted if there were notes
 abbrev pub noted_by : ℕ → PairState → PairState

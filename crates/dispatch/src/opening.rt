@@ -2,9 +2,9 @@
 //! connection, the connection to the target, what the target is sent first, the pair, the place, and the one note that
 //! starts it.
 ghost use Rattle.std.specs.Prelude.{◌≡◌, ◌≢◌, ◌⊎◌, ◌+◌, ◌<◌, ◌≤◌, [], ◌∷◌, ◌++◌, length, Err, Some, None, IfOk, IfErr, OnOk, OnSome, IfSome, IsNone, slice_index};
-ghost use Rattle.claims.specs.Seats.{HoldsNothing, OnlyAt};
+ghost use Rattle.claims.specs.Seats.{account_at, HoldsNothing, OnlyAt};
 ghost use Rattle.relay_core.specs.Pairs.{fresh};
-ghost use Rattle.dispatch.specs.Turns.{HoldsOnly};
+ghost use Rattle.dispatch.specs.Turns.{HoldsOnly, OnlyWorn, Released as ReleasedHere};
 ghost use Rattle.dispatch.specs.Hands.{ticket_room};
 ghost use Rattle.dispatch.specs.Leads.{LeadTold};
 ghost use Rattle.dispatch.specs.Openings.{Between, Started, Connected, AcceptDone};
@@ -50,8 +50,9 @@ pub(crate) fn open<F: Front, R: Wait + Log>(
     requires between { Between shared.now.claims own.old poller.old }
     requires room { 1 ≤ ticket_room own.old.hand }
     ensures between { Between shared.now.claims own.new poller.new }
-    ensures worn { IfErr result (λ fault. fault ≡ ServerFault.Worn) }
+    ensures worn { IfErr result (λ fault. OnlyWorn fault own.new.seat) }
     ensures done { OnOk result (AcceptDone poller.old poller.new own.old own.new) }
+    ensures ready { own.new.ready ≡ own.old.ready }
     ensures poller { poller.new ≡ record poller.old { table = poller.new.table; opened = poller.new.opened; lost = poller.new.lost } }
     ensures room { OnOk result (ticket_room own.old.hand ≤ ticket_room own.new.hand + 1) }
 {
@@ -169,9 +170,10 @@ fn place<F: Front, R: Wait + Log>(
     requires generation { berth.pair.generation ≤ 140737488355327 }
     requires room { 1 ≤ ticket_room own.old.hand }
     ensures between { Between shared.now.claims own.new poller.new }
-    ensures worn { IfErr result (λ fault. fault ≡ ServerFault.Worn) }
+    ensures worn { IfErr result (λ fault. OnlyWorn fault own.new.seat) }
     ensures done { OnOk result (Connected (record { slot = berth.pair.slot; generation = berth.pair.generation } ∷ []) [] poller.old poller.new own.old own.new ⊎ Connected [] (berth.pair.slot ∷ []) poller.old poller.new own.old own.new) }
     ensures poller { poller.new ≡ record poller.old { table = poller.new.table; opened = poller.new.opened; lost = poller.new.lost } }
+    ensures ready { own.new.ready ≡ own.old.ready }
     ensures free { OnOk result (own.new.free ≡ own.old.free) }
     ensures slots { OnOk result (own.new.hand.slots ≡ own.old.hand.slots) }
     ensures room { OnOk result (ticket_room own.old.hand ≤ ticket_room own.new.hand + 1) }
@@ -207,7 +209,7 @@ pub(crate) fn start<F: Front, R: Wait>(
     requires room { length own.old.hand.tickets < own.old.hand.capacity }
     ensures idle { HoldsNothing own.new.seat }
     ensures only { OnlyAt ticket.slot own.old.seat own.new.seat }
-    ensures worn { IfErr result (λ fault. fault ≡ ServerFault.Worn) }
+    ensures worn { IfErr result (λ fault. OnlyWorn fault own.new.seat) }
     ensures started { OnOk result (Started ticket own.old.seat own.new.seat own.old.hand own.new.hand) }
     ensures exchanges { OnOk result (own.new.seat.steps ≡ own.old.seat.steps + 3) }
     ensures ready { own.new.ready ≡ own.old.ready }
@@ -218,12 +220,28 @@ pub(crate) fn start<F: Front, R: Wait>(
     let _ = shared.berths.put_in(rt, &own.seat, ticket.slot, berth);
     // A holder's own post never answers Wake: the release does.
     let posted = shared.claims.post(&mut own.seat, ticket.slot);
+    let_go(shared, own, ticket);
+    match posted {
+        Posted::Worn => Err(ServerFault::Worn),
+        Posted::Wake | Posted::Quiet => Ok(()),
+    }
+}
+
+/// Releases the slot of a connection that is in its place, and keeps the ticket in hand if notes wait.
+fn let_go<F: Front>(shared: &Shared<F>, own: &mut Own, ticket: Ticket)
+    requires same { own.old.seat.table ≡ shared.now.claims }
+    requires inside { ticket.slot < shared.now.claims.words }
+    requires holder { HoldsOnly ticket.slot own.old.seat }
+    requires room { length own.old.hand.tickets < own.old.hand.capacity }
+    ensures idle { HoldsNothing own.new.seat }
+    ensures only { OnlyAt ticket.slot own.old.seat own.new.seat }
+    ensures released { ReleasedHere (account_at own.old.seat ticket.slot) (account_at own.new.seat ticket.slot) }
+    ensures kept { 1 ≤ (account_at own.old.seat ticket.slot).known → own.new.hand ≡ record own.old.hand { tickets = own.old.hand.tickets ++ ticket ∷ [] } }
+    ensures exchanges { own.new.seat.steps ≡ own.old.seat.steps + 1 }
+    ensures ready { own.new.ready ≡ own.old.ready }
+    ensures free { own.new.free ≡ own.old.free }
+{
     if shared.claims.release(&mut own.seat, ticket.slot) == Released::Wake {
         own.hand.keep_ticket(ticket);
-    }
-    if posted == Posted::Worn {
-        Err(ServerFault::Worn)
-    } else {
-        Ok(())
     }
 }

@@ -1,8 +1,8 @@
 //! The turns that the poller's thread runs by itself, so that no worker has to be woken for them.
-ghost use Rattle.std.specs.Prelude.{◌≡◌, ◌⊎◌, ◌<◌, [], length, slice_get, IfSome};
+ghost use Rattle.std.specs.Prelude.{◌≡◌, ◌<◌, ◌↔◌, length, slice_get, Ok, None, IfErr, IfSome};
 ghost use Rattle.claims.specs.Seats.{HoldsNothing, OnlyAt};
-ghost use Rattle.dispatch.specs.Outgoing.{tickets_out, Inserted, KeepsOut};
-ghost use Rattle.dispatch.specs.Turns.{OwnTurn};
+ghost use Rattle.dispatch.specs.Outgoing.{tickets_out, Inserted, KeepsOut, TookNothing};
+ghost use Rattle.dispatch.specs.Turns.{NoOwnTurn, OnlyWorn, OwnTurn};
 
 use crate::clock::{Clock, Timing};
 use crate::faults::ServerFault;
@@ -45,6 +45,7 @@ fn pass_on<R: Wait>(rt: &R, own: &mut Own, ticket: Ticket, stays: bool)
     requires idle { HoldsNothing own.old.seat }
     requires room { length own.old.hand.tickets < own.old.hand.capacity }
     ensures tickets { Inserted ticket (tickets_out own.old) (tickets_out own.new) }
+    ensures took { own.new.ready.history.taken ≡ own.old.ready.history.taken }
     ensures seat { own.new.seat ≡ own.old.seat }
     ensures free { own.new.free ≡ own.old.free }
     ensures slots { own.new.hand.slots ≡ own.old.hand.slots }
@@ -57,7 +58,8 @@ fn pass_on<R: Wait>(rt: &R, own: &mut Own, ticket: Ticket, stays: bool)
 }
 
 /// Runs the turn of the oldest ticket in hand, with at most 8 calls. A connection that spends them is the workers' for a
-/// while. None if there is no ticket, or no room in hand for a slot: then nothing changes.
+/// while. None if there is no ticket, or no room in hand for a slot: then nothing changes. The only refusal is `Worn`, as of
+/// a worker's turn.
 ///
 /// Nothing else that is in hand is put. Where a connection ends, the round that follows looks for its slot before it
 /// waits, if a client may be waiting. If no more connections are to be opened, it does not wait, so that the poller's end
@@ -76,8 +78,11 @@ pub fn own_turn<F: Front, G: Gate, C: Clock, R: Wait + Log>(
     ensures idle { HoldsNothing own.new.seat }
     ensures poller { poller.new ≡ poller.old }
     ensures only { IfSome (slice_get own.old.hand.tickets 0) (λ ticket. OnlyAt ticket.slot own.old.seat own.new.seat) }
-    ensures turn { IfSome (slice_get own.old.hand.tickets 0) (λ ticket. OwnTurn ticket result own.old own.new) }
-    ensures none { own.old.hand.tickets ≡ [] → own.new ≡ own.old }
+    ensures turn { IfSome (slice_get own.old.hand.tickets 0) (λ ticket. OwnTurn shared.now.claims.words ticket result own.old own.new) }
+    ensures none { result ≡ Ok None ↔ NoOwnTurn own.old }
+    ensures unchanged { result ≡ Ok None → own.new ≡ own.old }
+    ensures took { TookNothing own.old own.new }
+    ensures worn { IfErr result (λ fault. OnlyWorn fault own.new.seat) }
 {
     if !own.hand.has_slot_room() {
         return Ok(None);

@@ -16,6 +16,7 @@ use token::MAX_GENERATION;
 /// Puts the tickets in hand, oldest first, until one is refused. That one remains the oldest.
 pub fn put_tickets<R: Wait>(rt: &R, ready: &mut ReadyQueue, hand: &mut Hand)
     ensures tickets { outgoing ready.new.history hand.new.tickets ≡ outgoing ready.old.history hand.old.tickets }
+    ensures took { ready.new.history.taken ≡ ready.old.history.taken }
     ensures all { PutAll ready.new hand.new.tickets }
     ensures slots { hand.new.slots ≡ hand.old.slots }
     ensures shrank { Shrank hand.old hand.new }
@@ -34,6 +35,7 @@ pub fn put_tickets<R: Wait>(rt: &R, ready: &mut ReadyQueue, hand: &mut Hand)
 /// Gives back the slots in hand, oldest first, until one is refused. That one remains the oldest.
 pub fn give_slots<R: Wait>(rt: &R, free: &mut FreeQueue, hand: &mut Hand)
     ensures slots { outgoing free.new.history hand.new.slots ≡ outgoing free.old.history hand.old.slots }
+    ensures took { free.new.history.taken ≡ free.old.history.taken }
     ensures all { PutAll free.new hand.new.slots }
     ensures tickets { hand.new.tickets ≡ hand.old.tickets }
     ensures shrank { Shrank hand.old hand.new }
@@ -57,6 +59,7 @@ pub(crate) fn put_ticket<R: Wait>(rt: &R, own: &mut Own, ticket: Ticket)
     ensures seat { own.new.seat ≡ own.old.seat }
     ensures kept { KeepsTicket ticket own.new.ready.history own.new.hand }
     ensures tickets { Inserted ticket (tickets_out own.old) (tickets_out own.new) }
+    ensures took { own.new.ready.history.taken ≡ own.old.ready.history.taken }
     ensures free { own.new.free ≡ own.old.free }
     ensures slots { own.new.hand.slots ≡ own.old.hand.slots }
 {
@@ -73,6 +76,7 @@ pub(crate) fn give_back<R: Wait>(rt: &R, own: &mut Own, ticket: Ticket, closed: 
     requires room { length own.old.hand.slots < own.old.hand.capacity }
     ensures seat { own.new.seat ≡ own.old.seat }
     ensures given { SlotGiven ticket own.old own.new }
+    ensures took { own.new.free.history.taken ≡ own.old.free.history.taken }
     ensures ready { own.new.ready ≡ own.old.ready }
     ensures tickets { own.new.hand.tickets ≡ own.old.hand.tickets }
 {
@@ -90,6 +94,7 @@ fn give_slot<R: Wait>(rt: &R, own: &mut Own, slot: usize)
     ensures seat { own.new.seat ≡ own.old.seat }
     ensures kept { KeepsSlot slot own.new.free.history own.new.hand }
     ensures slots { Inserted slot (slots_out own.old) (slots_out own.new) }
+    ensures took { own.new.free.history.taken ≡ own.old.free.history.taken }
     ensures ready { own.new.ready ≡ own.old.ready }
     ensures tickets { own.new.hand.tickets ≡ own.old.hand.tickets }
 {

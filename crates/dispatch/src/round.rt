@@ -12,6 +12,7 @@ ghost use Rattle.dispatch.specs.Outgoing.{PutAll, TicketsPut};
 ghost use Rattle.dispatch.specs.Polls.{HasOpenedAll, flag_after};
 ghost use Rattle.dispatch.specs.Rounds.{RoundDone, AcceptEnded, EndedEarly, IsOver, MayWait, NoSlot, NoneToAccept};
 ghost use Rattle.dispatch.specs.Sweeps.{swept_after};
+ghost use Rattle.dispatch.specs.Turns.{OnlyWorn};
 
 use crate::accepting::{Accepted, accepted_of};
 use crate::clock::{Clock, Timing};
@@ -66,6 +67,8 @@ pub fn poller_round<F: Front, C: Clock, R: Wait + Log>(
     ensures accepted { OnOk result (EndedEarly shared.now.claims.words own.new ⊎ AcceptEnded poller.new own.new) }
     ensures over { OnOk result (poller.new.over ≡ true → (poller.old.over ≡ true) ⊎ IsOver poller.new own.new) }
     ensures opening { poller.new.opening ≡ poller.old.opening }
+    ensures took { own.new.ready.history.taken ≡ own.old.ready.history.taken }
+    ensures refused { IfErr result (λ fault. (fault ≡ ServerFault.Poll) ⊎ OnlyWorn fault own.new.seat) }
 {
     if !begin(rt, own, poller, shared.claims.slots()) {
         return Ok(());
@@ -165,7 +168,7 @@ fn deliver_batch<F: Front>(
     requires room { length poller.old.batch ≤ ticket_room own.old.hand }
     ensures between { Between shared.now.claims own.new poller.new }
     ensures poller { poller.new ≡ record poller.old { accepting = poller.new.accepting } }
-    ensures worn { IfErr result (λ fault. fault ≡ ServerFault.Worn) }
+    ensures worn { IfErr result (λ fault. OnlyWorn fault own.new.seat) }
     ensures delivered { OnOk result (Delivered poller.old.table poller.old.batch own.old.seat own.new.seat own.old.hand own.new.hand) }
     ensures flag { OnOk result (IsTrue poller.new.accepting ↔ (IsTrue poller.old.accepting ⊎ Contains poller.old.batch 0)) }
     ensures own { AreIn poller.old.part (all_reported poller.old.table poller.old.batch) }
@@ -196,9 +199,10 @@ fn accept_all<F: Front, R: Wait + Log>(
     requires between { Between shared.now.claims own.old poller.old }
     requires room { 4 ≤ ticket_room own.old.hand }
     ensures between { Between shared.now.claims own.new poller.new }
-    ensures worn { IfErr result (λ fault. fault ≡ ServerFault.Worn) }
+    ensures worn { IfErr result (λ fault. OnlyWorn fault own.new.seat) }
     ensures done { OnOk result (AcceptDone poller.old poller.new own.old own.new) }
     ensures ended { OnOk result (AcceptEnded poller.new own.new) }
+    ensures ready { own.new.ready ≡ own.old.ready }
     ensures poller { poller.new ≡ record poller.old { table = poller.new.table; accepting = poller.new.accepting; starved = poller.new.starved; tries = poller.new.tries; opened = poller.new.opened; lost = poller.new.lost } }
 {
     poller.reset_tries();
@@ -235,9 +239,10 @@ fn accept_next<F: Front, R: Wait + Log>(
     requires room { 1 ≤ ticket_room own.old.hand }
     requires left { 1 ≤ poller.old.tries }
     ensures between { Between shared.now.claims own.new poller.new }
-    ensures worn { IfErr result (λ fault. fault ≡ ServerFault.Worn) }
+    ensures worn { IfErr result (λ fault. OnlyWorn fault own.new.seat) }
     ensures done { OnOk result (AcceptDone poller.old poller.new own.old own.new) }
     ensures room { OnOk result (ticket_room own.old.hand ≤ ticket_room own.new.hand + 1) }
+    ensures ready { own.new.ready ≡ own.old.ready }
     ensures tries { poller.new.tries + 1 ≡ poller.old.tries }
     ensures starved { IfOk result (λ more. more ≡ false → poller.new.starved ≡ true) }
     ensures poller { poller.new ≡ record poller.old { table = poller.new.table; accepting = poller.new.accepting; starved = poller.new.starved; tries = poller.new.tries; opened = poller.new.opened; lost = poller.new.lost } }

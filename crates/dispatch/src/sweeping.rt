@@ -6,6 +6,7 @@ ghost use Rattle.relay_core.specs.Idle.{is_past};
 ghost use Rattle.dispatch.specs.Deliveries.{ArePosted};
 ghost use Rattle.dispatch.specs.Hands.{ticket_room};
 ghost use Rattle.dispatch.specs.Openings.{AreIn, Between};
+ghost use Rattle.dispatch.specs.Turns.{OnlyWorn};
 ghost use Rattle.dispatch.specs.Sweeps.{all_opened, opened_in, swept_after, sweep_of};
 
 use crate::clock::{Clock, Timing};
@@ -32,7 +33,7 @@ pub(crate) fn sweep_if_due<F: Front, C: Clock>(
     ensures between { Between shared.now.claims own.new poller.new }
     ensures poller { poller.new ≡ record poller.old { second = poller.new.second; swept = poller.new.swept } }
     ensures told { C.tells timing.now.clock.now poller.new.second }
-    ensures worn { IfErr result (λ fault. fault ≡ ServerFault.Worn) }
+    ensures worn { IfErr result (λ fault. OnlyWorn fault own.new.seat) }
     ensures posted { OnOk result (ArePosted (sweep_of poller.old poller.new) own.old.seat own.new.seat own.old.hand own.new.hand) }
     ensures swept { OnOk result (poller.new.swept ≡ swept_after timing.now.limit poller.new.second poller.old.swept) }
     ensures unswept { OnErr result (poller.new.swept ≡ poller.old.swept) }

@@ -1,11 +1,11 @@
 //! One turn of a worker: it claims a ticket's slot, takes its connection out, gives it the notes, runs it, and puts it
 //! back.
-ghost use Rattle.std.specs.Prelude.{◌≡◌, ◌≢◌, ◌⊎◌, ◌+◌, ◌-◌, ◌<◌, ◌≤◌, length, Ok, IfOk};
+ghost use Rattle.std.specs.Prelude.{◌≡◌, ◌≢◌, ◌⊎◌, ◌+◌, ◌-◌, ◌<◌, ◌≤◌, length, Ok, IfOk, IfErr};
 ghost use Rattle.claims.specs.Seats.{account_at, HoldsNothing, OnlyAt};
 ghost use Rattle.engine.specs.Turns.{outcome_of, IsServed, IsTurn};
 ghost use Rattle.dispatch.specs.Hands.{HasRoom};
-ghost use Rattle.dispatch.specs.Outgoing.{KeepsSlot};
-ghost use Rattle.dispatch.specs.Turns.{TurnChange, Rose, exchanges, exchanges_left, HoldsOnly, AtWork, TicketsKept, SlotsKept, TurnDone, noted_by, Released as ReleasedHere};
+ghost use Rattle.dispatch.specs.Outgoing.{KeepsSlot, TookNothing};
+ghost use Rattle.dispatch.specs.Turns.{TurnChange, Rose, exchanges, exchanges_left, HoldsOnly, AtWork, TicketsKept, SlotsKept, TurnDone, OnlyWorn, noted_by, Released as ReleasedHere};
 
 use crate::clock::{Clock, Timing};
 use crate::faults::ServerFault;
@@ -71,6 +71,8 @@ pub fn worker_turn<F: Front, G: Gate, C: Clock, R: Wait + Log>(
     ensures tickets { TicketsKept ticket own.old own.new }
     ensures slots { SlotsKept ticket result own.old own.new }
     ensures outside { shared.now.claims.words ≤ ticket.slot → (result ≡ Ok Worked.Gone) × (own.new.seat ≡ own.old.seat) }
+    ensures took { TookNothing own.old own.new }
+    ensures worn { IfErr result (λ fault. OnlyWorn fault own.new.seat) }
 {
     put_tickets(rt, &mut own.ready, &mut own.hand);
     give_slots(rt, &mut own.free, &mut own.hand);
@@ -105,6 +107,8 @@ pub(crate) fn turn_of<F: Front, G: Gate, R: Wait + Log>(
     ensures tickets { TicketsKept ticket own.old own.new }
     ensures slots { SlotsKept ticket result own.old own.new }
     ensures outside { shared.now.claims.words ≤ ticket.slot → (result ≡ Ok Worked.Gone) × (own.new.seat ≡ own.old.seat) }
+    ensures took { TookNothing own.old own.new }
+    ensures worn { IfErr result (λ fault. OnlyWorn fault own.new.seat) }
 {
     if ticket.slot >= shared.claims.slots() {
         return Ok(Worked::Gone);
@@ -128,6 +132,7 @@ fn claimed<F: Front, G: Gate, R: Wait + Log>(
     requires budget { (1 ≤ terms.budget) × (terms.budget ≤ 1024) }
     ensures done { TurnDone ticket result own.old own.new }
     ensures exchanges { own.new.seat.steps ≡ own.old.seat.steps + exchanges_left result }
+    ensures worn { IfErr result (λ fault. OnlyWorn fault own.new.seat) }
 {
     match take_out(rt, shared, own, ticket) {
         Ok(visit) if visit.pair().generation() == ticket.generation => {
@@ -169,6 +174,7 @@ fn run<F: Front, G: Gate, R: Wait + Log>(
     requires budget { (1 ≤ terms.budget) × (terms.budget ≤ 1024) }
     ensures done { TurnDone visit.ticket result own.old own.new }
     ensures exchanges { own.new.seat.steps ≡ own.old.seat.steps + exchanges_left result }
+    ensures worn { IfErr result (λ fault. OnlyWorn fault own.new.seat) }
 {
     match play(
         shared,
@@ -232,6 +238,7 @@ fn again<F: Front, R: Wait>(
     ensures done { TurnDone visit.ticket result own.old own.new }
     ensures answer { IfOk result (λ worked. worked ≡ Worked.Again) }
     ensures exchanges { own.new.seat.steps + 1 ≡ own.old.seat.steps + exchanges_left result }
+    ensures worn { IfErr result (λ fault. OnlyWorn fault own.new.seat) }
 {
     let ticket = visit.ticket();
     let back = put_in(rt, shared, own, visit);
@@ -251,14 +258,14 @@ fn stay_due<F: Front, R: Wait>(
     ensures done { TurnDone ticket result own.old own.new }
     ensures answer { IfOk result (λ worked. worked ≡ Worked.Again) }
     ensures exchanges { own.new.seat.steps + 1 ≡ own.old.seat.steps + exchanges_left result }
+    ensures worn { IfErr result (λ fault. OnlyWorn fault own.new.seat) }
 {
     // A holder's own post never answers Wake: the release does.
     let posted = shared.claims.post(&mut own.seat, ticket.slot);
     leave(rt, shared, own, ticket, back);
-    if posted == Posted::Worn {
-        Err(ServerFault::Worn)
-    } else {
-        Ok(Worked::Again)
+    match posted {
+        Posted::Worn => Err(ServerFault::Worn),
+        Posted::Wake | Posted::Quiet => Ok(Worked::Again),
     }
 }
 

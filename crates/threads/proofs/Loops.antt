@@ -104,23 +104,23 @@ ran_one t ts a b is only kept = (
       omega arith),
 )
 
-own_turn_of : (t : Ticket) (ts : List Ticket) (result : Result (Option Worked) ServerFault) (a b : Own) → a.hand.tickets ≡ t ∷ ts → OnlyAt t.slot a.seat b.seat → OwnTurn t result a b → RanAtMost 1 a b
-own_turn_of t ts (Ok None) a b is only turn = subst (λ (o : Own). RanAtMost 1 a o) (sym turn) (ran_none 1 a a (λ slot. omega arith))
-own_turn_of t ts (Ok (Some worked)) a b is only turn = ran_one t ts a b is only turn.0
-own_turn_of t ts (Err fault) a b is only turn = ran_one t ts a b is only turn.0
+own_turn_of : (words : ℕ) (t : Ticket) (ts : List Ticket) (result : Result (Option Worked) ServerFault) (a b : Own) → a.hand.tickets ≡ t ∷ ts → OnlyAt t.slot a.seat b.seat → OwnTurn words t result a b → RanAtMost 1 a b
+own_turn_of words t ts (Ok None) a b is only turn = subst (λ (o : Own). RanAtMost 1 a o) (sym turn) (ran_none 1 a a (λ slot. omega arith))
+own_turn_of words t ts (Ok (Some worked)) a b is only turn = ran_one t ts a b is only turn.tickets
+own_turn_of words t ts (Err fault) a b is only turn = ran_one t ts a b is only turn.tickets
 
-own_turn_by : (us : List Ticket) (result : Result (Option Worked) ServerFault) (a b : Own) → a.hand.tickets ≡ us
+own_turn_by : (words : ℕ) (us : List Ticket) (result : Result (Option Worked) ServerFault) (a b : Own) → a.hand.tickets ≡ us
     → IfSome (slice_get us 0) (λ t. OnlyAt t.slot a.seat b.seat)
-    → IfSome (slice_get us 0) (λ t. OwnTurn t result a b)
+    → IfSome (slice_get us 0) (λ t. OwnTurn words t result a b)
     → (a.hand.tickets ≡ [] → b ≡ a) → RanAtMost 1 a b
-own_turn_by [] result a b is only turn none = subst (λ (o : Own). RanAtMost 1 a o) (sym (none is)) (ran_none 1 a a (λ slot. omega arith))
-own_turn_by (t ∷ ts) result a b is only turn none = own_turn_of t ts result a b is only turn
+own_turn_by words [] result a b is only turn none = subst (λ (o : Own). RanAtMost 1 a o) (sym (none is)) (ran_none 1 a a (λ slot. omega arith))
+own_turn_by words (t ∷ ts) result a b is only turn none = own_turn_of words t ts result a b is only turn
 
-pub own_turn_ran : (result : Result (Option Worked) ServerFault) (a b : Own)
+pub own_turn_ran : (words : ℕ) (result : Result (Option Worked) ServerFault) (a b : Own)
     → IfSome (slice_get a.hand.tickets 0) (λ t. OnlyAt t.slot a.seat b.seat)
-    → IfSome (slice_get a.hand.tickets 0) (λ t. OwnTurn t result a b)
+    → IfSome (slice_get a.hand.tickets 0) (λ t. OwnTurn words t result a b)
     → (a.hand.tickets ≡ [] → b ≡ a) → RanAtMost 1 a b
-own_turn_ran result a b only turn none = own_turn_by a.hand.tickets result a b (λ i. a.hand.tickets) only turn none
+own_turn_ran words result a b only turn none = own_turn_by words a.hand.tickets result a b (λ i. a.hand.tickets) only turn none
 
 -- the fault with which a loop was told to end
 abbrev told : {T : Type 0} → Result T Ended → Option ServerFault

@@ -8,5 +8,6 @@ abbrev pub invariant-loop-slot : goal.invariant-loop-slot
 invariant-loop-slot g l =
     Shrank l.fn.hand l.hand
     × (outgoing l.free.history l.hand.slots ≡ outgoing l.fn.free.history l.fn.hand.slots)
+    × (l.free.history.taken ≡ l.fn.free.history.taken)
     × (l.hand.tickets ≡ l.fn.hand.tickets)
     × (length l.hand.slots + l._slot ≡ length l.fn.hand.slots)

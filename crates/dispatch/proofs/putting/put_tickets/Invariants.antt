@@ -8,5 +8,6 @@ abbrev pub invariant-loop-ticket : goal.invariant-loop-ticket
 invariant-loop-ticket g l =
     Shrank l.fn.hand l.hand
     × (outgoing l.ready.history l.hand.tickets ≡ outgoing l.fn.ready.history l.fn.hand.tickets)
+    × (l.ready.history.taken ≡ l.fn.ready.history.taken)
     × (l.hand.slots ≡ l.fn.hand.slots)
     × (length l.hand.tickets + l._ticket ≡ length l.fn.hand.tickets)
