@@ -40,7 +40,7 @@ where
     ensures pollers { IfOk result (λ made. map (λ poller. poller.part) made.pollers.items ≡ each_part split.slots split.size (λ part. part)) }
     ensures begun { IfOk result (λ made. All (λ poller. HasBegun settings.now.slots (record { ring = settings.now.ring; proxy = settings.now.proxy }) poller) made.pollers.items) }
     ensures shares { IfOk result (λ made. map (λ poller. poller.most) made.pollers.items ≡ shares_of settings.now.stop_after (parts_of split.slots split.size)) }
-    ensures workers { IfOk result (λ made. (made.workers ≡ settings.now.workers) × (made.pollers_work ≡ true)) }
+    ensures workers { IfOk result (λ made. made.workers ≡ settings.now.workers) }
     ensures refused { IfErr result (λ fault. fault ≡ ServerFault.NoMemory) }
 {
     let threads = split.pollers() + settings.workers;
@@ -54,7 +54,6 @@ where
         pollers,
         split,
         workers: settings.workers,
-        pollers_work: true,
     })
 }
 

@@ -8,34 +8,21 @@ use log::{Level, Log, Logged};
 use ready::{ReadyQueue, Ticket};
 use std::alloc::{AllocError, Global};
 use std::io::ErrorKind;
-use std::sync::atomic::AtomicUsize;
 use std::sync::atomic::Ordering::SeqCst;
-use std::sync::{Arc, Mutex, Wait};
+use std::sync::{Arc, Wait};
 use std::test::Fail;
-use threads::{Cast, Crew, Ended, FaultRecord, Rest, Server, divide, run_threads};
+use threads::{Cast, Crew, Ended, Ending, Rest, Server, divide, run_threads};
 
-/// What a thread of such a server is handed, if no other thread is to begin.
-fn crew_of<'a, R>(
-    rt: &'a R,
-    alloc: Global,
-    faults: &'a FaultRecord,
-    shared: &Arc<Shared<Failing>>,
-) -> Result<Crew<'a, Failing, OpenGate, Still, R>, AllocError> {
-    Ok(Crew {
+/// What a thread of such a server is handed.
+fn crew_of<'a, R>(rt: &'a R, alloc: Global, ending: &'a Ending) -> Crew<'a, OpenGate, Still, R> {
+    Crew {
         rt,
         alloc,
         gate: &OpenGate,
         timing: NO_LIMIT,
-        faults,
-        shared: Arc::try_clone(shared)?,
+        ending,
         split: Split::new(2, 2),
-        polling: AtomicUsize::new(1),
-        pollers_work: true,
-        cast: Mutex::new(Cast {
-            leads: Vec::new(alloc),
-            workers: Vec::new(alloc),
-        }),
-    })
+    }
 }
 
 /// Threads by number, the poller's first, and the fault of each, in the order in which they are noted.
@@ -66,12 +53,12 @@ const NOTED: [(&[(usize, ServerFault)], Option<ServerFault>); 5] = [
 #[test]
 fn the_fault_of_the_first_thread_is_kept(rt: HostRuntime) -> Result<(), Fail> {
     for (row, (faults, kept)) in NOTED.iter().enumerate() {
-        let record = FaultRecord::new();
+        let ending = Ending::new(1);
         for (number, fault) in *faults {
-            record.write(&rt, *number, *fault);
+            ending.record(&rt, *number, *fault);
         }
-        assert_eq!(rt; record.is_written(), kept.is_some(), "in row {row}");
-        assert_eq!(rt; record.into_fault(), *kept, "in row {row}");
+        assert_eq!(rt; ending.is_recorded(), kept.is_some(), "in row {row}");
+        assert_eq!(rt; ending.into_fault(), *kept, "in row {row}");
     }
     Ok(())
 }
@@ -80,19 +67,16 @@ fn the_fault_of_the_first_thread_is_kept(rt: HostRuntime) -> Result<(), Fail> {
 fn fails_first<R: Wait + Log>(
     rt: &R,
     alloc: Global,
-    shared: &Arc<Shared<Failing>>,
+    shared: &Shared<Failing>,
     mine: &mut ReadyQueue,
     later: usize,
-) -> Result<Option<ServerFault>, AllocError> {
-    let faults = FaultRecord::new();
-    {
-        let crew = crew_of(rt, alloc, &faults, shared)?;
-        if let Err(ended) = Ended::on_fault::<()>(Err(ServerFault::Worn)) {
-            crew.end(2, mine, ended);
-        }
+) -> Option<ServerFault> {
+    let ending = Ending::new(1);
+    if let Err(ended) = Ended::on_fault::<()>(Err(ServerFault::Worn)) {
+        crew_of(rt, alloc, &ending).end(shared, 2, mine, ended);
     }
-    faults.write(rt, later, ServerFault::NoMemory);
-    Ok(faults.into_fault())
+    ending.record(rt, later, ServerFault::NoMemory);
+    ending.into_fault()
 }
 
 /// The thread that fails later, and the fault that is kept: the first worker's goes before, the third worker's does not.
@@ -102,29 +86,28 @@ const LATER: [(usize, ServerFault); 2] = [(3, ServerFault::Worn), (1, ServerFaul
 fn kept_otherwise<R: Wait + Log>(
     rt: &R,
     alloc: Global,
-    shared: &Arc<Shared<Failing>>,
+    shared: &Shared<Failing>,
     mine: &mut ReadyQueue,
-) -> Result<Option<usize>, AllocError> {
+) -> Option<usize> {
     for (row, (later, kept)) in LATER.iter().enumerate() {
-        if fails_first(rt, alloc, shared, mine, *later)? != Some(*kept) {
-            return Ok(Some(row));
+        if fails_first(rt, alloc, shared, mine, *later) != Some(*kept) {
+            return Some(row);
         }
     }
-    Ok(None)
+    None
 }
 
 /// What all threads of a server share, and two ends of its queue of tickets.
 fn ends_of(
-    alloc: Global,
     server: Server<Failing>,
-) -> Result<(Arc<Shared<Failing>>, ReadyQueue, ReadyQueue), AllocError> {
+) -> Result<(Shared<Failing>, ReadyQueue, ReadyQueue), AllocError> {
     let Server {
         shared,
         mut parts,
         ..
     } = server;
     match (parts.ready.pop(), parts.ready.pop()) {
-        (Some(mine), Some(other)) => Ok((Arc::new(alloc, shared)?, mine, other)),
+        (Some(mine), Some(other)) => Ok((shared, mine, other)),
         _ => Err(AllocError),
     }
 }
@@ -133,20 +116,20 @@ fn ends_of(
 fn a_worker_s_fault_is_told_to_all(rt: HostRuntime) -> Result<(), Fail> {
     let log = Logged::new(&rt, Level::Error, Discard);
     let server = server_without_reports(&rt, rt.alloc(), ErrorKind::Other)?;
-    let (shared, mut mine, mut other) = ends_of(rt.alloc(), server)?;
-    let row = kept_otherwise(&log, rt.alloc(), &shared, &mut mine)?;
+    let (shared, mut mine, mut other) = ends_of(server)?;
+    let row = kept_otherwise(&log, rt.alloc(), &shared, &mut mine);
     assert_eq!(rt; row, None);
     assert_eq!(rt; other.take(&rt), None);
     assert_eq!(rt; shared.waker.load(SeqCst), 2);
     Ok(())
 }
 
-/// What the threads of a server share, and the threads: its poller's, and those of so many workers.
+/// The threads of a server: its poller's, and those of so many workers.
 fn cast_of(
     alloc: Global,
     server: Server<Failing>,
     workers: usize,
-) -> Result<(Arc<Shared<Failing>>, Cast<Failing>), ServerFault> {
+) -> Result<Cast<Failing>, ServerFault> {
     let Server {
         shared,
         parts,
@@ -155,8 +138,7 @@ fn cast_of(
         ..
     } = server;
     let shared = Arc::new(alloc, shared)?;
-    let cast = divide(alloc, &shared, Rest { parts, free }, pollers, workers)?;
-    Ok((shared, cast))
+    divide(alloc, &shared, Rest { parts, free }, pollers, workers)
 }
 
 /// A worker of a server, which takes tickets with this fault recorded before, if any.
@@ -166,13 +148,13 @@ fn work<R: Wait + Log>(
     server: Server<Failing>,
     fault: Option<ServerFault>,
 ) -> Result<(), ServerFault> {
-    let (shared, mut cast) = cast_of(alloc, server, 1)?;
-    let faults = FaultRecord::new();
+    let mut cast = cast_of(alloc, server, 1)?;
+    let ending = Ending::new(1);
     if let Some(fault) = fault {
-        faults.write(rt, 2, fault);
+        ending.record(rt, 2, fault);
     }
     if let Some(worker) = cast.workers.last_mut() {
-        worker.work(&crew_of(rt, alloc, &faults, &shared)?);
+        worker.run(&crew_of(rt, alloc, &ending));
     }
     Ok(())
 }
@@ -217,14 +199,14 @@ fn rounds_after<R: Wait + Log>(
     alloc: Global,
     server: Server<Failing>,
 ) -> Result<Option<(bool, usize)>, ServerFault> {
-    let (shared, mut cast) = cast_of(alloc, server, 0)?;
-    let faults = FaultRecord::new();
-    faults.write(rt, 2, ServerFault::Worn);
-    let Some(lead) = cast.leads.last_mut() else {
+    let mut cast = cast_of(alloc, server, 0)?;
+    let ending = Ending::new(1);
+    ending.record(rt, 2, ServerFault::Worn);
+    let Some(thread) = cast.pollers.last_mut() else {
         return Ok(None);
     };
-    let ended = lead.run_rounds(&crew_of(rt, alloc, &faults, &shared)?);
-    Ok(Some((ended.into_fault().is_none(), lead.poller.front.polled)))
+    let ended = thread.run_rounds(&crew_of(rt, alloc, &ending));
+    Ok(Some((ended.into_fault().is_none(), thread.poller.front.polled)))
 }
 
 #[test]

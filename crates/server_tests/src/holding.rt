@@ -1,29 +1,31 @@
 // A gate that shows whether two turns can be under way at once.
 
 use dispatch::Gate;
-use std::sync::atomic::AtomicBool;
 use std::sync::atomic::Ordering::SeqCst;
+use std::sync::atomic::{AtomicBool, AtomicUsize};
 use std::thread;
 
 /// How often a held turn looks whether it may go on. Each look yields to other threads.
 const LOOKS: usize = 100_000;
 
-/// Holds the turns at slot 0 until a turn at slot 1 has ended, which takes a second thread.
+/// Holds the second turn at slot 0 until the second one at slot 1 has ended, which takes a second thread.
 #[derive(Drop)]
 pub(crate) struct Holding {
-    ended: AtomicBool,
+    begun: AtomicUsize,
+    ended: AtomicUsize,
     in_vain: AtomicBool,
 }
 
 impl Holding {
     pub(crate) fn new() -> Holding {
         Holding {
-            ended: AtomicBool::new(false),
+            begun: AtomicUsize::new(0),
+            ended: AtomicUsize::new(0),
             in_vain: AtomicBool::new(false),
         }
     }
 
-    /// Whether a turn was held and went on after its last look.
+    /// Whether the turn was held and went on after its last look.
     pub(crate) fn was_in_vain(&self) -> bool {
         self.in_vain.load(SeqCst)
     }
@@ -31,11 +33,11 @@ impl Holding {
 
 impl Gate for Holding {
     fn before_turn(&self, slot: usize) {
-        if slot != 0 {
+        if slot != 0 || self.begun.fetch_add(1, SeqCst) != 1 {
             return;
         }
         for _look in 0..LOOKS {
-            if self.ended.load(SeqCst) {
+            if self.ended.load(SeqCst) > 1 {
                 return;
             }
             thread::yield_now();
@@ -45,7 +47,7 @@ impl Gate for Holding {
 
     fn after_turn(&self, slot: usize) {
         if slot == 1 {
-            self.ended.store(true, SeqCst);
+            self.ended.fetch_add(1, SeqCst);
         }
     }
 }

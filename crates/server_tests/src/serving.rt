@@ -2,25 +2,22 @@
 // shown by `tests/relay`, with the built program.
 
 use crate::holding::Holding;
-use crate::still::NO_LIMIT;
-use dispatch::{ServerFault, Split};
+use crate::still::Still;
 use log::sink::Discard;
-use log::{Level, Log, Logged};
-use server::build;
+use log::{Level, Logged};
+use server::serve;
 use settings::{Settings, parse};
-use sockets::{Bound, Dial, Forwarding, bind, open_all};
+use sockets::bind;
 use std::alloc::Global;
-use std::net::{Net, Shutdown, SocketAddr, TcpListener, TcpStream};
-use std::sync::Wait;
+use std::net::{Shutdown, SocketAddr, TcpListener, TcpStream};
 use std::test::Fail;
-use std::thread::Threads;
 use std::{io, thread};
-use threads::run_threads;
 
-/// Two workers and two slots, on a port that the system chooses. The server ends after two connections.
+/// Two workers and two slots, on a port that the system chooses, and one call a turn. So the first turn of a connection, which
+/// is its poller's, leaves it to the workers. The server ends after two connections.
 fn settings(alloc: Global, target: SocketAddr) -> Result<Settings, Fail> {
     let text = format!(in alloc;
-        "listen = \"127.0.0.1:0\"\ntarget = \"{target}\"\nworkers = 2\nslots = 2\nstop_after = 2\n"
+        "listen = \"127.0.0.1:0\"\ntarget = \"{target}\"\nworkers = 2\nslots = 2\nbudget = 1\nstop_after = 2\n"
     )?;
     Ok(parse(alloc, text.as_bytes())?)
 }
@@ -33,22 +30,6 @@ fn echo(listener: &TcpListener, connections: usize) -> io::Result<()> {
         stream.shutdown(Shutdown::Write)?;
     }
     Ok(())
-}
-
-/// Serves like `serve`, but leaves all turns to the workers.
-fn serve_by_workers<R: Net + Dial + Wait + Threads + Log + Sync>(
-    rt: &R,
-    alloc: Global,
-    settings: &Settings,
-    gate: &Holding,
-    bound: Bound,
-) -> Result<(), ServerFault> {
-    let split = Split::new(settings.slots, settings.workers);
-    let forwarding = Forwarding::of(settings);
-    let (fronts, wakers) = open_all(rt, alloc, bound, forwarding, split)?;
-    let mut server = build(rt, alloc, settings, split, fronts, wakers)?;
-    server.pollers_work = false;
-    run_threads(rt, alloc, gate, NO_LIMIT, server)
 }
 
 // A client is connected when both have shut their side before the server begins.
@@ -69,7 +50,7 @@ fn two_workers_run_at_once(rt: HostRuntime) -> Result<(), Fail> {
     let gate = Holding::new();
     let (served, echoed) = thread::join(
         &rt,
-        || serve_by_workers(&log, alloc, &settings, &gate, bound),
+        || serve(&log, alloc, &settings, &gate, &Still, bound),
         || echo(&listener, 2),
     );
     assert_eq!(rt; served, Ok(()));

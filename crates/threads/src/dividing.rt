@@ -4,8 +4,8 @@ ghost use Rattle.std.specs.Arc.{arc_value};
 ghost use Rattle.claims.specs.Seats.{fresh_seat};
 ghost use Rattle.dispatch.specs.Parts.{AreFresh};
 
-use crate::leading::Lead;
 use crate::limits::WORKER_HAND;
+use crate::polling::PollerThread;
 use crate::working::Worker;
 use dispatch::{Front, MAX_BATCH, Own, Parts, Poller, ServerFault, Shared};
 use ready::FreeQueue;
@@ -15,7 +15,7 @@ use std::sync::Arc;
 /// The threads of a server that have not begun.
 #[derive(Drop)]
 pub struct Cast<F: Front> {
-    pub leads: Vec<Lead<F>>,
+    pub pollers: Vec<PollerThread<F>>,
     pub workers: Vec<Worker<F>>,
 }
 
@@ -43,43 +43,43 @@ where
     requires { AreFresh (arc_value shared.now).claims rest.parts.seats.items }
 {
     let first = pollers.len();
-    let leads = leads_of(alloc, shared, &mut rest, pollers)?;
+    let pollers = pollers_of(alloc, shared, &mut rest, pollers)?;
     let workers = workers_of(alloc, shared, &mut rest, first, workers)?;
-    Ok(Cast { leads, workers })
+    Ok(Cast { pollers, workers })
 }
 
 /// The threads of the pollers.
-fn leads_of<F: Front + Drop>(
+fn pollers_of<F: Front + Drop>(
     alloc: Global,
     shared: &Arc<Shared<F>>,
     rest: &mut Rest,
     mut pollers: Vec<Poller<F>>,
-) -> Result<Vec<Lead<F>>, ServerFault>
+) -> Result<Vec<PollerThread<F>>, ServerFault>
 where
     F::Waker: Drop,
     requires { AreFresh (arc_value shared.now).claims rest.old.parts.seats.items }
     ensures { AreFresh (arc_value shared.now).claims rest.new.parts.seats.items }
 {
     let count = pollers.len();
-    let mut leads = Vec::with_capacity(alloc, count)?;
-    for _lead in 0..count {
+    let mut threads = Vec::with_capacity(alloc, count)?;
+    for _thread in 0..count {
         let Some(poller) = pollers.pop() else {
-            return Ok(leads);
+            return Ok(threads);
         };
-        leads.push_reserved(next_lead(alloc, shared, rest, pollers.len(), poller)?);
+        threads.push_reserved(next_poller(alloc, shared, rest, pollers.len(), poller)?);
     }
-    Ok(leads)
+    Ok(threads)
 }
 
 /// The thread of a poller. A poller whose table is not for these slots is refused; `build` makes none.
 #[tactic(auto, using(claims::proofs::Seats::fresh_holds_nothing))]
-fn next_lead<F: Front + Drop>(
+fn next_poller<F: Front + Drop>(
     alloc: Global,
     shared: &Arc<Shared<F>>,
     rest: &mut Rest,
     number: usize,
     poller: Poller<F>,
-) -> Result<Lead<F>, ServerFault>
+) -> Result<PollerThread<F>, ServerFault>
 where
     F::Waker: Drop,
     requires { AreFresh (arc_value shared.now).claims rest.old.parts.seats.items }
@@ -89,8 +89,8 @@ where
     if poller.table().len() != slots {
         return Err(ServerFault::NoMemory);
     }
-    let (shared, own) = owned(alloc, shared, rest, number, lead_hand(slots))?;
-    Ok(Lead {
+    let (shared, own) = owned(alloc, shared, rest, number, poller_hand(slots))?;
+    Ok(PollerThread {
         shared,
         number,
         own,
@@ -99,7 +99,7 @@ where
 }
 
 /// The room of the hand of a poller's thread: for all that two rounds may put there.
-fn lead_hand(slots: usize) -> usize {
+fn poller_hand(slots: usize) -> usize {
     slots.saturating_mul(2).saturating_add(2 * MAX_BATCH)
 }
 

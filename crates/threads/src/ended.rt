@@ -4,7 +4,7 @@ ghost use Rattle.std.specs.Prelude.{◌≡◌, Some, None, Ok, Err, IfOk, IfErr}
 use dispatch::ServerFault;
 
 /// How a thread's loop ended: well, or on a fault. It cannot be dropped, and only the crew takes it
-/// ([`crate::crew::Crew::end`]). So the fault of a round or a turn is not forgotten.
+/// ([`crate::Crew::end`]). So the fault of a round or a turn is not forgotten.
 pub struct Ended {
     fault: Option<ServerFault>,
 }

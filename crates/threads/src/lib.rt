@@ -7,16 +7,16 @@
 mod crew;
 mod dividing;
 mod ended;
-mod fault_record;
-mod leading;
+mod ending;
 mod limits;
+mod polling;
 mod running;
 mod working;
 
 pub use crew::Crew;
 pub use dividing::{Cast, Rest, divide};
 pub use ended::Ended;
-pub use fault_record::FaultRecord;
-pub use leading::Lead;
+pub use ending::Ending;
+pub use polling::PollerThread;
 pub use running::{Server, run_threads};
 pub use working::Worker;

@@ -2,13 +2,12 @@
 ghost use Rattle.dispatch.specs.Parts.{AreFresh};
 
 use crate::crew::Crew;
-use crate::dividing::{Rest, divide};
-use crate::fault_record::FaultRecord;
+use crate::dividing::{Cast, Rest, divide};
+use crate::ending::Ending;
 use dispatch::{Clock, Front, Gate, Parts, Poller, ServerFault, Shared, Split, Timing};
 use log::{Log, error};
 use ready::FreeQueue;
 use std::alloc::Global;
-use std::sync::atomic::AtomicUsize;
 use std::sync::{Arc, Mutex, Wait};
 use std::thread::Threads;
 use std::{fmt, thread};
@@ -25,8 +24,6 @@ pub struct Server<F: Front> {
     pub pollers: Vec<Poller<F>>,
     pub split: Split,
     pub workers: usize,
-    /// Whether the pollers' threads run turns, too, or leave them all to the workers.
-    pub pollers_work: bool,
     pub ghost seats: { AreFresh shared.claims parts.seats.items },
 }
 
@@ -49,9 +46,9 @@ where
     F::Target: Send,
     F::Waker: Send + Sync + Drop,
 {
-    let faults = FaultRecord::new();
-    run_server(rt, alloc, gate, timing, server, &faults)?;
-    match faults.into_fault() {
+    let ending = Ending::new(server.pollers.len());
+    run_server(rt, alloc, gate, timing, server, &ending)?;
+    match ending.into_fault() {
         Some(fault) => Err(fault),
         None => Ok(()),
     }
@@ -65,7 +62,7 @@ fn run_server<'a, F, G: Gate + Sync, C: Clock + Sync, R: Wait + Threads + Log + 
     gate: &'a G,
     timing: Timing<'a, C>,
     server: Server<F>,
-    faults: &'a FaultRecord,
+    ending: &'a Ending,
 ) -> Result<(), ServerFault>
 where
     F: Front + Drop + Send,
@@ -80,32 +77,29 @@ where
         pollers,
         split,
         workers,
-        pollers_work,
         ..
     } = server;
-    let polling = AtomicUsize::new(pollers.len());
     let shared = Arc::new(alloc, shared)?;
     let cast = divide(alloc, &shared, Rest { parts, free }, pollers, workers)?;
-    let crew = Crew {
-        rt,
-        alloc,
-        gate,
-        timing,
-        faults,
-        shared,
-        split,
-        polling,
-        pollers_work,
+    let company = Company {
+        crew: Crew {
+            rt,
+            alloc,
+            gate,
+            timing,
+            ending,
+            split,
+        },
         cast: Mutex::new(cast),
     };
-    run_crew(&crew, workers);
+    run_all(&company, workers);
     Ok(())
 }
 
-/// Starts the threads of the workers and of all pollers but one, leads that one in the calling thread, and ends with the
+/// Starts the threads of the workers and of all pollers but one, runs that one in the calling thread, and ends with the
 /// last of them. A thread that cannot be started is a fault.
-fn run_crew<F, G: Gate + Sync, C: Clock + Sync, R: Wait + Threads + Log + Sync>(
-    crew: &Crew<F, G, C, R>,
+fn run_all<F, G: Gate + Sync, C: Clock + Sync, R: Wait + Threads + Log + Sync>(
+    company: &Company<F, G, C, R>,
     workers: usize,
 )
 where
@@ -114,27 +108,52 @@ where
     F::Target: Send,
     F::Waker: Send + Sync + Drop,
 {
-    let pollers = crew.split.pollers();
-    thread::scope(thread::scope_env(), crew.rt, move |scope| {
+    let pollers = company.crew.split.pollers();
+    thread::scope(thread::scope_env(), company.crew.rt, move |scope| {
         for _worker in 0..workers {
-            if let Err(error) = scope.spawn(move || crew.work()) {
-                not_started(crew, &error);
+            if let Err(error) = scope.spawn(move || company.work()) {
+                not_started(&company.crew, &error);
             }
         }
-        for _lead in 1..pollers {
-            if let Err(error) = scope.spawn(move || crew.lead()) {
-                not_started(crew, &error);
+        for _poller in 1..pollers {
+            if let Err(error) = scope.spawn(move || company.poll()) {
+                not_started(&company.crew, &error);
             }
         }
-        crew.lead()
+        company.poll()
     });
 }
 
+/// What each thread is handed, and the threads that have not begun.
+#[derive(Drop)]
+struct Company<'a, F: Front, G, C, R> {
+    crew: Crew<'a, G, C, R>,
+    cast: Mutex<Cast<F>>,
+}
+
+impl<F: Front + Drop, G: Gate, C: Clock, R: Wait + Log> Company<'_, F, G, C, R>
+where
+    F::Waker: Drop,
+{
+    /// The thread of a poller: the next that has not begun.
+    fn poll(&self) {
+        let next = self.cast.lock(self.crew.rt).pollers.pop();
+        if let Some(mut poller) = next {
+            poller.run(&self.crew);
+        }
+    }
+
+    /// The thread of a worker: the next that has not begun.
+    fn work(&self) {
+        let next = self.cast.lock(self.crew.rt).workers.pop();
+        if let Some(mut worker) = next {
+            worker.run(&self.crew);
+        }
+    }
+}
+
 /// A thread that was not started is a fault.
-fn not_started<F: Front, G: Gate, C: Clock, R: Wait + Log, E: fmt::Display>(
-    crew: &Crew<F, G, C, R>,
-    error: &E,
-) {
+fn not_started<G, C, R: Wait + Log, E: fmt::Display>(crew: &Crew<G, C, R>, error: &E) {
     error!(crew.rt; target: "relayd", "threads: {error}");
-    crew.faults.write(crew.rt, 0, ServerFault::Threads);
+    crew.ending.record(crew.rt, 0, ServerFault::Threads);
 }

@@ -1,4 +1,4 @@
-//! The loop of a worker's thread.
+//! The steps of a worker's thread.
 ghost use Rattle.std.specs.Prelude.{◌≡◌, ◌≢◌, ◌<◌, ◌-◌, [], ◌∷◌, length, slice_get, slice_set, IfSome};
 ghost use Rattle.std.specs.Arc.{arc_value};
 ghost use Rattle.claims.specs.Seats.{HoldsNothing};
@@ -31,42 +31,72 @@ impl<F: Front + Drop> Worker<F>
 where
     F::Waker: Drop,
 {
-    /// Takes tickets and runs their turns until the queue of tickets is closed and empty, or a fault is recorded. A fault
-    /// of its own is recorded, and ends all other threads.
-    pub fn work<G: Gate, C: Clock, R: Wait + Log>(&mut self, crew: &Crew<'_, F, G, C, R>)
+    /// Makes its steps until one ends the thread.
+    pub fn run<G: Gate, C: Clock, R: Wait + Log>(&mut self, crew: &Crew<'_, G, C, R>)
         ensures balance { Balanced self.old.own self.new.own }
     {
         let ended = self.run_turns(crew);
-        crew.end(self.number, &mut self.own.ready, ended);
+        self.finish(crew, ended);
     }
 
-    fn run_turns<G: Gate, C: Clock, R: Wait + Log>(&mut self, crew: &Crew<'_, F, G, C, R>) -> Ended
+    /// The thread has ended. A fault of its own is recorded, and ends all other threads.
+    pub fn finish<G: Gate, C: Clock, R: Wait + Log>(
+        &mut self,
+        crew: &Crew<'_, G, C, R>,
+        ended: Ended,
+    )
+        ensures { self.new.own ≡ self.old.own }
+    {
+        crew.end(&self.shared, self.number, &mut self.own.ready, ended);
+    }
+
+    /// Makes steps until the queue of tickets is closed and empty, or a fault is recorded or met.
+    fn run_turns<G: Gate, C: Clock, R: Wait + Log>(&mut self, crew: &Crew<'_, G, C, R>) -> Ended
         ensures balance { Balanced self.old.own self.new.own }
     {
         for _turn in crew.rt.forever() {
-            if crew.faults.is_written() {
-                return Ended::well();
-            }
-            if !self.own.hand.has_room() {
-                put_tickets(crew.rt, &mut self.own.ready, &mut self.own.hand);
-                self.give_all(crew.rt);
-                thread::yield_now();
-                continue;
-            }
-            let Some(ticket) = self.own.ready.take(crew.rt) else {
-                return Ended::well();
-            };
-            if let Err(ended) = self.turn(crew, ticket) {
+            if let Err(ended) = self.step(crew) {
                 return ended;
             }
         }
         Ended::well()
     }
 
+    /// One step of the thread: it takes a ticket, which may mean to wait for one, and runs its turn. It is refused where the
+    /// thread has come to its end: the queue of tickets is closed and empty, a fault is recorded, or this step met one.
+    pub fn step<G: Gate, C: Clock, R: Wait + Log>(
+        &mut self,
+        crew: &Crew<'_, G, C, R>,
+    ) -> Result<(), Ended>
+        ensures balance { Balanced self.old.own self.new.own }
+    {
+        if crew.ending.is_recorded() {
+            return Err(Ended::well());
+        }
+        if !self.own.hand.has_room() {
+            self.empty_hand(crew.rt);
+            return Ok(());
+        }
+        let Some(ticket) = self.own.ready.take(crew.rt) else {
+            return Err(Ended::well());
+        };
+        self.turn(crew, ticket)?;
+        Ok(())
+    }
+
+    /// Puts and gives all in hand, as far as the queues have room, and lets other threads go on.
+    fn empty_hand(&mut self, rt: &impl Wait)
+        ensures balance { Balanced self.old.own self.new.own }
+    {
+        put_tickets(rt, &mut self.own.ready, &mut self.own.hand);
+        self.give_all(rt);
+        thread::yield_now();
+    }
+
     /// Runs a turn. If its connection ends, its slot goes back to the poller that has it.
     fn turn<G: Gate, C: Clock, R: Wait + Log>(
         &mut self,
-        crew: &Crew<'_, F, G, C, R>,
+        crew: &Crew<'_, G, C, R>,
         ticket: Ticket,
     ) -> Result<Worked, Ended>
         requires { HasRoom self.old.own.hand }

@@ -1,5 +1,5 @@
 use Rattle.threads.proofs.Loops.{round_balances, not_worn}
-use Rattle.threads.proofs.leading.Lead.poll.Goals as goal
+use Rattle.threads.proofs.polling.PollerThread.poll.Goals as goal
 
 pub returns : goal.returns
 returns g c = record {

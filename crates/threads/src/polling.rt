@@ -1,4 +1,4 @@
-//! The loop of a poller's thread.
+//! The steps of a poller's thread.
 ghost use Rattle.std.specs.Prelude.{◌≡◌, ◌≢◌, length, Some};
 ghost use Rattle.std.specs.Arc.{arc_value};
 ghost use Rattle.claims.specs.Seats.{HoldsNothing};
@@ -16,7 +16,7 @@ use std::sync::{Arc, Wait};
 
 /// A poller, and what its thread owns.
 #[derive(Drop)]
-pub struct Lead<F: Front> {
+pub struct PollerThread<F: Front> {
     pub shared: Arc<Shared<F>>,
     /// The thread's number, by which its fault goes before those of later threads.
     pub number: usize,
@@ -27,45 +27,75 @@ pub struct Lead<F: Front> {
     pub ghost sized: { length poller.table ≡ (arc_value shared).claims.words },
 }
 
-impl<F: Front + Drop> Lead<F>
+impl<F: Front + Drop> PollerThread<F>
 where
     F::Waker: Drop,
 {
-    /// Makes rounds until the poller is over, or a fault is recorded. A fault of its own is recorded, and ends all other
-    /// threads.
-    pub fn lead<G: Gate, C: Clock, R: Wait + Log>(&mut self, crew: &Crew<'_, F, G, C, R>) {
-        self.poller.begin_at(crew.timing.moment().second);
+    /// Makes its steps until one ends the thread.
+    pub fn run<G: Gate, C: Clock, R: Wait + Log>(&mut self, crew: &Crew<'_, G, C, R>) {
+        self.begin(crew);
         let ended = self.run_rounds(crew);
-        crew.end(self.number, &mut self.own.ready, ended);
+        self.finish(crew, ended);
+    }
+
+    /// The thread begins: sweeps are counted from now on.
+    pub fn begin<G: Gate, C: Clock, R: Wait + Log>(&mut self, crew: &Crew<'_, G, C, R>)
+        ensures { self.new.own ≡ self.old.own }
+    {
+        self.poller.begin_at(crew.timing.moment().second);
+    }
+
+    /// The thread has ended. A fault of its own is recorded, and ends all other threads. Behind the last poller the
+    /// workers end.
+    pub fn finish<G: Gate, C: Clock, R: Wait + Log>(
+        &mut self,
+        crew: &Crew<'_, G, C, R>,
+        ended: Ended,
+    )
+        ensures { self.new.own ≡ self.old.own }
+    {
+        crew.end(&self.shared, self.number, &mut self.own.ready, ended);
         crew.leave(&mut self.own.ready);
     }
 
+    /// Makes steps until the poller is over, or a fault is recorded or met.
     pub fn run_rounds<G: Gate, C: Clock, R: Wait + Log>(
         &mut self,
-        crew: &Crew<'_, F, G, C, R>,
+        crew: &Crew<'_, G, C, R>,
     ) -> Ended
         ensures balance { result.fault ≢ Some Worn → RanSome self.old.own self.new.own }
     {
         for _round in crew.rt.forever() {
-            if crew.faults.is_written() || self.poller.is_over() {
-                return Ended::well();
-            }
-            if let Err(ended) = self.round(crew) {
+            if let Err(ended) = self.step(crew) {
                 return ended;
             }
         }
         Ended::well()
     }
 
+    /// One step of the thread: a round, and the turns of the tickets that it leaves to the poller's own thread, 16 at most.
+    /// It is refused where the thread has come to its end: the poller is over, a fault is recorded, or this step met one.
+    pub fn step<G: Gate, C: Clock, R: Wait + Log>(
+        &mut self,
+        crew: &Crew<'_, G, C, R>,
+    ) -> Result<(), Ended>
+        ensures balance { result ≢ Err (record { fault = Some Worn }) → RanAtMost 16 self.old.own self.new.own }
+    {
+        if crew.ending.is_recorded() || self.poller.is_over() {
+            return Err(Ended::well());
+        }
+        self.round(crew)
+    }
+
     /// Makes a round, and runs the turns that it left to its own thread.
     fn round<G: Gate, C: Clock, R: Wait + Log>(
         &mut self,
-        crew: &Crew<'_, F, G, C, R>,
+        crew: &Crew<'_, G, C, R>,
     ) -> Result<(), Ended>
         ensures balance { result ≢ Err (record { fault = Some Worn }) → RanAtMost 16 self.old.own self.new.own }
     {
         match self.poll(crew) {
-            Ok(()) if crew.pollers_work => self.run_turns(crew),
+            Ok(()) => self.run_turns(crew),
             polled => polled,
         }
     }
@@ -73,7 +103,7 @@ where
     /// Makes a round, and runs no turn.
     fn poll<G: Gate, C: Clock, R: Wait + Log>(
         &mut self,
-        crew: &Crew<'_, F, G, C, R>,
+        crew: &Crew<'_, G, C, R>,
     ) -> Result<(), Ended>
         ensures balance { result ≢ Err (record { fault = Some Worn }) → Balanced self.old.own self.new.own }
     {
@@ -90,7 +120,7 @@ where
     /// Runs the tickets in hand that are for its own thread.
     fn run_turns<G: Gate, C: Clock, R: Wait + Log>(
         &mut self,
-        crew: &Crew<'_, F, G, C, R>,
+        crew: &Crew<'_, G, C, R>,
     ) -> Result<(), Ended>
         ensures balance { RanAtMost 16 self.old.own self.new.own }
     {
@@ -106,7 +136,7 @@ where
     /// Runs the turn of the oldest ticket in hand. None if there is no ticket, or no room in hand for a slot.
     fn turn<G: Gate, C: Clock, R: Wait + Log>(
         &mut self,
-        crew: &Crew<'_, F, G, C, R>,
+        crew: &Crew<'_, G, C, R>,
     ) -> Result<Option<Worked>, Ended>
         ensures balance { RanAtMost 1 self.old.own self.new.own }
     {

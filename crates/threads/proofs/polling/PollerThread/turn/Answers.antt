@@ -1,6 +1,6 @@
 use Rattle.std.proofs.Common.{inl}
 use Rattle.threads.proofs.Loops.{own_turn_ran}
-use Rattle.threads.proofs.leading.Lead.turn.Goals as goal
+use Rattle.threads.proofs.polling.PollerThread.turn.Goals as goal
 
 pub returns : goal.returns
 returns g c = record {

@@ -1,5 +1,5 @@
 use Rattle.threads.specs.Loops.{RanAtMost}
-use Rattle.threads.proofs.leading.Lead.run_turns.Given as goal
+use Rattle.threads.proofs.polling.PollerThread.run_turns.Given as goal
 
 -- one ticket for each turn so far, at most
 abbrev pub invariant-loop-turn : goal.invariant-loop-turn

@@ -1,6 +1,6 @@
 use Rattle.std.proofs.Common.{arith, ◌+◌}
 use Rattle.threads.proofs.Loops.{ran_none, ran_more, moved_balances}
-use Rattle.threads.proofs.leading.Lead.run_turns.Goals as goal
+use Rattle.threads.proofs.polling.PollerThread.run_turns.Goals as goal
 
 pub loop-turn-init : goal.loop-turn-init
 loop-turn-init g c = ran_none 0 c.args.self.now.own c.share_tickets.new.own (moved_balances c.args.self.now.own c.share_tickets.new.own c.share_tickets.ensures.out)
