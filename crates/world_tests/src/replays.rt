@@ -96,14 +96,3 @@ fn the_event_that_fails_is_told(rt: HostRuntime) -> Result<(), Fail> {
     }
     Ok(())
 }
-
-// Only a world with an idle limit has time.
-#[test]
-fn time_passes(rt: HostRuntime) -> Result<(), Fail> {
-    let mut world = World::new(rt.alloc(), Limits { idle: 1, ..SMALL })?;
-    world.step(&Event::Tick(4_294_967_295))?;
-    world.step(&Event::Tick(1))?;
-    assert_eq!(rt; world.second(), 4_294_967_296);
-    assert!(rt; world.connection(0).is_none() && !world.due(0));
-    Ok(())
-}
