@@ -36,18 +36,7 @@ import shlex
 from dataclasses import dataclass, field, replace
 
 HERE = os.path.dirname(os.path.abspath(__file__))
-DEFAULTS = {
-    "listen": "127.0.0.1:7000",
-    "target": "127.0.0.1:7001",
-    "ring": "16384",
-    "budget": "64",
-    "workers": "4",
-    "slots": "1024",
-    "stop_after": "0",
-    "log": "info",
-    "idle": "0",
-    "proxy": "false",
-}
+EXAMPLES = os.path.join(os.path.dirname(os.path.dirname(HERE)), "examples")
 # What stands around the TEXT of a table of settings.
 AROUND = {
     "addresses": 'listen = "127.0.0.1:7000"\ntarget = "%s"\n',
@@ -86,8 +75,10 @@ def line_of(text):
 
 
 def printed(different):
-    """How settings are printed of which these differ from their defaults."""
-    values = {**DEFAULTS, **dict(value.split("=", 1) for value in different.split())}
+    """How settings are printed of which these differ from their defaults: those of the example, which has them all."""
+    with open(os.path.join(EXAMPLES, "relayd.toml"), encoding="utf-8") as file:
+        values = dict(re.findall(r'^(\w+) = "?(.*?)"?$', file.read(), re.MULTILINE))
+    values |= dict(value.split("=", 1) for value in different.split())
     return "".join(f"{key}={value}\n" for key, value in values.items()).encode()
 
 
