@@ -1,30 +1,48 @@
-//! What the lines of a script say: its header, and the step or the event of each further line.
+//! The texts of scripts: what their lines say, and what is told of a world.
 //!
 //! [`Lines`] gives the lines of a text that are not skipped, and [`Pieces`] the words of a line. [`read_header`] reads the
 //! first line, and [`read_step`] and [`read_event`] read the others, by what the header covers. A line that says none of
 //! these has a first word from the left that is [`Wrong`], with what is expected there.
 //!
-//! `docs/FORMATS.md` describes the lines; `specs/` has the same as definitions: `Texts` and `Reading` for lines and words,
-//! `Headers`, `Steps` and `Events` for what they say, and `Words` for the word by which a fault names an event.
+//! [`print`] gives the report of a world, and [`event_reason`] says why an event is not allowed in it. [`put_event`] adds the
+//! line of an event to a [`Page`], which is what all these texts are written on.
+//!
+//! `docs/FORMATS.md` describes lines and reports; `specs/` has the same as definitions: `Texts` and `Reading` for lines and
+//! words, `Headers`, `Steps` and `Events` for what they say, and `Words` for the word by which a fault names an event;
+//! `WorldReports` for the report, with `Names` and `Shown` for its parts, and `Pages` for what adds to a page.
 #![tactic(auto)]
 
+mod ends;
 mod event;
+mod event_line;
 mod event_parts;
 mod events;
 mod header;
 mod limits;
 mod lines;
+mod names;
+mod page;
 mod readers;
+mod reasons;
+mod report;
+mod shown;
 mod step;
 mod steps;
 mod values;
 mod word;
 mod wrong;
 
+pub use ends::{end_reason, ended_reason, first_of, read_reason, room_reason, wrote_reason};
 pub use event::{NumberedEvent, word_of};
+pub use event_line::put_event;
 pub use events::read_event;
 pub use header::{Header, read_header};
 pub use lines::{Line, Lines, Pieces};
+pub use names::put_names;
+pub use page::{Page, Piece};
+pub use reasons::event_reason;
+pub use report::print;
+pub use shown::put_stream;
 pub use step::{Bytes, NumberedStep, Step};
 pub use steps::read_step;
 pub use word::Word;
