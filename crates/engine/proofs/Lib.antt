@@ -1,3 +1,2 @@
-pub mod Insertions
 pub mod Steps
 pub mod Runs

@@ -19,6 +19,11 @@ kind_of_error NotConnected = kind.NotConnected
 kind_of_error TimedOut = kind.TimedOut
 kind_of_error error = kind.Other
 
+-- the kind of failure that an error can tell; none tells that a write took no byte
+abbrev pub kind_told : Kind → Kind
+kind_told kind.Zero = kind.Other
+kind_told kind = kind
+
 abbrev pub is_interrupted : ErrorKind → Bool
 is_interrupted Interrupted = true
 is_interrupted error = false

@@ -5,6 +5,4 @@ pub mod Asked
 pub mod Wires
 pub mod Turns
 pub mod Steps
-pub mod Plays
 pub mod Scripts
-pub mod Playing

@@ -1,6 +1,6 @@
 ghost use Rattle.std.specs.Prelude.{◌≡◌, Bool, true};
 ghost use Rattle.relay_core.specs.Calls.{side_of};
-ghost use Rattle.engine.specs.Classes.{class_of, kind_of_error, pending_kind};
+ghost use Rattle.engine.specs.Classes.{class_of, kind_of_error, kind_told, pending_kind};
 
 use relay_core::{Call, Kind, Side};
 use std::io::ErrorKind;
@@ -57,5 +57,21 @@ pub(crate) fn kind_of(kind: ErrorKind) -> Kind
         ErrorKind::NotConnected => Kind::NotConnected,
         ErrorKind::TimedOut => Kind::TimedOut,
         _ => Kind::Other,
+    }
+}
+
+/// An error by which a call on a connected socket fails by this kind. No error says that a write took no byte, so `zero`
+/// becomes `other`.
+pub fn error_of(kind: Kind) -> ErrorKind
+    ensures { (call : Call) → class_of call true result ≡ Class.Failed (kind_told kind) }
+{
+    match kind {
+        Kind::Reset => ErrorKind::ConnectionReset,
+        Kind::Pipe => ErrorKind::BrokenPipe,
+        Kind::Aborted => ErrorKind::ConnectionAborted,
+        Kind::Refused => ErrorKind::ConnectionRefused,
+        Kind::NotConnected => ErrorKind::NotConnected,
+        Kind::TimedOut => ErrorKind::TimedOut,
+        Kind::Zero | Kind::Other => ErrorKind::Other,
     }
 }

@@ -6,8 +6,7 @@
 //! wires count, and [`Tally`] counts by it. [`ScriptWire`] is an in-memory wire that plays a list of answers.
 //!
 //! The definitions are in `specs/`: what is asked of a wire and what it gives in `Asked.antt`, what its calls do in
-//! `Wires.antt`, the classes of errors in `Classes.antt`, what a turn does in `Turns.antt`, and what a scripted wire
-//! plays in `Plays.antt` and `Scripts.antt`.
+//! `Wires.antt`, the classes of errors in `Classes.antt`, and what a turn does in `Turns.antt`.
 #![tactic(auto)]
 
 mod class;
@@ -19,10 +18,10 @@ mod tally;
 mod turning;
 mod wire;
 
-pub use class::{Class, class_of, pending};
+pub use class::{Class, class_of, error_of, pending};
 pub use moment::Moment;
 pub use outcome::Turn;
-pub use scripted::{Bytes, Play, PlayList, ScriptWire};
+pub use scripted::{Play, PlayList, ScriptWire};
 pub use tally::Tally;
 pub use turning::{turn, turn_with};
 pub use wire::Wire;
