@@ -1,9 +1,6 @@
 // What the two wires of a connection play, as data, and a wire that counts how often it was settled.
-ghost use Rattle.std.specs.Prelude.{Some};
-ghost use Rattle.engine.specs.Scripts.{bytes_of};
-
 use dispatch::Settle;
-use engine::{Bytes, Play, ScriptWire, Wire};
+use engine::{Play, ScriptWire, Wire};
 use relay_core::Kind;
 use std::alloc::{AllocError, Global};
 use std::io;
@@ -131,7 +128,7 @@ fn plays(alloc: Global, cues: &[Cue]) -> Result<Vec<Play>, AllocError> {
 
 fn play(alloc: Global, cue: Cue) -> Result<Play, AllocError> {
     Ok(match cue {
-        Cue::Bytes(bytes) => Play::Bytes(Bytes::new(bytes.to_vec(alloc)?)),
+        Cue::Bytes(bytes) => Play::Bytes(bytes.to_vec(alloc)?),
         Cue::End => Play::End,
         Cue::Take(count) => Play::Take(count),
         Cue::Shut => Play::Shut,
@@ -141,10 +138,7 @@ fn play(alloc: Global, cue: Cue) -> Result<Play, AllocError> {
 }
 
 impl Wire for Settling {
-    ghost use Rattle.std.specs.Prelude.{Some};
-    ghost use Rattle.engine.specs.Scripts.{bytes_of};
-
-    ghost told = { λ w. record { remaining = Some (bytes_of w.wire.reads); written = Some w.wire.written; faults = w.wire.tally.faults; blocks = w.wire.tally.blocks } };
+    ghost told = { λ w. w.wire };
 
     fn read(&mut self, buffer: &mut [u8]) -> io::Result<usize> {
         self.wire.read(buffer)
