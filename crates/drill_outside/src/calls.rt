@@ -1,6 +1,7 @@
 // The calls of a turn on the modelled kernel.
 use crate::outside::Outside;
 use crate::step::{Turned, Wanted};
+use engine::error_of;
 use kernel_model::{End, Kernel, MAX_POLLED, Refusal, Reply};
 use std::io::ErrorKind;
 use token::Kind;
@@ -148,19 +149,6 @@ fn given(reply: Reply, wanted: Wanted) -> Result<usize, ErrorKind> {
         }),
         Reply::Interrupted => Err(ErrorKind::Interrupted),
         Reply::Failed(kind) => Err(error_of(kind)),
-    }
-}
-
-/// The kind of error by which a call fails so.
-fn error_of(kind: Kind) -> ErrorKind {
-    match kind {
-        Kind::Reset => ErrorKind::ConnectionReset,
-        Kind::Pipe => ErrorKind::BrokenPipe,
-        Kind::Aborted => ErrorKind::ConnectionAborted,
-        Kind::Refused => ErrorKind::ConnectionRefused,
-        Kind::NotConnected => ErrorKind::NotConnected,
-        Kind::TimedOut => ErrorKind::TimedOut,
-        Kind::Zero | Kind::Other => ErrorKind::Other,
     }
 }
 

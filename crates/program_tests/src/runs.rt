@@ -1,5 +1,6 @@
 // How a run ends with any reader and writer.
 use super::ends::{Sink, Source};
+use dispatch::ServerFault;
 use program::{act, report_arguments_fault};
 use startup::ArgumentsFault;
 use std::alloc::{AllocError, Global};
@@ -243,5 +244,42 @@ fn reports_that_arguments_have_no_memory(rt: HostRuntime) -> Result<(), Fail> {
     let status = report_arguments_fault(&mut errors, ArgumentsFault::NoMemory);
     assert_eq!(rt; status, 1);
     assert_eq!(rt; errors.as_slice(), b"relayd: out of memory\n".as_slice());
+    Ok(())
+}
+
+/// What a server may end by, and what is reported then.
+static FAULTS: [(ServerFault, &[u8]); 5] = [
+    (ServerFault::Listen, b"relayd: listen: failed\n"),
+    (ServerFault::Poll, b"relayd: poll: failed\n"),
+    (ServerFault::Threads, b"relayd: threads: failed\n"),
+    (ServerFault::Worn, b"relayd: claims worn\n"),
+    (ServerFault::NoMemory, b"relayd: out of memory\n"),
+];
+
+/// What is reported of a server that ends by this fault.
+fn served(rt: &HostRuntime, fault: ServerFault) -> Result<(u8, Vec<u8>), AllocError> {
+    let arguments = arguments(rt.alloc(), "relayd forward 127.0.0.1:0 127.0.0.1:9")?;
+    let mut errors = Vec::with_capacity(rt.alloc(), ROOM)?;
+    let mut sink = Sink::failing_after(rt.alloc(), ROOM)?;
+    let mut source = Source::whole(b"");
+    let serve = |_settings, _bound| Err(fault);
+    let status = act(
+        rt,
+        arguments.as_slice(),
+        &mut source,
+        &mut sink,
+        &mut errors,
+        &serve,
+    );
+    Ok((status, errors))
+}
+
+#[test]
+fn reports_the_fault_of_a_server(rt: HostRuntime) -> Result<(), Fail> {
+    for (fault, line) in &FAULTS {
+        let (status, errors) = served(&rt, *fault)?;
+        assert_eq!(rt; status, 1);
+        assert_eq!(rt; errors.as_slice(), *line);
+    }
     Ok(())
 }
