@@ -136,7 +136,7 @@ fn agrees<R: Wait + Print>(
     let Some(station) = outside.stations.get(poller) else {
         return Ok(false);
     };
-    let wanted = world_report::print(alloc, &station.tape.world)?;
+    let wanted = script_text::print(alloc, &station.tape.world)?;
     if station.tape.refused.is_none() && wanted.as_str() == report.as_str() {
         return Ok(true);
     }

@@ -29,7 +29,7 @@ use Rattle.script.specs.Transfers as flow
 use Rattle.script.specs.Scripts.{MayBeScript, most_bytes, parsed, said_by}
 use Rattle.script.specs.Plays.{line_happened, reached_by}
 use Rattle.script.specs.Reports.{report, fault_line}
-use Rattle.world_report.specs.WorldReports.{world_report}
+use Rattle.script_text.specs.WorldReports.{world_report}
 use Rattle.script.specs.Runs.{LeadsTo}
 use Rattle.script.specs.Each.{AnswersEach, Shows, ShowsEach, ShowsFront, ShowsScript, ShowsSteps, WritesEach, WritesEachFault, first_line, shown, shown_to, told_after}
 use Rattle.script.proofs.Playing.{plays_give, played_more}

@@ -18,9 +18,9 @@ use Rattle.script.specs.Scripts.{parsed, said_by}
 use Rattle.script.specs.Transfers.{line_stepped}
 use Rattle.script.specs.Transfers as flow
 use Rattle.script.specs.Plays.{line_happened}
-use Rattle.world_report.specs.Shown.{newline}
+use Rattle.script_text.specs.Pages.{newline}
 use Rattle.script.specs.Reports.{report, fault_line}
-use Rattle.world_report.specs.WorldReports.{world_report}
+use Rattle.script_text.specs.WorldReports.{world_report}
 use Rattle.script.specs.Runs.{LeadsTo}
 
 -- The texts

@@ -1,6 +1,7 @@
 -- What is written of a script of one direction: its report, or the line of a fault. Part of the promises.
 use Rattle.std.specs.Prelude.{ℕ, List, ◌++◌, codes}
-use Rattle.world_report.specs.Shown.{newline, shown_bytes, stream_text}
+use Rattle.script_text.specs.Pages.{newline, shown_bytes}
+use Rattle.script_text.specs.Shown.{stream_text}
 use Rattle.script.specs.declared.fault.Fault.{Fault}
 use Rattle.script.specs.declared.transfer.Transfer.{Transfer}
 use Rattle.script.specs.Faults.{fault_text}

@@ -19,7 +19,7 @@ use Rattle.script.specs.Plans.{FlowPlan, WorldPlan, events_in}
 use Rattle.script.specs.Scripts.{FlowOf, MayBeScript, parsed, said_by}
 use Rattle.script.specs.Plays.{reached_by, world_of}
 use Rattle.script.specs.Reports.{report, fault_line}
-use Rattle.world_report.specs.WorldReports.{world_report}
+use Rattle.script_text.specs.WorldReports.{world_report}
 use Rattle.script.specs.Laws.{KeepsBytes, KeepsEnd}
 
 -- what is written of a state

@@ -5,11 +5,10 @@ use crate::limits::{MAX_BYTES, MAX_SHOWN};
 use crate::reasons::step_reason;
 use crate::{Fault, FlowScript, Script, Transfer, WorldScript, parse};
 use script_text::{
-    Header, Line, Lines, NotRead, Pieces, Wrong, read_event, read_header, read_step,
+    Header, Line, Lines, NotRead, Pieces, Wrong, event_reason, read_event, read_header, read_step,
 };
 use std::alloc::{AllocError, Global};
 use world::World;
-use world_report::event_reason;
 
 /// The cause of a fault, for a person, on one line: which word is malformed and what is expected there, or why the step
 /// is not allowed. `text` is the script that has the fault. None if nothing more is known, or there is no memory for

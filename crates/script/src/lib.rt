@@ -11,10 +11,10 @@
 //! malformed and what is expected there, or why a step is not allowed. [`run`] passes text and fault to its
 //! [`Explain`].
 //!
-//! What a line says is the crate `script_text`, and what is told of a world the crate `world_report`.
+//! What a line says, and what is told of a world, is the crate `script_text`.
 //!
 //! `docs/FORMATS.md` describes scripts and reports; `specs/` has the same as definitions: `Scripts` for the text, over those of
-//! `script_text`; `Transfers` and `Plays` for the steps; `Reports` and `Each` for what is written, over those of `world_report`;
+//! `script_text`; `Transfers` and `Plays` for the steps; `Reports` and `Each` for what is written, over those of the same crate;
 //! and `Laws` and `Runs` for what holds for every run.
 #![tactic(auto)]
 
@@ -44,7 +44,6 @@ pub use parsing::parse;
 pub use report::{fault_line, print_transfer};
 pub use running::{Outcome, ScriptFault, answer, run};
 pub use script::{Reached, Script};
-pub use script_text::{Bytes, NumberedEvent, NumberedStep, Step, Word, word_of};
+pub use script_text::{Bytes, NumberedEvent, NumberedStep, Step, Word, print, word_of};
 pub use transfer::Transfer;
-pub use world_report::print;
 pub use world_script::WorldScript;

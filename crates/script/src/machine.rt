@@ -6,10 +6,9 @@ ghost use Rattle.script.specs.Faults.{Carries};
 use crate::report::print_transfer;
 use crate::world_script::happen;
 use crate::{Fault, Transfer};
-use script_text::{NumberedEvent, NumberedStep};
+use script_text::{NumberedEvent, NumberedStep, print};
 use std::alloc::{AllocError, Global};
 use world::World;
-use world_report::print;
 
 /// A state that steps are made on, and that has a report.
 pub(crate) trait Machine: Drop {
@@ -50,7 +49,7 @@ impl Machine for Transfer {
 
 impl Machine for World {
     ghost use Rattle.script.specs.Plays.{line_happened};
-    ghost use Rattle.world_report.specs.WorldReports.{world_report};
+    ghost use Rattle.script_text.specs.WorldReports.{world_report};
 
     type Step = NumberedEvent;
 

@@ -3,8 +3,8 @@ ghost use Rattle.script.specs.Reports.{report, fault_line};
 ghost use Rattle.script.specs.Runs.{report_of};
 
 use crate::{Fault, Reached, Transfer};
+use script_text::{Page, Piece, print, put_stream};
 use std::alloc::{AllocError, Global};
-use world_report::{print, shown_bytes, stream_text};
 
 impl Reached {
     /// The report of the state: [`print`] for a world, and [`print_transfer`] for one direction. Fails only if memory
@@ -24,16 +24,20 @@ impl Reached {
 pub fn print_transfer(alloc: Global, transfer: &Transfer) -> Result<String, AllocError>
     ensures { IfOk result (λ text. string_bytes text ≡ report transfer.now) }
 {
-    let sent = shown_bytes(alloc, transfer.destination.taken())?;
     let ring = transfer.flow.to_vec(alloc)?;
-    let stream = stream_text(
-        alloc,
+    let mut page = Page::new(alloc);
+    page.put(&[
+        Piece::Text("up sent="),
+        Piece::Bytes(transfer.destination.taken()),
+    ]);
+    put_stream(
+        &mut page,
         ring.as_slice(),
         transfer.source.unread(),
         transfer.flow.end_seen(),
         transfer.flow.is_shut(),
-    )?;
-    format!(in alloc; "up sent={sent}{stream}")
+    );
+    page.finish()
 }
 
 /// The line of a fault. Fails only if memory for it ran out.

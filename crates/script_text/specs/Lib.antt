@@ -5,3 +5,7 @@ pub mod Steps
 pub mod Events
 pub mod Words
 pub mod Headers
+pub mod Pages
+pub mod Names
+pub mod Shown
+pub mod WorldReports

@@ -8,23 +8,37 @@
 //! `Headers`, `Steps` and `Events` for what they say, and `Words` for the word by which a fault names an event.
 #![tactic(auto)]
 
+mod ends;
 mod event;
+mod event_line;
 mod event_parts;
 mod events;
 mod header;
 mod limits;
 mod lines;
+mod names;
+mod page;
 mod readers;
+mod reasons;
+mod report;
+mod shown;
 mod step;
 mod steps;
 mod values;
 mod word;
 mod wrong;
 
+pub use ends::{end_reason, ended_reason, first_of, read_reason, room_reason, wrote_reason};
 pub use event::{NumberedEvent, word_of};
+pub use event_line::put_event;
 pub use events::read_event;
 pub use header::{Header, read_header};
 pub use lines::{Line, Lines, Pieces};
+pub use names::put_names;
+pub use page::{Page, Piece};
+pub use reasons::event_reason;
+pub use report::print;
+pub use shown::put_stream;
 pub use step::{Bytes, NumberedStep, Step};
 pub use steps::read_step;
 pub use word::Word;

@@ -1,0 +1,8 @@
+use Rattle.std.proofs.Common.{List, ℕ, Option, drop}
+use Rattle.script_text.specs.Names.{name_text, spaced}
+use Rattle.script_text.specs.Pages.{Adds}
+use Rattle.script_text.proofs.names.put_names.Given as goal
+
+-- what is left, added to what is written, is all names, added to what was written
+abbrev pub invariant-loop-name : goal.invariant-loop-name
+invariant-loop-name l = (new : Option (List ℕ)) → Adds l.page new (spaced name_text (drop l.name-index l.names)) → Adds l.fn.page new (spaced name_text l.names)

@@ -1,0 +1,8 @@
+use Rattle.std.proofs.Common.{List, ℕ, Option, drop}
+use Rattle.script_text.specs.Names.{ticket_text, spaced}
+use Rattle.script_text.specs.Pages.{Adds}
+use Rattle.script_text.proofs.names.put_tickets.Given as goal
+
+-- what is left, added to what is written, is all tickets, added to what was written
+abbrev pub invariant-loop-ticket : goal.invariant-loop-ticket
+invariant-loop-ticket l = (new : Option (List ℕ)) → Adds l.page new (spaced ticket_text (drop l.ticket-index l.tickets)) → Adds l.fn.page new (spaced ticket_text l.tickets)

@@ -1,0 +1,106 @@
+//! The line of an event, as the readers of this crate read it.
+
+use crate::event::word_of;
+use crate::names::put_names;
+use crate::page::{Page, Piece};
+use kernel_model::{Accepting, Reply};
+use token::Side;
+use world::{Act, Change, Event, Listening, Polling, Reported};
+
+/// Adds the line of an event, without its end. No clause says what it is: what the drill records, `sim` reads back.
+pub fn put_event(page: &mut Page, event: &Event) {
+    put_first(page, event);
+    match event {
+        Event::Tick(seconds) => put_number(page, *seconds),
+        Event::Network(slot, side, change) => put_change(page, *slot, *side, change),
+        Event::Spurious(who) | Event::Vanish(who) => put_reported(page, *who),
+        Event::Listen(Listening::Accept(answer)) => put_word(page, accepting_word(*answer)),
+        Event::Listen(_) => {}
+        Event::Poll(polling) => put_polling(page, polling),
+        Event::Work(worker, act) => put_act(page, *worker, *act),
+    }
+}
+
+fn put_first(page: &mut Page, event: &Event) {
+    page.put(&[Piece::Text(word_of(event).text())]);
+}
+
+fn put_word(page: &mut Page, word: &str) {
+    page.put(&[Piece::Text(" "), Piece::Text(word)]);
+}
+
+fn put_number(page: &mut Page, number: u64) {
+    page.put(&[Piece::Text(" "), Piece::Number(number)]);
+}
+
+fn put_end(page: &mut Page, slot: usize, side: Side) {
+    put_number(page, slot as u64);
+    put_word(page, side.name());
+}
+
+fn put_change(page: &mut Page, slot: usize, side: Side, change: &Change) {
+    put_end(page, slot, side);
+    if let Change::Arrive(bytes) = change {
+        page.put(&[Piece::Text(" "), Piece::Bytes(bytes.as_slice())]);
+    }
+}
+
+fn put_reported(page: &mut Page, who: Reported) {
+    match who {
+        Reported::Listener => put_word(page, "listener"),
+        Reported::Waker => put_word(page, "waker"),
+        Reported::End(slot, side) => put_end(page, slot, side),
+    }
+}
+
+fn accepting_word(answer: Accepting) -> &'static str {
+    match answer {
+        Accepting::Accepted => "ok",
+        Accepting::Blocked => "blocked",
+        Accepting::Again => "again",
+        Accepting::Starved => "starved",
+    }
+}
+
+fn put_polling(page: &mut Page, polling: &Polling) {
+    match polling {
+        Polling::Poll(names) => put_names(page, names.as_slice()),
+        Polling::Sweep(slot) => put_number(page, *slot as u64),
+        Polling::Put => put_word(page, "poller"),
+        Polling::Open | Polling::Deliver => {}
+    }
+}
+
+fn put_act(page: &mut Page, worker: usize, act: Act) {
+    put_number(page, worker as u64);
+    if let Act::Call(reply) = act {
+        put_reply(page, reply);
+    }
+}
+
+/// What a call gave.
+fn put_reply(page: &mut Page, reply: Reply) {
+    put_word(page, reply_word(reply));
+    match reply {
+        Reply::Bytes(count) | Reply::Wrote(count, false) => put_number(page, count as u64),
+        Reply::Wrote(count, true) => {
+            put_number(page, count as u64);
+            put_word(page, "full");
+        }
+        Reply::Failed(kind) => put_word(page, kind.name()),
+        _ => {}
+    }
+}
+
+fn reply_word(reply: Reply) -> &'static str {
+    match reply {
+        Reply::Bytes(_) => "read",
+        Reply::End => "end",
+        Reply::Wrote(..) => "wrote",
+        Reply::Joined => "joined",
+        Reply::Shut => "shut",
+        Reply::Blocked => "blocked",
+        Reply::Interrupted => "interrupted",
+        Reply::Failed(_) => "failed",
+    }
+}

@@ -1,3 +1,0 @@
--- The crate's definitions. The first line of each file says whether the promises need it.
-pub mod Shown
-pub mod WorldReports
