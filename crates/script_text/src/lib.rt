@@ -1,11 +1,15 @@
-//! What the lines of a script say: its header, and the step or the event of each further line.
+//! The texts of scripts: what their lines say, and what is told of a world.
 //!
 //! [`Lines`] gives the lines of a text that are not skipped, and [`Pieces`] the words of a line. [`read_header`] reads the
 //! first line, and [`read_step`] and [`read_event`] read the others, by what the header covers. A line that says none of
 //! these has a first word from the left that is [`Wrong`], with what is expected there.
 //!
-//! `docs/FORMATS.md` describes the lines; `specs/` has the same as definitions: `Texts` and `Reading` for lines and words,
-//! `Headers`, `Steps` and `Events` for what they say, and `Words` for the word by which a fault names an event.
+//! [`print`] gives the report of a world, and [`event_reason`] says why an event is not allowed in it. [`put_event`] adds the
+//! line of an event to a [`Page`], which is what all these texts are written on.
+//!
+//! `docs/FORMATS.md` describes lines and reports; `specs/` has the same as definitions: `Texts` and `Reading` for lines and
+//! words, `Headers`, `Steps` and `Events` for what they say, and `Words` for the word by which a fault names an event;
+//! `WorldReports` for the report, with `Names` and `Shown` for its parts, and `Pages` for what adds to a page.
 #![tactic(auto)]
 
 mod ends;
