@@ -5,66 +5,37 @@ ghost use Rattle.script_text.specs.declared.word.Word.{Word};
 
 use std::fmt;
 
-/// The first word of a step or an event, with which a fault names it.
+/// The first word of a step or an event, with which a fault names it. A script has it in lower case.
 #[derive(Clone, Copy)]
 pub enum Word {
-    /// `accept`.
     Accept,
-    /// `arrive`.
     Arrive,
-    /// `call`.
     Call,
-    /// `claim`.
     Claim,
-    /// `close`.
     Close,
-    /// `connect`.
     Connect,
-    /// `deliver`.
     Deliver,
-    /// `drop`.
     Drop,
-    /// `end`.
     End,
-    /// `fin`.
     Fin,
-    /// `free`.
     Free,
-    /// `idle`.
     Idle,
-    /// `open`.
     Open,
-    /// `poll`.
     Poll,
-    /// `pop`.
     Pop,
-    /// `post`.
     Post,
-    /// `put`.
     Put,
-    /// `read`.
     Read,
-    /// `release`.
     Release,
-    /// `reset`.
     Reset,
-    /// `retire`.
     Retire,
-    /// `room`.
     Room,
-    /// `shut`.
     Shut,
-    /// `spurious`.
     Spurious,
-    /// `sweep`.
     Sweep,
-    /// `take`.
     Take,
-    /// `tick`.
     Tick,
-    /// `vanish`.
     Vanish,
-    /// `wrote`, with `full` or without.
     Wrote,
 }
 

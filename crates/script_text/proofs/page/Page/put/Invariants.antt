@@ -1,4 +1,4 @@
-use Rattle.std.proofs.Common.{◌≡◌, List, ℕ, Option, drop}
+use Rattle.std.proofs.Common.{List, ℕ, Option, drop}
 use Rattle.script_text.specs.Pages.{Adds, pieces_text}
 use Rattle.script_text.proofs.page.Page.put.Given as goal
 
