@@ -3,20 +3,6 @@ use crate::{LogLine, LogQueue, MAX_LINES};
 use std::fmt::Write;
 use std::test::Fail;
 
-#[test]
-fn a_long_line_is_cut_between_characters(rt: HostRuntime) -> Result<(), Fail> {
-    let mut line = LogLine::new();
-    for _byte in 0..239 {
-        line.add("x");
-    }
-    line.add("\u{e9}\u{e9}");
-    line.add("y");
-    let text = format!(in rt.alloc(); "{line}")?;
-    assert_eq!(rt; text.len(), 242);
-    assert!(rt; text.as_str().ends_with("x..."));
-    Ok(())
-}
-
 /// The line that says this number.
 fn numbered(number: usize) -> LogLine {
     let mut line = LogLine::new();

@@ -4,27 +4,23 @@ use std::sync::Arc;
 use std::test::Fail;
 use token::Side;
 
+/// A slot and a side, and what two looks find there once the target's end of slot 1 was told of. There are two slots, and one
+/// that is not there is always read.
+static HEARD: [(usize, Side, [bool; 2]); 4] = [
+    (1, Side::Client, [false, false]),
+    (0, Side::Target, [false, false]),
+    (1, Side::Target, [true, false]),
+    (2, Side::Client, [true, true]),
+];
+
 #[test]
 fn what_is_told_is_taken_once_and_there_alone(rt: HostRuntime) -> Result<(), Fail> {
     let reports = Arc::new(rt.alloc(), Reports::new(rt.alloc(), 2)?)?;
-    let told = Told::new(&reports, 1, Side::Client)?;
-    let other_side = Told::new(&reports, 1, Side::Target)?;
-    let other_slot = Told::new(&reports, 0, Side::Client)?;
-    assert!(rt; !told.take());
-    reports.tell(1, Side::Client);
-    assert!(rt; !other_side.take());
-    assert!(rt; !other_slot.take());
-    assert!(rt; told.take());
-    assert!(rt; !told.take());
-    Ok(())
-}
-
-#[test]
-fn a_slot_that_is_not_there_is_always_read(rt: HostRuntime) -> Result<(), Fail> {
-    let reports = Arc::new(rt.alloc(), Reports::new(rt.alloc(), 1)?)?;
-    let told = Told::new(&reports, 1, Side::Client)?;
-    reports.tell(1, Side::Client);
-    assert!(rt; told.take());
-    assert!(rt; told.take());
+    assert!(rt; !Told::new(&reports, 1, Side::Target)?.take());
+    reports.tell(1, Side::Target);
+    for (slot, side, wanted) in &HEARD {
+        let told = Told::new(&reports, *slot, *side)?;
+        assert_eq!(rt; [told.take(), told.take()], *wanted);
+    }
     Ok(())
 }

@@ -23,8 +23,9 @@ enum Play {
     Work(Act),
 }
 
-/// A connection that is opened, and claimed by the worker, which takes its first note.
-static OPENED: [Play; 7] = [
+/// A connection that is opened, and claimed by the worker, which takes its first note, makes its first call, and cannot
+/// release the slot yet.
+static PLAYS: [Play; 9] = [
     Play::Listen(Listening::Connect),
     Play::Listen(Listening::Accept(Accepting::Accepted)),
     Play::Open,
@@ -32,6 +33,8 @@ static OPENED: [Play; 7] = [
     Play::Work(Act::Pop),
     Play::Work(Act::Claim),
     Play::Work(Act::Take),
+    Play::Work(Act::Call(Reply::Interrupted)),
+    Play::Work(Act::Release),
 ];
 
 fn event(play: Play) -> Event {
@@ -43,11 +46,8 @@ fn event(play: Play) -> Event {
     }
 }
 
-fn events(alloc: Global, opening: &[Play], plays: &[Play]) -> Result<Vec<Event>, AllocError> {
+fn events(alloc: Global, plays: &[Play]) -> Result<Vec<Event>, AllocError> {
     let mut events = Vec::new(alloc);
-    for play in opening {
-        events.push(event(*play))?;
-    }
     for play in plays {
         events.push(event(*play))?;
     }
@@ -64,30 +64,23 @@ fn replayed(alloc: Global, events: &[Event]) -> Result<World, (usize, Refusal)> 
 
 #[test]
 fn a_replay_leads_to_its_world(rt: HostRuntime) -> Result<(), Fail> {
-    let events = events(rt.alloc(), &OPENED, &[])?;
+    let events = events(rt.alloc(), &PLAYS[..8])?;
     let Ok(world) = replayed(rt.alloc(), events.as_slice()) else {
         return Err(Fail::from(Refusal::NotAllowed));
     };
     let holder = world.slots().first().map(|slot| slot.holder());
     let doing = world.workers().first().map(|worker| worker.doing());
     assert!(rt; matches!(holder, Some(Holder::By(0))));
-    assert!(rt; matches!(doing, Some(Doing::Holds(0, 64))));
+    assert!(rt; matches!(doing, Some(Doing::Holds(0, 63))));
     assert_eq!(rt; world.table_entry(0), Some(1));
     Ok(())
 }
 
-// Nobody was accepted. That is told of the first event, too, and is never told as a lack of memory.
+// That is told of the first event, too, and is never told as a lack of memory.
 #[test]
 fn the_event_that_fails_is_told(rt: HostRuntime) -> Result<(), Fail> {
-    let interrupted = Play::Work(Act::Call(Reply::Interrupted));
-    let release = Play::Work(Act::Release);
-    let rows: [(&[Play], &[Play], usize); 3] = [
-        (&[], &[Play::Open], 0),
-        (&OPENED, &[release], 7),
-        (&OPENED, &[interrupted, release], 8),
-    ];
-    for (opening, plays, wanted) in rows {
-        let events = events(rt.alloc(), opening, plays)?;
+    for (plays, wanted) in [(&PLAYS[..], 8), (&[Play::Open], 0)] {
+        let events = events(rt.alloc(), plays)?;
         let told = replayed(rt.alloc(), events.as_slice());
         assert!(rt;
             matches!(told, Err((at, Refusal::NotAllowed)) if at == wanted),
