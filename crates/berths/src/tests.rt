@@ -80,6 +80,7 @@ fn asked(
     }
 }
 
+// refuses take_out_always_none: a place gives nothing back
 #[test]
 fn a_place_holds_one_berth(rt: HostRuntime) -> Result<(), Fail> {
     let alloc = rt.alloc();

@@ -43,6 +43,8 @@ fn log_each(log: &impl Log) {
     log_drop(log, Cause::Register);
 }
 
+// refuses peer_without_generation: a message names the slot in place of the generation
+// refuses drop_by_another_word: a cause is told by another word
 // A message is handed over whole, or left out where a growth is refused. At most one growth is, under
 // `rt try --test --fail-alloc N`, and none otherwise: so of all messages at most one is missing.
 #[test]
@@ -78,6 +80,7 @@ fn texts(alloc: Global) -> Result<String, AllocError> {
     format!(in alloc; "{opened}\n{done}\n{failed}\n{dropped}")
 }
 
+// refuses idle_told_as_reset: a connection that moved nothing is told as one that was reset
 #[test]
 fn texts_are_made(rt: HostRuntime) -> Result<(), Fail> {
     assert_eq!(rt;

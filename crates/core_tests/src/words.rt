@@ -77,16 +77,17 @@ fn first_wrong(claims: &Claims, first: &mut ClaimSeat, second: &mut ClaimSeat) -
     None
 }
 
-/// Two slots and two seats, which are asked for once more where memory ran out.
+/// Two slots and three seats, which are asked for once more where memory ran out.
 fn opened(alloc: Global) -> Result<(Claims, Vec<ClaimSeat>), OpenFault>
     ensures { IfOk result (λ made. (made.0.words ≡ 2) × All (λ seat. seat.table ≡ made.0) made.1.items) }
 {
-    match Claims::open(alloc, 2, 2) {
-        Err(OpenFault::NoMemory) => Claims::open(alloc, 2, 2),
+    match Claims::open(alloc, 2, 3) {
+        Err(OpenFault::NoMemory) => Claims::open(alloc, 2, 3),
         told => told,
     }
 }
 
+// refuses slots_counts_values: the number of slots is told as the number of values of the table
 #[test]
 fn one_word_goes_through_its_row(rt: HostRuntime) -> Result<(), Fail> {
     let (claims, mut seats) = opened(rt.alloc())?;

@@ -53,6 +53,7 @@ fn reads_to_the_end_or_the_limit(rt: HostRuntime) -> Result<(), Fail> {
 }
 
 // A reader's error is reported at once, also one that the next read would not meet.
+// refuses error_told_as_memory: an error of the reader is told as a lack of memory
 #[test]
 fn reports_an_error_at_once(rt: HostRuntime) -> Result<(), Fail> {
     for (at, kind) in [

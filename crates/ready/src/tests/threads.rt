@@ -92,53 +92,31 @@ fn taken_by_two<R: Threads + Wait + Copy + Send + 'static>(
     Ok((first.join(&rt), second.join(&rt)))
 }
 
-/// Whether the generations of the tickets of this slot rise.
-fn rises(tickets: &[Ticket], slot: usize) -> bool {
-    let mut last = 0;
+/// Notes what one of them took, of each slot's tickets in the order of their generation. Answers whether the generations
+/// rise, and none of these tickets was taken before.
+fn note(tickets: &[Ticket], taken: &mut [bool; 1_000]) -> bool {
+    let mut last = [0; 2];
     for ticket in tickets {
-        if ticket.slot == slot {
-            if ticket.generation <= last {
-                return false;
-            }
-            last = ticket.generation;
+        let (slot, generation) = (ticket.slot, ticket.generation);
+        if slot > 1 || generation > EACH || generation <= last[slot] {
+            return false;
         }
+        last[slot] = generation;
+        let place = slot * 500 + (generation - 1) as usize;
+        if taken[place] {
+            return false;
+        }
+        taken[place] = true;
     }
     true
-}
-
-/// How often the ticket was taken.
-fn times(tickets: &[Ticket], ticket: Ticket) -> usize {
-    let mut times = 0usize;
-    for taken in tickets {
-        if *taken == ticket {
-            times = times.saturating_add(1);
-        }
-    }
-    times
-}
-
-/// The first ticket that was not taken exactly once.
-fn taken_otherwise(first: &[Ticket], second: &[Ticket]) -> Option<Ticket> {
-    for slot in 0..2 {
-        for generation in 1..=EACH {
-            let ticket = Ticket { slot, generation };
-            match (times(first, ticket), times(second, ticket)) {
-                (1, 0) | (0, 1) => {}
-                _ => return Some(ticket),
-            }
-        }
-    }
-    None
 }
 
 #[test]
 fn each_ticket_is_taken_once(rt: HostRuntime) -> Result<(), Fail> {
     let (first, second) = taken_by_two(rt, rt.alloc())?;
-    let (first, second) = (first?, second?);
-    assert_eq!(rt; taken_otherwise(&first, &second), None);
-    for slot in 0..2 {
-        assert!(rt; rises(&first, slot) && rises(&second, slot));
-    }
+    let mut taken = [false; 1_000];
+    assert!(rt; note(&first?, &mut taken) && note(&second?, &mut taken));
+    assert!(rt; taken.iter().all(|is_taken| *is_taken));
     Ok(())
 }
 
