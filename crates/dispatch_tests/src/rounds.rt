@@ -177,6 +177,7 @@ static ROWS: [Row; 10] = [
     },
 ];
 
+// refuses idle_round: a round waits for reports and delivers none
 #[test]
 fn each_round_does_what_it_says(rt: HostRuntime) -> Result<(), Fail> {
     Ok(all_go(&rt, rt.alloc(), &ROWS)?)

@@ -231,6 +231,8 @@ static ROWS: [Row; 11] = [
     },
 ];
 
+// refuses quiet_without_turn: no turn is run, and the answer is Quiet
+// refuses poller_woken_for_the_first_slot_alone: the poller is woken for a free slot only where that is the first one
 #[test]
 fn each_way_out_of_a_turn(rt: HostRuntime) -> Result<(), Fail> {
     Ok(all_go(&rt, rt.alloc(), &ROWS)?)
@@ -281,6 +283,7 @@ static HEAVY: [Row; 1] = [Row {
     ..ALONE
 }];
 
+// refuses heavy_ticket_kept: a poller keeps the ticket of a connection that spent its calls
 #[test]
 fn a_heavy_connection_is_left_to_the_workers(rt: HostRuntime) -> Result<(), Fail> {
     Ok(all_go(&rt, rt.alloc(), &HEAVY)?)

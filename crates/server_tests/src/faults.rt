@@ -183,6 +183,7 @@ fn takes<R: Wait + Log>(rt: &R, alloc: Global, fault: Option<ServerFault>) -> Re
     Ok(left.iter().filter(|is_left| !**is_left).count())
 }
 
+// refuses worker_ends_after_a_busy_turn: a worker ends after a turn that finds its slot held
 // Each of the turns finds the slot free, and is Busy. A worker goes on after it, but begins none after a fault.
 #[test]
 fn a_worker_goes_on_until_a_fault(rt: HostRuntime) -> Result<(), Fail> {

@@ -32,6 +32,7 @@ fn echo(listener: &TcpListener, connections: usize) -> io::Result<()> {
     Ok(())
 }
 
+// refuses one_worker_runs_all: all tickets are run by one worker
 // A client is connected when both have shut their side before the server begins.
 #[test]
 fn two_workers_run_at_once(rt: HostRuntime) -> Result<(), Fail> {
