@@ -1,0 +1,31 @@
+-- The settings of a text, and its fault, are those of the file that has the text.
+use Rattle.std.proofs.Common.{◌≡◌, ◌≢◌, ℕ, ◌≤◌, List, length, Option, Some, None, sym, subst}
+use Rattle.std.specs.Prelude.{IfSome}
+use Rattle.settings.specs.Text.{IsSettingsOf, IsFaultOf}
+use Rattle.settings.specs.declared.fields.Settings.{Settings}
+use Rattle.settings.specs.declared.faults.SettingsFault.{SettingsFault}
+use Rattle.settings.specs.declared.faults.SettingsFault.TheVariants as settings
+use Rattle.program.specs.Files.{most_bytes, FileSets, HasFault, settings_fault}
+use Rattle.program.specs.declared.faults.ConfigFault.{ConfigFault}
+
+abbrev IsMemory : SettingsFault → Type 0
+IsMemory settings.NoMemory = Unit {0}
+IsMemory _ = ⊥
+
+has_fault : (text : List ℕ) (fault : SettingsFault) → length text ≤ most_bytes → (fault ≢ settings.NoMemory → IsFaultOf text fault) → HasFault text (settings_fault fault)
+has_fault text settings.NoMemory few is = tt
+has_fault text settings.NotToml few is = (few, is (λ e. subst IsMemory (sym e) tt))
+has_fault text (settings.UnknownKey name) few is = (few, is (λ e. subst IsMemory (sym e) tt))
+has_fault text (settings.Missing key) few is = (few, is (λ e. subst IsMemory (sym e) tt))
+has_fault text (settings.WrongKind key) few is = (few, is (λ e. subst IsMemory (sym e) tt))
+has_fault text (settings.OutOfRange key) few is = (few, is (λ e. subst IsMemory (sym e) tt))
+has_fault text (settings.BadAddress key) few is = (few, is (λ e. subst IsMemory (sym e) tt))
+
+-- the same of a text that was read into a slice
+pub has_fault_of : (left : Option (List ℕ)) (text slice : List ℕ) (fault : SettingsFault) (told : ConfigFault) → IfSome left (λ bytes. text ≡ bytes) → length text ≤ most_bytes → slice ≡ text → (fault ≢ settings.NoMemory → IsFaultOf slice fault) → told ≡ settings_fault fault → IfSome left (λ bytes. HasFault bytes told)
+has_fault_of None text slice fault told same few all is by = tt
+has_fault_of (Some bytes) text slice fault told same few all is by = rw (by, ← same, ← all) (has_fault slice fault (rw all few) is)
+
+pub file_sets_of : (left : Option (List ℕ)) (text slice : List ℕ) (s : Settings) → IfSome left (λ bytes. text ≡ bytes) → length text ≤ most_bytes → slice ≡ text → IsSettingsOf slice s → IfSome left (λ bytes. FileSets bytes s)
+file_sets_of None text slice s same few all is = tt
+file_sets_of (Some bytes) text slice s same few all is = rw (← same, ← all) (rw (all) few, is)

@@ -1,0 +1,167 @@
+//! The settings file.
+ghost use Rattle.std.specs.Prelude.{◌≡◌, ◌<◌, ◌≤◌, Ok, Err, None, IfOk, IfErr, IfSome, length, vec_len};
+ghost use Rattle.settings.specs.Names.{level_name};
+ghost use Rattle.settings.specs.Text.{IsSettingsOf};
+ghost use Rattle.program.specs.Files.{FileSets, HasFault};
+
+use crate::constants::MAX_CONFIG_BYTES;
+use crate::faults::ConfigFault;
+use crate::forwarding::setting_text;
+use crate::streams::{Stream, log_error};
+use input::{InputFault, read_at_most};
+use log::Log;
+use settings::{Key, LogLevel, OneLine, Settings, SettingsFault};
+use std::alloc::Global;
+use std::fmt;
+use std::fs::File;
+use std::io::Read;
+use std::rt::Files;
+
+/// The settings of the file at a path.
+///
+/// Refuses with `Read` if the file cannot be opened or read, and else as [`read`] does. The cause is logged: what the
+/// system or the parser says about it. The file is closed in each case.
+pub fn load<R: AllocGlobal + Files, L: Log>(
+    rt: &R,
+    log: &L,
+    path: &str,
+) -> Result<Settings, ConfigFault> {
+    let name = ConfigName(path);
+    match File::open(rt, path) {
+        Ok(file) => {
+            let mut file = Stream {
+                name,
+                inner: file,
+                log,
+            };
+            read(log, rt.alloc(), &mut file)
+        }
+        Err(error) => {
+            log_error(log, &name, &error);
+            Err(ConfigFault::Read)
+        }
+    }
+}
+
+/// What the log calls a settings file.
+#[derive(Clone, Copy)]
+struct ConfigName<'a>(&'a str);
+
+impl fmt::Display for ConfigName<'_> {
+    fn fmt<W: fmt::Write>(&self, f: &mut fmt::Formatter<W>) -> fmt::Result {
+        let path = OneLine(self.0);
+        write!(f, "config: {path}")
+    }
+}
+
+/// The settings of a file, from all of its bytes, or its fault.
+///
+/// Refuses with `Read` if the reader gives an error, `Long` if there are more than 65,536 bytes, whatever their text,
+/// `Settings` if the text has a fault, whose cause is logged, and `NoMemory`. The bytes that were read are then lost.
+pub fn read<F: Read, L: Log>(log: &L, alloc: Global, file: &mut F) -> Result<Settings, ConfigFault>
+    ensures settings { IfOk result (λ s. IfSome (F.remaining file.old) (λ bytes. FileSets bytes s)) }
+    ensures fault { IfErr result (λ fault. IfSome (F.remaining file.old) (λ bytes. HasFault bytes fault)) }
+{
+    let text = read_whole(alloc, file)?;
+    match settings::parse(alloc, text.as_slice()) {
+        Ok(settings) => Ok(settings),
+        Err(fault) => {
+            log_cause(log, alloc, text.as_slice(), &fault);
+            Err(ConfigFault::from(fault))
+        }
+    }
+}
+
+/// The settings of a text that the arguments of the command line gave, or its fault.
+///
+/// Refuses with `Settings` if the text has a fault, and `NoMemory`. The cause is logged, without a line's number, since
+/// the text is in no file.
+pub fn parse_arguments<L: Log>(log: &L, alloc: Global, text: &[u8]) -> Result<Settings, ConfigFault>
+    ensures settings { IfOk result (λ s. IsSettingsOf text.now s) }
+{
+    match settings::parse(alloc, text) {
+        Ok(settings) => Ok(settings),
+        Err(fault) => {
+            log_argument_cause(log, alloc, text, &fault);
+            Err(ConfigFault::from(fault))
+        }
+    }
+}
+
+/// Logs the cause of a fault in a text that the arguments gave.
+fn log_argument_cause(log: &impl Log, alloc: Global, text: &[u8], fault: &SettingsFault) {
+    if let Some(cause) = settings::cause(alloc, text, fault) {
+        log_error(log, &"settings", &without_line(cause.as_str()));
+    }
+}
+
+/// A cause without the number of its line.
+fn without_line(cause: &str) -> &str {
+    match cause.split_once(": ") {
+        Some((place, rest)) if place.starts_with("line ") => rest,
+        _ => cause,
+    }
+}
+
+/// The settings with the level of this name, if one is named.
+///
+/// Refuses with `Settings` a name that no level has, and logs the cause.
+pub fn at_level<L: Log>(
+    log: &L,
+    alloc: Global,
+    mut settings: Settings,
+    name: Option<&str>,
+) -> Result<Settings, ConfigFault>
+    ensures same { name.entry ≡ None → result ≡ Ok settings }
+    ensures rest { IfOk result (λ s. s ≡ record settings { log = s.log }) }
+    ensures level { IfSome name.entry (λ n. IfOk result (λ s. n.now ≡ level_name s.log)) }
+    ensures refused { IfErr result (λ fault. fault ≡ ConfigFault.Settings (SettingsFault.OutOfRange Key.Log)) }
+{
+    let Some(name) = name else {
+        return Ok(settings);
+    };
+    match LogLevel::named(name) {
+        Some(level) => {
+            settings.log = level;
+            Ok(settings)
+        }
+        None => {
+            let fault = SettingsFault::OutOfRange(Key::Log);
+            if let Ok(text) = setting_text(alloc, Key::Log, name) {
+                log_argument_cause(log, alloc, text.as_bytes(), &fault);
+            }
+            Err(ConfigFault::from(fault))
+        }
+    }
+}
+
+/// Logs the line of a settings fault, and what it should say.
+fn log_cause(log: &impl Log, alloc: Global, text: &[u8], fault: &SettingsFault) {
+    if let Some(cause) = settings::cause(alloc, text, fault) {
+        log_error(log, &"settings", &cause);
+    }
+}
+
+/// All bytes of a file. It is read to its end, or to one byte past the maximum length, which shows that it is too long.
+fn read_whole<F: Read>(alloc: Global, file: &mut F) -> Result<Vec<u8>, ConfigFault>
+    ensures most { IfOk result (λ text. vec_len text ≤ 65536) }
+    ensures whole { IfOk result (λ text. IfSome (F.remaining file.old) (λ bytes. text.items ≡ bytes)) }
+    ensures fault { IfErr result (λ fault. IfSome (F.remaining file.old) (λ bytes. HasFault bytes fault)) }
+{
+    match read_at_most(alloc, file, MAX_CONFIG_BYTES + 1) {
+        Ok(text) if text.len() > MAX_CONFIG_BYTES => Err(ConfigFault::Long),
+        Ok(text) => Ok(text),
+        Err(fault) => Err(not_read(fault)),
+    }
+}
+
+/// The fault of a settings file that could not be read.
+fn not_read(fault: InputFault) -> ConfigFault
+    ensures unreadable { fault ≡ InputFault.Unreadable → result ≡ ConfigFault.Read }
+    ensures memory { fault ≡ InputFault.NoMemory → result ≡ ConfigFault.NoMemory }
+{
+    match fault {
+        InputFault::Unreadable => ConfigFault::Read,
+        InputFault::NoMemory => ConfigFault::NoMemory,
+    }
+}

@@ -1,0 +1,144 @@
+// What fronts and wires over sockets answer.
+use crate::acts::Act::{AtOnce, Brings, Counts, Join, Offer, Read, Settle, Shut, Write, WriteFull};
+use crate::stage::Step::{self, Client, Hears, Leaves, Open, Reports, Sends, SendsFull, Target};
+use crate::stage::{BOTH, Fronts, NEAR, Row, STORY, first_wrong, fronts_for, reports};
+use dispatch::{Front, Split, Unopened};
+use sockets::{Sockets, Wakers};
+use std::alloc::Global;
+use std::io::{self, ErrorKind};
+use std::net::{SocketAddr, TcpStream};
+use std::test::Fail;
+
+const BLOCKED: Step = Client(Read(4, Err(ErrorKind::WouldBlock)));
+
+static ROWS: [Row; 6] = [
+    // A wire hands bytes on both ways, reads on after its own shutdown, and counts each error by its class.
+    Row {
+        steps: &[
+            Open(None),
+            BOTH,
+            Client(Join(Ok(0))),
+            Client(Write(b"xyz", Ok(3))),
+            Client(Shut(Ok(0))),
+            Hears(*b"xyz"),
+            Sends(b"abcd"),
+            Client(Brings(*b"abcd")),
+            Leaves,
+            Client(Read(4, Ok(0))),
+            Client(Write(b"a", Err(ErrorKind::BrokenPipe))),
+            Client(Counts(1, 0)),
+        ],
+        ..STORY
+    },
+    // After a read that would block, a wire reads its socket again only once its front has reported something to read:
+    // bytes, or the end of input.
+    Row {
+        steps: &[
+            Open(None),
+            BLOCKED,
+            BLOCKED,
+            Sends(b"abcd"),
+            BLOCKED,
+            BLOCKED,
+            Reports(&[NEAR]),
+            Client(Brings(*b"abcd")),
+            BLOCKED,
+            BLOCKED,
+            Leaves,
+            BLOCKED,
+            BLOCKED,
+            Reports(&[NEAR]),
+            Client(Read(4, Ok(0))),
+            Client(Counts(0, 8)),
+        ],
+        ..STORY
+    },
+    // A wire asks for as many bytes as it may, and a reset is told as such. The peer resets since it leaves bytes unread.
+    Row {
+        steps: &[
+            Open(None),
+            BOTH,
+            SendsFull,
+            Client(Read(16_384, Ok(16_384))),
+            Client(WriteFull(Ok(16_384))),
+            Leaves,
+            Client(Read(4, Err(ErrorKind::ConnectionReset))),
+            Client(Counts(1, 0)),
+        ],
+        ..STORY
+    },
+    // A target that refuses is a failure at the first call.
+    Row {
+        refuses: true,
+        steps: &[
+            Open(None),
+            BOTH,
+            Target(Join(Err(ErrorKind::ConnectionRefused))),
+            Target(Counts(1, 0)),
+        ],
+        ..STORY
+    },
+    // A client that is registered already cannot be opened.
+    Row {
+        steps: &[Open(None), Open(Some(Unopened::Register))],
+        lines: &["[DEBUG relayd] register: "],
+        ..STORY
+    },
+    // A wire's socket sends at once but for bulk, from one time that the connection is quiet until the next.
+    Row {
+        steps: &[
+            Open(None),
+            BOTH,
+            Client(AtOnce(false)),
+            Client(Settle),
+            Client(AtOnce(true)),
+            Client(Offer),
+            Client(AtOnce(true)),
+            Client(Offer),
+            Client(AtOnce(true)),
+            Client(Offer),
+            Client(AtOnce(true)),
+            Client(Offer),
+            Client(AtOnce(false)),
+            Client(Offer),
+            Client(AtOnce(false)),
+            Client(Settle),
+            Client(AtOnce(true)),
+        ],
+        ..STORY
+    },
+];
+
+#[test]
+fn wires(rt: HostRuntime) -> Result<(), Fail> {
+    assert_eq!(rt; first_wrong(&rt, &ROWS)?, None);
+    Ok(())
+}
+
+/// Wakes the poller of a slot, and waits until a front has reported that and the listener.
+fn hear(
+    alloc: Global,
+    wakers: &Wakers,
+    slot: usize,
+    front: &mut Sockets<'_, HostRuntime>,
+) -> io::Result<()> {
+    Sockets::<HostRuntime>::wake(wakers, slot);
+    reports(alloc, front, &[0, 1])
+}
+
+// The listening socket is reported to each front, and a slot's waker to the front of its part alone: there are 65 slots each.
+#[test]
+fn fronts_share_the_listener(rt: HostRuntime) -> Result<(), Fail> {
+    let target = SocketAddr::from(([127, 0, 0, 1], 1));
+    let Fronts {
+        mut fronts,
+        wakers,
+        address,
+    } = fronts_for(&rt, target, Split::new(130, 2))?;
+    assert_eq!(rt; fronts.len(), 2);
+    let _peer = TcpStream::connect(&rt, address)?;
+    for (front, slot) in fronts.iter_mut().zip([64, 65]) {
+        hear(rt.alloc(), &wakers, slot, front)?;
+    }
+    Ok(())
+}
