@@ -4,22 +4,58 @@ ghost use Rattle.claims.specs.Seats.{fresh_seat, HoldsNothing};
 ghost use Rattle.dispatch.specs.Parts.{AreFresh};
 
 use super::fake::{Fake, Script};
-use super::gate::Counting;
-use super::ticks::Ticks;
 use berths::Berths;
 use claims::Claims;
 use dispatch::{
-    MAX_BATCH, Opening, Own, Part, Parts, Poller, Shared, Timing, Worked, own_turn, poller_round,
-    share_tickets, worker_turn,
+    Clock, Gate, MAX_BATCH, Opening, Own, Part, Parts, Poller, Shared, Timing, Worked, own_turn,
+    poller_round, share_tickets, worker_turn,
 };
 use log::Log;
 use ready::{FreeQueue, ReadyQueue, Ticket};
 use std::alloc::{AllocError, Global};
+use std::cell::Cell;
 use std::sync::Wait;
-use std::sync::atomic::AtomicU64;
 
 /// Every server here has so many slots, and its queue of tickets room for as many.
 pub(crate) const SLOTS: usize = 2;
+
+/// A clock that stands still.
+struct Still;
+
+impl Clock for Still {
+    fn second(&self) -> u64 {
+        0
+    }
+}
+
+const TIMING: Timing<'static, Still> = Timing {
+    clock: &Still,
+    limit: 0,
+};
+
+/// A gate that counts the turns which began and those which ended.
+#[derive(Drop)]
+pub(crate) struct Counting {
+    began: Cell<u32>,
+    ended: Cell<u32>,
+}
+
+impl Counting {
+    /// How many turns began, and how many ended.
+    pub(crate) fn counts(&self) -> (u32, u32) {
+        (self.began.get(), self.ended.get())
+    }
+}
+
+impl Gate for Counting {
+    fn before_turn(&self, _slot: usize) {
+        self.began.set(self.began.get().saturating_add(1));
+    }
+
+    fn after_turn(&self, _slot: usize) {
+        self.ended.set(self.ended.get().saturating_add(1));
+    }
+}
 
 #[derive(Drop)]
 pub(crate) struct Stage {
@@ -27,9 +63,6 @@ pub(crate) struct Stage {
     pub(crate) own: Own,
     pub(crate) poller: Poller<Fake>,
     pub(crate) gate: Counting,
-    pub(crate) clock: Ticks,
-    /// The idle limit.
-    pub(crate) limit: u64,
     /// What the last turn answered. None where there was none, the hand was full, or the seat worn.
     pub(crate) worked: Option<Worked>,
     /// Whether a step could not be made.
@@ -42,17 +75,13 @@ pub(crate) struct Stage {
 impl Stage {
     /// A round of the poller.
     pub(crate) fn round<R: Wait + Log>(&mut self, rt: &R, alloc: Global) {
-        let timing = Timing {
-            clock: &self.clock,
-            limit: self.limit,
-        };
         let done = poller_round(
             rt,
             alloc,
             &self.shared,
             &mut self.own,
             &mut self.poller,
-            &timing,
+            &TIMING,
         );
         self.stuck |= done.is_err();
     }
@@ -63,33 +92,25 @@ impl Stage {
         if !self.own.hand.has_room() {
             return;
         }
-        let timing = Timing {
-            clock: &self.clock,
-            limit: self.limit,
-        };
         self.worked = worker_turn(
             rt,
             &self.shared,
             &mut self.own,
             &self.gate,
             ticket,
-            &timing,
+            &TIMING,
         ).ok();
     }
 
     /// The poller's own turn.
     pub(crate) fn own_turn<R: Wait + Log>(&mut self, rt: &R) {
-        let timing = Timing {
-            clock: &self.clock,
-            limit: self.limit,
-        };
         let worked = own_turn(
             rt,
             &self.shared,
             &mut self.own,
             &self.gate,
             &mut self.poller,
-            &timing,
+            &TIMING,
         );
         self.worked = worked.unwrap_or(None);
     }
@@ -122,49 +143,35 @@ impl Stage {
             Err(AllocError) => self.stuck = true,
         }
     }
-
-    /// The poller begins at this second, and the server has this idle limit.
-    pub(crate) fn begin(&mut self, second: u64, limit: u64) {
-        self.poller.begin_at(second);
-        self.limit = limit;
-    }
-
-    /// A round at this second.
-    pub(crate) fn round_at<R: Wait + Log>(&mut self, rt: &R, alloc: Global, second: u64) {
-        self.clock.set(second);
-        self.round(rt, alloc);
-    }
 }
 
-/// A server whose front plays this script, and which opens at most so many connections. Rings have four bytes, its clock
-/// shows 0, and it has no idle limit. Targets are sent a line if the script says so.
+/// A server whose front plays this script. Rings have four bytes.
 pub(crate) fn staged(
     rt: &impl Wait,
     alloc: Global,
     budget: usize,
-    most: u64,
     script: Script,
 ) -> Result<Stage, AllocError> {
-    let poller = poller_of(alloc, script, most)?;
+    let poller = poller_of(alloc, script)?;
     let (shared, mut parts) = parts_of(alloc, budget.clamp(1, 1024))?;
     let own = own_of(rt, alloc, &shared, &mut parts)?;
     Ok(stage_of(shared, own, poller))
 }
 
 /// A poller that has opened no connection yet.
-fn poller_of(alloc: Global, script: Script, most: u64) -> Result<Poller<Fake>, AllocError>
+fn poller_of(alloc: Global, script: Script) -> Result<Poller<Fake>, AllocError>
     ensures { IfOk result (λ poller. length poller.table ≡ 2) }
 {
     let opening = Opening {
         ring: 4,
-        proxy: script.proxy,
+        proxy: false,
     };
     let all = Part {
         first: 0,
         slots: SLOTS,
     };
     let front = Fake::new(alloc, script)?;
-    Poller::new(alloc, front, SLOTS, all, opening, most)
+    Poller::new(alloc, front, SLOTS, all, opening, u64::MAX)
 }
 
 /// What threads share, and what one thread is made from.
@@ -179,7 +186,7 @@ fn parts_of(alloc: Global, budget: usize) -> Result<(Shared<Fake>, Parts), Alloc
     let shared = Shared {
         claims,
         berths: Berths::new(alloc, SLOTS)?,
-        waker: AtomicU64::new(0),
+        waker: (),
         budget,
     };
     let ready = ReadyQueue::new(alloc, SLOTS, 1)?;
@@ -210,9 +217,10 @@ fn stage_of(shared: Shared<Fake>, own: Own, poller: Poller<Fake>) -> Stage
         shared,
         own,
         poller,
-        gate: Counting::new(),
-        clock: Ticks::new(0),
-        limit: 0,
+        gate: Counting {
+            began: Cell::new(0),
+            ended: Cell::new(0),
+        },
         worked: None,
         stuck: false,
     }

@@ -1,3 +1,6 @@
+// refuses shut_connects: a shutdown connects the wire
+// refuses new_swaps_writes_and_closings: the plays for writes answer joins and shutdowns, and the other way round
+//
 // What a scripted wire answers where a play does not fit its call, where none is left, and where it is not connected.
 use super::session::plays;
 use engine::{Play, ScriptWire, Wire};
