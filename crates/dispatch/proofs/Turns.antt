@@ -3,7 +3,7 @@ use Rattle.std.proofs.Common.{◌≡◌, ℕ, List, Result, Ok, Err, IfOk, inl, 
 use Rattle.claims.specs.declared.view.Account.{Account}
 use Rattle.claims.specs.Seats.{account_at, OnlyAt}
 use Rattle.ready.specs.declared.ticket.Ticket.{Ticket}
-use Rattle.dispatch.specs.declared.faults.ServerFault.{ServerFault}
+use Rattle.relay_log.specs.declared.faults.ServerFault.{ServerFault}
 use Rattle.dispatch.specs.declared.shared.Own.{Own}
 use Rattle.dispatch.specs.declared.worker.Worked.{Worked}
 use Rattle.dispatch.specs.declared.worker.Worked.TheVariants as worked

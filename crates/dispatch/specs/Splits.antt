@@ -1,16 +1,12 @@
 -- Which slots are a poller's. Part of the promises. All are dealt in parts of one size, one after the other, and the last part has
 -- what is left.
-use Rattle.std.specs.Prelude.{ℕ, ◌*◌, ◌+◌, ◌-◌, ◌/◌, min, max, List, map}
+use Rattle.std.specs.Prelude.{ℕ, ◌*◌, ◌+◌, ◌-◌, ◌/◌, min, List, map}
 use Rattle.std.specs.List.{range_with_len}
 use Rattle.dispatch.specs.declared.part.Part.{Part}
 
 -- how many parts there are
 abbrev pub parts_of : ℕ → ℕ → ℕ
 parts_of slots size = (slots - 1) / size + 1
-
--- how many pollers there are: as many as workers, but at most one for each 64 slots, and at least one
-abbrev pub pollers_for : ℕ → ℕ → ℕ
-pollers_for slots workers = max (min (slots / 64) workers) 1
 
 -- the part with this number
 abbrev pub part_of : ℕ → ℕ → ℕ → Part

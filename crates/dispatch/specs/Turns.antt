@@ -5,8 +5,8 @@ use Rattle.claims.specs.Views.{posted_of}
 use Rattle.claims.specs.Seats.{SeatState, TableId, account_at, Holds, HoldsNot, HoldsNothing, OnlyAt}
 use Rattle.ready.specs.declared.ticket.Ticket.{Ticket}
 use Rattle.relay_core.specs.Pairs.{PairState, noted}
-use Rattle.dispatch.specs.declared.faults.ServerFault.{ServerFault}
-use Rattle.dispatch.specs.declared.faults.ServerFault.TheVariants as server_fault
+use Rattle.relay_log.specs.declared.faults.ServerFault.{ServerFault}
+use Rattle.relay_log.specs.declared.faults.ServerFault.TheVariants as server_fault
 use Rattle.dispatch.specs.declared.shared.Own.{Own}
 use Rattle.dispatch.specs.declared.worker.Worked.{Worked}
 use Rattle.dispatch.specs.declared.worker.Worked.TheVariants as worked

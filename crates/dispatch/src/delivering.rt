@@ -5,11 +5,11 @@ ghost use Rattle.claims.specs.Seats.{HoldsNothing};
 ghost use Rattle.dispatch.specs.Hands.{ticket_room};
 ghost use Rattle.dispatch.specs.Deliveries.{connection, reported, ArePosted, Delivered};
 
-use crate::faults::ServerFault;
 use crate::hand::Hand;
 use crate::limits::LISTENER;
 use claims::{ClaimSeat, Claims, Posted};
 use ready::Ticket;
+use relay_log::ServerFault;
 use token::{Name, Token, unpack};
 
 /// Posts a note for each report of a batch, and adds a ticket to the hand for each post that answers Wake. Returns

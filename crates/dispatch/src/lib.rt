@@ -22,7 +22,6 @@
 mod accepting;
 mod clock;
 mod delivering;
-mod faults;
 mod front;
 mod gate;
 mod hand;
@@ -45,7 +44,6 @@ mod worker;
 
 pub use clock::{Clock, Timing};
 pub use delivering::deliver;
-pub use faults::ServerFault;
 pub use front::{Front, Opened, Settle, Unopened};
 pub use gate::{Gate, OpenGate};
 pub use hand::Hand;
@@ -56,6 +54,7 @@ pub use part::Part;
 pub use parts::Parts;
 pub use poller::Poller;
 pub use putting::{give_slots, put_tickets};
+pub use relay_log::ServerFault;
 pub use round::poller_round;
 pub use route::Route;
 pub use shared::{Own, Shared};

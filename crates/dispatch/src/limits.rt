@@ -24,6 +24,3 @@ pub const LISTENER: u64 = 0;
 
 /// The number under which the waker is reported.
 pub const WAKER: u64 = 1;
-
-/// A part of the slots has at least so many, unless all have fewer.
-pub(crate) const LEAST_PART: usize = 64;

@@ -10,7 +10,6 @@ ghost use Rattle.dispatch.specs.Leads.{LeadTold};
 ghost use Rattle.dispatch.specs.Openings.{Between, Started, Connected, AcceptDone};
 ghost use Rattle.dispatch.specs.Polls.{AreGenerations, IsIn};
 
-use crate::faults::ServerFault;
 use crate::front::{Front, Opened};
 use crate::hand::Hand;
 use crate::poller::Poller;
@@ -20,7 +19,7 @@ use claims::{Adopted, Posted, Released};
 use log::Log;
 use ready::Ticket;
 use relay_core::Pair;
-use relay_log::{Cause, log_drop, log_open, log_peer};
+use relay_log::{Cause, ServerFault, log_drop, log_open, log_peer};
 use std::alloc::Global;
 use std::sync::Wait;
 use token::{Side, Token, next_gen};

@@ -5,7 +5,6 @@ ghost use Rattle.dispatch.specs.Outgoing.{tickets_out, Inserted, KeepsOut, TookN
 ghost use Rattle.dispatch.specs.Turns.{NoOwnTurn, OnlyWorn, OwnTurn};
 
 use crate::clock::{Clock, Timing};
-use crate::faults::ServerFault;
 use crate::front::Front;
 use crate::gate::Gate;
 use crate::limits::{MAX_OWN_TURNS, OWN_BUDGET};
@@ -16,6 +15,7 @@ use crate::terms::Terms;
 use crate::worker::{Worked, turn_of};
 use log::Log;
 use ready::Ticket;
+use relay_log::ServerFault;
 use std::sync::Wait;
 
 /// Puts the tickets in hand that the poller's thread does not run by itself, so that the workers begin with them: those

@@ -1,9 +1,8 @@
 //! How the slots are dealt to the pollers.
-ghost use Rattle.std.specs.Prelude.{◌≡◌, ◌+◌, ◌<◌, ◌≤◌};
+ghost use Rattle.std.specs.Prelude.{◌≡◌, ◌+◌, ◌*◌, ◌<◌, ◌≤◌};
 ghost use Rattle.dispatch.specs.Polls.{IsIn};
-ghost use Rattle.dispatch.specs.Splits.{part_of, parts_of, pollers_for};
+ghost use Rattle.dispatch.specs.Splits.{part_of, parts_of};
 
-use crate::limits::LEAST_PART;
 use crate::part::Part;
 
 /// The slots of a server, dealt to its pollers in parts of one size, one after the other. The last part may be smaller.
@@ -18,15 +17,15 @@ pub struct Split {
 }
 
 impl Split {
-    /// As many parts as there are workers, but at most one for each 64 slots, and at least one.
-    #[tactic(auto, using(crate::proofs::Splits::parts_are))]
-    pub fn new(slots: usize, workers: usize) -> Split
+    /// A part for each of so many pollers: as many parts as they are, or fewer if they are many for the slots.
+    #[tactic(auto, using(crate::proofs::Splits::parts_of_size, crate::proofs::Splits::parts_le))]
+    pub fn new(slots: usize, pollers: usize) -> Split
         requires slots { (1 ≤ slots) × (slots ≤ 4096) }
-        requires workers { (1 ≤ workers) × (workers ≤ 16) }
+        requires pollers { (1 ≤ pollers) × (pollers ≤ 16) }
         ensures slots { result.slots ≡ slots }
-        ensures pollers { parts_of result.slots result.size ≡ pollers_for slots workers }
+        ensures pollers { pollers * pollers ≤ slots → parts_of result.slots result.size ≡ pollers }
+        ensures most { parts_of result.slots result.size ≤ pollers }
     {
-        let pollers = (slots / LEAST_PART).min(workers).max(1);
         Split {
             slots,
             size: (slots - 1) / pollers + 1,

@@ -11,7 +11,6 @@ ghost use Rattle.dispatch.specs.Sweeps.{all_opened, opened_in, swept_after, swee
 
 use crate::clock::{Clock, Timing};
 use crate::delivering::post_note;
-use crate::faults::ServerFault;
 use crate::front::Front;
 use crate::hand::Hand;
 use crate::poller::Poller;
@@ -19,6 +18,7 @@ use crate::shared::{Own, Shared};
 use claims::{ClaimSeat, Claims};
 use engine::Moment;
 use ready::Ticket;
+use relay_log::ServerFault;
 
 /// Reads the second of the round, and makes a sweep if the idle limit has passed since the last one. The poller opened
 /// no connection in the slots of another one, and posts none there.

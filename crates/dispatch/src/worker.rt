@@ -8,7 +8,6 @@ ghost use Rattle.dispatch.specs.Outgoing.{KeepsSlot, TookNothing};
 ghost use Rattle.dispatch.specs.Turns.{TurnChange, Rose, exchanges, exchanges_left, HoldsOnly, AtWork, TicketsKept, SlotsKept, TurnDone, OnlyWorn, noted_by, Released as ReleasedHere};
 
 use crate::clock::{Clock, Timing};
-use crate::faults::ServerFault;
 use crate::front::Front;
 use crate::gate::Gate;
 use crate::putting::{give_back, give_slots, put_ticket, put_tickets};
@@ -20,7 +19,7 @@ use engine::Turn;
 use log::Log;
 use ready::Ticket;
 use relay_core::{MAX_READ, Pair, Verdict};
-use relay_log::{log_done, log_fail};
+use relay_log::{ServerFault, log_done, log_fail};
 use std::sync::Wait;
 use token::MAX_GENERATION;
 

@@ -1,4 +1,4 @@
-//! The statuses of the program.
+//! The fixed values of the program: its statuses, its version, and the limit of a settings file.
 
 /// The status after a command was carried out.
 pub const DONE: u8 = 0;
@@ -8,3 +8,9 @@ pub const FAULT: u8 = 1;
 
 /// The status after a usage error.
 pub const USAGE: u8 = 2;
+
+/// The version that `--version` prints.
+pub const VERSION: &str = "0.1.0";
+
+/// The maximum size of a settings file, in bytes.
+pub const MAX_CONFIG_BYTES: usize = 65_536;

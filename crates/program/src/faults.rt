@@ -1,11 +1,12 @@
 //! What the program reports on standard error.
 ghost use Rattle.std.specs.Prelude.{◌≡◌};
-ghost use Rattle.startup.specs.declared.faults.ConfigFault.TheVariants.{NoMemory};
+ghost use Rattle.program.specs.Files.{settings_fault};
+ghost use Rattle.program.specs.declared.faults.ConfigFault.TheVariants.{NoMemory};
 ghost use Rattle.program.specs.declared.faults.ProgramFault.TheVariants.{Config};
 
-use dispatch::ServerFault;
+use relay_log::ServerFault;
 use script::ScriptFault;
-use startup::ConfigFault;
+use settings::SettingsFault;
 use std::alloc::AllocError;
 use thiserror::Error;
 
@@ -40,5 +41,43 @@ impl From<ConfigFault> for ProgramFault {
 
     fn from(fault: ConfigFault) -> ProgramFault {
         ProgramFault::Config(fault)
+    }
+}
+
+/// A fault of the settings, in a file or in the arguments of the command line. Its text is what a person sees after
+/// `relayd: `.
+#[derive(Debug, Drop, Error)]
+pub enum ConfigFault {
+    /// The settings file could not be opened or read.
+    #[error("config: cannot be read")]
+    Read,
+    /// The settings file has more than 65,536 bytes.
+    #[error("config: too long")]
+    Long,
+    /// The text of the settings has a fault.
+    #[error(transparent)]
+    Settings(SettingsFault),
+    /// Memory ran out.
+    #[error("out of memory")]
+    NoMemory,
+}
+
+impl From<AllocError> for ConfigFault {
+    ghost from_gives = { λ _ fault. fault ≡ NoMemory };
+
+    fn from(_error: AllocError) -> ConfigFault {
+        ConfigFault::NoMemory
+    }
+}
+
+// Running out of memory is one fault, wherever it happens.
+impl From<SettingsFault> for ConfigFault {
+    ghost from_gives = { λ fault given. given ≡ settings_fault fault };
+
+    fn from(fault: SettingsFault) -> ConfigFault {
+        match fault {
+            SettingsFault::NoMemory => ConfigFault::NoMemory,
+            fault => ConfigFault::Settings(fault),
+        }
     }
 }

@@ -2,14 +2,31 @@
 //! on standard input and output.
 //!
 //! [`act`] does all of that: from its arguments, a reader, two writers and a closure that serves, to a status.
-//! [`report_arguments_fault`] reports that the arguments cannot be read. What comes before, from the command line to the
-//! settings, is the crate `startup`.
+//! [`arguments`] are those of the process, and [`report_arguments_fault`] reports that they cannot be read.
+//!
+//! - `command_line` finds the command in them; `forwarding` has the settings that they may give.
+//! - [`config`] reads the settings, and `starting` looks at what they need before a relay serves by them.
+//! - [`logging`] is the log of a relay that serves, and [`level_filter`] its level; `streams` logs what is wrong with an
+//!   input or an output.
 #![tactic(auto)]
 
 mod acting;
 mod causes;
+mod command_line;
+pub mod config;
 mod constants;
+mod descriptors;
 mod faults;
+mod forwarding;
+mod level;
+pub mod logging;
+mod meeting;
+mod process_arguments;
+mod starting;
+mod streams;
 
 pub use acting::{act, report_arguments_fault};
-pub use faults::ProgramFault;
+pub use faults::{ConfigFault, ProgramFault};
+pub use level::level_filter;
+pub use process_arguments::{ArgumentsFault, arguments};
+pub use starting::prepare;

@@ -1,8 +1,7 @@
 // How a run ends with any reader and writer.
 use super::ends::{Sink, Source};
-use dispatch::ServerFault;
-use program::{act, report_arguments_fault};
-use startup::ArgumentsFault;
+use program::{ArgumentsFault, act, report_arguments_fault};
+use relay_log::ServerFault;
 use std::alloc::{AllocError, Global};
 use std::io::{self, ErrorKind};
 use std::test::Fail;

@@ -1,4 +1,5 @@
-//! The log messages of the relay, byte for byte, and the calls that pass them to a log.
+//! The log messages of the relay, byte for byte, and the calls that pass them to a log; and why a server ends early, with
+//! what a person is told then ([`ServerFault`]).
 //!
 //! | message | level | when |
 //! |---|---|---|
@@ -15,10 +16,12 @@
 
 mod calls;
 mod cause;
+mod faults;
 mod messages;
 mod texts;
 
 pub use calls::{log_done, log_drop, log_fail, log_open, log_peer};
 pub use cause::Cause;
+pub use faults::ServerFault;
 pub use messages::{Done, Dropped, Failed, Opened, Peer};
 pub use texts::{done_text, drop_text, fail_text, open_text};

@@ -7,9 +7,9 @@ mod clock;
 use clock::MonotonicClock;
 use log::Logged;
 use log_queue::Queued;
+use program::logging::{self, Errors};
 use server::{Bound, OpenGate, ServerFault};
 use settings::Settings;
-use startup::logging::{self, Errors};
 use std::cell::Cell;
 use std::process::ExitCode;
 
@@ -24,13 +24,13 @@ fn main(rt: HostRuntime) -> ExitCode {
     let serve = |settings: Settings, bound: Bound| -> Result<(), ServerFault> {
         let queue = logging::start(rt)?;
         let sink = Queued { rt, queue: &queue };
-        let logged = Logged::new(rt, startup::level_filter(settings.log), sink);
+        let logged = Logged::new(rt, program::level_filter(settings.log), sink);
         let clock = MonotonicClock(rt);
         let served = server::serve(&logged, rt.alloc(), &settings, &OpenGate, &clock, bound);
         is_stuck.set(!logging::finish(&rt, &queue));
         served
     };
-    let status = match startup::arguments(&rt) {
+    let status = match program::arguments(&rt) {
         Ok(arguments) => program::act(
             &rt,
             arguments.as_slice(),

@@ -6,15 +6,25 @@ ghost use Rattle.dispatch.specs.Parts.{AreFresh};
 ghost use Rattle.server.specs.Limits.{share_of, shares_of};
 ghost use Rattle.dispatch.specs.Splits.{each_part, part_of, parts_of};
 ghost use Rattle.server.specs.Begins.{HasBegun};
+ghost use Rattle.settings.specs.Pollers.{pollers_for};
 
 use berths::Berths;
 use claims::Claims;
 use dispatch::{Front, Opening, Parts, Poller, ServerFault, Shared, Split};
 use ready::{FreeQueue, ReadyQueue};
-use settings::Settings;
+use settings::{Settings, pollers_for};
 use std::alloc::{AllocError, Global};
 use std::sync::Wait;
 use threads::Server;
+
+/// How the slots of a server are dealt to its pollers, as the settings say.
+pub fn split_of(settings: &Settings) -> Split
+    ensures slots { result.slots ≡ settings.now.slots }
+    ensures pollers { parts_of result.slots result.size ≡ pollers_for settings.now.slots settings.now.workers }
+{
+    let pollers = pollers_for(settings.slots, settings.workers);
+    Split::new(settings.slots, pollers)
+}
 
 /// A server as the settings say, with a poller for each part of the slots. `fronts` has the front of each, in the order of
 /// the parts.

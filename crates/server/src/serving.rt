@@ -1,7 +1,7 @@
 //! A server over the system's sockets, from its settings to its end.
 
-use crate::making::build;
-use dispatch::{Clock, Gate, ServerFault, Split, Timing};
+use crate::making::{build, split_of};
+use dispatch::{Clock, Gate, ServerFault, Timing};
 use log::Log;
 use settings::Settings;
 use sockets::{Bound, Dial, Forwarding, open_all};
@@ -29,7 +29,7 @@ pub fn serve<G: Gate + Sync, C: Clock + Sync, R: Net + Dial + Wait + Threads + L
     clock: &C,
     bound: Bound,
 ) -> Result<(), ServerFault> {
-    let split = Split::new(settings.slots, settings.workers);
+    let split = split_of(settings);
     let forwarding = Forwarding::of(settings);
     let (fronts, wakers) = open_all(rt, alloc, bound, forwarding, split)?;
     let server = build(rt, alloc, settings, split, fronts, wakers)?;

@@ -1,9 +1,9 @@
 // A server whose waits for reports fail, and which has no connection.
 ghost use Rattle.std.specs.Prelude.{[]};
 
-use dispatch::{Front, Opened, ServerFault, Split, Unopened};
+use dispatch::{Front, Opened, ServerFault, Unopened};
 use log::Log;
-use server::build;
+use server::{build, split_of};
 use settings::parse;
 use sockets::SocketWire;
 use std::alloc::Global;
@@ -74,7 +74,7 @@ pub(crate) fn server_without_reports(
     kind: ErrorKind,
 ) -> Result<Server<Failing>, Fail> {
     let settings = parse(alloc, SETTINGS)?;
-    let split = Split::new(settings.slots, settings.workers);
+    let split = split_of(&settings);
     if split.pollers() != 1 {
         return Err(Fail::from(ServerFault::Poll));
     }

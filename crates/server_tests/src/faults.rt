@@ -21,7 +21,7 @@ fn crew_of<'a, R>(rt: &'a R, alloc: Global, ending: &'a Ending) -> Crew<'a, Open
         gate: &OpenGate,
         timing: NO_LIMIT,
         ending,
-        split: Split::new(2, 2),
+        split: Split::new(2, 1),
     }
 }
 

@@ -2,3 +2,4 @@ pub mod Decimals
 pub mod AddressParts
 pub mod Unknown
 pub mod Unique
+pub mod FewPollers

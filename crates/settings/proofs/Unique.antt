@@ -6,11 +6,10 @@ use Rattle.std.specs.Fmt.{decimal}
 use Rattle.toml.specs.Data.{Data, Members, get_member}
 use Rattle.settings.specs.Names.{level_name}
 use Rattle.settings.specs.Addresses.{SocketAddress, IsAddress, address_text}
-use Rattle.settings.specs.Table.{key_name, setting, Setting, address, number, level, truth, ValueKind, an_address, a_number, a_level, a_truth, Row, required, optional, table}
+use Rattle.settings.specs.Table.{key_name, setting, Setting, address, number, level, truth, ValueKind, an_address, a_number, a_level, a_truth, Row, row_of, keys}
 use Rattle.settings.specs.Document.{HasKind, Writes, Gives, GivesEach, Refuses, IsFirstFault, HasNoUnknown}
 use Rattle.settings.specs.Text.{IsDocument, IsSettingsOf, IsFaultOf}
 use Rattle.settings.specs.declared.table.Key.{Key}
-use Rattle.settings.specs.declared.table.Key.TheVariants.{Listen, Target, Ring, Budget, Workers, Slots, StopAfter, Log, Idle, Proxy}
 use Rattle.settings.specs.declared.faults.SettingsFault.{SettingsFault}
 use Rattle.settings.specs.declared.faults.SettingsFault.TheVariants.{Missing}
 use Rattle.settings.specs.declared.fields.Settings.{Settings}
@@ -107,22 +106,13 @@ gives_once row doc v w p q = gives_once_at (get_member (key_name row.key) doc) r
 one_document : (text : List ℕ) (doc other : Members) → IsDocument text doc → IsDocument text other → doc ≡ other
 one_document text doc other p q = same_Some _ _ (sym p.1 ∙ q.1)
 
-each_once : (doc : Members) (v w : Key → Setting) → GivesEach table doc v → GivesEach table doc w → (k : Key) → w k ≡ v k
-each_once doc v w p q Listen = gives_once (required Listen (an_address 0)) doc _ _ q.0 p.0
-each_once doc v w p q Target = gives_once (required Target (an_address 1)) doc _ _ q.1.0 p.1.0
-each_once doc v w p q Ring = gives_once (optional Ring (a_number 1 65536) (number 16384)) doc _ _ q.1.1.0 p.1.1.0
-each_once doc v w p q Budget = gives_once (optional Budget (a_number 1 1024) (number 64)) doc _ _ q.1.1.1.0 p.1.1.1.0
-each_once doc v w p q Workers = gives_once (optional Workers (a_number 1 16) (number 4)) doc _ _ q.1.1.1.1.0 p.1.1.1.1.0
-each_once doc v w p q Slots = gives_once (optional Slots (a_number 1 4096) (number 1024)) doc _ _ q.1.1.1.1.1.0 p.1.1.1.1.1.0
-each_once doc v w p q StopAfter = gives_once (optional StopAfter (a_number 0 4294967295) (number 0)) doc _ _ q.1.1.1.1.1.1.0 p.1.1.1.1.1.1.0
-each_once doc v w p q Log = gives_once (optional Log a_level (level Info)) doc _ _ q.1.1.1.1.1.1.1.0 p.1.1.1.1.1.1.1.0
-each_once doc v w p q Idle = gives_once (optional Idle (a_number 0 86400) (number 0)) doc _ _ q.1.1.1.1.1.1.1.1.0 p.1.1.1.1.1.1.1.1.0
-each_once doc v w p q Proxy = gives_once (optional Proxy a_truth (truth false)) doc _ _ q.1.1.1.1.1.1.1.1.1.0 p.1.1.1.1.1.1.1.1.1.0
+each_once : (doc : Members) (v w : Key → Setting) → GivesEach doc v → GivesEach doc w → (k : Key) → w k ≡ v k
+each_once doc v w p q k = gives_once (row_of k) doc _ _ (q k) (p k)
 
 -- any settings of a text have the same setting at each key
 pub settings_once : (text : List ℕ) (s t : Settings) → IsSettingsOf text s → IsSettingsOf text t → (k : Key) → setting t k ≡ setting s k
 settings_once text s t p q =
-    let each : GivesEach table p.0 (setting t) = subst (λ (doc : Members). GivesEach table doc (setting t)) (one_document text q.0 p.0 q.1 p.1) q.3 in
+    let each : GivesEach p.0 (setting t) = subst (λ (doc : Members). GivesEach doc (setting t)) (one_document text q.0 p.0 q.1 p.1) q.3 in
     each_once p.0 (setting s) (setting t) p.3 each
 
 writes_kind : (kind : ValueKind) (d : Data) (v : Setting) → Writes kind d v → HasKind kind d
@@ -150,10 +140,10 @@ not_both_at None row fault v p q = let none : Some v ≡ None = sym p ∙ q.0 in
 not_both_at (Some d) row fault v p (inl other) = other.0 (writes_kind row.kind d v p)
 not_both_at (Some d) row fault v p (inr none) = none.1 v p
 
-no_fault : (rows : List Row) (doc : Members) (fault : SettingsFault) (v : Key → Setting) → GivesEach rows doc v → IsFirstFault rows doc fault → ⊥
+no_fault : (ks : List Key) (doc : Members) (fault : SettingsFault) (v : Key → Setting) → GivesEach doc v → IsFirstFault ks doc fault → ⊥
 no_fault [] doc fault v p q = absurd q
-no_fault (row ∷ rows) doc fault v p (inl here) = not_both_at (get_member (key_name row.key) doc) row fault (v row.key) p.0 here
-no_fault (row ∷ rows) doc fault v p (inr later) = no_fault rows doc fault v p.1 later.1
+no_fault (k ∷ ks) doc fault v p (inl here) = not_both_at (get_member (key_name (row_of k).key) doc) (row_of k) fault (v k) (p k) here
+no_fault (k ∷ ks) doc fault v p (inr later) = no_fault ks doc fault v p later.1
 
 -- a text with a fault has no settings
 pub no_settings : (text : List ℕ) (s : Settings) (fault : SettingsFault) → IsFaultOf text fault → IsSettingsOf text s → ⊥
@@ -161,8 +151,8 @@ no_settings text s fault (inl none) q = none.1 q.0 q.1
 no_settings text s fault (inr found) q =
     let same : q.0 ≡ found.0 = one_document text q.0 found.0 q.1 found.1 in
     let known : HasNoUnknown found.0 = subst (λ (doc : Members). HasNoUnknown doc) same q.2 in
-    let each : GivesEach table found.0 (setting s) = subst (λ (doc : Members). GivesEach table doc (setting s)) same q.3 in
+    let each : GivesEach found.0 (setting s) = subst (λ (doc : Members). GivesEach doc (setting s)) same q.3 in
     elim found.2 [
       | inl unknown ↦ known unknown.0 unknown.2.0
-      | inr first ↦ no_fault table found.0 fault (setting s) each first.1
+      | inr first ↦ no_fault keys found.0 fault (setting s) each first.1
     ]

@@ -6,7 +6,7 @@ use Rattle.std.specs.declared.cmp.Ordering.TheVariants.{Greater}
 use Rattle.toml.specs.Data.{Data, Members, get_member, as_str, as_integer, as_bool}
 use Rattle.settings.specs.Names.{level_name}
 use Rattle.settings.specs.Addresses.{IsAddress, address_text}
-use Rattle.settings.specs.Table.{key_name, Setting, address, number, level, truth, ValueKind, an_address, a_number, a_level, a_truth, Row}
+use Rattle.settings.specs.Table.{key_name, Setting, address, number, level, truth, ValueKind, an_address, a_number, a_level, a_truth, Row, row_of}
 use Rattle.settings.specs.declared.table.Key.{Key}
 use Rattle.settings.specs.declared.faults.SettingsFault.{SettingsFault}
 use Rattle.settings.specs.declared.faults.SettingsFault.TheVariants.{Missing, WrongKind, OutOfRange, BadAddress}
@@ -49,14 +49,13 @@ Faults row doc fault =
     MatchOption (get_member (key_name row.key) doc) ((row.default ≡ None) × (fault ≡ Missing row.key)) (λ d. Refuses row.kind row.key d fault)
 
 -- each key is set
-abbrev pub GivesEach : List Row → Members → (Key → Setting) → Type 0
-GivesEach [] doc v = Unit {0}
-GivesEach (row ∷ rows) doc v = Gives row doc (v row.key) × GivesEach rows doc v
+abbrev pub GivesEach : Members → (Key → Setting) → Type 0
+GivesEach doc v = (k : Key) → Gives (row_of k) doc (v k)
 
--- the first row that has a fault in the document has this one
-abbrev pub IsFirstFault : List Row → Members → SettingsFault → Type 0
+-- the first of these keys that has a fault in the document has this one
+abbrev pub IsFirstFault : List Key → Members → SettingsFault → Type 0
 IsFirstFault [] doc fault = ⊥
-IsFirstFault (row ∷ rows) doc fault = Faults row doc fault ⊎ (((v : Setting) × Gives row doc v) × IsFirstFault rows doc fault)
+IsFirstFault (k ∷ ks) doc fault = Faults (row_of k) doc fault ⊎ (((v : Setting) × Gives (row_of k) doc v) × IsFirstFault ks doc fault)
 
 -- a name at the top level of the document, which is no key's
 abbrev pub IsUnknown : Members → List ℕ → Type 0

@@ -6,3 +6,4 @@ pub mod Table
 pub mod Document
 pub mod Text
 pub mod Faults
+pub mod Pollers

@@ -47,19 +47,21 @@ required k kind = record { key = k; kind = kind; default = None }
 abbrev pub optional : Key → ValueKind → Setting → Row
 optional k kind v = record { key = k; kind = kind; default = Some v }
 
-abbrev pub table : List Row
-table =
-    required Listen (an_address 0)
-    ∷ required Target (an_address 1)
-    ∷ optional Ring (a_number 1 65536) (number 16384)
-    ∷ optional Budget (a_number 1 1024) (number 64)
-    ∷ optional Workers (a_number 1 16) (number 4)
-    ∷ optional Slots (a_number 1 4096) (number 1024)
-    ∷ optional StopAfter (a_number 0 4294967295) (number 0)
-    ∷ optional Log a_level (level Info)
-    ∷ optional Idle (a_number 0 86400) (number 0)
-    ∷ optional Proxy a_truth (truth false)
-    ∷ []
+abbrev pub row_of : Key → Row
+row_of Listen = required Listen (an_address 0)
+row_of Target = required Target (an_address 1)
+row_of Ring = optional Ring (a_number 1 65536) (number 16384)
+row_of Budget = optional Budget (a_number 1 1024) (number 64)
+row_of Workers = optional Workers (a_number 1 16) (number 4)
+row_of Slots = optional Slots (a_number 1 4096) (number 1024)
+row_of StopAfter = optional StopAfter (a_number 0 4294967295) (number 0)
+row_of Log = optional Log a_level (level Info)
+row_of Idle = optional Idle (a_number 0 86400) (number 0)
+row_of Proxy = optional Proxy a_truth (truth false)
+
+-- the keys, in the order in which they are read and printed
+abbrev pub keys : List Key
+keys = Listen ∷ Target ∷ Ring ∷ Budget ∷ Workers ∷ Slots ∷ StopAfter ∷ Log ∷ Idle ∷ Proxy ∷ []
 
 -- the setting of a key
 abbrev pub setting : Settings → Key → Setting

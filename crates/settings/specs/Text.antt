@@ -6,8 +6,9 @@ use Rattle.toml.specs.Data.{Members}
 use Rattle.toml.specs.Parse.{parse_document}
 use Rattle.settings.specs.Names.{level_name, truth_name}
 use Rattle.settings.specs.Addresses.{address_text}
-use Rattle.settings.specs.Table.{key_name, setting, Setting, address, number, level, truth, Row, table}
+use Rattle.settings.specs.Table.{key_name, setting, Setting, address, number, level, truth, keys}
 use Rattle.settings.specs.Document.{GivesEach, IsFirstFault, IsFirstUnknown, HasNoUnknown}
+use Rattle.settings.specs.declared.table.Key.{Key}
 use Rattle.settings.specs.declared.faults.SettingsFault.{SettingsFault}
 use Rattle.settings.specs.declared.faults.SettingsFault.TheVariants.{NotToml, UnknownKey}
 use Rattle.settings.specs.declared.fields.Settings.{Settings}
@@ -16,14 +17,14 @@ use Rattle.settings.specs.declared.fields.Settings.{Settings}
 abbrev pub IsDocument : List ℕ → Members → Type 0
 IsDocument text doc = IsUtf8 text × (parse_document text ≡ Some doc)
 
--- the text has these settings: no unknown key, and each key set by the table
+-- the text has these settings: no unknown key, and each key set by its row of the table
 abbrev pub IsSettingsOf : List ℕ → Settings → Type 0
-IsSettingsOf text s = (doc : Members) × IsDocument text doc × HasNoUnknown doc × GivesEach table doc (setting s)
+IsSettingsOf text s = (doc : Members) × IsDocument text doc × HasNoUnknown doc × GivesEach doc (setting s)
 
--- the document has this fault: its first unknown key, or where it has none the first fault in the table's order
+-- the document has this fault: its first unknown key, or where it has none the first fault in the order of the keys
 abbrev pub IsFaultOfDocument : Members → SettingsFault → Type 0
 IsFaultOfDocument doc fault =
-    ((name : List ℕ) × (fault ≡ UnknownKey name) × IsFirstUnknown doc name) ⊎ (HasNoUnknown doc × IsFirstFault table doc fault)
+    ((name : List ℕ) × (fault ≡ UnknownKey name) × IsFirstUnknown doc name) ⊎ (HasNoUnknown doc × IsFirstFault keys doc fault)
 
 -- the text has this fault: it is no document, or it is one that has this fault
 abbrev pub IsFaultOf : List ℕ → SettingsFault → Type 0
@@ -38,11 +39,11 @@ setting_text (number n) = decimal n
 setting_text (level l) = level_name l
 setting_text (truth b) = truth_name b
 
--- a line `KEY=VALUE` for each row
-abbrev pub lines_text : List Row → Settings → List ℕ
+-- a line `KEY=VALUE` for each of these keys
+abbrev pub lines_text : List Key → Settings → List ℕ
 lines_text [] s = []
-lines_text (row ∷ rows) s = key_name row.key ++ 61 ∷ (setting_text (setting s row.key) ++ 10 ∷ lines_text rows s)
+lines_text (k ∷ ks) s = key_name k ++ 61 ∷ (setting_text (setting s k) ++ 10 ∷ lines_text ks s)
 
--- the lines in the order of the table
+-- all of them
 abbrev pub settings_text : Settings → List ℕ
-settings_text s = lines_text table s
+settings_text s = lines_text keys s

@@ -2,8 +2,12 @@
 ghost use Rattle.std.specs.Prelude.{◌≡◌, ◌≤◌, Some};
 
 use crate::addresses::{Address, AddressText};
+use crate::faults::SettingsFault;
 use crate::levels::LogLevel;
+use crate::read::{address_at, level_at, number_at, truth_at};
+use crate::table::{BUDGET, IDLE, LISTEN, LOG, PROXY, RING, SLOTS, STOP_AFTER, TARGET, WORKERS};
 use std::fmt;
+use toml::Table;
 
 /// What a settings text sets, with defaults for the keys that it leaves out.
 #[derive(Clone, Copy, Debug, PartialEq, Eq)]
@@ -36,6 +40,32 @@ pub struct Settings {
     pub ghost workers_range: { (1 ≤ workers) × (workers ≤ 16) },
     pub ghost slots_range: { (1 ≤ slots) × (slots ≤ 4096) },
     pub ghost idle_range: { idle ≤ 86400 },
+}
+
+impl Settings {
+    ghost use Rattle.std.specs.Prelude.{IfOk, IfErr};
+    ghost use Rattle.toml.specs.View.{table_view};
+    ghost use Rattle.settings.specs.Table.{setting, keys};
+    ghost use Rattle.settings.specs.Document.{GivesEach, IsFirstFault};
+
+    /// The settings of a document that has no unknown key, or the fault of the first key that has one.
+    pub(crate) fn of(document: &Table) -> Result<Settings, SettingsFault>
+        ensures settings { IfOk result (λ s. GivesEach (table_view document.now) (setting s)) }
+        ensures fault { IfErr result (IsFirstFault keys (table_view document.now)) }
+    {
+        Ok(Settings {
+            listen: address_at(document, LISTEN)?,
+            target: address_at(document, TARGET)?,
+            ring: number_at(document, RING)? as usize,
+            budget: number_at(document, BUDGET)?,
+            workers: number_at(document, WORKERS)? as usize,
+            slots: number_at(document, SLOTS)? as usize,
+            stop_after: number_at(document, STOP_AFTER)?,
+            log: level_at(document, LOG)?,
+            idle: number_at(document, IDLE)?,
+            proxy: truth_at(document, PROXY)?,
+        })
+    }
 }
 
 /// A line `KEY=VALUE` for each key, in the order of `Key`.

@@ -3,6 +3,7 @@
 //! `parse` reads a text. `Settings` has one field for each key and prints as `KEY=VALUE` lines, and `SettingsFault`
 //! prints as the line that a person sees. The table of the keys, with kinds, ranges and defaults, is in `src/table.rt`,
 //! and for the promises in `specs/Table.antt`. `cause` gives the details of a fault that help a person to find it.
+//! `pollers_for` says how many threads poll, which no key sets.
 #![tactic(auto)]
 
 mod addresses;
@@ -12,6 +13,7 @@ mod fields;
 mod levels;
 mod limits;
 mod one_line;
+mod pollers;
 mod read;
 mod table;
 
@@ -21,5 +23,6 @@ pub use faults::{KeyText, SettingsFault};
 pub use fields::Settings;
 pub use levels::LogLevel;
 pub use one_line::OneLine;
+pub use pollers::pollers_for;
 pub use read::parse;
-pub use table::Key;
+pub use table::{ARGUMENTS, Argument, Key};

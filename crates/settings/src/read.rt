@@ -4,18 +4,15 @@ ghost use Rattle.std.specs.Str.{IsUtf8};
 ghost use Rattle.toml.specs.Data.{get_member};
 ghost use Rattle.toml.specs.Errors.{IsBlank};
 ghost use Rattle.toml.specs.View.{view, table_view};
-ghost use Rattle.settings.specs.Table.{key_name, setting, an_address, a_number, a_level, a_truth, address, number, level, truth, required, optional, table};
-ghost use Rattle.settings.specs.Document.{Gives, GivesEach, Faults, Refuses, Writes, IsFirstFault, IsFirstUnknown, HasNoUnknown};
+ghost use Rattle.settings.specs.Table.{key_name, setting, an_address, a_number, a_level, a_truth, address, number, level, truth, required, optional};
+ghost use Rattle.settings.specs.Document.{Gives, Faults, Refuses, Writes, IsFirstUnknown, HasNoUnknown};
 ghost use Rattle.settings.specs.Text.{IsSettingsOf, IsFaultOf};
 
 use crate::addresses::{Address, address_of};
 use crate::faults::{KeyText, SettingsFault};
 use crate::fields::Settings;
 use crate::levels::LogLevel;
-use crate::table::{
-    AddressRow, BUDGET, IDLE, Key, LISTEN, LOG, LevelRow, NumberRow, PROXY, RING, SLOTS,
-    STOP_AFTER, TARGET, TruthRow, WORKERS,
-};
+use crate::table::{AddressRow, Key, LevelRow, NumberRow, TruthRow};
 use std::alloc::Global;
 use toml::{Table, Value};
 
@@ -40,7 +37,7 @@ pub fn parse(alloc: Global, bytes: &[u8]) -> Result<Settings, SettingsFault>
     };
     match first_unknown(&document) {
         Some(name) => Err(unknown_key(alloc, name.as_str())),
-        None => settings_of(&document),
+        None => Settings::of(&document),
     }
 }
 
@@ -67,27 +64,8 @@ fn first_unknown(document: &Table) -> Option<&String>
     None
 }
 
-/// The settings of a document that has no unknown key, or the fault of the first key that has one.
-fn settings_of(document: &Table) -> Result<Settings, SettingsFault>
-    ensures settings { IfOk result (λ s. GivesEach table (table_view document.now) (setting s)) }
-    ensures fault { IfErr result (IsFirstFault table (table_view document.now)) }
-{
-    Ok(Settings {
-        listen: address_at(document, LISTEN)?,
-        target: address_at(document, TARGET)?,
-        ring: number_at(document, RING)? as usize,
-        budget: number_at(document, BUDGET)?,
-        workers: number_at(document, WORKERS)? as usize,
-        slots: number_at(document, SLOTS)? as usize,
-        stop_after: number_at(document, STOP_AFTER)?,
-        log: level_at(document, LOG)?,
-        idle: number_at(document, IDLE)?,
-        proxy: truth_at(document, PROXY)?,
-    })
-}
-
 /// The address of a row's key.
-fn address_at(document: &Table, row: AddressRow) -> Result<Address, SettingsFault>
+pub(crate) fn address_at(document: &Table, row: AddressRow) -> Result<Address, SettingsFault>
     ensures gives { IfOk result (λ a. Gives (required row.key (an_address row.lowest_port)) (table_view document.now) (address a)) }
     ensures range { IfOk result (λ a. row.lowest_port ≤ a.1) }
     ensures fault { IfErr result (Faults (required row.key (an_address row.lowest_port)) (table_view document.now)) }
@@ -99,7 +77,7 @@ fn address_at(document: &Table, row: AddressRow) -> Result<Address, SettingsFaul
 }
 
 /// The whole number of a row's key.
-fn number_at(document: &Table, row: NumberRow) -> Result<u32, SettingsFault>
+pub(crate) fn number_at(document: &Table, row: NumberRow) -> Result<u32, SettingsFault>
     requires { (row.low ≤ row.default) × (row.default ≤ row.high) }
     ensures gives { IfOk result (λ n. Gives (optional row.key (a_number row.low row.high) (number row.default)) (table_view document.now) (number n)) }
     ensures range { IfOk result (λ n. (row.low ≤ n) × (n ≤ row.high)) }
@@ -112,7 +90,7 @@ fn number_at(document: &Table, row: NumberRow) -> Result<u32, SettingsFault>
 }
 
 /// The level of a row's key.
-fn level_at(document: &Table, row: LevelRow) -> Result<LogLevel, SettingsFault>
+pub(crate) fn level_at(document: &Table, row: LevelRow) -> Result<LogLevel, SettingsFault>
     ensures gives { IfOk result (λ l. Gives (optional row.key a_level (level row.default)) (table_view document.now) (level l)) }
     ensures fault { IfErr result (Faults (optional row.key a_level (level row.default)) (table_view document.now)) }
 {
@@ -123,7 +101,7 @@ fn level_at(document: &Table, row: LevelRow) -> Result<LogLevel, SettingsFault>
 }
 
 /// The truth value of a row's key.
-fn truth_at(document: &Table, row: TruthRow) -> Result<bool, SettingsFault>
+pub(crate) fn truth_at(document: &Table, row: TruthRow) -> Result<bool, SettingsFault>
     ensures gives { IfOk result (λ b. Gives (optional row.key a_truth (truth row.default)) (table_view document.now) (truth b)) }
     ensures fault { IfErr result (Faults (optional row.key a_truth (truth row.default)) (table_view document.now)) }
 {

@@ -1,6 +1,8 @@
-//! The table of the keys: the name of each, what it takes, and what stands for it where a text leaves it out.
-ghost use Rattle.std.specs.Prelude.{◌≡◌, ◌≢◌, Some, IfSome, IfNone};
-ghost use Rattle.settings.specs.Table.{key_name};
+//! The table of the keys: the name of each, what it takes, what stands for it where a text leaves it out, and its argument
+//! on a command line.
+ghost use Rattle.std.specs.Prelude.{◌≡◌, ◌≢◌, Some, IfSome, IfNone, option_map};
+ghost use Rattle.settings.specs.Table.{key_name, row_of};
+ghost use Rattle.settings.specs.Text.{setting_text};
 
 use crate::levels::LogLevel;
 use std::fmt;
@@ -71,6 +73,28 @@ impl Key {
             "proxy" => Some(Key::Proxy),
             _ => None,
         }
+    }
+
+    /// What stands for the key where a text leaves it out, as it is printed. A key without it is required.
+    pub fn default(self) -> Option<&'static str>
+        ensures { option_map (λ text. text.now) result ≡ option_map setting_text (row_of self).default }
+    {
+        match self {
+            Key::Listen | Key::Target => None,
+            Key::Ring => Some("16384"),
+            Key::Budget => Some("64"),
+            Key::Workers => Some("4"),
+            Key::Slots => Some("1024"),
+            Key::StopAfter => Some("0"),
+            Key::Log => Some("info"),
+            Key::Idle => Some("0"),
+            Key::Proxy => Some("false"),
+        }
+    }
+
+    /// Whether the key takes a truth value.
+    pub fn takes_truth(self) -> bool {
+        matches!(Takes::of(self), Takes::Truth)
     }
 }
 
@@ -217,3 +241,78 @@ impl Takes {
         }
     }
 }
+
+/// A key as an argument of a command line.
+#[derive(Clone, Copy)]
+pub struct Argument {
+    pub key: Key,
+    /// Its option. An argument without one is required, and is known by its place.
+    pub option: Option<&'static str>,
+    /// What stands for its value in a help text.
+    pub value_name: &'static str,
+    pub help: &'static str,
+}
+
+/// The keys as arguments, in the order of a help text.
+pub static ARGUMENTS: [Argument; 10] = [
+    Argument {
+        key: Key::Listen,
+        option: None,
+        value_name: "LISTEN",
+        help: "Where clients connect: an IPv4 address and a port",
+    },
+    Argument {
+        key: Key::Target,
+        option: None,
+        value_name: "TARGET",
+        help: "Where each connection is forwarded to: an IPv4 address and a port",
+    },
+    Argument {
+        key: Key::Ring,
+        option: Some("ring"),
+        value_name: "BYTES",
+        help: "Bytes buffered for each direction of a connection",
+    },
+    Argument {
+        key: Key::Budget,
+        option: Some("budget"),
+        value_name: "CALLS",
+        help: "The most calls for one connection before another gets its turn",
+    },
+    Argument {
+        key: Key::Workers,
+        option: Some("workers"),
+        value_name: "THREADS",
+        help: "Worker threads",
+    },
+    Argument {
+        key: Key::Slots,
+        option: Some("slots"),
+        value_name: "CONNECTIONS",
+        help: "The most connections at a time",
+    },
+    Argument {
+        key: Key::StopAfter,
+        option: Some("stop-after"),
+        value_name: "CONNECTIONS",
+        help: "End after this many connections; 0 for no limit",
+    },
+    Argument {
+        key: Key::Log,
+        option: Some("log"),
+        value_name: "LEVEL",
+        help: "The least important messages that are logged",
+    },
+    Argument {
+        key: Key::Idle,
+        option: Some("idle"),
+        value_name: "SECONDS",
+        help: "Close a connection that moved nothing for so long; 0 for never",
+    },
+    Argument {
+        key: Key::Proxy,
+        option: Some("proxy"),
+        value_name: "BOOL",
+        help: "Send the target a PROXY line with the client's address first",
+    },
+];

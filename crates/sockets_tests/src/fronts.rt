@@ -93,7 +93,7 @@ fn two_fronts(rt: &HostRuntime) -> Result<Server<'_>, ServerFault> {
         target,
         proxy: false,
     };
-    serving(rt, forwarding, Split::new(130, 4))
+    serving(rt, forwarding, Split::new(130, 2))
 }
 
 /// Wakes the poller of a slot, and waits until a front has reported that and the listener.

@@ -6,8 +6,8 @@ use native.Mathlib.Decide.{ℕ_discrete}
 use Rattle.claims.specs.declared.view.Account.{Account}
 use Rattle.claims.specs.Seats.{SeatState, account_at, OnlyAt}
 use Rattle.ready.specs.declared.ticket.Ticket.{Ticket}
-use Rattle.dispatch.specs.declared.faults.ServerFault.{ServerFault}
-use Rattle.dispatch.specs.declared.faults.ServerFault.TheVariants.{Worn}
+use Rattle.relay_log.specs.declared.faults.ServerFault.{ServerFault}
+use Rattle.relay_log.specs.declared.faults.ServerFault.TheVariants.{Worn}
 use Rattle.dispatch.specs.declared.shared.Own.{Own}
 use Rattle.dispatch.specs.Deliveries.{at_slot}
 use Rattle.dispatch.specs.Outgoing.{tickets_out, without_first, KeepsOut}

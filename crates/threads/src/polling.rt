@@ -2,7 +2,7 @@
 ghost use Rattle.std.specs.Prelude.{◌≡◌, ◌≢◌, length, Some};
 ghost use Rattle.std.specs.Arc.{arc_value};
 ghost use Rattle.claims.specs.Seats.{HoldsNothing};
-ghost use Rattle.dispatch.specs.declared.faults.ServerFault.TheVariants.{Worn};
+ghost use Rattle.relay_log.specs.declared.faults.ServerFault.TheVariants.{Worn};
 ghost use Rattle.threads.specs.Loops.{Balanced, RanAtMost, RanSome};
 
 use crate::crew::Crew;

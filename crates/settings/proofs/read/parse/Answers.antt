@@ -21,29 +21,39 @@ returns-in-Some-clause-fault c kept =
 
 pub returns-clause-fault : goal.returns-clause-fault
 returns-clause-fault c =
-    IfErr-weaker c.settings_of.result _ _ (λ fault first kept.
+    IfErr-weaker c.of.result _ _ (λ fault first kept.
     inr (
       table_view c.in-Ok-table_from_str.document,
       (c.in-Ok.ensures.cases.1, rw (← c.in-Ok.ensures.cases.0) c.in-Ok-table_from_str.ensures.ok),
       inr (c.in-None.ensures.none, first),
-    )) c.settings_of.ensures.fault
+    )) c.of.ensures.fault
 
 pub returns-clause-only : goal.returns-clause-only
 returns-clause-only c =
-    IfOk-weaker c.settings_of.result _ _ (λ s each t other.
+    IfOk-weaker c.of.result _ _ (λ s each t other.
     settings_once c.args.bytes.now s t (
       table_view c.in-Ok-table_from_str.document,
       (c.in-Ok.ensures.cases.1, rw (← c.in-Ok.ensures.cases.0) c.in-Ok-table_from_str.ensures.ok),
       c.in-None.ensures.none,
       each,
-    ) other) c.settings_of.ensures.settings
+    ) other) c.of.ensures.settings
 
 pub returns-clause-none : goal.returns-clause-none
 returns-clause-none c =
-    IfErr-weaker c.settings_of.result _ _ (λ fault first kept s given.
+    IfErr-weaker c.of.result _ _ (λ fault first kept s given.
     no_settings c.args.bytes.now s fault
     (inr (
       table_view c.in-Ok-table_from_str.document,
       (c.in-Ok.ensures.cases.1, rw (← c.in-Ok.ensures.cases.0) c.in-Ok-table_from_str.ensures.ok),
       inr (c.in-None.ensures.none, first),
-    )) given) c.settings_of.ensures.fault
+    )) given) c.of.ensures.fault
+
+pub returns-clause-settings : goal.returns-clause-settings
+returns-clause-settings c =
+    IfOk-weaker c.of.result _ _ (λ s each.
+    (
+      table_view c.in-Ok-table_from_str.document,
+      (c.in-Ok.ensures.cases.1, rw (← c.in-Ok.ensures.cases.0) c.in-Ok-table_from_str.ensures.ok),
+      c.in-None.ensures.none,
+      each,
+    )) c.of.ensures.settings

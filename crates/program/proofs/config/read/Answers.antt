@@ -1,6 +1,6 @@
 use Rattle.std.proofs.Common.{arith}
-use Rattle.startup.proofs.Files.{file_sets_of, has_fault_of}
-use Rattle.startup.proofs.config.read.Goals as goal
+use Rattle.program.proofs.Files.{file_sets_of, has_fault_of}
+use Rattle.program.proofs.config.read.Goals as goal
 
 pub returns-in-Ok-clause-settings : goal.returns-in-Ok-clause-settings
 returns-in-Ok-clause-settings g c =

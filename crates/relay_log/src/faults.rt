@@ -23,7 +23,7 @@ pub enum ServerFault {
 
 impl From<AllocError> for ServerFault {
     ghost use Rattle.std.specs.Prelude.{◌≡◌};
-    ghost use Rattle.dispatch.specs.declared.faults.ServerFault.TheVariants.{NoMemory};
+    ghost use Rattle.relay_log.specs.declared.faults.ServerFault.TheVariants.{NoMemory};
 
     ghost from_gives = { λ _ fault. fault ≡ NoMemory };
 
@@ -34,7 +34,7 @@ impl From<AllocError> for ServerFault {
 
 impl<T: Drop> From<AllocFailed<T>> for ServerFault {
     ghost use Rattle.std.specs.Prelude.{◌≡◌};
-    ghost use Rattle.dispatch.specs.declared.faults.ServerFault.TheVariants.{NoMemory};
+    ghost use Rattle.relay_log.specs.declared.faults.ServerFault.TheVariants.{NoMemory};
 
     ghost from_gives = { λ _ fault. fault ≡ NoMemory };
 

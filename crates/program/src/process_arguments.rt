@@ -1,7 +1,7 @@
 //! The arguments of the process.
 ghost use Rattle.std.specs.Prelude.{◌≡◌};
 ghost use Rattle.std.specs.IoError.{error_kind};
-ghost use Rattle.startup.specs.Arguments.{arguments_fault};
+ghost use Rattle.program.specs.Arguments.{arguments_fault};
 
 use std::alloc::AllocError;
 use std::env::{self, Env};
@@ -17,7 +17,7 @@ pub enum ArgumentsFault {
 }
 
 impl From<AllocError> for ArgumentsFault {
-    ghost use Rattle.startup.specs.declared.process_arguments.ArgumentsFault.TheVariants.{NoMemory};
+    ghost use Rattle.program.specs.declared.process_arguments.ArgumentsFault.TheVariants.{NoMemory};
 
     ghost from_gives = { λ _ fault. fault ≡ NoMemory };
 

@@ -1,6 +1,6 @@
 use Rattle.std.proofs.Common.{arith}
-use Rattle.startup.proofs.Fronts.{short_front_of, long_front_of}
-use Rattle.startup.proofs.config.read_whole.Goals as goal
+use Rattle.program.proofs.Fronts.{short_front_of, long_front_of}
+use Rattle.program.proofs.config.read_whole.Goals as goal
 
 pub returns-in-Ok-2-clause-whole : goal.returns-in-Ok-2-clause-whole
 returns-in-Ok-2-clause-whole g c =

@@ -2,10 +2,10 @@
 //!
 //! The thread is never waited for but at the end, and then for a second: a write to a pipe that nobody reads may not end.
 
-use dispatch::ServerFault;
 use log::error;
 use log::sink::Console;
 use log_queue::{LogQueue, write_lines};
+use relay_log::ServerFault;
 use std::alloc::AllocGlobal;
 use std::cell::Cell;
 use std::io::{self, Eprint, Write};

@@ -4,9 +4,9 @@ use Rattle.settings.specs.Text.{IsSettingsOf, IsFaultOf}
 use Rattle.settings.specs.declared.fields.Settings.{Settings}
 use Rattle.settings.specs.declared.faults.SettingsFault.{SettingsFault}
 use Rattle.settings.specs.declared.faults.SettingsFault.TheVariants as settings
-use Rattle.startup.specs.declared.faults.ConfigFault.{ConfigFault}
-use Rattle.startup.specs.declared.faults.ConfigFault.TheVariants.{Read, Long, NoMemory}
-use Rattle.startup.specs.declared.faults.ConfigFault.TheVariants as variants
+use Rattle.program.specs.declared.faults.ConfigFault.{ConfigFault}
+use Rattle.program.specs.declared.faults.ConfigFault.TheVariants.{Read, Long, NoMemory}
+use Rattle.program.specs.declared.faults.ConfigFault.TheVariants as variants
 
 -- the most bytes that a settings file may have
 abbrev pub most_bytes : ℕ

@@ -2,7 +2,7 @@
 ghost use Rattle.std.specs.Prelude.{◌≡◌, ◌<◌, ◌≤◌, Ok, Err, None, IfOk, IfErr, IfSome, length, vec_len};
 ghost use Rattle.settings.specs.Names.{level_name};
 ghost use Rattle.settings.specs.Text.{IsSettingsOf};
-ghost use Rattle.startup.specs.Files.{FileSets, HasFault};
+ghost use Rattle.program.specs.Files.{FileSets, HasFault};
 
 use crate::constants::MAX_CONFIG_BYTES;
 use crate::faults::ConfigFault;
@@ -127,7 +127,7 @@ pub fn at_level<L: Log>(
         }
         None => {
             let fault = SettingsFault::OutOfRange(Key::Log);
-            if let Ok(text) = setting_text(alloc, Key::Log.name(), name) {
+            if let Ok(text) = setting_text(alloc, Key::Log, name) {
                 log_argument_cause(log, alloc, text.as_bytes(), &fault);
             }
             Err(ConfigFault::from(fault))

@@ -1,6 +1,6 @@
 //! Whether the relay would be its own target.
 ghost use Rattle.std.specs.Prelude.{IsTrue, ◌↔◌};
-ghost use Rattle.startup.specs.Meeting.{Meets};
+ghost use Rattle.program.specs.Meeting.{Meets};
 
 use settings::Address;
 

@@ -3,9 +3,8 @@ ghost use Rattle.std.specs.Prelude.{◌≡◌, ◌≤◌};
 
 use crate::descriptors::{Descriptors, covered, needed, read_descriptors};
 use crate::meeting::meets;
-use dispatch::Split;
 use log::{Log, warn};
-use settings::{Address, Settings};
+use settings::{Address, Settings, pollers_for};
 use std::rt::Files;
 
 /// The settings to serve with: those that are set, with no more slots than there are descriptors for, or with all slots
@@ -47,7 +46,7 @@ fn used_slots<R: AllocGlobal + Files + Copy + Drop>(
     };
     let slots = enough_for(set, workers, found);
     if slots < set {
-        let needs = needed(set, Split::new(set, workers).pollers(), found.in_use);
+        let needs = needed(set, pollers_for(set, workers), found.in_use);
         warn_of_few(log, slots, set, found.most, needs);
     }
     slots
@@ -66,5 +65,5 @@ fn enough_for(set: usize, workers: usize, found: Descriptors) -> usize
     ensures { (1 ≤ result) × (result ≤ set) }
 {
     let most = covered(set, 1, found);
-    covered(set, Split::new(most, workers).pollers(), found)
+    covered(set, pollers_for(most, workers), found)
 }

@@ -5,8 +5,8 @@ use Rattle.settings.specs.Text.{IsSettingsOf, IsFaultOf}
 use Rattle.settings.specs.declared.fields.Settings.{Settings}
 use Rattle.settings.specs.declared.faults.SettingsFault.{SettingsFault}
 use Rattle.settings.specs.declared.faults.SettingsFault.TheVariants as settings
-use Rattle.startup.specs.Files.{most_bytes, FileSets, HasFault, settings_fault}
-use Rattle.startup.specs.declared.faults.ConfigFault.{ConfigFault}
+use Rattle.program.specs.Files.{most_bytes, FileSets, HasFault, settings_fault}
+use Rattle.program.specs.declared.faults.ConfigFault.{ConfigFault}
 
 abbrev IsMemory : SettingsFault → Type 0
 IsMemory settings.NoMemory = Unit {0}

@@ -1,0 +1,98 @@
+//! The settings that the arguments of `relayd forward` give. They become the text of a settings file, so that they have
+//! the same ranges, defaults and faults.
+
+use clap::{Arg, ArgMatches};
+use settings::{ARGUMENTS, Argument, Key};
+use std::alloc::{AllocError, Global};
+use std::fmt;
+
+/// The command with an argument for each setting.
+pub fn add_settings<'a>(
+    alloc: Global,
+    mut command: clap::Command<'a>,
+) -> Result<clap::Command<'a>, AllocError> {
+    for row in &ARGUMENTS {
+        command = command.arg(argument(alloc, *row))?;
+    }
+    Ok(command)
+}
+
+/// The argument of a setting. Help shows its default.
+fn argument<'a>(alloc: Global, row: Argument) -> Arg<'a> {
+    let argument = Arg::new(alloc, row.key.name())
+        .value_name(row.value_name)
+        .help(row.help);
+    let argument = match row.option {
+        Some(option) => argument.long(option),
+        None => argument.required(true),
+    };
+    match row.key.default() {
+        Some(default) => argument.default_value(default),
+        None => argument,
+    }
+}
+
+/// The text of a settings file that says the same as the arguments.
+pub fn settings_text(alloc: Global, matches: &ArgMatches<'_>) -> Result<String, AllocError> {
+    let mut text = String::new(alloc);
+    for row in &ARGUMENTS {
+        if let Some(value) = matches.get_str(row.key.name()) {
+            let line = setting_text(alloc, row.key, value)?;
+            text = format!(in alloc; "{text}{line}\n")?;
+        }
+    }
+    Ok(text)
+}
+
+/// One line of such a text.
+pub fn setting_text(alloc: Global, key: Key, value: &str) -> Result<String, AllocError> {
+    let line = Assignment { key, value };
+    format!(in alloc; "{line}")
+}
+
+/// A key with a value as it was typed. A whole number stands for itself, and so do `true` and `false` for a key that takes
+/// them; anything else stands for a text.
+#[derive(Clone, Copy)]
+struct Assignment<'a> {
+    key: Key,
+    value: &'a str,
+}
+
+impl Assignment<'_> {
+    /// Whether the value stands for itself as a truth value.
+    fn is_true_or_false(&self) -> bool {
+        self.key.takes_truth() && matches!(self.value, "true" | "false")
+    }
+}
+
+impl fmt::Display for Assignment<'_> {
+    fn fmt<W: fmt::Write>(&self, f: &mut fmt::Formatter<W>) -> fmt::Result {
+        let (key, value) = (self.key, self.value);
+        if let Ok(number) = value.parse::<i64>() {
+            return write!(f, "{key} = {number}");
+        }
+        if self.is_true_or_false() {
+            return write!(f, "{key} = {value}");
+        }
+        let text = Escaped(value);
+        write!(f, "{key} = \"{text}\"")
+    }
+}
+
+/// A text within the quotes of TOML.
+#[derive(Clone, Copy)]
+struct Escaped<'a>(&'a str);
+
+impl fmt::Display for Escaped<'_> {
+    fn fmt<W: fmt::Write>(&self, f: &mut fmt::Formatter<W>) -> fmt::Result {
+        for character in self.0.chars() {
+            match character {
+                '"' => f.write_str("\\\"")?,
+                '\\' => f.write_str("\\\\")?,
+                _ if character.is_control() => write!(f, "\\u{:04X}", character as u32)?,
+                _ => f.write_char(character)?,
+            }
+        }
+        Ok(())
+    }
+}
