@@ -1,15 +1,17 @@
-// What the wires of a connection answer.
+// What fronts and wires over sockets answer.
 use crate::acts::Act::{AtOnce, Brings, Counts, Join, Offer, Read, Settle, Shut, Write, WriteFull};
-use crate::player::first_wrong;
-use crate::story::Step::{self, Client, Hears, Leaves, Open, Reports, Sends, SendsFull, Target};
-use crate::story::{BOTH, NEAR, Row, STORY};
-use crate::targets::Goal;
-use std::io::ErrorKind;
+use crate::stage::Step::{self, Client, Hears, Leaves, Open, Reports, Sends, SendsFull, Target};
+use crate::stage::{BOTH, Fronts, NEAR, Row, STORY, first_wrong, fronts_for, reports};
+use dispatch::{Front, Split, Unopened};
+use sockets::{Sockets, Wakers};
+use std::alloc::Global;
+use std::io::{self, ErrorKind};
+use std::net::{SocketAddr, TcpStream};
 use std::test::Fail;
 
 const BLOCKED: Step = Client(Read(4, Err(ErrorKind::WouldBlock)));
 
-static ROWS: [Row; 7] = [
+static ROWS: [Row; 6] = [
     // A wire hands bytes on both ways, reads on after its own shutdown, and counts each error by its class.
     Row {
         steps: &[
@@ -65,9 +67,9 @@ static ROWS: [Row; 7] = [
         ],
         ..STORY
     },
-    // A target that refuses is a failure at the first call, whichever it is.
+    // A target that refuses is a failure at the first call.
     Row {
-        goal: Goal::Held,
+        refuses: true,
         steps: &[
             Open(None),
             BOTH,
@@ -76,14 +78,10 @@ static ROWS: [Row; 7] = [
         ],
         ..STORY
     },
+    // A client that is registered already cannot be opened.
     Row {
-        goal: Goal::Held,
-        steps: &[
-            Open(None),
-            BOTH,
-            Target(Read(1, Err(ErrorKind::ConnectionRefused))),
-            Target(Counts(1, 0)),
-        ],
+        steps: &[Open(None), Open(Some(Unopened::Register))],
+        lines: &["[DEBUG relayd] register: "],
         ..STORY
     },
     // A wire's socket sends at once but for bulk, from one time that the connection is quiet until the next.
@@ -109,32 +107,38 @@ static ROWS: [Row; 7] = [
         ],
         ..STORY
     },
-    Row {
-        steps: &[
-            Open(None),
-            BOTH,
-            Target(AtOnce(false)),
-            Target(Settle),
-            Target(AtOnce(true)),
-            Target(Offer),
-            Target(AtOnce(true)),
-            Target(Offer),
-            Target(AtOnce(true)),
-            Target(Offer),
-            Target(AtOnce(true)),
-            Target(Offer),
-            Target(AtOnce(false)),
-            Target(Offer),
-            Target(AtOnce(false)),
-            Target(Settle),
-            Target(AtOnce(true)),
-        ],
-        ..STORY
-    },
 ];
 
 #[test]
 fn wires(rt: HostRuntime) -> Result<(), Fail> {
     assert_eq!(rt; first_wrong(&rt, &ROWS)?, None);
+    Ok(())
+}
+
+/// Wakes the poller of a slot, and waits until a front has reported that and the listener.
+fn hear(
+    alloc: Global,
+    wakers: &Wakers,
+    slot: usize,
+    front: &mut Sockets<'_, HostRuntime>,
+) -> io::Result<()> {
+    Sockets::<HostRuntime>::wake(wakers, slot);
+    reports(alloc, front, &[0, 1])
+}
+
+// The listening socket is reported to each front, and a slot's waker to the front of its part alone: there are 65 slots each.
+#[test]
+fn fronts_share_the_listener(rt: HostRuntime) -> Result<(), Fail> {
+    let target = SocketAddr::from(([127, 0, 0, 1], 1));
+    let Fronts {
+        mut fronts,
+        wakers,
+        address,
+    } = fronts_for(&rt, target, Split::new(130, 2))?;
+    assert_eq!(rt; fronts.len(), 2);
+    let _peer = TcpStream::connect(&rt, address)?;
+    for (front, slot) in fronts.iter_mut().zip([64, 65]) {
+        hear(rt.alloc(), &wakers, slot, front)?;
+    }
     Ok(())
 }

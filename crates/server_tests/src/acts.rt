@@ -1,4 +1,4 @@
-// What is done at a wire, and what it answers.
+// What is done at a wire over a socket, and what it answers.
 use dispatch::Settle;
 use engine::Wire;
 use sockets::SocketWire;
