@@ -1,5 +1,5 @@
 -- A text has one answer: at most one setting for each key, and no settings where it has a fault.
-use Rattle.std.proofs.Common.{◌≡◌, ◌≢◌, ℕ, suc, ◌<◌, ◌^◌, ◌==◌, false, List, [], ◌∷◌, ◌++◌, length, get_or, Option, Some, None, MatchOption, if◌then◌else◌, pos, refl, sym, ◌∙◌, ap, subst, inl, inr, ◌⊎◌, arith}
+use Rattle.std.proofs.Common.{◌≡◌, ◌≢◌, ℕ, suc, ◌<◌, ◌^◌, ◌==◌, List, [], ◌∷◌, ◌++◌, length, get_or, Option, Some, None, MatchOption, if◌then◌else◌, pos, refl, sym, ◌∙◌, ap, subst, inl, inr, ◌⊎◌, arith}
 use Rattle.std.proofs.lemmas.Fmt.{decimal_injective}
 use Rattle.std.proofs.lemmas.Option.{same_Some}
 use Rattle.std.specs.Fmt.{decimal}

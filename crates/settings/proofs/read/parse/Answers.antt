@@ -50,8 +50,7 @@ returns-clause-none c =
 
 pub returns-clause-settings : goal.returns-clause-settings
 returns-clause-settings c =
-    IfOk-weaker c.of.result _ _ (λ s each.
-    (
+    IfOk-weaker c.of.result _ _ (λ s each. (
       table_view c.in-Ok-table_from_str.document,
       (c.in-Ok.ensures.cases.1, rw (← c.in-Ok.ensures.cases.0) c.in-Ok-table_from_str.ensures.ok),
       c.in-None.ensures.none,
