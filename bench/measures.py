@@ -41,17 +41,41 @@ MEASURES = (
 
 
 class Results:
-    """The notes at a file's head, and its values by forwarder, case, measure and round."""
+    """What a benchmark's file has: notes, and a line for each measure of a forwarder, with a column for each round."""
 
-    def __init__(self, path):
-        self.notes, self.values = [], {}
+    def __init__(self, notes=()):
+        self.notes, self.values = list(notes), {}
+
+    def add(self, turn, forwarder, case, measure, value):
+        self.values.setdefault((forwarder, case, measure), {})[turn] = value
+
+    def write(self, path):
+        turns = sorted({turn for values in self.values.values() for turn in values})
+        with open(path, "w", encoding="utf-8") as file:
+            file.writelines(f"# {note}\n" for note in self.notes)
+            print("forwarder", "case", "measure", *turns, sep="\t", file=file)
+            for forwarder in self.forwarders():
+                for case, measure, _ in MEASURES:
+                    values = self.values.get((forwarder, case, measure))
+                    if values:
+                        cells = (f"{values[turn]:.4g}" if turn in values else "" for turn in turns)
+                        print(forwarder, case, measure, *cells, sep="\t", file=file)
+
+    @classmethod
+    def read(cls, path):
+        results = cls()
         for line in open(path, encoding="utf-8"):
             if line.startswith("#"):
-                self.notes.append(line[1:].strip())
-            elif not line.startswith("round\t"):
-                turn, forwarder, case, measure, value = line.rstrip("\n").split("\t")
-                self.values.setdefault((forwarder, case, measure), {})[turn] = float(value)
-        self.forwarders = [name for name in FORWARDERS if any(key[0] == name for key in self.values)]
+                results.notes.append(line[1:].strip())
+            elif not line.startswith("forwarder\t"):
+                *key, cells = line.rstrip("\n").split("\t", 3)
+                for turn, cell in enumerate(cells.split("\t"), 1):
+                    if cell:
+                        results.add(turn, *key, float(cell))
+        return results
+
+    def forwarders(self):
+        return [name for name in FORWARDERS if any(key[0] == name for key in self.values)]
 
     def median(self, forwarder, case, measure):
         values = self.values.get((forwarder, case, measure))
@@ -85,12 +109,12 @@ def print_table(heading, forwarders, value):
 
 def print_tables(results):
     print("\n".join(results.notes))
-    print_table("Medians:", results.forwarders, results.median)
-    for base in [name for name in ("direct", "haproxy") if name in results.forwarders]:
-        others = [name for name in results.forwarders if name != base]
+    print_table("Medians:", results.forwarders(), results.median)
+    for base in [name for name in ("direct", "haproxy") if name in results.forwarders()]:
+        others = [name for name in results.forwarders() if name != base]
         print_table(f"As multiples of {base}, medians of the ratios within a round:", others,
                     lambda name, case, measure, base=base: results.ratio(name, base, case, measure))
-    if "relayd" in results.forwarders:
-        others = [name for name in results.forwarders if name != "relayd"]
+    if "relayd" in results.forwarders():
+        others = [name for name in results.forwarders() if name != "relayd"]
         print_table("relayd as a multiple of each, medians of the ratios within a round:", others,
                     lambda name, case, measure: results.ratio("relayd", name, case, measure))
