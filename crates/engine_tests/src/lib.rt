@@ -8,6 +8,4 @@ mod disturbed;
 #[cfg(test)]
 mod session;
 #[cfg(test)]
-mod turns;
-#[cfg(test)]
 mod wires;

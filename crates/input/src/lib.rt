@@ -2,7 +2,5 @@
 #![tactic(auto)]
 
 mod reading;
-#[cfg(test)]
-mod tests;
 
 pub use reading::{InputFault, read_at_most};

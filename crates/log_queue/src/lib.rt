@@ -15,8 +15,6 @@ mod limits;
 mod line;
 mod queue;
 mod sink;
-#[cfg(test)]
-mod tests;
 mod writing;
 
 pub use limits::{MAX_LINE, MAX_LINES};

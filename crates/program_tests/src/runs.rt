@@ -1,6 +1,6 @@
 // How a run ends with any reader, writer and server.
 use super::ends::{Sink, Source};
-use program::{ArgumentsFault, act, report_arguments_fault};
+use program::act;
 use relay_log::ServerFault;
 use std::alloc::{AllocError, Global};
 use std::io::ErrorKind;
@@ -107,6 +107,7 @@ fn reports_a_failed_read(rt: &HostRuntime, length: usize, kind: ErrorKind) -> Re
     }
 }
 
+// refuses error_told_as_memory: an error of the reader is told as a lack of memory
 // Any error is reported at once, also a signal's, and one that leaves the rest to be read.
 #[test]
 fn a_reader_that_fails(rt: HostRuntime) -> Result<(), Fail> {
@@ -189,14 +190,5 @@ fn reports_the_fault_of_a_server(rt: HostRuntime) -> Result<(), Fail> {
         assert_eq!(rt; run.status, 1);
         assert_eq!(rt; run.errors.as_slice(), *told);
     }
-    Ok(())
-}
-
-#[test]
-fn reports_that_arguments_have_no_memory(rt: HostRuntime) -> Result<(), Fail> {
-    let mut errors = Vec::with_capacity(rt.alloc(), ROOM)?;
-    let status = report_arguments_fault(&mut errors, ArgumentsFault::NoMemory);
-    assert_eq!(rt; status, 1);
-    assert_eq!(rt; errors.as_slice(), b"relayd: out of memory\n".as_slice());
     Ok(())
 }
