@@ -16,7 +16,5 @@
 #![tactic(auto)]
 
 mod berths;
-#[cfg(test)]
-mod tests;
 
 pub use berths::{Berth, Berths, Occupied};
