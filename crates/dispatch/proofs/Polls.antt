@@ -1,13 +1,13 @@
 -- A poller's table has connections in its own slots alone, and so no report is for any other.
-use Rattle.std.proofs.Common.{◌≡◌, ◌≢◌, ℕ, ◌≤◌, List, [], ◌∷◌, replicate, slice_index, slice_set, refl, sym, subst, ap, ◌∙◌, arith}
+use Rattle.std.proofs.Common.{◌≡◌, ◌≢◌, ℕ, ◌-◌, ◌≤◌, List, [], ◌∷◌, replicate, slice_index, slice_set, refl, sym, subst, ap, ◌∙◌, arith}
 use Rattle.std.specs.Prelude.{Option, Some, None}
 use Rattle.std.specs.List.{cons_option}
-use Rattle.std.proofs.lemmas.List.{length-replicate, get_or-replicate, get_or_past, get_or-set_other}
+use Rattle.std.proofs.lemmas.List.{length-replicate, get_or-replicate, get_or_past, get_or-set_other, set-get_or}
 use Rattle.ready.specs.declared.ticket.Ticket.{Ticket}
 use Rattle.dispatch.specs.declared.part.Part.{Part}
 use Rattle.dispatch.specs.Deliveries.{reported, all_reported, at_slot}
 use Rattle.dispatch.specs.Openings.{AreIn}
-use Rattle.dispatch.specs.Polls.{AreGenerations, IsIn, IsOwnTable}
+use Rattle.dispatch.specs.Polls.{AreGenerations, IsIn, IsOwnTable, looked_at}
 use Rattle.dispatch.proofs.Reports.{at_slot-append, none_at}
 
 pub own_none : (part : Part) (n : ℕ) (table : List ℕ) → table ≡ replicate n 0 → IsOwnTable part table
@@ -21,6 +21,12 @@ are_none n table is = subst (λ (xs : List ℕ). AreGenerations xs) (sym is) (λ
 pub own_set : (part : Part) (table : List ℕ) (slot generation : ℕ) → IsOwnTable part table → IsIn part slot → IsOwnTable part (slice_set table slot generation)
 own_set part table slot generation own here other out =
     get_or-set_other table slot other generation 0 (λ same. out (subst (λ (i : ℕ). IsIn part i) (sym same) here)) ∙ own other out
+
+-- a look at a ticket of a slot without a mark takes none away
+pub looked_at_light : (heavy : List ℕ) (slot : ℕ) → slice_index heavy slot ≡ 0 → heavy ≡ looked_at slot heavy
+looked_at_light heavy slot light =
+    let none : slice_index heavy slot - 1 ≡ slice_index heavy slot = omega arith in
+    sym (ap (λ (n : ℕ). slice_set heavy slot n) none ∙ set-get_or heavy slot 0)
 
 -- a report is for a connection that the table has
 reported_has : (table : List ℕ) (number : ℕ) (t : Ticket) → reported table number ≡ Some t → 1 ≤ slice_index table t.slot

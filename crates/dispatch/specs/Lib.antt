@@ -9,6 +9,7 @@ pub mod Outgoing
 pub mod Parts
 pub mod Polls
 pub mod Rounds
+pub mod Shares
 pub mod Splits
 pub mod Sweeps
 pub mod Turns

@@ -4,7 +4,6 @@ use Rattle.std.specs.Prelude.{◌≡◌, ◌⊎◌, ℕ, List, [], ◌∷◌, �
 use Rattle.ready.specs.declared.history.History.{History}
 use Rattle.ready.specs.declared.ticket.Ticket.{Ticket}
 use Rattle.ready.specs.Steps.{EndState, PutLast, HeldOnce}
-use Rattle.dispatch.specs.Deliveries.{at_slot}
 use Rattle.dispatch.specs.Hands.{HandState}
 use Rattle.dispatch.specs.declared.shared.Own.{Own}
 
@@ -47,15 +46,6 @@ pub record TicketsPut (old new : Own) : Type 0 where
 -- the thread without the oldest ticket in its hand
 abbrev pub without_first : Own → Own
 without_first own = record own { hand = record own.hand { tickets = drop 1 own.hand.tickets } }
-
--- Tickets moved from the hand to the queue or within the hand, and nothing else changed: of each slot there are as many that were to
--- be put as before
-pub record KeepsOut (old new : Own) : Type 0 where
-  pub tickets : (slot : ℕ) → at_slot slot (tickets_out new) ≡ at_slot slot (tickets_out old)
-  pub took : new.ready.history.taken ≡ old.ready.history.taken
-  pub seat : new.seat ≡ old.seat
-  pub free : new.free ≡ old.free
-  pub slots : new.hand.slots ≡ old.hand.slots
 
 -- the ticket is not lost: it is the last that this end of the queue has put, or the last in hand
 abbrev pub KeepsTicket : Ticket → History Ticket → HandState → Type 0

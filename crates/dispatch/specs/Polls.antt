@@ -1,5 +1,5 @@
 -- What the poller keeps between its rounds. Part of the promises.
-use Rattle.std.specs.Prelude.{◌≡◌, ◌⊎◌, ℕ, ◌+◌, ◌<◌, ◌≤◌, min, Bool, false, List, All, slice_index}
+use Rattle.std.specs.Prelude.{◌≡◌, ◌⊎◌, ℕ, ◌+◌, ◌-◌, ◌<◌, ◌≤◌, min, Bool, false, List, All, slice_index, slice_set}
 use Rattle.dispatch.specs.declared.accepting.Accepted.{Accepted}
 use Rattle.dispatch.specs.declared.lead.Opening.{Opening}
 use Rattle.dispatch.specs.declared.part.Part.{Part}
@@ -12,9 +12,9 @@ pub record IsIn (part : Part) (slot : ℕ) : Type 0 where
 
 -- What the front reported at the last wait, each slot's generation, the reports that this round delivers, the accept flag (whether a
 -- connection may wait to be accepted), whether accept(2) was starved at its last answer, how many tries of it the last round left,
--- what connections are opened with, the slots in which it opens them, how many it may open in all and how many it has opened, how many
--- slots it no longer uses, the second of the last round, that of the last sweep (at first, that at which it began), and whether it is
--- over
+-- what connections are opened with, the slots in which it opens them, each slot's heavy mark (how many of its next tickets are for the
+-- workers), how many it may open in all and how many it has opened, how many slots it no longer uses, the second of the last round, that
+-- of the last sweep (at first, that at which it began), and whether it is over
 pub record PollerState : Type 0 where
   pub reported : List ℕ
   pub table : List ℕ
@@ -24,6 +24,7 @@ pub record PollerState : Type 0 where
   pub tries : ℕ
   pub opening : Opening
   pub part : Part
+  pub heavy : List ℕ
   pub most : ℕ
   pub opened : ℕ
   pub lost : ℕ
@@ -38,6 +39,10 @@ AreGenerations table = All (λ generation. generation ≤ 140737488355327) table
 -- a poller's table says of the slots of other pollers that they have had no connection
 abbrev pub IsOwnTable : Part → List ℕ → Type 0
 IsOwnTable part table = (slot : ℕ) → (IsIn part slot → ⊥) → slice_index table slot ≡ 0
+
+-- the heavy marks, once a ticket of this slot was looked at: one less of its next is for the workers
+abbrev pub looked_at : ℕ → List ℕ → List ℕ
+looked_at slot heavy = slice_set heavy slot (slice_index heavy slot - 1)
 
 -- only the answer that none waits takes the accept flag down
 abbrev pub flag_after : Accepted → Bool → Bool

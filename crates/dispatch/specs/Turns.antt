@@ -1,5 +1,5 @@
 -- What a worker's turn does to what its thread owns, by its answer. Part of the promises.
-use Rattle.std.specs.Prelude.{◌≡◌, ◌≢◌, ◌⊎◌, ℕ, ◌+◌, ◌-◌, ◌^◌, ◌<◌, ◌≤◌, nat_lt, sum_by, if◌then◌else◌, Option, Some, None, Result, Ok, Err, [], length}
+use Rattle.std.specs.Prelude.{◌≡◌, ◌≢◌, ◌⊎◌, ℕ, ◌+◌, ◌-◌, ◌^◌, ◌<◌, ◌≤◌, nat_lt, sum_by, if◌then◌else◌, Option, Some, None, Result, Ok, Err, List, [], length, slice_set}
 use Rattle.claims.specs.declared.view.Account.{Account}
 use Rattle.claims.specs.Views.{posted_of}
 use Rattle.claims.specs.Seats.{SeatState, TableId, account_at, Holds, HoldsNot, HoldsNothing, OnlyAt}
@@ -121,6 +121,17 @@ abbrev pub OwnTurn : ℕ → Ticket → Result (Option Worked) ServerFault → O
 OwnTurn words ticket (Ok None) old new = new ≡ old
 OwnTurn words ticket (Ok (Some worked)) old new = TurnMade words ticket (Ok worked) (without_first old) new
 OwnTurn words ticket (Err fault) old new = TurnMade words ticket (Err fault) (without_first old) new
+
+-- the heavy marks behind an own turn: a connection that spent its budget has 16, and the others have what they had
+abbrev pub marks_after : Option Ticket → Result (Option Worked) ServerFault → List ℕ → List ℕ
+marks_after (Some ticket) (Ok (Some worked.Again)) heavy = slice_set heavy ticket.slot 16
+marks_after (Some ticket) (Ok (Some worked.Busy)) heavy = heavy
+marks_after (Some ticket) (Ok (Some worked.Gone)) heavy = heavy
+marks_after (Some ticket) (Ok (Some worked.Ended)) heavy = heavy
+marks_after (Some ticket) (Ok (Some worked.Quiet)) heavy = heavy
+marks_after (Some ticket) (Ok None) heavy = heavy
+marks_after (Some ticket) (Err fault) heavy = heavy
+marks_after None result heavy = heavy
 
 -- why a poller's thread runs no turn: no ticket is in hand, or no slot more fits there
 abbrev pub NoOwnTurn : Own → Type 0

@@ -1,13 +1,15 @@
 //! The turns that the poller's thread runs by itself, so that no worker has to be woken for them.
-ghost use Rattle.std.specs.Prelude.{◌≡◌, ◌<◌, ◌↔◌, length, slice_get, Ok, None, IfErr, IfSome};
+ghost use Rattle.std.specs.Prelude.{◌≡◌, ◌↔◌, IsTrue, slice_get, Ok, None, IfErr, IfSome};
 ghost use Rattle.claims.specs.Seats.{HoldsNothing, OnlyAt};
-ghost use Rattle.dispatch.specs.Outgoing.{tickets_out, Inserted, KeepsOut, TookNothing};
-ghost use Rattle.dispatch.specs.Turns.{NoOwnTurn, OnlyWorn, OwnTurn};
+ghost use Rattle.dispatch.specs.Outgoing.{TookNothing};
+ghost use Rattle.dispatch.specs.Polls.{looked_at};
+ghost use Rattle.dispatch.specs.Shares.{Stays, TicketsShared};
+ghost use Rattle.dispatch.specs.Turns.{marks_after, NoOwnTurn, OnlyWorn, OwnTurn};
 
 use crate::clock::{Clock, Timing};
 use crate::front::Front;
 use crate::gate::Gate;
-use crate::limits::{MAX_OWN_TURNS, OWN_BUDGET};
+use crate::limits::MAX_OWN_TURNS;
 use crate::poller::Poller;
 use crate::putting::put_ticket;
 use crate::shared::{Own, Shared};
@@ -23,38 +25,29 @@ use std::sync::Wait;
 /// stay in hand, in order, and so do those that the queue refuses.
 pub fn share_tickets<F: Front, R: Wait>(rt: &R, own: &mut Own, poller: &mut Poller<F>)
     requires idle { HoldsNothing own.old.seat }
-    ensures poller { poller.new ≡ poller.old }
-    ensures out { KeepsOut own.old own.new }
+    ensures poller { poller.new ≡ record poller.old { heavy = poller.new.heavy } }
+    ensures shared { TicketsShared poller.old.heavy poller.new.heavy own.old own.new }
 {
     let mut kept = 0;
     for _ticket in 0..own.hand.tickets() {
         let Some(ticket) = own.hand.take_ticket() else {
             return;
         };
-        let light = poller.is_light(ticket.slot);
-        let stays = light && kept < MAX_OWN_TURNS;
-        pass_on(rt, own, ticket, stays);
-        if stays {
+        if stays(poller, ticket, kept) {
+            own.hand.keep_ticket(ticket);
             kept += 1;
+        } else {
+            put_ticket(rt, own, ticket);
         }
     }
 }
 
-/// A ticket that was taken out of the hand goes back behind the others there, or into the queue.
-fn pass_on<R: Wait>(rt: &R, own: &mut Own, ticket: Ticket, stays: bool)
-    requires idle { HoldsNothing own.old.seat }
-    requires room { length own.old.hand.tickets < own.old.hand.capacity }
-    ensures tickets { Inserted ticket (tickets_out own.old) (tickets_out own.new) }
-    ensures took { own.new.ready.history.taken ≡ own.old.ready.history.taken }
-    ensures seat { own.new.seat ≡ own.old.seat }
-    ensures free { own.new.free ≡ own.old.free }
-    ensures slots { own.new.hand.slots ≡ own.old.hand.slots }
+/// Whether a ticket stays in hand, where so many have stayed.
+fn stays<F: Front>(poller: &mut Poller<F>, ticket: Ticket, kept: usize) -> bool
+    ensures stays { IsTrue result ↔ Stays kept poller.old.heavy ticket }
+    ensures marks { poller.new ≡ record poller.old { heavy = looked_at ticket.slot poller.old.heavy } }
 {
-    if stays {
-        own.hand.keep_ticket(ticket);
-    } else {
-        put_ticket(rt, own, ticket);
-    }
+    poller.is_light(ticket.slot) && kept < MAX_OWN_TURNS
 }
 
 /// Runs the turn of the oldest ticket in hand, with at most 8 calls. A connection that spends them is the workers' for a
@@ -76,7 +69,7 @@ pub fn own_turn<F: Front, G: Gate, C: Clock, R: Wait + Log>(
     requires idle { HoldsNothing own.old.seat }
     ensures same { own.new.seat.table ≡ own.old.seat.table }
     ensures idle { HoldsNothing own.new.seat }
-    ensures poller { poller.new ≡ poller.old }
+    ensures poller { poller.new ≡ record poller.old { heavy = marks_after (slice_get own.old.hand.tickets 0) result poller.old.heavy } }
     ensures only { IfSome (slice_get own.old.hand.tickets 0) (λ ticket. OnlyAt ticket.slot own.old.seat own.new.seat) }
     ensures turn { IfSome (slice_get own.old.hand.tickets 0) (λ ticket. OwnTurn shared.now.claims.words ticket result own.old own.new) }
     ensures none { result ≡ Ok None ↔ NoOwnTurn own.old }
@@ -90,10 +83,7 @@ pub fn own_turn<F: Front, G: Gate, C: Clock, R: Wait + Log>(
     let Some(ticket) = own.hand.take_ticket() else {
         return Ok(None);
     };
-    let terms = Terms {
-        budget: shared.budget.min(OWN_BUDGET),
-        moment: timing.moment(),
-    };
+    let terms = Terms::own(shared.budget, timing.moment());
     let worked = turn_of(rt, shared, own, gate, ticket, terms)?;
     if worked == Worked::Again {
         poller.mark_heavy(ticket.slot);

@@ -1,6 +1,6 @@
 //! What the poller keeps between its rounds.
-ghost use Rattle.std.specs.Prelude.{◌≡◌, ◌+◌, ◌<◌, ◌≤◌, ◌↔◌, [], length, IfOk, OnOk, OnErr, IsTrue, OnSome, IfSome, replicate, slice_index, slice_set, true, false};
-ghost use Rattle.dispatch.specs.Polls.{AreGenerations, IsIn, IsOwnTable, HasOpenedAll, counted_up};
+ghost use Rattle.std.specs.Prelude.{◌≡◌, ◌+◌, ◌-◌, ◌<◌, ◌≤◌, ◌↔◌, [], length, IfOk, OnOk, OnErr, IsTrue, OnSome, IfSome, replicate, slice_index, slice_set, true, false};
+ghost use Rattle.dispatch.specs.Polls.{AreGenerations, IsIn, IsOwnTable, HasOpenedAll, counted_up, looked_at};
 
 use crate::front::Front;
 use crate::lead::Opening;
@@ -45,7 +45,7 @@ impl<F: Front> Model for Poller<F> {
 
     ghost Value = { PollerState };
 
-    ghost view = { λ p. record { reported = F.reported p.front; table = p.table.items; batch = p.batch.items; accepting = p.accepting; starved = p.starved; tries = p.tries; opening = p.opening; part = p.part; most = p.most; opened = p.opened; lost = p.lost; second = p.second; swept = p.swept; over = p.over } };
+    ghost view = { λ p. record { reported = F.reported p.front; table = p.table.items; batch = p.batch.items; accepting = p.accepting; starved = p.starved; tries = p.tries; opening = p.opening; part = p.part; heavy = p.heavy.items; most = p.most; opened = p.opened; lost = p.lost; second = p.second; swept = p.swept; over = p.over } };
 
     ghost invariant = { λ p. AreGenerations p.table.items × IsOwnTable p.part p.table.items × (256 ≤ vec_capacity p.batch) × (length p.batch.items ≤ 256) × (1 ≤ p.opening.ring) × (p.opening.ring ≤ 65536) };
 }
@@ -67,7 +67,7 @@ impl<F: Front> Poller<F> {
     where
         F: Drop,
         requires ring { (1 ≤ opening.ring) × (opening.ring ≤ 65536) }
-        ensures { IfOk result (λ poller. poller ≡ record { reported = F.reported front; table = replicate table 0; batch = []; accepting = true; starved = false; tries = 0; opening = opening; part = part; most = most; opened = 0; lost = 0; second = 0; swept = 0; over = false }) }
+        ensures { IfOk result (λ poller. poller ≡ record { reported = F.reported front; table = replicate table 0; batch = []; accepting = true; starved = false; tries = 0; opening = opening; part = part; heavy = replicate table 0; most = most; opened = 0; lost = 0; second = 0; swept = 0; over = false }) }
     {
         Ok(Poller {
             front,
@@ -178,8 +178,10 @@ impl<F: Front> Poller<F> {
 
     /// Whether its thread runs the slot's next ticket itself. If not, one ticket less of the slot's is for the workers
     /// from now on.
+    #[tactic(auto, using(crate::proofs::Polls::looked_at_light))]
     pub(crate) fn is_light(&mut self, slot: usize) -> bool
-        ensures { self.new ≡ self.old }
+        ensures light { IsTrue result ↔ slice_index self.old.heavy slot ≡ 0 }
+        ensures marks { self.new ≡ record self.old { heavy = looked_at slot self.old.heavy } }
     {
         match self.heavy.get_mut(slot) {
             Some(left) if *left > 0 => {
@@ -192,7 +194,7 @@ impl<F: Front> Poller<F> {
 
     /// The slot's connection spent its thread's budget: its next tickets are for the workers.
     pub(crate) fn mark_heavy(&mut self, slot: usize)
-        ensures { self.new ≡ self.old }
+        ensures { self.new ≡ record self.old { heavy = slice_set self.old.heavy slot 16 } }
     {
         if let Some(left) = self.heavy.get_mut(slot) {
             *left = HEAVY_TICKETS;

@@ -3,6 +3,7 @@ ghost use Rattle.std.specs.Prelude.{◌≡◌, ◌<◌, ◌⊎◌, [], ◌∷◌
 ghost use Rattle.claims.specs.Seats.{HoldsNot};
 ghost use Rattle.ready.specs.Steps.{HeldOnce};
 ghost use Rattle.dispatch.specs.Hands.{Shrank};
+ghost use Rattle.dispatch.specs.Shares.{Passed};
 ghost use Rattle.dispatch.specs.Turns.{SlotGiven};
 ghost use Rattle.dispatch.specs.Outgoing.{outgoing, tickets_out, slots_out, PutAll, Inserted, KeepsTicket, KeepsSlot};
 
@@ -57,6 +58,7 @@ pub(crate) fn put_ticket<R: Wait>(rt: &R, own: &mut Own, ticket: Ticket)
     requires released { HoldsNot own.old.seat ticket.slot }
     requires room { length own.old.hand.tickets < own.old.hand.capacity }
     ensures seat { own.new.seat ≡ own.old.seat }
+    ensures passed { Passed ticket own.old own.new }
     ensures kept { KeepsTicket ticket own.new.ready.history own.new.hand }
     ensures tickets { Inserted ticket (tickets_out own.old) (tickets_out own.new) }
     ensures took { own.new.ready.history.taken ≡ own.old.ready.history.taken }

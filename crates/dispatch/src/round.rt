@@ -67,6 +67,7 @@ pub fn poller_round<F: Front, C: Clock, R: Wait + Log>(
     ensures accepted { OnOk result (EndedEarly shared.now.claims.words own.new ⊎ AcceptEnded poller.new own.new) }
     ensures over { OnOk result (poller.new.over ≡ true → (poller.old.over ≡ true) ⊎ IsOver poller.new own.new) }
     ensures opening { poller.new.opening ≡ poller.old.opening }
+    ensures heavy { poller.new.heavy ≡ poller.old.heavy }
     ensures took { own.new.ready.history.taken ≡ own.old.ready.history.taken }
     ensures refused { IfErr result (λ fault. (fault ≡ ServerFault.Poll) ⊎ OnlyWorn fault own.new.seat) }
 {

@@ -27,7 +27,7 @@ mapped_all of f xs n m all each = subst (λ (k : ℕ). map of xs ≡ map f (rang
 
 -- one poller more that has opened nothing yet
 pub begun_one : (slots : ℕ) (opening : Opening) (ps qs : List PollerState) {p : PollerState} {reported : List ℕ} {part : Part} {most : ℕ} → qs ≡ ps ++ p ∷ []
-    → p ≡ record { reported = reported; table = replicate slots 0; batch = []; accepting = true; starved = false; tries = 0; opening = opening; part = part; most = most; opened = 0; lost = 0; second = 0; swept = 0; over = false }
+    → p ≡ record { reported = reported; table = replicate slots 0; batch = []; accepting = true; starved = false; tries = 0; opening = opening; part = part; heavy = replicate slots 0; most = most; opened = 0; lost = 0; second = 0; swept = 0; over = false }
     → All (λ (q : PollerState). HasBegun slots opening q) ps → All (λ (q : PollerState). HasBegun slots opening q) qs
 begun_one slots opening ps qs {p} more is all =
     let one : HasBegun slots opening p = record {
@@ -36,6 +36,7 @@ begun_one slots opening ps qs {p} more is all =
       accepting = ap (λ (q : PollerState). q.accepting) is;
       starved = ap (λ (q : PollerState). q.starved) is;
       opening = ap (λ (q : PollerState). q.opening) is;
+      heavy = ap (λ (q : PollerState). q.heavy) is;
       opened = ap (λ (q : PollerState). q.opened) is;
       lost = ap (λ (q : PollerState). q.lost) is;
       over = ap (λ (q : PollerState). q.over) is;

@@ -1,19 +1,38 @@
-use Rattle.std.proofs.Common.{rules, ap, sym, ◌∙◌}
+use Rattle.std.proofs.Common.{rules, arith, ap, sym, subst, ◌∙◌, refl}
+use Rattle.claims.specs.Seats.{SeatState, HoldsNothing}
 use Rattle.dispatch.specs.Hands.{HandState}
-use Rattle.dispatch.proofs.Shares.{count_moved}
+use Rattle.std.proofs.lemmas.Bool.{false≢true}
+use Rattle.dispatch.specs.Shares.{Stays}
+use Rattle.dispatch.proofs.Shares.{OneMoved, kept_moves, passed_moves, shared_more, shared_all, took_none}
 use Rattle.dispatch.proofs.own_turns.share_tickets.Goals as goal
+use Rattle.dispatch.proofs.own_turns.share_tickets.Goals.{then-stays, else-stays}
 
 pub loop-ticket-preserved : goal.loop-ticket-preserved
-loop-ticket-preserved g c = (
-  record {
-    tickets = λ slot. count_moved slot c.loop-ticket.own.ready.history c.loop-ticket.own.hand.tickets c.in-Some.ticket c.take_ticket.new.self.tickets _
-        (sym c.take_ticket.ensures.value ∙ c.in-Some.is) (ap (λ (h : HandState). h.tickets) c.take_ticket.ensures.left) c.pass_on.ensures.tickets
-        ∙ c.loop-ticket.invariant.0.tickets slot;
-    took = c.pass_on.ensures.took ∙ c.loop-ticket.invariant.0.took;
-    seat = c.pass_on.ensures.seat ∙ c.loop-ticket.invariant.0.seat;
-    free = c.pass_on.ensures.free ∙ c.loop-ticket.invariant.0.free;
-    slots = c.pass_on.ensures.slots ∙ ap (λ (h : HandState). h.slots) c.take_ticket.ensures.left ∙ c.loop-ticket.invariant.0.slots;
-  },
-  search rules,
-  search rules,
-)
+loop-ticket-preserved g c =
+    let moved : OneMoved c.loop-ticket.kept c.loop-ticket.poller.heavy c.in-Some.ticket c.loop-ticket.own c.take_ticket.new.self c.if-stays.kept c.if-stays.own = elim c.if-stays.branch [
+      | then-stays w ↦ kept_moves _ _ _ _ _ _ _ _ (c.stays.ensures.stays.0 w.if-stays.true) w.kept-is w.own-is w.keep_ticket.ensures refl refl refl
+      | else-stays w ↦ passed_moves _ _ _ _ _ _ _ _ (λ (s : Stays c.loop-ticket.kept c.loop-ticket.poller.heavy c.in-Some.ticket). false≢true (sym w.if-stays.false ∙ c.stays.ensures.stays.1 s)) w.kept-is w.own-is w.put_ticket.ensures.passed w.put_ticket.ensures.seat w.put_ticket.ensures.free
+    ] in
+    record {
+      shared = shared_more c.args.own.now.hand.tickets c.args.poller.now.heavy c.args.own.now.ready c.loop-ticket._ticket c.loop-ticket.kept c.loop-ticket.poller.heavy c.stays.new.poller.heavy
+          c.in-Some.ticket c.loop-ticket.own c.if-stays.own c.take_ticket.new.self c.if-stays.kept
+          c.loop-ticket.invariant.shared (omega arith) (sym c.take_ticket.ensures.value ∙ c.in-Some.is) (ap (λ (h : HandState). h.tickets) c.take_ticket.ensures.left) (search rules) moved;
+      poller = search rules;
+      took = took_none _ _ _ _ _ _ _ moved.one ∙ c.loop-ticket.invariant.took;
+      seat = moved.seat ∙ c.loop-ticket.invariant.seat;
+      free = moved.free ∙ c.loop-ticket.invariant.free;
+      slots = ap (λ (h : HandState). h.slots) moved.hand ∙ ap (λ (h : HandState). h.slots) c.take_ticket.ensures.left ∙ c.loop-ticket.invariant.slots;
+      capacity = ap (λ (h : HandState). h.capacity) moved.hand ∙ ap (λ (h : HandState). h.capacity) c.take_ticket.ensures.left ∙ c.loop-ticket.invariant.capacity;
+      idle = subst (λ (s : SeatState). HoldsNothing s) (sym moved.seat) c.loop-ticket.invariant.idle;
+    }
+
+pub returns-clause-shared : goal.returns-clause-shared
+returns-clause-shared g c = record {
+  tickets = shared_all c.args.own.now.hand.tickets c.args.poller.now.heavy c.args.own.now.ready c.loop-ticket._ticket c.loop-ticket.kept c.loop-ticket.own.hand.tickets c.loop-ticket.poller.heavy c.loop-ticket.own.ready
+      c.loop-ticket.invariant.shared (omega arith);
+  took = c.loop-ticket.invariant.took;
+  seat = c.loop-ticket.invariant.seat;
+  free = c.loop-ticket.invariant.free;
+  slots = c.loop-ticket.invariant.slots;
+  capacity = c.loop-ticket.invariant.capacity;
+}

@@ -1,8 +1,16 @@
 use Rattle.std.specs.Prelude.{◌≡◌}
 use Rattle.claims.specs.Seats.{HoldsNothing}
-use Rattle.dispatch.specs.Outgoing.{KeepsOut}
+use Rattle.dispatch.proofs.Shares.{SharedSoFar}
 use Rattle.dispatch.proofs.own_turns.share_tickets.Given as goal
 
--- of each slot there are as many tickets to be put as at first
 abbrev pub invariant-loop-ticket : goal.invariant-loop-ticket
-invariant-loop-ticket g l = KeepsOut l.fn.own l.own × (l.poller ≡ l.fn.poller) × HoldsNothing l.own.seat
+invariant-loop-ticket g l = record {
+  shared : SharedSoFar l.fn.own.hand.tickets l.fn.poller.heavy l.fn.own.ready l._ticket l.kept l.own.hand.tickets l.poller.heavy l.own.ready;
+  poller : l.poller ≡ record l.fn.poller { heavy = l.poller.heavy };
+  took : l.own.ready.history.taken ≡ l.fn.own.ready.history.taken;
+  seat : l.own.seat ≡ l.fn.own.seat;
+  free : l.own.free ≡ l.fn.own.free;
+  slots : l.own.hand.slots ≡ l.fn.own.hand.slots;
+  capacity : l.own.hand.capacity ≡ l.fn.own.hand.capacity;
+  idle : HoldsNothing l.own.seat;
+}
