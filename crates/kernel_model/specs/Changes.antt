@@ -1,5 +1,5 @@
 -- A change of the network as one value, by which private functions make any of the four. Not part of the promises.
-use Rattle.std.specs.Prelude.{Bool, List, Option, option_map}
+use Rattle.std.specs.Prelude.{Bool, true, false, nat_lt, List, length, Option, Some, None, option_map}
 use Rattle.token.specs.declared.name.Name.{Name}
 use Rattle.token.specs.declared.name.Name.TheVariants.{End}
 use Rattle.kernel_model.specs.declared.change.Change.{Change}
@@ -15,6 +15,11 @@ change_of Fin e = finish e
 change_of Reset e = failure e
 change_of Room e = new_room e
 
+-- bytes come with it
+abbrev pub brings_bytes : Change → Bool
+brings_bytes (Arrive bytes) = true
+brings_bytes change = false
+
 -- an open end, and the names that are queued
 pub record Watch : Type 0 where
   pub registered : Registered
@@ -28,3 +33,8 @@ told change w = option_map
       queue = reported w.queue (End w.registered.token) t.told;
     })
     (change_of change w.registered.socket)
+
+-- it makes the queue longer
+abbrev pub lengthens : Watch → Option Watch → Bool
+lengthens w None = false
+lengthens w (Some after) = nat_lt (length w.queue) (length after.queue)

@@ -78,6 +78,11 @@ close_both k ends = option_and_then
     (close one.value ends.target))
     (close k ends.client)
 
+-- a call that is allowed makes the queue longer: a name is queued that was not
+abbrev pub queues_more : KernelState → Option KernelState → Bool
+queues_more k None = false
+queues_more k (Some after) = nat_lt (length k.queue) (length after.queue)
+
 -- a name is queued where something is to be reported
 abbrev pub reported : List Name → Name → Bool → List Name
 reported queue name true = with_name name queue

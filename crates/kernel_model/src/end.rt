@@ -1,8 +1,8 @@
-ghost use Rattle.std.specs.Prelude.{◌≡◌, Ok, Err, IsErrOf, IsTrue, IsSome, ◌↔◌, false, if◌then◌else◌};
+ghost use Rattle.std.specs.Prelude.{◌≡◌, Ok, Err, IsErrOf, IsTrue, IsSome, IfSome, ◌↔◌, false, if◌then◌else◌};
 ghost use Rattle.std.specs.Option.{option_copied};
 ghost use Rattle.kernel_model.specs.Outcome.{guard, Meets, MeetsAlways, Tells, TellsAlways};
 ghost use Rattle.kernel_model.specs.Ends.{IsTailOf, opened, is_readable, is_writable, arrival, finish, failure, new_room};
-ghost use Rattle.kernel_model.specs.Changes.{change_of};
+ghost use Rattle.kernel_model.specs.Changes.{brings_bytes, change_of};
 ghost use Rattle.kernel_model.specs.Replies.{bytes_read, failed, blocked_write, wrote, after_read, after_write, needs_memory, after_join, after_shut};
 
 use crate::change::Change;
@@ -221,9 +221,21 @@ impl End {
         }
     }
 
+    /// Whether a change that the network may make is to be reported.
+    pub(crate) fn will_report(&self, change: Change<'_>) -> bool
+        ensures { IfSome (change_of change.entry self.now) (λ told. told.told ≡ result) }
+    {
+        match change {
+            Change::Arrive(_) | Change::Fin => self.read_armed,
+            Change::Reset => self.read_armed || self.write_armed,
+            Change::Room => self.write_armed,
+        }
+    }
+
     /// The network makes this change. Returns whether that is to be reported.
     pub(crate) fn change(&mut self, change: Change<'_>) -> Result<bool, Refusal>
-        ensures { Tells (change_of change.entry self.old) self.old self.new result }
+        ensures outcome { Tells (change_of change.entry self.old) self.old self.new result }
+        ensures memory { IsErrOf result Refusal.NoMemory → IsTrue (brings_bytes change.entry) }
     {
         match change {
             Change::Arrive(bytes) => self.arrive(bytes),

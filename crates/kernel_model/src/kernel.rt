@@ -1,10 +1,10 @@
 // The kernel of one process: its open ends, its readiness queue and its listener. The calls on single ends are in
 // `sockets.rt`.
-ghost use Rattle.std.specs.Prelude.{◌≡◌, ◌<◌, vec_len, vec_capacity, Some, IsSome, IsTrue, ◌↔◌, position};
+ghost use Rattle.std.specs.Prelude.{◌≡◌, ◌<◌, vec_len, vec_capacity, Some, IsSome, IsErrOf, IsTrue, ◌↔◌, position};
 ghost use Rattle.std.specs.Option.{option_copied, is_none};
 ghost use Rattle.kernel_model.specs.Outcome.{Meets, MeetsAlways, Tells, TellsAlways};
 ghost use Rattle.kernel_model.specs.Names.{has};
-ghost use Rattle.kernel_model.specs.Kernel.{Registered, idle, end_at, lowest_free, open_end, close, name_of, is_quiet, spurious, vanish, poll, connect_in, accept};
+ghost use Rattle.kernel_model.specs.Kernel.{Registered, queues_more, idle, end_at, lowest_free, open_end, close, name_of, is_quiet, spurious, vanish, poll, connect_in, accept};
 
 use crate::accepting::Accepting;
 use crate::connecting::place;
@@ -15,7 +15,6 @@ use crate::refusal::Refusal;
 use crate::watched::Watched;
 use std::alloc::Global;
 use std::marker::Model;
-use std::mem;
 use token::{Name, Token};
 
 /// An open end, with the token under which it is registered.
@@ -136,16 +135,16 @@ impl Kernel {
 
     /// A report is queued without cause.
     ///
-    /// Refuses with `NotAllowed` if the descriptor is not open, and with `NoMemory` if the queue cannot grow. A refusal
-    /// changes nothing.
+    /// Refuses with `NotAllowed` if the descriptor is not open, and with `NoMemory` if the queue has to grow and cannot.
+    /// A refusal changes nothing.
     pub fn spurious(&mut self, who: Watched) -> Result<(), Refusal>
-        ensures { Meets (spurious self.old who) self.old self.new result }
+        ensures outcome { Meets (spurious self.old who) self.old self.new result }
+        ensures memory { IsErrOf result Refusal.NoMemory → IsTrue (queues_more self.old (spurious self.old who)) }
     {
         let Some(name) = self.name_of(who) else {
             return Err(Refusal::NotAllowed);
         };
-        self.queue.reserve(1)?;
-        add(&mut self.queue, name);
+        add(&mut self.queue, name)?;
         Ok(())
     }
 
@@ -189,19 +188,20 @@ impl Kernel {
 
     /// A client connects, and waits at the listener (listen(2)).
     ///
-    /// Refuses with `NotAllowed` if [`MAX_BACKLOG`] wait already, and with `NoMemory` if the queue cannot grow. A
-    /// refusal changes nothing.
+    /// Refuses with `NotAllowed` if [`MAX_BACKLOG`] wait already, and with `NoMemory` if the queue has to grow and cannot.
+    /// A refusal changes nothing.
     pub fn connect_in(&mut self) -> Result<(), Refusal>
-        ensures { Meets (connect_in self.old) self.old self.new result }
+        ensures outcome { Meets (connect_in self.old) self.old self.new result }
+        ensures memory { IsErrOf result Refusal.NoMemory → IsTrue (queues_more self.old (connect_in self.old)) }
     {
         if self.backlog >= MAX_BACKLOG {
             return Err(Refusal::NotAllowed);
         }
-        self.queue.reserve(1)?;
-        self.backlog += 1;
-        if mem::replace(&mut self.armed, false) {
-            add(&mut self.queue, Name::Listener);
+        if self.armed {
+            add(&mut self.queue, Name::Listener)?;
         }
+        self.armed = false;
+        self.backlog += 1;
         Ok(())
     }
 

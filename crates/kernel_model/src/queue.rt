@@ -1,7 +1,8 @@
 // A set of names, as a list in which no two are equal.
-ghost use Rattle.std.specs.Prelude.{◌≡◌, ◌<◌, vec_len, vec_capacity};
+ghost use Rattle.std.specs.Prelude.{◌≡◌, false, OnOk, OnErr};
 ghost use Rattle.kernel_model.specs.Names.{same, has, with_name, without_name, without_names, are_distinct, are_among};
 
+use std::alloc::AllocError;
 use token::Name;
 
 /// Whether two names are equal.
@@ -18,14 +19,16 @@ pub fn has(name: &Name, names: &[Name]) -> bool
     names.iter().any(|other| same(name, other))
 }
 
-/// Adds a name if it is not there. The caller has made room.
-pub fn add(names: &mut Vec<Name>, name: Name)
-    requires { vec_len names.old < vec_capacity names.old }
-    ensures { names.new.items ≡ with_name name names.old.items }
+/// Adds a name if it is not there, which alone needs memory. An error changes nothing.
+pub fn add(names: &mut Vec<Name>, name: Name) -> Result<(), AllocError>
+    ensures added { OnOk result (names.new.items ≡ with_name name names.old.items) }
+    ensures kept { OnErr result (names.new.items ≡ names.old.items) }
+    ensures missing { OnErr result (has name names.old.items ≡ false) }
 {
     if !has(&name, names.as_slice()) {
-        names.push(name).unwrap();
+        names.push(name)?;
     }
+    Ok(())
 }
 
 /// Removes a name if it is there.

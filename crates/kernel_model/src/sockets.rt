@@ -1,14 +1,14 @@
 // What arrives at the open ends of a kernel, and the calls on them.
-ghost use Rattle.std.specs.Prelude.{◌≡◌, ◌<◌, IsErrOf, IsTrue};
+ghost use Rattle.std.specs.Prelude.{◌≡◌, ◌<◌, ◌||◌, IsErrOf, IsTrue};
 ghost use Rattle.kernel_model.specs.Outcome.{Meets, MeetsAlways};
 ghost use Rattle.kernel_model.specs.Ends.{EndState};
 ghost use Rattle.kernel_model.specs.Replies.{needs_memory};
-ghost use Rattle.kernel_model.specs.Changes.{change_of, told};
-ghost use Rattle.kernel_model.specs.Kernel.{Registered, changed, arrive, fin, reset, room, read, write, join, shut};
+ghost use Rattle.kernel_model.specs.Changes.{brings_bytes, change_of, told, lengthens};
+ghost use Rattle.kernel_model.specs.Kernel.{Registered, queues_more, changed, arrive, fin, reset, room, read, write, join, shut};
 
 use crate::change::Change;
 use crate::kernel::{Kernel, Open};
-use crate::queue::add;
+use crate::queue::has;
 use crate::refusal::Refusal;
 use crate::reply::Reply;
 use token::Name;
@@ -28,9 +28,10 @@ impl Kernel {
     /// The peer's end of input arrives at an end, and is reported if reads are armed there.
     ///
     /// Refuses with `NotAllowed` if the descriptor is not open, if it has arrived before, and after an error; and with
-    /// `NoMemory` if the queue cannot grow. A refusal changes nothing.
+    /// `NoMemory` if the queue has to grow and cannot. A refusal changes nothing.
     pub fn fin(&mut self, descriptor: usize) -> Result<(), Refusal>
-        ensures { Meets (fin self.old descriptor) self.old self.new result }
+        ensures outcome { Meets (fin self.old descriptor) self.old self.new result }
+        ensures memory { IsErrOf result Refusal.NoMemory → IsTrue (queues_more self.old (fin self.old descriptor)) }
     {
         self.change(descriptor, Change::Fin)
     }
@@ -38,9 +39,10 @@ impl Kernel {
     /// An error arrives at an end, such as a reset by the peer, and is reported if reads or writes are armed there.
     ///
     /// Refuses with `NotAllowed` if the descriptor is not open, and if an error has arrived before; and with `NoMemory`
-    /// if the queue cannot grow. A refusal changes nothing.
+    /// if the queue has to grow and cannot. A refusal changes nothing.
     pub fn reset(&mut self, descriptor: usize) -> Result<(), Refusal>
-        ensures { Meets (reset self.old descriptor) self.old self.new result }
+        ensures outcome { Meets (reset self.old descriptor) self.old self.new result }
+        ensures memory { IsErrOf result Refusal.NoMemory → IsTrue (queues_more self.old (reset self.old descriptor)) }
     {
         self.change(descriptor, Change::Reset)
     }
@@ -48,16 +50,18 @@ impl Kernel {
     /// An end gets room for writes, which is reported if writes are armed there.
     ///
     /// Refuses with `NotAllowed` if the descriptor is not open, if there is room, and after an error; and with
-    /// `NoMemory` if the queue cannot grow. A refusal changes nothing.
+    /// `NoMemory` if the queue has to grow and cannot. A refusal changes nothing.
     pub fn room(&mut self, descriptor: usize) -> Result<(), Refusal>
-        ensures { Meets (room self.old descriptor) self.old self.new result }
+        ensures outcome { Meets (room self.old descriptor) self.old self.new result }
+        ensures memory { IsErrOf result Refusal.NoMemory → IsTrue (queues_more self.old (room self.old descriptor)) }
     {
         self.change(descriptor, Change::Room)
     }
 
     /// The network changes something at an end, and that is reported if the end tells so.
     fn change(&mut self, descriptor: usize, change: Change<'_>) -> Result<(), Refusal>
-        ensures { Meets (changed self.old descriptor (λ (e : EndState). change_of change.entry e)) self.old self.new result }
+        ensures outcome { Meets (changed self.old descriptor (λ (e : EndState). change_of change.entry e)) self.old self.new result }
+        ensures memory { IsErrOf result Refusal.NoMemory → IsTrue (brings_bytes change.entry || queues_more self.old (changed self.old descriptor (λ (e : EndState). change_of change.entry e))) }
     {
         if descriptor >= self.ends.len() {
             return Err(Refusal::NotAllowed);
@@ -136,14 +140,20 @@ impl Kernel {
 
 /// A change at an open end, whose name is queued if the end tells so.
 fn tell(registered: &mut Open, queue: &mut Vec<Name>, change: Change<'_>) -> Result<(), Refusal>
-    ensures { Meets (told change.entry (record { registered = registered.old; queue = queue.old.items })) (record { registered = registered.old; queue = queue.old.items }) (record { registered = registered.new; queue = queue.new.items }) result }
+    ensures outcome { Meets (told change.entry (record { registered = registered.old; queue = queue.old.items })) (record { registered = registered.old; queue = queue.old.items }) (record { registered = registered.new; queue = queue.new.items }) result }
+    ensures memory { IsErrOf result Refusal.NoMemory → IsTrue (brings_bytes change.entry || lengthens (record { registered = registered.old; queue = queue.old.items }) (told change.entry (record { registered = registered.old; queue = queue.old.items }))) }
 {
     if !registered.socket.may_change(change) {
         return Err(Refusal::NotAllowed);
     }
-    queue.reserve(1)?;
-    if registered.socket.change(change)? {
-        add(queue, Name::End(registered.token));
+    let name = Name::End(registered.token);
+    let is_new = registered.socket.will_report(change) && !has(&name, queue.as_slice());
+    if is_new {
+        queue.reserve(1)?;
+    }
+    registered.socket.change(change)?;
+    if is_new {
+        queue.push(name).unwrap();
     }
     Ok(())
 }

@@ -1,5 +1,8 @@
 // What happens outside the relay: time, the network's changes, reports, and connections at the listener.
+ghost use Rattle.std.specs.Prelude.{◌||◌, IsErrOf, IsTrue};
 ghost use Rattle.kernel_model.specs.Outcome.{Meets};
+ghost use Rattle.kernel_model.specs.Kernel.{queues_more};
+ghost use Rattle.world.specs.Memory.{brings_bytes};
 ghost use Rattle.world.specs.Steps.{change_at};
 
 use crate::connection::Connection;
@@ -14,7 +17,7 @@ impl World {
     ghost use Rattle.std.specs.Prelude.{◌≡◌, IsErrOf, IsTrue};
     ghost use Rattle.std.specs.Option.{option_copied};
     ghost use Rattle.kernel_model.specs.Outcome.{Meets, MeetsAlways};
-    ghost use Rattle.world.specs.Memory.{listening_allocates};
+    ghost use Rattle.world.specs.Memory.{grows, network_allocates, queue_length};
     ghost use Rattle.world.specs.Steps.{connection_at, tick, network, watched_of, spurious, vanish, may_accept, listen};
 
     /// The connection in a slot.
@@ -49,7 +52,8 @@ impl World {
         side: Side,
         change: &Change,
     ) -> Result<(), Refusal>
-        ensures { Meets (network self.old slot side change.now) self.old self.new result }
+        ensures event { Meets (network self.old slot side change.now) self.old self.new result }
+        ensures memory { IsErrOf result Refusal.NoMemory → IsTrue (network_allocates self.old slot side change.now) }
     {
         let Some(connection) = self.connection(slot) else {
             return Err(Refusal::NotAllowed);
@@ -60,7 +64,8 @@ impl World {
 
     /// A report is queued without cause.
     pub(crate) fn spurious(&mut self, who: Reported) -> Result<(), Refusal>
-        ensures { Meets (spurious self.old who) self.old self.new result }
+        ensures event { Meets (spurious self.old who) self.old self.new result }
+        ensures memory { IsErrOf result Refusal.NoMemory → IsTrue (grows queue_length self.old (spurious self.old who)) }
     {
         match self.watched(who) {
             Some(watched) => self.kernel.spurious(watched),
@@ -81,7 +86,7 @@ impl World {
     /// Something happens at the listener.
     pub(crate) fn listen(&mut self, event: Listening) -> Result<(), Refusal>
         ensures event { Meets (listen self.old event) self.old self.new result }
-        ensures memory { IsErrOf result Refusal.NoMemory → IsTrue (listening_allocates event) }
+        ensures memory { IsErrOf result Refusal.NoMemory → IsTrue (grows queue_length self.old (listen self.old event)) }
     {
         match event {
             Listening::Connect => self.kernel.connect_in(),
@@ -136,7 +141,8 @@ impl World {
 
 /// The network changes something at the end of a descriptor.
 fn change_at(kernel: &mut Kernel, descriptor: usize, change: &Change) -> Result<(), Refusal>
-    ensures { Meets (change_at kernel.old descriptor change.now) kernel.old kernel.new result }
+    ensures event { Meets (change_at kernel.old descriptor change.now) kernel.old kernel.new result }
+    ensures memory { IsErrOf result Refusal.NoMemory → IsTrue (brings_bytes change.now || queues_more kernel.old (change_at kernel.old descriptor change.now)) }
 {
     match change {
         Change::Arrive(bytes) => {

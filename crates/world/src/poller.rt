@@ -17,7 +17,7 @@ impl World {
     ghost use Rattle.kernel_model.specs.Outcome.{Meets};
     ghost use Rattle.kernel_model.specs.Kernel.{open_both};
     ghost use Rattle.relay_core.specs.Pairs.{fresh};
-    ghost use Rattle.world.specs.Memory.{becomes_note, polling_allocates};
+    ghost use Rattle.world.specs.Memory.{becomes_note, batch_length, grows, polling_allocates};
     ghost use Rattle.world.specs.States.{is_entry};
     ghost use Rattle.world.specs.Steps.{opened_world, opening_of, delivered, delivered_at, deliver, sweep, batched, put_by_poller, post_at, polled};
 
@@ -121,12 +121,15 @@ impl World {
 
     /// It takes these names from the queue as its batch.
     fn take_batch(&mut self, names: &[Name]) -> Result<(), Refusal>
-        ensures { Meets (batched self.old names.now) self.old self.new result }
+        ensures event { Meets (batched self.old names.now) self.old self.new result }
+        ensures memory { IsErrOf result Refusal.NoMemory → IsTrue (grows batch_length self.old (batched self.old names.now)) }
     {
         if !self.batch.is_empty() || !self.kernel.may_poll(names) {
             return Err(Refusal::NotAllowed);
         }
-        self.batch.extend_from_slice(names)?;
+        if !names.is_empty() {
+            self.batch.extend_from_slice(names)?;
+        }
         self.kernel.poll(names)
     }
 

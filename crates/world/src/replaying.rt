@@ -10,7 +10,7 @@ use crate::laws::rests_on_core;
 use crate::limits::Limits;
 use crate::world::World;
 use kernel_model::Refusal;
-use std::alloc::{AllocError, Global};
+use std::alloc::Global;
 
 /// The world after these events, starting with the opening world.
 ///
@@ -53,7 +53,7 @@ pub fn replay(alloc: Global, limits: Limits, events: &[Event]) -> Result<World, 
     rests_on_core();
     let mut world = match World::new(alloc, limits) {
         Ok(world) => world,
-        Err(AllocError) => return Err((0, Refusal::NoMemory)),
+        Err(error) => return Err((0, Refusal::from(error))),
     };
     world.play(events)?;
     Ok(world)

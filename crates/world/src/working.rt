@@ -22,17 +22,17 @@ pub fn is_live(verdict: Verdict) -> bool
 
 #[tactic(auto, using(std::proofs::lemmas::Option::gets, std::proofs::lemmas::Grind::common_steps))]
 impl World {
-    ghost use Rattle.std.specs.Prelude.{◌≡◌, ◌<◌, length, slice_get, option_map, Some};
+    ghost use Rattle.std.specs.Prelude.{◌≡◌, ◌<◌, length, slice_get, option_map, Some, IsErrOf, IsTrue};
     ghost use Rattle.kernel_model.specs.Outcome.{Meets, MeetsAlways};
     ghost use Rattle.kernel_model.specs.Replies.{needs_memory};
     ghost use Rattle.world.specs.Acts.{busy, MeetsIn};
-    ghost use Rattle.world.specs.Memory.{act_allocates};
+    ghost use Rattle.world.specs.Memory.{act_allocates, grows, free_length};
     ghost use Rattle.world.specs.Slots.{WorkerState};
     ghost use Rattle.world.specs.Steps.{of_worker, claim, take, call, post, release, expire, close, retire, free, pop, worked};
 
     /// A worker does something.
     pub(crate) fn work(&mut self, worker: usize, act: Act) -> Result<(), Refusal>
-        ensures { MeetsIn (act_allocates act) (worked self.old worker act) self.old self.new result }
+        ensures { MeetsIn (act_allocates self.old worker act) (worked self.old worker act) self.old self.new result }
     {
         if worker >= self.workers.len() {
             return Err(Refusal::NotAllowed);
@@ -49,7 +49,7 @@ impl World {
     /// A worker that is idle does something.
     fn act_idle(&mut self, worker: usize, act: Act) -> Result<(), Refusal>
         requires { option_map (λ (k : WorkerState). k.doing) (slice_get self.old.workers worker) ≡ Some Doing.Idle }
-        ensures { MeetsIn (act_allocates act) (worked self.old worker act) self.old self.new result }
+        ensures { MeetsIn (act_allocates self.old worker act) (worked self.old worker act) self.old self.new result }
     {
         match act {
             Act::Put => self.put_by_worker(worker),
@@ -61,7 +61,7 @@ impl World {
     /// A worker that has a ticket to try does something.
     fn act_trying(&mut self, worker: usize, ticket: Ticket, act: Act) -> Result<(), Refusal>
         requires { slice_get self.old.workers worker ≡ Some (busy (Doing.Tries ticket)) }
-        ensures { MeetsIn (act_allocates act) (worked self.old worker act) self.old self.new result }
+        ensures { MeetsIn (act_allocates self.old worker act) (worked self.old worker act) self.old self.new result }
     {
         match act {
             Act::Claim => self.claim(worker, ticket),
@@ -78,7 +78,7 @@ impl World {
         act: Act,
     ) -> Result<(), Refusal>
         requires { slice_get self.old.workers worker ≡ Some (busy (Doing.Holds slot left)) }
-        ensures { MeetsIn (act_allocates act) (worked self.old worker act) self.old self.new result }
+        ensures { MeetsIn (act_allocates self.old worker act) (worked self.old worker act) self.old self.new result }
     {
         match act {
             Act::Take => self.take(slot, left),
@@ -94,7 +94,7 @@ impl World {
     /// A worker that closed the connection of its slot does something.
     fn act_closed(&mut self, worker: usize, slot: usize, act: Act) -> Result<(), Refusal>
         requires { slice_get self.old.workers worker ≡ Some (busy (Doing.Closed slot)) }
-        ensures { MeetsIn (act_allocates act) (worked self.old worker act) self.old self.new result }
+        ensures { MeetsIn (act_allocates self.old worker act) (worked self.old worker act) self.old self.new result }
     {
         match act {
             Act::Retire => self.retire(worker, slot),
@@ -105,7 +105,7 @@ impl World {
     /// A worker that retired its slot does something.
     fn act_retired(&mut self, worker: usize, slot: usize, act: Act) -> Result<(), Refusal>
         requires { slice_get self.old.workers worker ≡ Some (busy (Doing.Retired slot)) }
-        ensures { MeetsIn (act_allocates act) (worked self.old worker act) self.old self.new result }
+        ensures { MeetsIn (act_allocates self.old worker act) (worked self.old worker act) self.old self.new result }
     {
         match act {
             Act::Free => self.free(worker, slot),
@@ -197,9 +197,7 @@ impl World {
             return Err(Refusal::NotAllowed);
         }
         let generation = connection.pair.generation();
-        if self.slots[slot].note(generation).is_err() {
-            return Err(Refusal::NoMemory);
-        }
+        self.slots[slot].note(generation)?;
         Ok(())
     }
 
@@ -276,7 +274,8 @@ impl World {
     /// It puts the slot that it retired into the free queue, unless the slot's last generation was used.
     fn free(&mut self, worker: usize, slot: usize) -> Result<(), Refusal>
         requires { slice_get self.old.workers worker ≡ Some (busy (Doing.Retired slot)) }
-        ensures { Meets (free self.old worker (busy (Doing.Retired slot)) (Doing.Retired slot)) self.old self.new result }
+        ensures event { Meets (free self.old worker (busy (Doing.Retired slot)) (Doing.Retired slot)) self.old self.new result }
+        ensures memory { IsErrOf result Refusal.NoMemory → IsTrue (grows free_length self.old (free self.old worker (busy (Doing.Retired slot)) (Doing.Retired slot))) }
     {
         if slot >= self.slots.len() {
             return Err(Refusal::NotAllowed);
