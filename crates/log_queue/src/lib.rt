@@ -11,6 +11,7 @@
 //! ```
 #![tactic(auto)]
 
+mod left_out;
 mod limits;
 mod line;
 mod queue;

@@ -2,12 +2,13 @@
 ghost use Rattle.std.specs.Prelude.{◌≡◌, IfOk};
 ghost use Rattle.crossbeam_queue.specs.Passes.{queue_capacity};
 
+use crate::left_out::Missing;
 use crate::limits::MAX_LINES;
 use crate::line::LogLine;
 use crossbeam_queue::ArrayQueue;
 use std::alloc::{AllocError, Global};
 use std::sync::Wait;
-use std::sync::atomic::{AtomicBool, AtomicU64, Ordering};
+use std::sync::atomic::{AtomicBool, Ordering};
 use std::thread::Parker;
 use std::time::Duration;
 
@@ -23,7 +24,7 @@ pub(crate) struct Look {
 pub struct LogQueue {
     lines: ArrayQueue<LogLine>,
     /// Lines that found the queue full, and were not told yet.
-    left_out: AtomicU64,
+    left_out: Missing,
     is_closed: AtomicBool,
     is_written: AtomicBool,
     /// Where the writer waits.
@@ -37,7 +38,7 @@ impl LogQueue {
     {
         Ok(LogQueue {
             lines: ArrayQueue::new(alloc, MAX_LINES)?,
-            left_out: AtomicU64::new(0),
+            left_out: Missing::none(),
             is_closed: AtomicBool::new(false),
             is_written: AtomicBool::new(false),
             writer: Parker::new(),
@@ -48,7 +49,7 @@ impl LogQueue {
     /// a line costs no system call.
     pub fn put(&self, rt: &impl Wait, line: LogLine) {
         if self.lines.push(rt, line).is_err() {
-            self.left_out.fetch_add(1, Ordering::SeqCst);
+            self.left_out.add();
         }
     }
 
@@ -59,10 +60,7 @@ impl LogQueue {
 
     /// How many lines were left out since the last call.
     pub fn take_left_out(&self) -> u64 {
-        if self.left_out.load(Ordering::SeqCst) == 0 {
-            return 0;
-        }
-        self.left_out.swap(0, Ordering::SeqCst)
+        self.left_out.take()
     }
 
     /// Lets the writer end once every line is written, and wakes it. What is put later may not be written.

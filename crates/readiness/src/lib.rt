@@ -15,6 +15,8 @@ pub mod laws;
 mod reports;
 #[cfg(test)]
 mod tests;
+mod word;
 
 pub use attention::Attention;
 pub use reports::{Reports, Told};
+pub use word::Heard;

@@ -1,74 +1,112 @@
-ghost use Rattle.std.specs.Prelude.{◌≡◌, vec_len, IfOk};
+ghost use Rattle.std.specs.Prelude.{◌≡◌, Some, None, IfOk, IfSome, IfNone, vec_len};
+ghost use Rattle.std.specs.Arc.{arc_value};
+ghost use Rattle.readiness.specs.Words.{of_side, word_of, words_of};
 
+use crate::word::{Heard, Word};
 use std::alloc::{AllocError, Global};
+use std::marker::Model;
 use std::sync::Arc;
-use std::sync::atomic::AtomicBool;
-use std::sync::atomic::Ordering::SeqCst;
 use token::Side;
 
-/// For each end of each slot's connection, whether a report that names reading was told since its wire last looked. All
-/// steps are sequentially consistent, as are those of the claim words.
+/// For each end of each slot's connection, whether a report that names reading was told since its wire last looked.
+///
+/// In a clause it is the number of its slots.
 #[derive(Drop)]
 pub struct Reports {
     ends: Vec<Ends>,
+    ghost named: { ends.items ≡ words_of (vec_len ends) },
 }
 
-/// The two ends of one slot's connection.
+impl Model for Reports {
+    ghost use Rattle.std.specs.Prelude.{ℕ, vec_len};
+
+    ghost Value = { ℕ };
+
+    ghost view = { λ r. vec_len r.ends };
+}
+
+/// The words of the two ends of one slot's connection. In a clause it is their names.
 #[derive(Drop)]
 struct Ends {
-    client: AtomicBool,
-    target: AtomicBool,
+    client: Arc<Word>,
+    target: Arc<Word>,
 }
 
-/// What is told of one end.
+impl Model for Ends {
+    ghost use Rattle.std.specs.Arc.{arc_value};
+    ghost use Rattle.readiness.specs.Words.{WordName};
+
+    ghost Value = { WordName × WordName };
+
+    ghost view = { λ e. (arc_value e.client, arc_value e.target) };
+}
+
+/// What is told of one end. It has the word of that end and no other, so a look finds and clears what was told of that end.
+///
+/// In a clause it is the name of the word.
 #[derive(Drop)]
 pub struct Told {
-    reports: Arc<Reports>,
-    slot: usize,
-    side: Side,
+    word: Arc<Word>,
+}
+
+impl Model for Told {
+    ghost use Rattle.std.specs.Arc.{arc_value};
+    ghost use Rattle.readiness.specs.Words.{WordName};
+
+    ghost Value = { WordName };
+
+    ghost view = { λ t. arc_value t.word };
 }
 
 impl Reports {
     /// For so many slots; nothing is told yet. No later call allocates memory.
+    #[tactic(auto, using(crate::proofs::Words::one_more))]
     pub fn new(alloc: Global, slots: usize) -> Result<Reports, AllocError>
-        ensures { IfOk result (λ reports. vec_len reports.ends ≡ slots) }
+        ensures { IfOk result (λ reports. reports ≡ slots) }
     {
         let mut ends = Vec::with_capacity(alloc, slots)?;
-        for _slot in 0..slots {
-            ends.push(Ends::new())?;
+        for slot in 0..slots {
+            ends.push_reserved(Ends::new(alloc, slot)?);
         }
         Ok(Reports { ends })
     }
 
-    /// Tells of a report that names reading. A slot that it does not have is left alone: its wires always read.
-    pub fn tell(&self, slot: usize, side: Side) {
-        // Pairs with `take`. The poller tells before it hands its reports over, and so before the report becomes a note:
-        // a holder who takes that note finds what was told.
-        if let Some(ends) = self.ends.get(slot) {
-            ends.of(side).store(true, SeqCst);
+    /// Tells of a report that names reading, at the word of that end alone. A slot that it does not have is left alone: its
+    /// wires always read.
+    pub fn tell(&self, slot: usize, side: Side) -> Option<Heard>
+        ensures { result ≡ word_of self.now slot side }
+    {
+        match self.word(slot, side) {
+            Some(word) => Some(word.tell()),
+            None => None,
         }
     }
 
-    /// Whether a report that names reading was told since the last look, which this is.
-    fn take(&self, slot: usize, side: Side) -> bool {
+    /// The word of an end, if there is such a slot.
+    fn word(&self, slot: usize, side: Side) -> Option<&Arc<Word>>
+        ensures some { IfSome result (λ word. Some (arc_value word.now) ≡ word_of self.now slot side) }
+        ensures none { IfNone result (word_of self.now slot side ≡ None) }
+    {
         match self.ends.get(slot) {
-            // Pairs with `tell`. What is told after the exchange stands until the next look. Most looks find nothing,
-            // and a load is cheaper than an exchange.
-            Some(ends) => ends.of(side).load(SeqCst) && ends.of(side).swap(false, SeqCst),
-            None => true,
+            Some(ends) => Some(ends.of(side)),
+            None => None,
         }
     }
 }
 
 impl Ends {
-    fn new() -> Ends {
-        Ends {
-            client: AtomicBool::new(false),
-            target: AtomicBool::new(false),
-        }
+    fn new(alloc: Global, slot: usize) -> Result<Ends, AllocError>
+        ensures { IfOk result (λ ends. ends ≡ (record { slot = slot; side = Side.Client }, record { slot = slot; side = Side.Target })) }
+    {
+        Ok(Ends {
+            client: Arc::new(alloc, Word::new(slot, Side::Client))?,
+            target: Arc::new(alloc, Word::new(slot, Side::Target))?,
+        })
     }
 
-    fn of(&self, side: Side) -> &AtomicBool {
+    fn of(&self, side: Side) -> &Arc<Word>
+        ensures { arc_value result.now ≡ of_side side self.now }
+    {
         match side {
             Side::Client => &self.client,
             Side::Target => &self.target,
@@ -77,17 +115,20 @@ impl Ends {
 }
 
 impl Told {
-    /// What is told of the end on a side of a slot's connection.
-    pub fn new(reports: &Arc<Reports>, slot: usize, side: Side) -> Result<Told, AllocError> {
-        Ok(Told {
-            reports: Arc::try_clone(reports)?,
-            slot,
-            side,
-        })
+    /// What is told of the end on a side of a slot's connection, if there is such a slot.
+    pub fn new(reports: &Reports, slot: usize, side: Side) -> Result<Option<Told>, AllocError>
+        ensures { IfOk result (λ told. told ≡ word_of reports.now slot side) }
+    {
+        match reports.word(slot, side) {
+            Some(word) => Ok(Some(Told {
+                word: Arc::try_clone(word)?,
+            })),
+            None => Ok(None),
+        }
     }
 
     /// Whether a report that names reading was told since the last look, which this is.
     pub fn take(&self) -> bool {
-        self.reports.take(self.slot, self.side)
+        self.word.take()
     }
 }

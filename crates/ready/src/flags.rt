@@ -1,14 +1,53 @@
 // The words that the ends of a queue of tickets share, and all the atomic steps on them. Each step is sequentially
 // consistent, as are those of the queue: all threads see them in one order. A comment at each step names the step that
 // it pairs with.
-ghost use Rattle.std.specs.Prelude.{◌≡◌, ◌≢◌, ◌<◌, true};
+ghost use Rattle.std.specs.Prelude.{◌≡◌, ◌≢◌, ◌<◌, ℕ, true, not};
+ghost use Rattle.ready.specs.Bits.{BitStep, ReadBits, SetBits, ClearedBits, bit_of, has_bit};
 
 use std::sync::atomic::Ordering::SeqCst;
 use std::sync::atomic::{AtomicBool, AtomicU64};
 
+/// A word of bits that threads share. Each method is one step, and there is no other: none reads the bits in one step and
+/// writes them in another, between which a second thread's step could be lost.
+///
+/// No clause can name what a word holds, so the trait leaves open what a step does. What is proved of any such word says
+/// which steps are made on it, and what their answers come to.
+pub(crate) trait Bits {
+    // What a step may do: the step with its answer, and the word.
+    ghost did: { BitStep → Self → Type 0 };
+
+    /// The bits.
+    fn read(&self) -> u64
+        ensures { did (ReadBits result) self.now };
+
+    /// Sets bits. What was there before.
+    fn set(&self, bits: u64) -> u64
+        ensures { did (SetBits bits result) self.now };
+
+    /// Clears bits. What was there before.
+    fn clear(&self, bits: u64) -> u64
+        ensures { did (ClearedBits bits result) self.now };
+}
+
+impl Bits for AtomicU64 {
+    ghost did = { λ _ _. Unit {0} };
+
+    fn read(&self) -> u64 {
+        self.load(SeqCst)
+    }
+
+    fn set(&self, bits: u64) -> u64 {
+        self.fetch_or(bits, SeqCst)
+    }
+
+    fn clear(&self, bits: u64) -> u64 {
+        self.fetch_and(!bits, SeqCst)
+    }
+}
+
 /// One bit for each end that has parked or is about to, and that nobody has woken yet.
 #[derive(Drop)]
-pub(crate) struct IdleBits(AtomicU64);
+pub(crate) struct IdleBits<W = AtomicU64>(W);
 
 /// An end that has announced that it is idle. It has to look at the queue before it parks.
 ///
@@ -22,45 +61,53 @@ impl IdleBits {
     pub(crate) fn new() -> IdleBits {
         IdleBits(AtomicU64::new(0))
     }
+}
 
+impl<W: Bits> IdleBits<W> {
     /// Sets the bit of an end that found the queue open before it looked.
     pub(crate) fn announce(&self, end: usize, seen: MarkSeen) -> Announced
         requires few { end < 32 }
         requires open { seen.closed ≢ true }
-        ensures { result.end ≡ end }
+        ensures same { result.end ≡ end }
+        ensures set { (before : ℕ) × W.did (SetBits (bit_of end) before) self.now.0 }
     {
         // Pairs with `read`. A put pushes and then reads the bits; an end sets its bit and then looks. So one of the two
         // sees the other's step. If an end looked first and set the bit afterwards, a put could come in between: it
         // would find no bit, and the end would park beside its ticket.
-        self.0.fetch_or(1u64 << end, SeqCst);
+        self.0.set(1u64 << end);
         Announced { end }
     }
 
     /// Clears the bit of an end that has announced itself. Whether another thread had cleared it before.
-    pub(crate) fn withdraw(&self, announced: Announced) -> bool {
+    pub(crate) fn withdraw(&self, announced: Announced) -> bool
+        ensures cleared { (before : ℕ) × W.did (ClearedBits (bit_of announced.end) before) self.now.0 × (result ≡ not (has_bit announced.end before)) }
+    {
         // Pairs with `wake`: only one of the two finds the bit. With a load and then a store, both could find it, and
         // nobody would pass that wake on: the other put's ticket would wait until this end comes back, while a third
         // end sleeps.
         let Announced { end } = announced;
         let bit = 1u64 << end;
-        self.0.fetch_and(!bit, SeqCst) & bit == 0
+        self.0.clear(bit) & bit == 0
     }
 
     /// Clears the bit of an end that is to be woken. Whether it was this call that cleared it.
     pub(crate) fn wake(&self, end: usize) -> bool
         requires { end < 32 }
+        ensures cleared { (before : ℕ) × W.did (ClearedBits (bit_of end) before) self.now.0 × (result ≡ has_bit end before) }
     {
         // Pairs with itself in other threads, and with `withdraw`. If two puts woke the same end, one ticket would be
         // left.
         let bit = 1u64 << end;
-        self.0.fetch_and(!bit, SeqCst) & bit != 0
+        self.0.clear(bit) & bit != 0
     }
 
     /// The bits.
-    pub(crate) fn read(&self) -> u64 {
+    pub(crate) fn read(&self) -> u64
+        ensures { W.did (ReadBits result) self.now.0 }
+    {
         // Pairs with `announce`. An end whose bit is set after this load looks at the queue after it, and so finds what
         // was pushed before.
-        self.0.load(SeqCst)
+        self.0.read()
     }
 }
 

@@ -1,10 +1,15 @@
 -- Where a server listens, and what is reported. Part of the promises.
-use Rattle.std.specs.Prelude.{◌≡◌, ℕ, Bool, true, false, ◌||◌, List, map, Option, Some, None}
+use Rattle.std.specs.Prelude.{◌≡◌, ℕ, Bool, true, false, ◌||◌, if◌then◌else◌, List, map, Option, Some, None}
 use Rattle.std.specs.declared.net.SocketAddr.{SocketAddr}
 use Rattle.std.specs.declared.net.SocketAddr.TheVariants.{V4, V6}
 use Rattle.std.specs.declared.net.SocketAddrV4.{SocketAddrV4}
 use Rattle.std.specs.Net.Addr.{IsV4And, ipv4_octets}
 use Rattle.std.specs.Net.Socket.{socket_ip, IsPlainSocket}
+use Rattle.token.specs.Names.{EndName}
+use Rattle.token.specs.Numbers.{name_of}
+use Rattle.token.specs.declared.name.Name.{Name}
+use Rattle.token.specs.declared.name.Name.TheVariants.{Listener, Waker, End}
+use Rattle.readiness.specs.Words.{WordName, word_of}
 use Rattle.settings.specs.Addresses.{SocketAddress}
 use Rattle.dispatch.specs.declared.route.Route.{Route}
 use Rattle.sockets.specs.declared.forwarding.Forwarding.{Forwarding}
@@ -18,6 +23,22 @@ numbers events = map (λ (event : Event). (event_token event).0) events
 -- an event names reading: there is something to read, or the socket has failed, or the peer has closed it (epoll_ctl(2))
 abbrev pub names_reading : Event → Bool
 names_reading event = is_readable event || (is_error event || (is_read_closed event || is_write_closed event))
+
+-- the end that a name names, if it names one
+abbrev pub end_in : Option Name → Option EndName
+end_in (Some (End end)) = Some end
+end_in (Some Listener) = None
+end_in (Some Waker) = None
+end_in None = None
+
+-- the word of an end, where there are so many slots
+abbrev pub word_at : ℕ → Option EndName → Option WordName
+word_at slots (Some end) = word_of slots end.slot end.side
+word_at slots None = None
+
+-- the word at which an event is told: that of the end that its number names, if it names reading
+abbrev pub heard_of : ℕ → Event → Option WordName
+heard_of slots event = if names_reading event then word_at slots (end_in (name_of (event_token event).0)) else None
 
 -- how a front's connections are forwarded, and the numbers that its last poll was told
 pub record Watched : Type 0 where

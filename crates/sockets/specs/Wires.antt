@@ -7,6 +7,7 @@ use Rattle.std.specs.declared.net.SocketAddr.{SocketAddr}
 use Rattle.std.specs.IoError.{error_kind}
 use Rattle.token.specs.Names.{EndName}
 use Rattle.token.specs.declared.side.Side.TheVariants.{Target}
+use Rattle.readiness.specs.Words.{WordName}
 use Rattle.relay_core.specs.declared.call.Call.{Call}
 use Rattle.relay_core.specs.declared.call.Call.TheVariants as call
 use Rattle.engine.specs.Asked.{Asked, Read, Write, Join, Shut, Given, Brought, Took, Done, Refused}
@@ -105,14 +106,14 @@ pub record IsCalled (asked : Asked) (given : Given) (old new : Socket) : Type 0 
   pub watched : new.watched ≡ old.watched
 
 -- One system call on a socket, with its answer: read(2), write(2) or shutdown(2); SO_ERROR of socket(7); getpeername(2);
--- TCP_NODELAY of tcp(7), on or off; and epoll_ctl(2), which registered the socket under this number. And a look, which is
--- no system call: whether a report that names reading was told since the last one
+-- TCP_NODELAY of tcp(7), on or off; and epoll_ctl(2), which registered the socket under this number, to be told at this word,
+-- if at any. And a look, which is no system call: whether a report that names reading was told since the last one
 pub data Made : Type 0 where
   Called : Asked → Given → Made
   Pending : Result (Option Error) Error → Made
   Named : Result SocketAddr Error → Made
   SentAtOnce : Bool → Made
-  Registered : ℕ → Made
+  Registered : ℕ → Option WordName → Made
   Looked : Bool → Made
 
 -- What a system call does to a socket of the type S, only the system knows. So what follows holds for any such relation

@@ -1,7 +1,8 @@
 ghost use Rattle.std.specs.Prelude.{◌≡◌, ◌⊎◌, ◌+◌, ◌≤◌, ◌++◌, [], length, replicate, true, false, Some, None, IfOk, OnOk, IfErr, OnErr, vec_len, vec_capacity};
 ghost use Rattle.mio.specs.Event.{event_token};
 ghost use Rattle.mio.specs.Events.{items};
-ghost use Rattle.sockets.specs.Fronts.{names_reading, numbers, v4_of, IsRoute, MayTell};
+ghost use Rattle.token.specs.Numbers.{name_of};
+ghost use Rattle.sockets.specs.Fronts.{end_in, heard_of, names_reading, numbers, v4_of, IsRoute, MayTell};
 ghost use Rattle.dispatch.specs.Splits.{parts_of};
 ghost use Rattle.sockets.specs.Wires.{SameButWatched, fresh_wire, under};
 
@@ -19,7 +20,7 @@ use log::{Level, Log};
 use mio::event::Event;
 use mio::net::TcpListener;
 use mio::{Events, Interest, Poll, Waker};
-use readiness::{Reports, Told};
+use readiness::{Heard, Reports, Told};
 use std::alloc::{AllocError, Global};
 use std::io;
 use std::marker::Model;
@@ -171,8 +172,8 @@ impl<R: Dial> Sockets<'_, R> {
         ensures refused { IfErr result (λ why. why ≡ Unopened.Register) }
     {
         // A wire that could not be told of its reports always reads.
-        let told = Told::new(&self.told, token.slot(), token.side()).ok();
-        match wire.watch(self.poll.registry(), token, told) {
+        let told = Told::new(&self.told, token.slot(), token.side());
+        match wire.watch(self.poll.registry(), token, told.unwrap_or(None)) {
             Ok(()) => Ok(()),
             Err(error) => {
                 log_failure(rt, Level::Debug, "register", &error);
@@ -221,26 +222,35 @@ fn put_numbers(batch: &mut Vec<u64>, events: &Events, told: &Reports)
     ensures capacity { vec_capacity batch.new ≡ vec_capacity batch.old }
 {
     for event in events.iter().as_slice() {
-        batch.push_reserved(tell(told, event));
+        batch.push_reserved(tell(told, event).number);
     }
 }
 
-/// Tells of an event if it names reading. Its number is given only then, so that a wire is told before the report becomes
-/// a note.
-fn tell(told: &Reports, event: &Event) -> u64
-    ensures { result ≡ (event_token event.now).0 }
+/// A report that is about to be handed over: its number, and the word at which it was told, if it was.
+#[derive(Drop)]
+struct Reported {
+    number: u64,
+    heard: Option<Heard>,
+}
+
+/// Tells of an event if it names reading, at the word of the end that its number names. The number is given only then, so
+/// that a wire is told before the report becomes a note.
+fn tell(told: &Reports, event: &Event) -> Reported
+    ensures number { result.number ≡ (event_token event.now).0 }
+    ensures heard { result.heard ≡ heard_of told.now event.now }
 {
     let number = event.token().0 as u64;
-    if names_reading(event) {
-        if let Some(end) = end_of(number) {
-            told.tell(end.slot(), end.side());
-        }
-    }
-    number
+    let heard = match end_of(number) {
+        Some(end) if names_reading(event) => told.tell(end.slot(), end.side()),
+        Some(_) | None => None,
+    };
+    Reported { number, heard }
 }
 
 /// The end of a connection that a number names, if it names one.
-fn end_of(number: u64) -> Option<Token> {
+fn end_of(number: u64) -> Option<Token>
+    ensures { result ≡ end_in (name_of number) }
+{
     match unpack(number)? {
         Name::End(end) => Some(end),
         Name::Listener | Name::Waker => None,

@@ -1,6 +1,6 @@
 use crate::stream::Stream;
 use mio::net::TcpStream;
-use mio::{Interest, Registry};
+use mio::{Interest, Registry, Token};
 use readiness::Told;
 use std::io;
 use std::net::{Shutdown, SocketAddr};
@@ -56,10 +56,15 @@ impl Stream for Socket {
         let _ = self.stream.set_nodelay(at_once);
     }
 
-    fn register(&mut self, registry: &Registry, number: u64, told: Option<Told>) -> io::Result<()> {
+    fn register(
+        &mut self,
+        registry: &Registry,
+        token: Token,
+        told: Option<Told>,
+    ) -> io::Result<()> {
         let both = Interest::READABLE | Interest::WRITABLE;
         self.told = told;
-        registry.register(&mut self.stream, mio::Token(number as usize), both)
+        registry.register(&mut self.stream, token, both)
     }
 
     fn is_told(&mut self) -> bool {

@@ -4,7 +4,7 @@ ghost use Rattle.engine.specs.Asked as ask;
 ghost use Rattle.engine.specs.Wires.{read_gave, write_gave, call_gave};
 ghost use Rattle.sockets.specs.Wires.{Made, Called, Pending, Named, SentAtOnce, Registered, Looked};
 
-use mio::Registry;
+use mio::{Registry, Token};
 use readiness::Told;
 use std::io;
 use std::net::SocketAddr;
@@ -45,10 +45,10 @@ pub trait Stream {
     fn send_at_once(&mut self, at_once: bool)
         ensures { did (SentAtOnce at_once) self.old self.new };
 
-    /// Has the socket reported for reading and writing, edge-triggered, under a number (epoll_ctl(2)). Those of its reports
+    /// Has the socket reported for reading and writing, edge-triggered, under a token (epoll_ctl(2)). Those of its reports
     /// that name reading are told by `told`. Without it, each look finds that one was told.
-    fn register(&mut self, registry: &Registry, number: u64, told: Option<Told>) -> io::Result<()>
-        ensures { OnOk result (did (Registered number) self.old self.new) };
+    fn register(&mut self, registry: &Registry, token: Token, told: Option<Told>) -> io::Result<()>
+        ensures { OnOk result (did (Registered token.0 told) self.old self.new) };
 
     /// Whether a report that names reading was told since the last look, which this is. It is no system call.
     fn is_told(&mut self) -> bool

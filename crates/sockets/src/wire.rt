@@ -1,4 +1,4 @@
-ghost use Rattle.std.specs.Prelude.{◌≡◌, true, false, Some, None, OnOk, OnErr};
+ghost use Rattle.std.specs.Prelude.{◌≡◌, true, false, Some, None, IfSome, OnOk, OnErr};
 ghost use Rattle.std.specs.IoError.{error_kind};
 ghost use Rattle.token.specs.Names.{end_number};
 ghost use Rattle.relay_core.specs.Calls.{side_of};
@@ -90,18 +90,20 @@ impl<S: Stream> SocketWire<S> {
     }
 
     /// Has the socket reported for reading and writing, edge-triggered, under a token's number. Its reports that name
-    /// reading are told by `told`; without it the wire always reads.
+    /// reading are told by `told`, at that token's word; without it the wire always reads.
     pub(crate) fn watch(
         &mut self,
         registry: &Registry,
         token: Token,
         told: Option<Told>,
     ) -> io::Result<()>
-        ensures registered { OnOk result (S.did (Registered (end_number token)) self.old.stream self.new.stream) }
+        requires told { IfSome told (λ word. word ≡ record { slot = token.slot; side = token.side }) }
+        ensures registered { OnOk result (S.did (Registered (end_number token) told) self.old.stream self.new.stream) }
         ensures watched { OnOk result (self.new.socket ≡ under token self.old.socket) }
         ensures unwatched { OnErr result (self.new.socket ≡ self.old.socket) }
     {
-        self.stream.register(registry, token.value(), told)?;
+        let number = mio::Token(token.value() as usize);
+        self.stream.register(registry, number, told)?;
         self.watched = Some(token);
         Ok(())
     }

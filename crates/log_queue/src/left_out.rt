@@ -1,0 +1,61 @@
+// How many lines were left out and not told yet.
+ghost use Rattle.std.specs.Prelude.{◌≡◌};
+ghost use Rattle.log_queue.specs.Counts.{CountStep, Added, Taken};
+
+use std::sync::atomic::{AtomicU64, Ordering};
+
+/// A count that threads share. Each method is one step, and there is no other: what is added between a load of the count and a
+/// store of 0 would be lost.
+///
+/// No clause can name what a count holds, so the trait leaves open what a step does. What is proved of any such count says
+/// which steps are made on it.
+pub(crate) trait Count {
+    // What a step may do: the step with its answer, and the count.
+    ghost did: { CountStep → Self → Type 0 };
+
+    /// Adds 1.
+    fn add(&self)
+        ensures { did Added self.now };
+
+    /// Sets it to 0. What was there before.
+    fn take(&self) -> u64
+        ensures { did (Taken result) self.now };
+}
+
+impl Count for AtomicU64 {
+    ghost did = { λ _ _. Unit {0} };
+
+    fn add(&self) {
+        self.fetch_add(1, Ordering::SeqCst);
+    }
+
+    fn take(&self) -> u64 {
+        self.swap(0, Ordering::SeqCst)
+    }
+}
+
+/// The lines that were left out since they were told.
+#[derive(Drop)]
+pub(crate) struct Missing<C = AtomicU64>(C);
+
+impl Missing {
+    pub(crate) fn none() -> Missing {
+        Missing(AtomicU64::new(0))
+    }
+}
+
+impl<C: Count> Missing<C> {
+    /// One more was left out.
+    pub(crate) fn add(&self)
+        ensures { C.did Added self.now.0 }
+    {
+        self.0.add();
+    }
+
+    /// How many were, since the last call.
+    pub(crate) fn take(&self) -> u64
+        ensures { C.did (Taken result) self.now.0 }
+    {
+        self.0.take()
+    }
+}

@@ -1,0 +1,24 @@
+-- Which word stands where.
+use Rattle.std.proofs.Common.{◌≡◌, ℕ, ◌+◌, ◌++◌, [], ◌∷◌, Bool, true, if◌then◌else◌, nat_lt, length, slice_index_or, List, Option, Some, refl, ◌∙◌, arith}
+use Rattle.std.specs.List.{range_with_len}
+use Rattle.std.proofs.lemmas.Bool.{ltb-true}
+use Rattle.std.proofs.lemmas.List.FromFn.{map-range_with_len_more, get_or-map-range_with_len}
+use Rattle.token.specs.declared.side.Side.{Side}
+use Rattle.token.specs.declared.side.Side.TheVariants.{Client, Target}
+use Rattle.readiness.specs.Words.{WordName, both_of, of_side, word_of, words_of}
+
+-- one slot more
+pub one_more : (n : ℕ) → words_of (n + 1) ≡ words_of n ++ both_of n ∷ []
+one_more n = map-range_with_len_more both_of 0 n n (omega arith)
+
+its_word : (n slot : ℕ) (side : Side) → nat_lt slot n ≡ true → Some (of_side side (both_of slot)) ≡ word_of n slot side
+its_word n slot Client within = rw within refl
+its_word n slot Target within = rw within refl
+
+-- what stands there is the word of that slot
+pub found : (ends : List (WordName × WordName)) (n slot : ℕ) (side : Side) (both : WordName × WordName) → n ≡ length ends → ends ≡ words_of n → true ≡ nat_lt slot (length ends)
+    → both ≡ slice_index_or ends slot both → Some (of_side side both) ≡ word_of n slot side
+found ends n slot side both len named inside is =
+    let within : nat_lt slot n ≡ true = cc in
+    let same : both ≡ both_of slot = rw named at is ∙ get_or-map-range_with_len both_of 0 n slot slot both (ltb-true slot n within) (omega arith) in
+    rw same (its_word n slot side within)
