@@ -1,4 +1,4 @@
-// How much is kept, and how often the writer looks.
+// How much is kept, and how soon the writer looks again.
 use std::time::Duration;
 
 /// The most bytes of a line's text. What follows is cut off.
@@ -7,12 +7,7 @@ pub const MAX_LINE: usize = 240;
 /// The most lines that wait to be written.
 pub const MAX_LINES: usize = 4_096;
 
-/// How long the writer waits until it looks for lines again, if there were some.
+/// How long the writer rests after it found lines, so that those who log meanwhile need not wake it.
 pub(crate) fn soon() -> Duration {
     Duration::from_millis(5)
-}
-
-/// How long it waits if there were none.
-pub(crate) fn later() -> Duration {
-    Duration::from_millis(50)
 }

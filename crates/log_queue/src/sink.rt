@@ -9,7 +9,8 @@ use log::{Line, Log, Metadata, Record};
 use std::fmt::{Display, Write};
 use std::sync::Wait;
 
-/// Puts each record into the queue as the line that a console would show. It takes no memory and makes no system call.
+/// Puts each record into the queue as the line that a console would show. It takes no memory, and no system call unless the
+/// writer sleeps.
 #[derive(Drop)]
 pub struct Queued<'q, R> {
     pub rt: R,

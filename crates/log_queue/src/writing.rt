@@ -1,9 +1,8 @@
 // The thread that writes.
-ghost use Rattle.std.specs.Prelude.{◌≡◌};
+ghost use Rattle.std.specs.Prelude.{◌≡◌, true};
 
-use crate::limits::{later, soon};
 use crate::line::LeftOut;
-use crate::queue::{LogQueue, Look};
+use crate::queue::{Found, LogQueue, Look};
 use log::sink::Console;
 use log::warn;
 use std::io::Eprint;
@@ -13,32 +12,34 @@ use std::sync::Wait;
 /// lines were left out is told once a write has ended after the loss. A line that cannot be written is lost.
 pub fn write_lines<R: Eprint + Wait>(rt: &R, queue: &LogQueue) {
     for _look in rt.forever() {
-        let written = write_waiting(rt, queue, queue.look());
-        if written.is_last {
+        let found = write_waiting(rt, queue, queue.look());
+        if found.look.is_closed {
             queue.end();
             return;
         }
-        queue.wait(rt, if written.some { soon() } else { later() });
+        if found.some {
+            queue.rest(rt);
+        } else {
+            sleep_unless_found(rt, queue, write_waiting(rt, queue, queue.look_last()));
+        }
     }
 }
 
-/// What was written behind a look at the queue.
-#[derive(Drop)]
-struct Written {
-    /// Whether the queue had been closed before the look, so that no line is left.
-    is_last: bool,
-    /// Whether there was a line.
-    some: bool,
+/// Sleeps where nothing was found by the last look.
+fn sleep_unless_found(rt: &impl Wait, queue: &LogQueue, found: Found)
+    requires { found.look.is_last ≡ true }
+{
+    if !found.look.is_closed && !found.some {
+        queue.sleep(rt, found);
+    }
 }
 
 /// Writes the lines that wait, behind a look at the queue.
-fn write_waiting<R: Eprint + Wait>(rt: &R, queue: &LogQueue, look: Look) -> Written
-    ensures { result.is_last ≡ look.is_closed }
+fn write_waiting<R: Eprint + Wait>(rt: &R, queue: &LogQueue, look: Look) -> Found
+    ensures { result.look ≡ look }
 {
-    Written {
-        is_last: look.is_closed,
-        some: write_all(rt, queue),
-    }
+    let some = write_all(rt, queue);
+    Found { look, some }
 }
 
 /// Writes lines until none is left, and answers whether there was one.
