@@ -2,14 +2,20 @@
 ghost use Rattle.std.specs.Prelude.{◌<◌, ◌≤◌, IfSome};
 ghost use Rattle.drill_outside.specs.Sizes.{IsServerSize};
 
-use drill_outside::{MAX_POLLERS, Sizes};
+use drill_outside::Sizes;
 use world::{Lead, Limits};
 
 /// The last generation at which slots may start, which is one below the last.
 const MAX_START: usize = 140_737_488_355_326;
 
+/// The most connections after which a server ends.
+const MAX_STOP: usize = 1_000_000;
+
 /// The most seconds of an idle limit.
 const MAX_IDLE: usize = 86_400;
+
+/// The most pollers.
+const MAX_POLLERS: usize = 16;
 
 /// The words of a header that were not read yet. None behind the last one.
 #[derive(Clone, Copy)]
@@ -17,10 +23,9 @@ struct Words<'a> {
     rest: Option<&'a str>,
 }
 
-/// The sizes of a header: `drill slots=S workers=W ring=R budget=B`, and perhaps ` gen=G`, ` idle=L`, ` pollers=P` and
-/// ` proxy`, in this order. At most 64 slots and 15 workers, since a world that stands beside the server has one worker
-/// more. Every slot starts at generation G, or 0, which is below the last. The idle limit is L seconds; without it there is
-/// none. There are one or two pollers, and as many slots at least. Targets get a PROXY line if the last word says so.
+/// The sizes of a header: `drill slots=S workers=W ring=R budget=B`, and perhaps ` gen=G`, ` idle=L`, ` pollers=P`,
+/// ` stop=N` and ` proxy`, in this order. Every slot starts at generation G, or 0, which is below the last. The idle limit is L seconds; without it there is
+/// none. There are P pollers, or fewer where the slots come to fewer parts of one size. Targets get a PROXY line if the last word says so.
 pub fn read_header(line: &str) -> Option<Sizes>
     ensures { IfSome result IsServerSize }
 {
@@ -33,7 +38,7 @@ pub fn read_header(line: &str) -> Option<Sizes>
     };
     let limits = Limits {
         slots: words.number("slots=", 1, 64)?,
-        workers: words.number("workers=", 1, 15)?,
+        workers: words.number("workers=", 1, 16)?,
         ring: words.number("ring=", 1, 65_536)?,
         budget: words.number("budget=", 1, 1_024)?,
         generation: words.number("gen=", 0, MAX_START).unwrap_or(0) as u64,
@@ -41,28 +46,16 @@ pub fn read_header(line: &str) -> Option<Sizes>
         lead: Lead::NONE,
     };
     let pollers = words.number("pollers=", 1, MAX_POLLERS).unwrap_or(1);
-    if words.rest.is_some() {
+    let stop_after = words.number("stop=", 1, MAX_STOP).unwrap_or(0) as u64;
+    if words.rest.is_some() || pollers > limits.slots {
         return None;
     }
     Some(Sizes {
         limits,
-        half: half(limits.slots, pollers)?,
+        size: (limits.slots - 1) / pollers + 1,
+        stop_after,
         proxy,
     })
-}
-
-/// How many slots the first poller has: all, or half of them and the odd one. There is at least one for each poller.
-fn half(slots: usize, pollers: usize) -> Option<usize>
-    requires { 1 ≤ slots }
-    ensures { IfSome result (λ half. (1 ≤ half) × (half ≤ slots)) }
-{
-    if pollers == 1 {
-        Some(slots)
-    } else if slots > 1 {
-        Some(slots - slots / 2)
-    } else {
-        None
-    }
 }
 
 impl Words<'_> {

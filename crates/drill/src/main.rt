@@ -11,21 +11,18 @@
 //! scripts.
 #![tactic(auto)]
 
-mod actors;
 mod casting;
-mod crew;
+mod compare;
 mod diary;
 mod gate;
 mod header;
+mod likeness;
 mod looking;
-mod parts;
-mod place;
 mod play;
 mod reading;
-mod report;
 mod session;
-mod sheet;
 mod source;
+mod stage;
 
 use std::io::BufReader;
 use std::process::ExitCode;

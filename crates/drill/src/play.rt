@@ -1,8 +1,9 @@
 // One script: the server's steps, and the comparison after each of them.
-use crate::crew::Crew;
+use crate::compare::{Differs, compare};
+use crate::likeness::Difference;
 use crate::reading::{Step, Unread, read_step};
-use crate::report::report_of;
-use drill_outside::{Station, Tape, Unlogged};
+use crate::stage::Stage;
+use drill_outside::{Outside, Tape};
 use log::Log;
 use std::alloc::Global;
 use std::io::{self, ErrorKind};
@@ -23,11 +24,11 @@ pub enum Played {
 pub fn play_line<R: Wait + Log + Print>(
     rt: &R,
     alloc: Global,
-    crew: &Crew<'_>,
+    stage: &Stage,
     line: &str,
 ) -> io::Result<Played> {
     match read_step(alloc, line) {
-        Ok(step) => play(rt, alloc, crew, step),
+        Ok(step) => play(rt, alloc, stage, step),
         Err(Unread::Malformed) => Ok(Played::Malformed),
         Err(Unread::NoMemory) => Err(io::Error::from(ErrorKind::OutOfMemory)),
     }
@@ -36,129 +37,93 @@ pub fn play_line<R: Wait + Log + Print>(
 fn play<R: Wait + Log + Print>(
     rt: &R,
     alloc: Global,
-    crew: &Crew<'_>,
+    stage: &Stage,
     step: Step,
 ) -> io::Result<Played> {
     match step {
         Step::Later(later) => {
-            if let Ok(mut outside) = crew.outside.try_borrow_mut() {
+            if let Ok(mut outside) = stage.outside.try_borrow_mut() {
                 outside.add(later)?;
             }
             return Ok(Played::Agreed);
         }
         Step::Show => {
-            show(rt, alloc, crew)?;
+            show(rt, alloc, stage)?;
             return Ok(Played::Agreed);
         }
-        Step::Own(poller) => crew.turn_alone(rt, alloc, poller),
-        Step::Now(step) => crew.make(rt, alloc, step),
+        Step::Now(step) => stage.make(rt, alloc, step),
     }
-    crew.count_step();
-    if compare(rt, alloc, crew)? {
+    stage.count_step();
+    if agrees(rt, alloc, stage)? {
         Ok(Played::Agreed)
     } else {
         Ok(Played::Differs)
     }
 }
 
-/// Prints for each poller the script of its world and the server's report.
-fn show<R: Wait + Print>(rt: &R, alloc: Global, crew: &Crew<'_>) -> io::Result<()> {
-    for poller in 0..crew.leads.len() {
-        let report = report_of(rt, alloc, crew, poller)?;
-        if let Ok(outside) = crew.outside.try_borrow() {
-            if let Some(station) = outside.stations.get(poller) {
-                show_station(rt, station, report.as_str())?;
-            }
-        }
+/// Prints for each slot the script of its world, and its report.
+fn show<R: Wait + Print>(rt: &R, alloc: Global, stage: &Stage) -> io::Result<()> {
+    let Ok(outside) = stage.outside.try_borrow() else {
+        return Err(io::Error::from(ErrorKind::Other));
+    };
+    for (slot, tape) in outside.tapes.iter().enumerate() {
+        println!(rt; "slot {slot}")?;
+        show_tape(rt, alloc, tape)?;
     }
     Ok(())
 }
 
-fn show_station<R: Print>(rt: &R, station: &Station, report: &str) -> io::Result<()> {
-    let script = station.tape.script.as_str();
+fn show_tape<R: Print>(rt: &R, alloc: Global, tape: &Tape) -> io::Result<()> {
+    let script = tape.script.as_str();
+    let report = script_text::print(alloc, &tape.world)?;
     print!(rt; "script\n{script}report\n{report}end\n")
 }
 
-/// Whether the server's reports are those of the worlds, each poller gets to know of a client that waits, none ends a
-/// round while it could accept, and the log tells of each connection that could not be opened. The first difference is
-/// printed.
-fn compare<R: Wait + Print>(rt: &R, alloc: Global, crew: &Crew<'_>) -> io::Result<bool> {
-    for poller in 0..crew.leads.len() {
-        if !agrees(rt, alloc, crew, poller)? || !hears(rt, crew, poller)? {
-            return Ok(false);
-        }
-    }
-    let (idle, unlogged) = match crew.outside.try_borrow() {
-        Ok(outside) => (outside.idle, outside.unlogged),
-        Err(_) => return Err(io::Error::from(ErrorKind::Other)),
+/// Whether the server and the machines agree. The first difference is printed.
+fn agrees<R: Wait + Print>(rt: &R, alloc: Global, stage: &Stage) -> io::Result<bool> {
+    let Some(differs) = compare(rt, alloc, stage)? else {
+        return Ok(true);
     };
-    is_settled(rt, idle, unlogged)
-}
-
-/// Whether a poller gets to know of a client that waits.
-fn hears<R: Print>(rt: &R, crew: &Crew<'_>, poller: usize) -> io::Result<bool> {
-    let hears = crew.hears(poller);
-    if !hears {
-        println!(rt; "a client waits, and poller {poller} would not accept it")?;
-    }
-    Ok(hears)
-}
-
-/// Whether no poller ended a round too early, and nothing is missing in the log.
-fn is_settled<R: Print>(
-    rt: &R,
-    idle: Option<usize>,
-    unlogged: Option<Unlogged>,
-) -> io::Result<bool> {
-    if let Some(poller) = idle {
-        println!(rt; "poller {poller} ended a round while it could accept")?;
-        return Ok(false);
-    }
-    if let Some(unlogged) = unlogged {
-        let line = unlogged.line();
-        println!(rt; "not in the log: {line}")?;
-        return Ok(false);
-    }
-    Ok(true)
-}
-
-/// Whether the server's report of a poller is that of the poller's world.
-fn agrees<R: Wait + Print>(
-    rt: &R,
-    alloc: Global,
-    crew: &Crew<'_>,
-    poller: usize,
-) -> io::Result<bool> {
-    let report = report_of(rt, alloc, crew, poller)?;
-    let Ok(outside) = crew.outside.try_borrow() else {
+    let Ok(outside) = stage.outside.try_borrow() else {
         return Err(io::Error::from(ErrorKind::Other));
     };
-    let Some(station) = outside.stations.get(poller) else {
-        return Ok(false);
-    };
-    let wanted = script_text::print(alloc, &station.tape.world)?;
-    if station.tape.refused.is_none() && wanted.as_str() == report.as_str() {
-        return Ok(true);
-    }
-    tell(
-        rt,
-        poller,
-        &station.tape,
-        (report.as_str(), wanted.as_str()),
-    )?;
+    tell(rt, alloc, &outside, &differs)?;
     Ok(false)
 }
 
-/// Prints how the server's report of a poller and that of the poller's world differ.
-fn tell<R: Print>(
-    rt: &R,
-    poller: usize,
-    tape: &Tape,
-    (report, wanted): (&str, &str),
-) -> io::Result<()> {
-    if let Some(event) = &tape.refused {
-        println!(rt; "refused by the world of poller {poller}: {event}")?;
+/// Prints a difference.
+fn tell<R: Print>(rt: &R, alloc: Global, outside: &Outside, differs: &Differs) -> io::Result<()> {
+    match differs {
+        Differs::Wrong => {
+            let text = outside.wrong.as_ref().map_or("", |text| text.as_str());
+            println!(rt; "not as it has to be: {text}")
+        }
+        Differs::Poller(poller, difference) => {
+            let Difference { what, server, machine } = *difference;
+            println!(rt; "poller {poller}: {what}: server {server}, machine {machine}")
+        }
+        Differs::RefusedListener(poller) => match outside.stations.get(*poller) {
+            Some(station) => tell_refused(rt, alloc, &station.tape),
+            None => Ok(()),
+        },
+        Differs::Slot(slot, difference) => {
+            let Difference { what, server, machine } = *difference;
+            println!(rt; "slot {slot}: {what}: server {server}, machine {machine}")?;
+            match outside.tapes.get(*slot) {
+                Some(tape) => show_tape(rt, alloc, tape),
+                None => Ok(()),
+            }
+        }
+        Differs::Refused(slot) => match outside.tapes.get(*slot) {
+            Some(tape) => tell_refused(rt, alloc, tape),
+            None => Ok(()),
+        },
     }
-    let script = tape.script.as_str();
-    print!(rt; "poller {poller}\nscript\n{script}server\n{report}world\n{wanted}")
+}
+
+/// Prints the event that a world refused.
+fn tell_refused<R: Print>(rt: &R, alloc: Global, tape: &Tape) -> io::Result<()> {
+    let event = tape.refused.as_ref().map_or("", |text| text.as_str());
+    println!(rt; "refused: {event}")?;
+    show_tape(rt, alloc, tape)
 }

@@ -17,8 +17,6 @@ const MAX_TICK: u64 = 4_294_967_295;
 pub enum Step {
     /// A step that is made at once.
     Now(Inner),
-    /// The own turn of this poller's thread, after a round that left exactly one ticket.
-    Own(usize),
     /// What one of the next calls gets, or what happens between two of them.
     Later(Later),
     /// The world's script and the report are printed.
@@ -62,7 +60,6 @@ fn lone_poller(text: &str) -> Result<usize, Unread> {
 pub fn read_step(alloc: Global, line: &str) -> Result<Step, Unread> {
     let (word, rest) = cut(line);
     match word {
-        "own" => Ok(Step::Own(lone_poller(rest)?)),
         "show" => Ok(Step::Show),
         "accept" | "open" | "poll" | "polled" => {
             let (poller, rest) = cut_poller(rest);
@@ -231,6 +228,7 @@ fn polled(text: &str) -> Result<Polled, Unread> {
             &[
                 ("interrupted", Polled::Interrupted),
                 ("backwards", Polled::Backwards),
+                ("failed", Polled::Failed),
             ],
             word,
         ),

@@ -43,6 +43,7 @@ impl Outside {
             return Err(ErrorKind::Other);
         };
         self.act(Act::Call(reply));
+        self.count_call();
         given(reply, wanted)
     }
 

@@ -69,12 +69,11 @@ fn take_reports(
         return Err(io::Error::from(ErrorKind::Other));
     };
     match outside.poll(poller) {
-        Ok(Some(names)) => {
+        Ok(names) => {
             fill(numbers, names.as_slice());
             Ok(())
         }
-        Ok(None) => Err(io::Error::from(ErrorKind::Interrupted)),
-        Err(_) => Err(io::Error::from(ErrorKind::OutOfMemory)),
+        Err(error) => Err(error),
     }
 }
 
@@ -157,7 +156,7 @@ impl Front for KernelFront {
         }
     }
 
-    fn peer(_client: &EndWire) -> Option<SocketAddr> {
-        None
+    fn peer(client: &EndWire) -> Option<SocketAddr> {
+        client.peer()
     }
 }

@@ -8,7 +8,7 @@ const ELSEWHERE: usize = 64;
 
 /// The number of a slot in the world of the poller that has this part. A slot of another poller, which never occurs,
 /// gets one that no world has.
-pub fn local_slot(part: Part, slot: usize) -> usize {
+fn local_slot(part: Part, slot: usize) -> usize {
     if part.has(slot) {
         slot.saturating_sub(part.first)
     } else {
@@ -17,7 +17,7 @@ pub fn local_slot(part: Part, slot: usize) -> usize {
 }
 
 /// Gives the slots in these names their numbers in the world.
-pub fn make_local(part: Part, names: &mut [Name]) {
+fn make_local(part: Part, names: &mut [Name]) {
     for name in names.iter_mut() {
         *name = local_name(part, *name);
     }

@@ -1,79 +1,66 @@
-// What is outside of the server: for each poller a station, the clients that none of them has accepted yet, and what the
-// next calls get.
+// What is outside of the server: for each poller a station, for each slot a tape, the clients that no poller has accepted
+// yet, what the next calls get, and what the log still has to say.
 ghost use Rattle.drill_outside.specs.Sizes.{IsServerSize};
 
+use crate::addresses::peer_of;
 use crate::plan::Plan;
-use crate::sizes::{MAX_POLLERS, Sizes};
+use crate::sizes::Sizes;
 use crate::station::{Started, Station};
 use crate::step::{Later, Outer, Polled};
+use crate::tape::Tape;
 use crate::ticks::Ticks;
 use crate::totals::Totals;
-use dispatch::{Clock, Unopened, Worked};
+use crate::turn::{Thread, Turn};
+use dispatch::{Clock, MAX_OWN_TURNS, Unopened};
 use kernel_model::{Accepting, MAX_BACKLOG, MAX_POLLED, Watched};
+use log::Level;
+use relay_core::{Fault, Verdict};
 use std::alloc::{AllocError, Global};
+use std::collections::VecDeque;
+use std::io::{self, ErrorKind};
 use std::rc::Rc;
-use token::{Name, Token};
+use token::{MAX_GENERATION, Name, Token};
 use world::{Act, Event, Listening, Polling, Reported};
 
-/// Whose turn it is.
-#[derive(Clone, Copy)]
-pub struct Actor {
-    /// The poller that has the turn's slot.
-    pub poller: usize,
-    /// The worker, by its number in that poller's world.
-    pub worker: usize,
-    /// Whether the turn has read the clock and may still make calls.
-    pub calls: bool,
-}
+/// The most calls of a turn of a poller's own thread.
+const OWN_BUDGET: usize = 8;
 
-impl Actor {
-    /// In no turn.
-    pub const NONE: Actor = Actor {
-        poller: 0,
-        worker: 0,
-        calls: false,
-    };
-}
-
-/// Why a connection could not be opened, which the log has to say.
-#[derive(Clone, Copy)]
-pub enum Unlogged {
-    /// The connection to the target could not be started.
-    Connect,
-    /// A socket could not be watched.
-    Register,
-    /// An address could not be told.
-    Address,
-}
-
-impl Unlogged {
-    /// The message that says so.
-    pub fn line(self) -> &'static str {
-        match self {
-            Unlogged::Connect => "drop kind=connect",
-            Unlogged::Register => "drop kind=register",
-            Unlogged::Address => "drop kind=address",
-        }
-    }
+/// A line of the log.
+#[derive(Drop)]
+pub struct Logged {
+    pub level: Level,
+    pub text: String,
 }
 
 /// What is outside of the server.
 #[derive(Drop)]
 pub struct Outside {
-    sizes: Sizes,
+    alloc: Global,
+    pub sizes: Sizes,
     clock: Rc<Ticks>,
     /// What is each poller's.
     pub stations: Vec<Station>,
+    /// What is each slot's.
+    pub tapes: Vec<Tape>,
     pub plan: Plan,
-    /// How many clients wait outside of all kernels. With one poller a client waits at its listener.
+    /// How many clients wait outside of all kernels.
     waiting: usize,
-    pub actor: Actor,
-    /// A poller whose round ended too early.
-    pub idle: Option<usize>,
-    /// The last log message about a connection's end.
-    message: String,
-    /// What the log still has to say of a connection that could not be opened.
-    pub unlogged: Option<Unlogged>,
+    /// Whose step it is.
+    pub thread: Thread,
+    /// The turn in progress.
+    turn: Option<Turn>,
+    /// How many turns the step has begun.
+    turns: usize,
+    /// How many turns have read the clock and may still make calls.
+    calling: usize,
+    /// The lines that the log has to get next, in order.
+    due: VecDeque<Logged>,
+    /// The first thing that was not as it has to be.
+    pub wrong: Option<String>,
+    /// Whether a thread has met a fault.
+    pub faulty: bool,
+    /// Whether nothing is recorded any more.
+    over: bool,
     pub totals: Totals,
 }
 
@@ -87,17 +74,30 @@ impl Outside {
         requires { IsServerSize sizes }
     {
         Ok(Outside {
+            alloc,
             sizes,
             clock,
             stations: stations_of(alloc, sizes)?,
+            tapes: tapes_of(alloc, sizes)?,
             plan: Plan::new(alloc),
             waiting: 0,
-            actor: Actor::NONE,
-            idle: None,
-            message: String::new(alloc),
-            unlogged: None,
+            thread: Thread::Nobody,
+            turn: None,
+            turns: 0,
+            calling: 0,
+            due: VecDeque::new(alloc),
+            wrong: None,
+            faulty: false,
+            over: false,
             totals,
         })
+    }
+
+    /// Something is not as it has to be.
+    pub fn blame(&mut self, text: &str) {
+        if self.wrong.is_none() && !self.over {
+            self.wrong = String::from_str(self.alloc, text).ok();
+        }
     }
 
     /// Adds what a later call gets.
@@ -111,76 +111,221 @@ impl Outside {
         }
     }
 
-    /// An event has happened in the world of this poller.
-    pub fn record(&mut self, poller: usize, event: Event) {
-        if let Some(station) = self.stations.get_mut(poller) {
-            station.tape.put(event);
+    /// An event has happened in the world of this slot.
+    fn record(&mut self, slot: usize, event: Event) {
+        if let Some(tape) = self.tapes.get_mut(slot) {
+            tape.put(event);
         }
     }
 
-    /// The worker whose turn it is has done this.
-    pub fn act(&mut self, act: Act) {
-        self.record(self.actor.poller, Event::Work(self.actor.worker, act));
+    /// The thread of the turn in progress has done this.
+    pub(crate) fn act(&mut self, act: Act) {
+        if let Some(turn) = self.turn {
+            self.record(turn.slot, Event::Work(0, act));
+        }
     }
 
-    /// A turn begins, of this worker in this poller's world: it has taken a ticket. Answers whose turn it was.
-    pub fn begin(&mut self, poller: usize, worker: usize) -> Actor {
-        let former = self.actor;
-        self.actor = Actor {
-            poller,
-            worker,
-            calls: true,
-        };
-        self.act(Act::Pop);
+    /// A step of this thread begins. Answers what goes on behind it.
+    pub fn enter(&mut self, thread: Thread) -> (Thread, Option<Turn>, usize) {
+        let former = (self.thread, self.turn, self.turns);
+        self.thread = thread;
+        self.turn = None;
+        self.turns = 0;
         former
     }
 
-    /// The slot of the turn in progress was claimed, and its notes were taken.
-    pub fn begin_calls(&mut self) {
-        self.act(Act::Claim);
-        self.act(Act::Take);
+    /// The step is over, and what was before it goes on.
+    pub fn leave(&mut self, former: (Thread, Option<Turn>, usize)) {
+        self.settle();
+        self.end_round();
+        self.thread = former.0;
+        self.turn = former.1;
+        self.turns = former.2;
     }
 
-    /// The turn in progress has made its last call. Its connection has to end now, if the idle limit has passed for it.
+    /// The slot of a turn was claimed, and its notes were taken.
+    pub fn begin_turn(&mut self, slot: usize) {
+        self.settle();
+        self.end_round();
+        self.turns = self.turns.saturating_add(1);
+        self.calling = self.calling.saturating_add(1);
+        let most = match self.thread {
+            Thread::Poller(_) => MAX_OWN_TURNS,
+            _ => 1,
+        };
+        if self.turns > most {
+            self.blame("a step with too many turns");
+        }
+        if let Some(tape) = self.tapes.get_mut(slot) {
+            tape.begin();
+        }
+        self.turn = Some(Turn::new(slot));
+    }
+
+    /// A call of the turn in progress was made.
+    pub(crate) fn count_call(&mut self) {
+        if let Some(turn) = &mut self.turn {
+            turn.calls = turn.calls.saturating_add(1);
+        }
+    }
+
+    /// The turn in progress has made its last call.
     pub fn end_calls(&mut self) {
-        self.actor.calls = false;
-        if let Some(station) = self.stations.get_mut(self.actor.poller) {
-            station.tape.expire(self.actor.worker);
+        let Some(mut turn) = self.turn else {
+            return;
+        };
+        turn.calling = false;
+        self.calling = self.calling.saturating_sub(1);
+        let Some(tape) = self.tapes.get_mut(turn.slot) else {
+            return;
+        };
+        tape.expire();
+        turn.again = tape.is_due_again();
+        self.turn = Some(turn);
+        self.check_calls(turn);
+    }
+
+    /// The log has to tell next what became of the connection of the turn in progress, if that has ended.
+    fn expect_ended(&mut self) {
+        let Some(mut turn) = self.turn else {
+            return;
+        };
+        if turn.calling || turn.logged {
+            return;
+        }
+        turn.logged = true;
+        self.turn = Some(turn);
+        let verdict = match self.tapes.get(turn.slot) {
+            Some(tape) => tape.verdict(),
+            None => None,
+        };
+        if let Some((generation, verdict, counts)) = verdict {
+            self.expect_end(turn.slot, generation, verdict, counts);
         }
     }
 
-    /// How the turn in progress has to end, by the world.
-    pub fn ending(&self) -> Option<Worked> {
-        let station = self.stations.get(self.actor.poller)?;
-        station.tape.ending(self.actor.worker)
-    }
-
-    /// What the turn in progress has done after its last call, by its answer.
-    pub fn finish(&mut self, worked: Option<Worked>) {
-        match worked {
-            None => {}
-            Some(Worked::Busy | Worked::Gone) => self.act(Act::Claim),
-            Some(Worked::Ended) => {
-                self.act(Act::Retire);
-                self.act(Act::Free);
-            }
-            Some(Worked::Again) => {
-                self.act(Act::Post);
-                self.release();
-            }
-            Some(Worked::Quiet) => self.release(),
+    /// A turn that left its connection due has spent its whole budget, and none has spent more.
+    fn check_calls(&mut self, turn: Turn) {
+        let budget = self.sizes.limits.budget;
+        let most = match self.thread {
+            Thread::Poller(_) => budget.min(OWN_BUDGET),
+            _ => budget,
+        };
+        if turn.calls > most || turn.again && turn.calls != most {
+            self.blame("a turn with too few or too many calls");
         }
     }
 
-    /// The slot is released, and a ticket that this made is put.
-    fn release(&mut self) {
-        self.act(Act::Release);
-        let has_ticket = match self.stations.get(self.actor.poller) {
-            Some(station) => station.tape.has_ticket(self.actor.worker),
+    /// The log has to tell of a connection that has ended.
+    fn expect_end(&mut self, slot: usize, generation: u64, verdict: Verdict, counts: (u64, u64)) {
+        let alloc = self.alloc;
+        let (up, down) = counts;
+        match verdict {
+            Verdict::Live => {}
+            Verdict::Done => self.expect(
+                Level::Info,
+                format!(in alloc; "done s={slot} g={generation} up={up} down={down}"),
+            ),
+            Verdict::Failed(Fault::Idle) => {
+                self.expect(Level::Warn, format!(in alloc; "fail s={slot} g={generation} idle"))
+            }
+            Verdict::Failed(Fault::Broken { side, call, kind }) => {
+                let (side, call, kind) = (side.name(), call.name(), kind.name());
+                self.expect(
+                    Level::Warn,
+                    format!(in alloc; "fail s={slot} g={generation} side={side} call={call} kind={kind}"),
+                )
+            }
+        }
+    }
+
+    /// The log has to get this line next.
+    fn expect(&mut self, level: Level, text: Result<String, AllocError>) {
+        if let Ok(text) = text {
+            let _ = self.due.push_back(Logged { level, text });
+        }
+    }
+
+    /// The log gets this line.
+    pub fn log(&mut self, level: Level, text: &str) {
+        if self.due.is_empty() {
+            self.expect_ended();
+        }
+        let due = self.due.pop_front();
+        let is_due = match &due {
+            Some(line) => line.level == level && line.text.as_str() == text,
             None => false,
         };
-        if has_ticket {
-            self.act(Act::Put);
+        if !is_due {
+            let due = due.as_ref().map_or("no line", |line| line.text.as_str());
+            if let Ok(wrong) = format!(in self.alloc; "the log gets `{text}` instead of `{due}`") {
+                self.blame(wrong.as_str());
+            }
+        }
+    }
+
+    /// Whether the log lacks a line. Then that is what is wrong.
+    pub fn check_log(&mut self) {
+        if let Some(line) = self.due.pop_front() {
+            let text = line.text.as_str();
+            if let Ok(wrong) = format!(in self.alloc; "the log lacks `{text}`") {
+                self.blame(wrong.as_str());
+            }
+        }
+    }
+
+    /// The turn before is over: the slot is released or given back.
+    fn settle(&mut self) {
+        let Some(turn) = self.turn else {
+            return;
+        };
+        if turn.closed {
+            self.give_back(turn);
+        } else {
+            if turn.again {
+                self.act(Act::Post);
+            }
+            self.act(Act::Release);
+        }
+        self.turn = None;
+    }
+
+    /// The slot of a turn whose connection was closed is given back, and its poller is woken: by a worker, and by its own
+    /// thread only if no more connections are to be opened.
+    fn give_back(&mut self, turn: Turn) {
+        self.act(Act::Retire);
+        self.act(Act::Free);
+        let is_worn = match self.tapes.get(turn.slot) {
+            Some(tape) => tape.world.table_entry(0) == Some(MAX_GENERATION),
+            None => true,
+        };
+        let alone = matches!(self.thread, Thread::Poller(_));
+        let poller = self.sizes.poller_of(turn.slot);
+        if let Some(station) = self.stations.get_mut(poller) {
+            if !is_worn {
+                let _ = station.free.push_back(turn.slot);
+            }
+            if !alone || station.has_opened_all() {
+                station.tape.put(Event::Spurious(Reported::Waker));
+            }
+        }
+    }
+
+    /// A poller's round has ended, which its step began with.
+    fn end_round(&mut self) {
+        let Thread::Poller(poller) = self.thread else {
+            return;
+        };
+        let Some(station) = self.stations.get_mut(poller) else {
+            return;
+        };
+        if !station.in_round {
+            return;
+        }
+        station.in_round = false;
+        station.end_round();
+        if !station.may_rest() {
+            self.blame("a poller ended a round while it could accept");
         }
     }
 
@@ -188,41 +333,53 @@ impl Outside {
     /// listener vanishes.
     pub fn happen(&mut self, outer: Outer) {
         let Outer { poller, event } = outer;
-        let poller = match &event {
-            Event::Tick(seconds) => return self.tick(*seconds),
-            Event::Listen(Listening::Connect) => return self.connect(),
-            Event::Vanish(Reported::Listener) if self.waiting > 0 => return,
+        match &event {
+            Event::Tick(seconds) => self.tick(*seconds),
+            Event::Listen(Listening::Connect) => self.connect(),
+            Event::Vanish(Reported::Listener) if self.waiting > 0 => {}
             Event::Network(slot, _, _)
             | Event::Spurious(Reported::End(slot, _))
-            | Event::Vanish(Reported::End(slot, _)) => self.sizes.poller_of(*slot),
-            _ => poller,
-        };
-        self.tell(poller, event);
+            | Event::Vanish(Reported::End(slot, _)) => {
+                let slot = *slot;
+                self.change(slot, event);
+            }
+            _ => {
+                if let Some(station) = self.stations.get_mut(poller) {
+                    station.happen(event);
+                }
+            }
+        }
     }
 
-    fn tell(&mut self, poller: usize, event: Event) {
-        if let Some(station) = self.stations.get_mut(poller) {
-            station.happen(event);
+    /// Something happens to an end of this slot.
+    fn change(&mut self, slot: usize, event: Event) {
+        let poller = self.sizes.poller_of(slot);
+        let made = match self.stations.get_mut(poller) {
+            Some(station) => station.make(&event).is_ok(),
+            None => false,
+        };
+        if made {
+            self.record(slot, event);
         }
     }
 
     /// The clock goes on, and so does the second of each world, if there is an idle limit. Nothing happens while a turn
     /// that has read the clock may still make calls: the server makes them at the second that it read.
     fn tick(&mut self, seconds: u64) {
-        if self.sizes.limits.idle == 0 || self.actor.calls || !self.clock.go_on(seconds) {
+        if self.sizes.limits.idle == 0 || self.calling > 0 || !self.clock.go_on(seconds) {
             return;
         }
         for station in self.stations.iter_mut() {
             station.tape.put(Event::Tick(seconds));
         }
+        for tape in self.tapes.iter_mut() {
+            tape.put(Event::Tick(seconds));
+        }
     }
 
-    /// A client connects. If there are several pollers, it waits outside of their kernels, and is reported to each that
-    /// was told at its last try that nobody waits. The others are going to try again in any case.
+    /// A client connects. It waits outside of the kernels, and is reported to each poller that was told at its last try
+    /// that nobody waits. The others are going to try again in any case.
     fn connect(&mut self) {
-        if self.stations.len() == 1 {
-            return self.tell(0, Event::Listen(Listening::Connect));
-        }
         if self.waiting >= MAX_BACKLOG {
             return;
         }
@@ -234,7 +391,7 @@ impl Outside {
         }
     }
 
-    /// Whether no client waits for any of several pollers, or else this one's next poll tells of the listener.
+    /// Whether no client waits, or else this poller's next poll tells of the listener.
     pub fn hears(&self, poller: usize) -> bool {
         match self.stations.get(poller) {
             Some(station) => self.waiting == 0 || station.kernel.is_queued(&Name::Listener),
@@ -242,46 +399,90 @@ impl Outside {
         }
     }
 
-    /// A poller's poll: the names that it gives. None where a signal came first.
-    pub(crate) fn poll(&mut self, poller: usize) -> Result<Option<Vec<Name>>, AllocError> {
+    /// A poller's poll: the names that it gives, or the error by which it fails.
+    pub(crate) fn poll(&mut self, poller: usize) -> io::Result<Vec<Name>> {
         let Some(station) = self.stations.get_mut(poller) else {
-            return Ok(None);
+            return Err(io::Error::from(ErrorKind::Other));
         };
         let polled = station.plan.polls.pop_front();
+        if polled == Some(Polled::Failed) {
+            station.failed = true;
+            self.faulty = true;
+            return self.fail_poll();
+        }
         let names = station.poll(polled)?;
+        self.take_names(names.as_slice())?;
         for _event in 0..MAX_POLLED {
             let Some(outer) = self.next_polled(poller) else {
                 break;
             };
             self.happen(outer);
         }
-        self.deliver(poller, names.len());
+        self.deliver(poller, names.as_slice());
         match polled {
-            Some(Polled::Interrupted) => Ok(None),
-            _ => Ok(Some(names)),
+            Some(Polled::Interrupted) => Err(io::Error::from(ErrorKind::Interrupted)),
+            _ => Ok(names),
         }
+    }
+
+    /// A poll fails, which the log has to say.
+    fn fail_poll(&mut self) -> io::Result<Vec<Name>> {
+        let error = io::Error::from(ErrorKind::PermissionDenied);
+        let text = format!(in self.alloc; "poll: {error}");
+        self.expect(Level::Error, text);
+        Err(error)
     }
 
     fn next_polled(&mut self, poller: usize) -> Option<Outer> {
         self.stations.get_mut(poller)?.plan.polled.pop_front()
     }
 
-    /// A poller delivers so many reports, and then its round comes to its sweep.
-    fn deliver(&mut self, poller: usize, reports: usize) {
-        let second = self.clock.second();
-        if let Some(station) = self.stations.get_mut(poller) {
-            for _report in 0..reports {
-                station.tape.put(Event::Poll(Polling::Deliver));
+    /// The worlds of the slots take their names from their queues.
+    fn take_names(&mut self, names: &[Name]) -> Result<(), AllocError> {
+        for slot in 0..self.tapes.len() {
+            let mut own = Vec::new(self.alloc);
+            for name in names {
+                if is_of(name, slot) {
+                    own.push(*name)?;
+                }
             }
-            station.sweep(second);
+            if !own.is_empty() {
+                self.record(slot, Event::Poll(Polling::Poll(own)));
+            }
+        }
+        Ok(())
+    }
+
+    /// A poller delivers these reports, and then its round comes to its sweep.
+    fn deliver(&mut self, poller: usize, names: &[Name]) {
+        for name in names {
+            match name {
+                Name::End(token) => self.record(token.slot(), Event::Poll(Polling::Deliver)),
+                Name::Listener | Name::Waker => {
+                    if let Some(station) = self.stations.get_mut(poller) {
+                        station.tape.put(Event::Poll(Polling::Deliver));
+                    }
+                }
+            }
+        }
+        let second = self.clock.second();
+        let Some(station) = self.stations.get_mut(poller) else {
+            return;
+        };
+        if station.falls_due(second) {
+            let part = station.part;
+            self.sweep(part.first, part.slots);
         }
     }
 
-    /// A poller's round has ended although its accept flag is up and a slot is free.
-    pub fn expect_rest(&mut self, poller: usize) {
-        if let Some(station) = self.stations.get(poller) {
-            if !station.may_rest() {
-                self.idle = Some(poller);
+    /// A note for each of these slots in which a connection was ever opened.
+    fn sweep(&mut self, first: usize, slots: usize) {
+        for index in 0..slots {
+            let slot = first.saturating_add(index);
+            if let Some(tape) = self.tapes.get_mut(slot) {
+                if tape.world.table_entry(0).unwrap_or(0) > 0 {
+                    tape.put(Event::Poll(Polling::Sweep(slot)));
+                }
             }
         }
     }
@@ -291,13 +492,21 @@ impl Outside {
         let Some(station) = self.stations.get_mut(poller) else {
             return Accepting::Starved;
         };
-        let is_in = station.kernel.backlog() > 0;
-        let reply = station.accept(is_in || self.waiting > 0);
-        if reply == Accepting::Accepted && !is_in {
+        let reply = station.accept(self.waiting > 0);
+        let (all, told) = (station.has_opened_all(), station.starved);
+        if reply == Accepting::Accepted {
             station.let_in();
             self.waiting = self.waiting.saturating_sub(1);
         } else {
             station.answer(reply);
+        }
+        if all {
+            self.blame("accept(2) after the last connection of a poller");
+        }
+        if reply == Accepting::Starved && !told {
+            let error = io::Error::from(ErrorKind::Other);
+            let text = format!(in self.alloc; "accept: {error}");
+            self.expect(Level::Error, text);
         }
         reply
     }
@@ -310,33 +519,62 @@ impl Outside {
         client: Token,
         target: Token,
     ) -> Result<Started, Unopened> {
+        let (slot, generation) = (client.slot(), client.generation());
         let started = match self.stations.get_mut(poller) {
             Some(station) => station.open(client, target),
             None => Err(Unopened::Connect),
         };
-        if self.unlogged.is_none() {
-            self.unlogged = unlogged_of(&started);
+        match &started {
+            Err(Unopened::Connect) => self.expect_drop("connect"),
+            Err(Unopened::Register) => self.expect_drop("register"),
+            Ok(started) if started.ends.is_none() => self.expect_drop("address"),
+            Ok(_) => self.opened(poller, slot, generation),
         }
         started
     }
 
-    /// The server logs this.
-    pub fn log(&mut self, message: String) {
-        if let Some(unlogged) = self.unlogged {
-            if message.as_str() == unlogged.line() {
-                self.unlogged = None;
-            }
+    fn expect_drop(&mut self, cause: &str) {
+        let text = format!(in self.alloc; "drop kind={cause}");
+        self.expect(Level::Warn, text);
+    }
+
+    /// A poller has opened a connection in this slot, which has to be its first free one.
+    fn opened(&mut self, poller: usize, slot: usize, generation: u64) {
+        let alloc = self.alloc;
+        let first = match self.stations.get_mut(poller) {
+            Some(station) => station.take_free(),
+            None => None,
+        };
+        if first != Some(slot) {
+            self.blame("a poller opened another slot than its first free one");
         }
-        self.message = message;
+        self.record(slot, Event::Listen(Listening::Connect));
+        self.record(slot, Event::Listen(Listening::Accept(Accepting::Accepted)));
+        self.record(slot, Event::Poll(Polling::Open));
+        let from = peer_of(slot, generation);
+        self.expect(
+            Level::Debug,
+            format!(in alloc; "peer s={slot} g={generation} from={from}"),
+        );
+        self.expect(Level::Info, format!(in alloc; "open s={slot} g={generation}"));
     }
 
     /// An end of a poller's kernel is closed.
     pub(crate) fn close(&mut self, poller: usize, descriptor: usize, token: Token) {
-        let Some(station) = self.stations.get_mut(poller) else {
-            return;
+        let slot = token.slot();
+        let both = match self.stations.get_mut(poller) {
+            Some(station) => station.close(descriptor, slot),
+            None => return,
         };
-        if station.close(descriptor, token, self.message.as_str()) {
+        let in_turn = matches!(self.turn, Some(turn) if turn.slot == slot && turn.logged);
+        if !in_turn {
+            self.blame("an end was closed outside of its turn, or before the log told of it");
+        }
+        if both {
             self.act(Act::Close);
+            if let Some(turn) = &mut self.turn {
+                turn.closed = true;
+            }
         }
     }
 
@@ -348,35 +586,51 @@ impl Outside {
         }
     }
 
+    /// All pollers have been woken.
+    pub fn expect_wakes(&mut self) {
+        for station in self.stations.iter_mut() {
+            station.tape.put(Event::Spurious(Reported::Waker));
+        }
+    }
+
     /// Nothing that happens from now on is recorded. Answers what was played in all.
     pub fn end(&mut self) -> Totals {
+        self.over = true;
         for station in self.stations.iter_mut() {
             station.tape.over = true;
             self.totals.add(&station.tape.totals);
+        }
+        for tape in self.tapes.iter_mut() {
+            tape.over = true;
+            self.totals.add(&tape.totals);
         }
         self.totals
     }
 }
 
-/// Why a connection could not be opened, if it could not.
-fn unlogged_of(started: &Result<Started, Unopened>) -> Option<Unlogged> {
-    match started {
-        Err(Unopened::Connect) => Some(Unlogged::Connect),
-        Err(Unopened::Register) => Some(Unlogged::Register),
-        Ok(started) if started.ends.is_none() => Some(Unlogged::Address),
-        Ok(_) => None,
-    }
+/// Whether a report is about an end of this slot.
+fn is_of(name: &Name, slot: usize) -> bool {
+    matches!(name, Name::End(token) if token.slot() == slot)
 }
 
 /// A station for each poller of a server of these sizes.
 fn stations_of(alloc: Global, sizes: Sizes) -> Result<Vec<Station>, AllocError>
     requires { IsServerSize sizes }
 {
-    let mut stations = Vec::with_capacity(alloc, MAX_POLLERS)?;
-    for poller in 0..MAX_POLLERS {
-        if let Some(part) = sizes.part(poller) {
-            stations.push(Station::new(alloc, sizes, part, poller)?)?;
-        }
+    let mut stations = Vec::with_capacity(alloc, sizes.pollers())?;
+    for poller in 0..sizes.pollers() {
+        stations.push(Station::new(alloc, sizes, poller)?)?;
     }
     Ok(stations)
+}
+
+/// A tape for each slot of a server of these sizes.
+fn tapes_of(alloc: Global, sizes: Sizes) -> Result<Vec<Tape>, AllocError>
+    requires { IsServerSize sizes }
+{
+    let mut tapes = Vec::with_capacity(alloc, sizes.limits.slots)?;
+    for slot in 0..sizes.limits.slots {
+        tapes.push(Tape::of_slot(alloc, sizes, slot)?)?;
+    }
+    Ok(tapes)
 }

@@ -1,8 +1,7 @@
 // One poller's share of what is outside: the kernel as its epoll instance shows it, and the world beside it.
-ghost use Rattle.drill_outside.specs.Sizes.{IsServerPart, IsServerSize};
+ghost use Rattle.drill_outside.specs.Sizes.{IsServerSize};
 
-use crate::addresses::{lead_of, route_of};
-use crate::past::Past;
+use crate::addresses::route_of;
 use crate::plan::RoundPlan;
 use crate::sizes::Sizes;
 use crate::step::{Outcome, Polled};
@@ -11,8 +10,9 @@ use crate::tape::Tape;
 use dispatch::{MAX_ACCEPTS, Part, Route, Unopened};
 use kernel_model::{Accepting, Descriptors, Kernel, MAX_POLLED, Refusal, Watched};
 use std::alloc::{AllocError, Global};
+use std::collections::VecDeque;
 use token::{Name, Side, Token};
-use world::{Change, Event, Lead, Listening, Polling, Reported};
+use world::{Change, Event, Listening, Polling, Reported};
 
 /// The most descriptors that a kernel has: two for each slot.
 const MOST: usize = 128;
@@ -33,10 +33,14 @@ pub struct Station {
     /// The ends of this poller's connections, and its reports.
     pub kernel: Kernel,
     pub plan: RoundPlan,
+    /// The world of its listener and its waker, in which nothing is ever opened.
     pub tape: Tape,
-    pub past: Past,
     /// The slots of this poller.
-    part: Part,
+    pub(crate) part: Part,
+    /// Its free slots, in the order in which they are to be used.
+    pub free: VecDeque<usize>,
+    /// How many connections it may still open.
+    left: u64,
     sweeps: Sweeps,
     poller: usize,
     /// Whether targets get a PROXY line.
@@ -44,36 +48,34 @@ pub struct Station {
     /// How often accept(2) was called since the last poll.
     tries: usize,
     /// Whether accept(2) was starved when it was last called.
-    starved: bool,
+    pub(crate) starved: bool,
+    /// Whether a round has begun, and not ended.
+    pub(crate) in_round: bool,
+    /// Whether it is over: all that it may open was opened, and all its slots were free at the end of its last round.
+    pub over: bool,
+    /// Whether its poll has failed.
+    pub failed: bool,
+    /// The client's end of this slot was closed, and the target's was not.
+    half: Option<usize>,
 }
 
 impl Station {
-    pub(crate) fn new(
-        alloc: Global,
-        sizes: Sizes,
-        part: Part,
-        poller: usize,
-    ) -> Result<Station, AllocError>
-        requires sizes { IsServerSize sizes }
-        requires part { IsServerPart part }
+    pub(crate) fn new(alloc: Global, sizes: Sizes, poller: usize) -> Result<Station, AllocError>
+        requires { IsServerSize sizes }
     {
-        let lead = if sizes.proxy {
-            lead_of(poller)
-        } else {
-            Lead::NONE
+        let first = sizes.size.saturating_mul(poller);
+        let part = Part {
+            first,
+            slots: sizes.size.min(sizes.limits.slots.saturating_sub(first)),
         };
         Ok(Station {
             alloc,
             kernel: Kernel::new(alloc),
             plan: RoundPlan::new(alloc),
-            tape: Tape::new(alloc, sizes, part, lead)?,
-            past: Past {
-                alloc,
-                part,
-                lines: String::new(alloc),
-                half: None,
-            },
+            tape: Tape::of_listener(alloc, sizes)?,
+            free: slots_of(alloc, part)?,
             part,
+            left: sizes.share_of(poller),
             sweeps: Sweeps {
                 limit: sizes.limits.idle,
                 last: 0,
@@ -82,6 +84,10 @@ impl Station {
             proxy: sizes.proxy,
             tries: 0,
             starved: false,
+            in_round: false,
+            over: false,
+            failed: false,
+            half: None,
         })
     }
 
@@ -92,7 +98,7 @@ impl Station {
         }
     }
 
-    fn make(&mut self, event: &Event) -> Result<(), Refusal> {
+    pub(crate) fn make(&mut self, event: &Event) -> Result<(), Refusal> {
         match event {
             Event::Listen(Listening::Connect) => self.kernel.connect_in(),
             Event::Spurious(who) => {
@@ -129,7 +135,7 @@ impl Station {
     }
 
     /// The descriptor of the open end of this slot and side.
-    fn descriptor(&self, slot: usize, side: Side) -> Result<usize, Refusal> {
+    pub fn descriptor(&self, slot: usize, side: Side) -> Result<usize, Refusal> {
         for descriptor in 0..MOST {
             if let Some(open) = self.kernel.end(descriptor) {
                 if open.token.slot() == slot && open.token.side() == side {
@@ -144,8 +150,15 @@ impl Station {
     pub(crate) fn poll(&mut self, polled: Option<Polled>) -> Result<Vec<Name>, AllocError> {
         let names = self.chosen(polled)?;
         self.tries = 0;
+        self.in_round = true;
         let _ = self.kernel.poll(names.as_slice());
-        self.tape.put(Event::Poll(Polling::Poll(names.as_slice().to_vec(self.alloc)?)));
+        let mut own = Vec::new(self.alloc);
+        for name in &names {
+            if !matches!(name, Name::End(_)) {
+                own.push(*name)?;
+            }
+        }
+        self.tape.put(Event::Poll(Polling::Poll(own)));
         Ok(names)
     }
 
@@ -154,7 +167,7 @@ impl Station {
         let most = match polled {
             Some(Polled::Interrupted) => 0,
             Some(Polled::First(most)) => most.min(MAX_POLLED),
-            Some(Polled::Backwards) | None => MAX_POLLED,
+            Some(Polled::Backwards | Polled::Failed) | None => MAX_POLLED,
         };
         let mut names = self.kernel.queue().to_vec(self.alloc)?;
         names.truncate(most);
@@ -164,18 +177,26 @@ impl Station {
         Ok(names)
     }
 
-    /// A round has delivered its reports at this second. If a sweep is due, each slot that the table has opened is posted to,
-    /// in rising order.
-    pub(crate) fn sweep(&mut self, second: u64) {
-        if !self.sweeps.falls_due(second) {
-            return;
-        }
-        for slot in 0..self.part.slots {
-            if self.tape.world.table_entry(slot).unwrap_or(0) > 0 {
-                let slot = self.part.first.saturating_add(slot);
-                self.tape.put(Event::Poll(Polling::Sweep(slot)));
-            }
-        }
+    /// Whether a sweep is due at this second, which is then the last one.
+    pub(crate) fn falls_due(&mut self, second: u64) -> bool {
+        self.sweeps.falls_due(second)
+    }
+
+    /// Whether it has opened all that it may open.
+    pub(crate) fn has_opened_all(&self) -> bool {
+        self.left == 0
+    }
+
+    /// It opens a connection in its first free slot.
+    pub(crate) fn take_free(&mut self) -> Option<usize> {
+        self.left = self.left.saturating_sub(1);
+        self.free.pop_front()
+    }
+
+    /// Its round has ended. A slot that has had its last connection never comes back: a server that is to end has opened
+    /// too few for that.
+    pub(crate) fn end_round(&mut self) {
+        self.over = self.has_opened_all() && self.free.len() >= self.part.slots;
     }
 
     /// What accept(2) is answered, where a client waits or not.
@@ -191,9 +212,12 @@ impl Station {
     /// accept(2) was answered so.
     pub(crate) fn answer(&mut self, reply: Accepting) {
         self.tries = self.tries.saturating_add(1);
-        self.starved = reply == Accepting::Starved;
+        self.starved = reply == Accepting::Starved || reply == Accepting::Again && self.starved;
         let _ = self.kernel.accept(reply);
         self.tape.put(Event::Listen(Listening::Accept(reply)));
+        if reply == Accepting::Accepted {
+            self.tape.put(Event::Listen(Listening::Drop));
+        }
     }
 
     /// A client that waited outside of the kernel comes in and is accepted at once. If it is reported on the way, the
@@ -207,10 +231,11 @@ impl Station {
         }
     }
 
-    /// Whether a round may end here although a client may wait and a slot is free: it has tried accept(2) as often as a
-    /// round does, or the system lacked what that needs.
+    /// Whether a round may end here: it could not accept, has tried accept(2) as often as a round does, or the system lacked
+    /// what that needs.
     pub(crate) fn may_rest(&self) -> bool {
-        self.starved || self.tries >= MAX_ACCEPTS
+        let could = self.tape.world.accept_flag() && !self.free.is_empty() && !self.has_opened_all();
+        !could || self.starved || self.tries >= MAX_ACCEPTS
     }
 
     /// Both ends of an accepted connection are opened, or that fails: as it is planned, or for want of memory. Answers its
@@ -229,18 +254,28 @@ impl Station {
         let Ok(ends) = self.kernel.open_both(client, target) else {
             return Err(Unopened::Connect);
         };
-        self.tape.put(Event::Poll(Polling::Open));
         Ok(Started {
             ends: Some(ends),
             route,
         })
     }
 
-    /// An end is closed, after this log message. Answers whether that was the second of its connection.
-    pub(crate) fn close(&mut self, descriptor: usize, token: Token, message: &str) -> bool {
-        match self.kernel.close(descriptor) {
-            Ok(end) => self.past.close(token, end, message) == Ok(true),
-            Err(_) => false,
+    /// An end of this slot is closed. Answers whether that was the second of its connection.
+    pub(crate) fn close(&mut self, descriptor: usize, slot: usize) -> bool {
+        if self.kernel.close(descriptor).is_err() {
+            return false;
         }
+        let is_second = self.half == Some(slot);
+        self.half = if is_second { None } else { Some(slot) };
+        is_second
     }
+}
+
+/// The slots of a part, in rising order.
+fn slots_of(alloc: Global, part: Part) -> Result<VecDeque<usize>, AllocError> {
+    let mut slots = VecDeque::new(alloc);
+    for index in 0..part.slots {
+        slots.push_back(part.first.saturating_add(index))?;
+    }
+    Ok(slots)
 }

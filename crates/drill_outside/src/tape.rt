@@ -1,14 +1,16 @@
-// The events to which the server's steps amount at the slots of one poller, and the world that they lead to.
-ghost use Rattle.drill_outside.specs.Sizes.{IsServerPart, IsServerSize};
+// The events to which the server's steps amount at one slot, and the world that they lead to.
+ghost use Rattle.drill_outside.specs.Sizes.{IsServerSize};
 
+use crate::addresses::lead_of;
 use crate::local::local_event;
 use crate::page::{Page, Piece};
 use crate::sizes::Sizes;
 use crate::totals::Totals;
 use crate::words::{WORDS, kind_of, put_event};
-use dispatch::{Part, Worked};
+use dispatch::Part;
 use std::alloc::{AllocError, Global};
-use world::{Act, Doing, Event, Lead, Limits, World};
+use relay_core::Verdict;
+use world::{Act, Event, Lead, Limits, Polling, World};
 
 /// A world that makes each event at once, and the script of these events.
 #[derive(Drop)]
@@ -21,25 +23,37 @@ pub struct Tape {
     /// The line of the first event that the world refused.
     pub refused: Option<String>,
     /// Whether no event is recorded any more.
-    pub(crate) over: bool,
+    pub over: bool,
     pub(crate) totals: Totals,
 }
 
 impl Tape {
-    /// The opening world of a poller with these slots, in a server of these sizes: it has one worker more, for the turns
-    /// of the poller's thread. Its targets get this lead.
-    pub(crate) fn new(
-        alloc: Global,
-        sizes: Sizes,
-        part: Part,
-        lead: Lead,
-    ) -> Result<Tape, AllocError>
-        requires sizes { IsServerSize sizes }
-        requires part { IsServerPart part }
+    /// The opening world of a slot in a server of these sizes. Its target gets the lead of the slot's poller.
+    pub(crate) fn of_slot(alloc: Global, sizes: Sizes, slot: usize) -> Result<Tape, AllocError>
+        requires { IsServerSize sizes }
+    {
+        let lead = if sizes.proxy {
+            lead_of(sizes.poller_of(slot))
+        } else {
+            Lead::NONE
+        };
+        Tape::new(alloc, sizes, Part { first: slot, slots: 1 }, lead)
+    }
+
+    /// The opening world of a listener in a server of these sizes.
+    pub(crate) fn of_listener(alloc: Global, sizes: Sizes) -> Result<Tape, AllocError>
+        requires { IsServerSize sizes }
+    {
+        Tape::new(alloc, sizes, Part { first: 0, slots: 0 }, Lead::NONE)
+    }
+
+    /// The opening world of one slot, with one worker.
+    fn new(alloc: Global, sizes: Sizes, part: Part, lead: Lead) -> Result<Tape, AllocError>
+        requires { IsServerSize sizes }
     {
         let limits = Limits {
-            slots: part.slots,
-            workers: sizes.limits.workers + 1,
+            slots: 1,
+            workers: 1,
             lead,
             ..sizes.limits
         };
@@ -86,9 +100,21 @@ impl Tape {
         Ok(line)
     }
 
-    /// The connection that the world's worker of this number holds expires, if the world has it past the idle limit.
-    pub(crate) fn expire(&mut self, worker: usize) {
-        let event = Event::Work(worker, Act::Expire);
+    /// A turn begins: the ticket is put, wherever it is, and taken.
+    pub(crate) fn begin(&mut self) {
+        if !self.world.poller_hand().is_empty() {
+            self.put(Event::Poll(Polling::Put));
+        } else if self.world.ready().is_empty() {
+            self.put(Event::Work(0, Act::Put));
+        }
+        for act in [Act::Pop, Act::Claim, Act::Take] {
+            self.put(Event::Work(0, act));
+        }
+    }
+
+    /// The connection of the turn in progress expires, if the world has it past the idle limit.
+    pub(crate) fn expire(&mut self) {
+        let event = Event::Work(0, Act::Expire);
         if self.over || self.world.step(&event).is_err() {
             return;
         }
@@ -97,25 +123,18 @@ impl Tape {
         }
     }
 
-    /// Whether the world's worker of this number has a ticket to put.
-    pub(crate) fn has_ticket(&self, worker: usize) -> bool {
-        match self.world.workers().get(worker) {
-            Some(worker) => !worker.hand().is_empty(),
+    /// Whether the connection has a call to make.
+    pub(crate) fn is_due_again(&self) -> bool {
+        match self.world.connection(0) {
+            Some(connection) => connection.pair.next().is_some(),
             None => false,
         }
     }
 
-    /// How the turn of the world's worker of this number has to end. None if it is in no turn.
-    pub(crate) fn ending(&self, worker: usize) -> Option<Worked> {
-        match self.world.workers().get(worker)?.doing() {
-            Doing::Idle | Doing::Retired(_) => None,
-            Doing::Tries(_) => Some(Worked::Busy),
-            Doing::Closed(_) => Some(Worked::Ended),
-            Doing::Holds(slot, _) => match self.world.connection(slot)?.pair.next() {
-                Some(_) => Some(Worked::Again),
-                None => Some(Worked::Quiet),
-            },
-        }
+    /// The generation of the connection, what has become of it, and how many bytes went up and down.
+    pub(crate) fn verdict(&self) -> Option<(u64, Verdict, (u64, u64))> {
+        let pair = &self.world.connection(0)?.pair;
+        Some((pair.generation(), pair.verdict(), pair.counts()))
     }
 }
 
