@@ -28,6 +28,9 @@ class Maker:
         ends = random.Random(f"ends {seed}")
         self.stop = ends.randint(1, 8) if ends.random() < 1 / 3 else None
         self.faults = 0.02 if ends.random() < 0.2 else 0.0
+        # Now and then something happens at many slots at once, so that a round has many tickets.
+        self.crowd = random.Random(f"crowd {seed}")
+        self.bursts = self.crowd.choice([0.0, 0.1]) if self.slots > 2 else 0.0
         # An idle limit in about one script of three, and what the clock does, which is a choice of its own, too.
         self.time = random.Random(f"day {seed}")
         self.idle = self.time.randint(1, 4) if self.time.random() < 1 / 3 else None
@@ -36,9 +39,13 @@ class Maker:
         self.proxy = self.line.random() < 0.2
 
     def script(self):
-        """The lines: a header, and steps."""
+        """The lines: a header, and steps. A large server begins with many connections in about one script of two."""
         lines = [self.header()]
+        if self.slots > 16 and self.bursts:
+            lines += ["connect"] * self.slots + [f"round {poller}" for poller in range(self.pollers)] * 7
         for _ in range(self.steps):
+            if self.crowd.random() < self.bursts:
+                lines += self.burst()
             while self.random.random() < self.oddity:
                 lines.append(self.later())
             while self.random.random() < self.inside:
@@ -51,6 +58,19 @@ class Maker:
             if self.idle is not None:
                 lines += self.ticks()
         return lines
+
+    def burst(self):
+        """Bytes, or a report alone, at most slots, and a round of each poller."""
+        lines = []
+        for slot in range(self.slots):
+            what = self.crowd.random()
+            side = self.crowd.choice(["client", "target"])
+            if what < 0.3:
+                data = bytes(self.crowd.randrange(256) for _ in range(self.crowd.randint(1, 20)))
+                lines += [f"arrive {slot} {side} {data.hex()}", f"room {slot} {'target' if side == 'client' else 'client'}"]
+            elif what < 0.9:
+                lines.append(f"spurious {slot} {side}")
+        return lines + [f"round {poller}" for poller in range(self.pollers)]
 
     def header(self):
         ring = self.random.randint(1, 8)

@@ -32,17 +32,6 @@ impl Split {
         }
     }
 
-    /// Parts of this size, of which the last may be smaller.
-    pub fn of_size(slots: usize, size: usize) -> Split
-        requires slots { (1 ≤ slots) × (slots ≤ 4096) }
-        requires size { (1 ≤ size) × (size ≤ slots) }
-        requires few { parts_of slots size ≤ 16 }
-        ensures slots { result.slots ≡ slots }
-        ensures size { result.size ≡ size }
-    {
-        Split { slots, size }
-    }
-
     /// How many slots there are.
     pub fn slots(&self) -> usize
         ensures { result ≡ self.now.slots }

@@ -1,9 +1,9 @@
 // The threads of the server of a script, made from its settings as the product makes them.
-ghost use Rattle.std.specs.Prelude.{◌≤◌, ◌≡◌, length, IfOk};
+ghost use Rattle.std.specs.Prelude.{◌≤◌, ◌≡◌, length};
 ghost use Rattle.drill_outside.specs.Sizes.{IsServerSize};
 
 use crate::stage::{Player, Stage};
-use dispatch::{Poller, ServerFault, Split};
+use dispatch::{Poller, ServerFault};
 use drill_outside::{KernelFront, Outside, Sizes, Ticks};
 use server::build;
 use settings::{Settings, parse};
@@ -12,9 +12,6 @@ use std::cell::RefCell;
 use std::rc::Rc;
 use std::sync::{Arc, Wait};
 use threads::{Cast, Ending, Rest, Server, divide};
-
-/// The most pollers.
-const MOST: usize = 16;
 
 /// A server of these sizes over this cell and by this clock.
 pub fn stage_of<R: Wait>(
@@ -27,33 +24,30 @@ pub fn stage_of<R: Wait>(
     requires { IsServerSize sizes }
 {
     let settings = settings_of(alloc, sizes)?;
-    let split = split_of(&settings, sizes)?;
-    let cast = cast_of(rt, alloc, &outside, &settings, split, sizes)?;
     let Cast {
-        mut pollers,
+        pollers,
         mut workers,
-    } = cast;
-    let mut stage = Stage {
+    } = cast_of(rt, alloc, &outside, &settings, sizes)?;
+    workers.reverse();
+    Ok(Stage {
         sizes,
-        split,
         outside,
         clock,
-        ending: Ending::new(split.pollers()),
-        pollers: Vec::new(alloc),
-        workers: Vec::new(alloc),
-    };
-    for _poller in 0..pollers.len() {
-        if let Some(thread) = pollers.pop() {
-            stage.pollers.push(Player::new(thread))?;
+        ending: Ending::new(pollers.len()),
+        pollers: players(alloc, pollers)?,
+        workers: players(alloc, workers)?,
+    })
+}
+
+/// These threads, the last one first.
+fn players<T: Drop>(alloc: Global, mut threads: Vec<T>) -> Result<Vec<Player<T>>, AllocError> {
+    let mut players = Vec::with_capacity(alloc, threads.len())?;
+    for _thread in 0..threads.len() {
+        if let Some(thread) = threads.pop() {
+            players.push(Player::new(thread))?;
         }
     }
-    workers.reverse();
-    for _worker in 0..workers.len() {
-        if let Some(thread) = workers.pop() {
-            stage.workers.push(Player::new(thread))?;
-        }
-    }
-    Ok(stage)
+    Ok(players)
 }
 
 /// The settings that a server of these sizes is made from.
@@ -64,22 +58,7 @@ fn settings_of(alloc: Global, sizes: Sizes) -> Result<Settings, AllocError> {
     let text = format!(in alloc;
         "listen = \"127.0.0.1:0\"\ntarget = \"127.0.0.1:1\"\nslots = {slots}\nworkers = {workers}\nring = {ring}\nbudget = {budget}\nidle = {idle}\nstop_after = {stop_after}\nproxy = {proxy}\n"
     )?;
-    match parse(alloc, text.as_bytes()) {
-        Ok(settings) => Ok(settings),
-        Err(_) => Err(AllocError),
-    }
-}
-
-/// How the slots are dealt to the pollers.
-fn split_of(settings: &Settings, sizes: Sizes) -> Result<Split, AllocError>
-    requires { 1 ≤ sizes.size }
-    ensures { IfOk result (λ split. split.slots ≡ settings.now.slots) }
-{
-    let (slots, size) = (settings.slots, sizes.size);
-    if size > slots || (slots - 1) / size + 1 > MOST {
-        return Err(AllocError);
-    }
-    Ok(Split::of_size(slots, size))
+    parse(alloc, text.as_bytes()).or(Err(AllocError))
 }
 
 /// The threads of such a server.
@@ -88,14 +67,13 @@ fn cast_of<R: Wait>(
     alloc: Global,
     outside: &Rc<RefCell<Outside>>,
     settings: &Settings,
-    split: Split,
     sizes: Sizes,
 ) -> Result<Cast<KernelFront>, ServerFault>
-    requires sizes { IsServerSize sizes }
-    requires slots { split.slots ≡ settings.now.slots }
+    requires { IsServerSize sizes }
 {
+    let split = sizes.split;
     let fronts = fronts_of(alloc, outside, split.pollers())?;
-    if fronts.len() != split.pollers() {
+    if fronts.len() != split.pollers() || split.slots() != settings.slots {
         return Err(ServerFault::NoMemory);
     }
     let server = build(rt, alloc, settings, split, fronts, outside.clone()?)?;
@@ -107,9 +85,7 @@ fn cast_of<R: Wait>(
         workers,
         ..
     } = server;
-    for poller in pollers.iter_mut() {
-        start_all(poller, sizes.limits.generation);
-    }
+    start_each(&mut pollers, sizes.limits.generation);
     let shared = Arc::new(alloc, shared)?;
     divide(alloc, &shared, Rest { parts, free }, pollers, workers)
 }
@@ -127,10 +103,18 @@ fn fronts_of(
     Ok(fronts)
 }
 
+/// Each slot counts as having had so many connections.
+fn start_each(pollers: &mut Vec<Poller<KernelFront>>, generation: u64)
+    requires { generation ≤ 140737488355327 }
+{
+    for poller in pollers.iter_mut() {
+        start_all(poller, generation);
+    }
+}
+
 /// Each of the poller's slots counts as having had so many connections.
 fn start_all(poller: &mut Poller<KernelFront>, generation: u64)
     requires { generation ≤ 140737488355327 }
-    ensures { length poller.new.table ≡ length poller.old.table }
 {
     let part = poller.part();
     for slot in 0..poller.table().len() {

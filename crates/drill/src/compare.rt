@@ -2,12 +2,11 @@
 ghost use Rattle.std.specs.Prelude.{◌≡◌};
 
 use crate::likeness::{Difference, ends_differ, first_of, pairs_differ};
-use crate::looking::{slots_in, slots_of, tickets_of};
+use crate::looking::{slots_of, tickets_of};
 use crate::stage::Stage;
 use berths::Berth;
 use claims::Claimed;
-use drill_outside::{EndWire, KernelFront, Outside, Station, Tape};
-use ready::Ticket;
+use drill_outside::{EndWire, KernelFront, Outside, START, Station, Tape};
 use std::alloc::{AllocError, Global};
 use std::sync::Wait;
 use threads::PollerThread;
@@ -17,11 +16,12 @@ use world::{Connection, Holder, World};
 /// What differs, and where.
 #[derive(Drop)]
 pub enum Differs {
-    Slot(usize, Difference),
-    Poller(usize, Difference),
-    Refused(usize),
-    RefusedListener(usize),
+    /// At the log, or at a thread.
     Wrong,
+    /// At a poller.
+    Poller(usize, Difference),
+    /// At a slot.
+    Slot(usize, Difference),
 }
 
 /// The first thing in which the server and the machines differ.
@@ -33,68 +33,44 @@ pub fn compare<R: Wait>(
     let Ok(mut outside) = stage.outside.try_borrow_mut() else {
         return Err(AllocError);
     };
-    outside.check_log();
-    if outside.wrong.is_some() {
+    outside.book.check();
+    if outside.book.wrong.is_some() {
         return Ok(Some(Differs::Wrong));
     }
-    let tickets = all_tickets(rt, alloc, stage)?;
     for (poller, player) in stage.pollers.iter().enumerate() {
         let Ok(mut thread) = player.thread.try_borrow_mut() else {
             return Err(AllocError);
         };
-        if let Some(differs) = poller_differs(rt, alloc, &outside, &mut thread, poller, tickets.as_slice())? {
+        if let Some(difference) = poller_differs(rt, alloc, &outside, &mut thread, poller)? {
+            return Ok(Some(Differs::Poller(poller, difference)));
+        }
+        if let Some(differs) = slots_differ(rt, &outside, &mut thread, poller) {
             return Ok(Some(differs));
         }
     }
     Ok(None)
 }
 
-/// The tickets in the ready queue.
-fn all_tickets<R: Wait>(rt: &R, alloc: Global, stage: &Stage) -> Result<Vec<Ticket>, AllocError> {
-    let Some(player) = stage.pollers.first() else {
-        return Err(AllocError);
-    };
-    match player.thread.try_borrow_mut() {
-        Ok(mut thread) => tickets_of(rt, alloc, &mut thread.own.ready),
-        Err(_) => Err(AllocError),
-    }
-}
-
-/// What differs at a poller, or at its slots.
+/// What differs at a poller, or in the queue of tickets.
 fn poller_differs<R: Wait>(
     rt: &R,
     alloc: Global,
     outside: &Outside,
     thread: &mut PollerThread<KernelFront>,
     poller: usize,
-    tickets: &[Ticket],
-) -> Result<Option<Differs>, AllocError> {
+) -> Result<Option<Difference>, AllocError> {
     let Some(station) = outside.stations.get(poller) else {
-        return Ok(None);
+        return Ok(first_of(&[("poller", 1, 0)]));
     };
-    if station.tape.refused.is_some() {
-        return Ok(Some(Differs::RefusedListener(poller)));
+    let difference = listener_differs(outside, station, thread, poller);
+    if difference.is_some() {
+        return Ok(difference);
     }
-    if let Some(difference) = listener_differs(outside, station, thread, poller) {
-        return Ok(Some(Differs::Poller(poller, difference)));
+    let difference = free_differs(rt, alloc, station, thread)?;
+    if difference.is_some() {
+        return Ok(difference);
     }
-    if let Some(difference) = free_differs(rt, alloc, station, thread)? {
-        return Ok(Some(Differs::Poller(poller, difference)));
-    }
-    let part = thread.poller.part();
-    for index in 0..part.slots {
-        let slot = part.first.saturating_add(index);
-        let Some(tape) = outside.tapes.get(slot) else {
-            continue;
-        };
-        if tape.refused.is_some() {
-            return Ok(Some(Differs::Refused(slot)));
-        }
-        if let Some(difference) = slot_differs(rt, station, tape, thread, slot, tickets) {
-            return Ok(Some(Differs::Slot(slot, difference)));
-        }
-    }
-    Ok(None)
+    tickets_differ(rt, alloc, outside, thread)
 }
 
 /// How the listener and the waker of a poller differ, and what its hand has.
@@ -106,77 +82,108 @@ fn listener_differs(
 ) -> Option<Difference> {
     let world = &station.tape.world;
     let (kernel, machine) = (&station.kernel, world.kernel());
+    let (listener, waker) = (Name::Listener, Name::Waker);
     let accepting = thread.poller.is_accepting();
     let hears = accepting || outside.hears(poller);
+    let (in_queue, woken) = (kernel.is_queued(&listener), kernel.is_queued(&waker));
+    let (told, awake) = (machine.is_queued(&listener), machine.is_queued(&waker));
     first_of(&[
+        ("refusal of its world", u64::from(station.tape.refused.is_some()), 0),
+        ("refusal of its kernel", u64::from(station.refused), 0),
         ("accept flag", u64::from(accepting), u64::from(world.accept_flag())),
         ("armed listener", u64::from(kernel.is_armed()), u64::from(machine.is_armed())),
-        (
-            "queued listener",
-            u64::from(kernel.is_queued(&Name::Listener)),
-            u64::from(machine.is_queued(&Name::Listener)),
-        ),
-        (
-            "queued waker",
-            u64::from(kernel.is_queued(&Name::Waker)),
-            u64::from(machine.is_queued(&Name::Waker)),
-        ),
+        ("queued listener", u64::from(in_queue), u64::from(told)),
+        ("queued waker", u64::from(woken), u64::from(awake)),
         ("tickets in hand", thread.own.hand.tickets() as u64, 0),
         ("whether it hears of a client that waits", u64::from(hears), 1),
     ])
 }
 
-/// How the free slots of a poller differ: those in hand, and those in its queue, in order.
+/// How the free slots of a poller differ.
 fn free_differs<R: Wait>(
     rt: &R,
     alloc: Global,
     station: &Station,
     thread: &mut PollerThread<KernelFront>,
 ) -> Result<Option<Difference>, AllocError> {
-    let mut free = slots_in(alloc, &mut thread.own.hand)?;
-    let queued = slots_of(rt, alloc, &mut thread.own.free)?;
-    free.extend_from_slice(queued.as_slice())?;
-    let (count, machine) = (free.len() as u64, station.free.len() as u64);
-    if let Some(difference) = first_of(&[("free slots", count, machine)]) {
-        return Ok(Some(difference));
-    }
+    let own = &mut thread.own;
+    let free = slots_of(rt, alloc, &mut own.hand, &mut own.free)?;
+    let mut difference = first_of(&[("free slots", free.len() as u64, station.free.len() as u64)]);
     for (slot, wanted) in free.iter().zip(station.free.iter()) {
-        if let Some(difference) = first_of(&[("free slot", *slot as u64, *wanted as u64)]) {
-            return Ok(Some(difference));
+        difference = difference.or(first_of(&[("free slot", *slot as u64, *wanted as u64)]));
+    }
+    Ok(difference)
+}
+
+/// How the tickets in the queue differ.
+fn tickets_differ<R: Wait>(
+    rt: &R,
+    alloc: Global,
+    outside: &Outside,
+    thread: &mut PollerThread<KernelFront>,
+) -> Result<Option<Difference>, AllocError> {
+    let queued = tickets_of(rt, alloc, &mut thread.own.ready)?;
+    let (count, wanted) = (queued.len() as u64, outside.ready.len() as u64);
+    let mut difference = first_of(&[("tickets", count, wanted)]);
+    for (ticket, wanted) in queued.iter().zip(outside.ready.iter()) {
+        difference = difference.or(first_of(&[
+            ("slot of a ticket", ticket.slot as u64, wanted.slot as u64),
+            ("generation of a ticket", ticket.generation, wanted.generation),
+        ]));
+    }
+    Ok(difference)
+}
+
+/// What differs at the slots of a poller.
+fn slots_differ<R: Wait>(
+    rt: &R,
+    outside: &Outside,
+    thread: &mut PollerThread<KernelFront>,
+    poller: usize,
+) -> Option<Differs> {
+    let station = outside.stations.get(poller)?;
+    let part = thread.poller.part();
+    for index in 0..part.slots {
+        let slot = part.first.saturating_add(index);
+        let difference = match outside.tapes.get(slot) {
+            Some(tape) => slot_differs(rt, outside, (station, tape), thread, slot),
+            None => first_of(&[("slot", 1, 0)]),
+        };
+        if let Some(difference) = difference {
+            return Some(Differs::Slot(slot, difference));
         }
     }
-    Ok(None)
+    None
 }
 
 /// How a slot differs from that of its machine.
 fn slot_differs<R: Wait>(
     rt: &R,
-    station: &Station,
-    tape: &Tape,
+    outside: &Outside,
+    (station, tape): (&Station, &Tape),
     thread: &mut PollerThread<KernelFront>,
     slot: usize,
-    tickets: &[Ticket],
 ) -> Option<Difference> {
-    let world = &tape.world;
-    if let Some(difference) = tickets_differ(world, slot, tickets) {
-        return Some(difference);
-    }
     if slot >= thread.shared.claims.slots() {
         return first_of(&[("slot", 0, 1)]);
     }
     let word = thread.shared.claims.peek(slot);
+    if let Some(before) = tape.lost {
+        let wanted = if outside.is_queued(slot) { before } else { 0 };
+        return first_of(&[("word of a lost slot", word, wanted)]);
+    }
+    let world = &tape.world;
     let generation = thread.poller.table().get(slot).copied().unwrap_or(0);
-    let is_free = word % 4 == 3;
     let machine = world.slots().first()?;
-    let difference = first_of(&[
+    let is_free = matches!(machine.holder(), Holder::Free);
+    first_of(&[
+        ("refusal of its world", u64::from(tape.refused.is_some()), 0),
         ("generation of the table", generation, world.table_entry(0).unwrap_or(0)),
         ("notes", word / 4, machine.notes().len() as u64),
-        ("free word", u64::from(is_free), u64::from(matches!(machine.holder(), Holder::Free))),
-    ]);
-    if difference.is_some() {
-        return difference;
-    }
-    names_differ(station, tape, slot, generation).or(place_differs(rt, station, world, thread, slot))
+        ("free word", u64::from(word % 4 == 3), u64::from(is_free)),
+    ])
+    .or(names_differ(station, tape, slot, generation))
+    .or(place_differs(rt, station, world, thread, slot))
 }
 
 /// How the queued reports of a slot's ends, and whether they are open, differ.
@@ -207,29 +214,6 @@ fn is_queued(names: &[Name], slot: usize, side: Side, generation: u64) -> bool {
         }
     }
     false
-}
-
-/// How the tickets of a slot differ, wherever they are.
-fn tickets_differ(world: &World, slot: usize, tickets: &[Ticket]) -> Option<Difference> {
-    let mut machine = world.poller_hand().first().or(world.ready().first());
-    if let Some(worker) = world.workers().first() {
-        machine = machine.or(worker.hand().first());
-    }
-    let wanted = match machine {
-        Some(ticket) => ticket.generation,
-        None => 0,
-    };
-    let (mut count, mut generation) = (0, 0);
-    for ticket in tickets {
-        if ticket.slot == slot {
-            count = u64::saturating_add(count, 1);
-            generation = ticket.generation;
-        }
-    }
-    first_of(&[
-        ("tickets", count, u64::from(machine.is_some())),
-        ("generation of a ticket", generation, wanted),
-    ])
 }
 
 /// How the connection in a slot's place differs. It is looked at by a claim, which is released again: that leaves the word
@@ -270,7 +254,8 @@ fn berths_differ(
     berth: &Berth<EndWire, EndWire>,
     machine: &Connection,
 ) -> Option<Difference> {
-    pairs_differ(&berth.pair, &machine.pair)
+    let since = if world.limits().idle > 0 { Some(START) } else { None };
+    pairs_differ(&berth.pair, &machine.pair, since)
         .or(one_end_differs(station, world, berth.client.descriptor(), machine.ends.client))
         .or(one_end_differs(station, world, berth.target.descriptor(), machine.ends.target))
 }
@@ -281,8 +266,9 @@ fn one_end_differs(
     here: Option<usize>,
     there: usize,
 ) -> Option<Difference> {
-    let (Some(server), Some(machine)) = (station.kernel.end(here?), world.kernel().end(there)) else {
-        return first_of(&[("ends that are open", 0, 1)]);
-    };
-    ends_differ(&server.socket, &machine.socket)
+    let server = here.and_then(|descriptor| station.kernel.end(descriptor));
+    match (server, world.kernel().end(there)) {
+        (Some(server), Some(machine)) => ends_differ(&server.socket, &machine.socket),
+        _ => first_of(&[("ends that are open", 0, 1)]),
+    }
 }

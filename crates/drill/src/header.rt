@@ -2,6 +2,7 @@
 ghost use Rattle.std.specs.Prelude.{◌<◌, ◌≤◌, IfSome};
 ghost use Rattle.drill_outside.specs.Sizes.{IsServerSize};
 
+use dispatch::Split;
 use drill_outside::Sizes;
 use world::{Lead, Limits};
 
@@ -24,8 +25,9 @@ struct Words<'a> {
 }
 
 /// The sizes of a header: `drill slots=S workers=W ring=R budget=B`, and perhaps ` gen=G`, ` idle=L`, ` pollers=P`,
-/// ` stop=N` and ` proxy`, in this order. Every slot starts at generation G, or 0, which is below the last. The idle limit is L seconds; without it there is
-/// none. There are P pollers, or fewer where the slots come to fewer parts of one size. Targets get a PROXY line if the last word says so.
+/// ` stop=N` and ` proxy`, in this order. Every slot starts at generation G, or 0, which is below the last. The idle limit is
+/// L seconds; without it there is none. There are P pollers, or as many as the split makes of them. The server ends after N
+/// connections. Targets get a PROXY line if the last word says so.
 pub fn read_header(line: &str) -> Option<Sizes>
     ensures { IfSome result IsServerSize }
 {
@@ -47,12 +49,12 @@ pub fn read_header(line: &str) -> Option<Sizes>
     };
     let pollers = words.number("pollers=", 1, MAX_POLLERS).unwrap_or(1);
     let stop_after = words.number("stop=", 1, MAX_STOP).unwrap_or(0) as u64;
-    if words.rest.is_some() || pollers > limits.slots {
+    if words.rest.is_some() {
         return None;
     }
     Some(Sizes {
         limits,
-        size: (limits.slots - 1) / pollers + 1,
+        split: Split::new(limits.slots, pollers),
         stop_after,
         proxy,
     })

@@ -28,24 +28,29 @@ pub fn first_of(lines: &[Line]) -> Option<Difference> {
     None
 }
 
-/// How the server's pair differs from the machine's.
-pub fn pairs_differ(server: &Pair, machine: &Pair) -> Option<Difference> {
-    facts_differ(server, machine)
+/// How the server's pair differs from the machine's, whose second 0 is this one of the server. Without it the machine has no
+/// clock.
+pub fn pairs_differ(server: &Pair, machine: &Pair, since: Option<u64>) -> Option<Difference> {
+    facts_differ(server, machine, since)
         .or(flags_differ(server, machine))
         .or(ways_differ(server, machine, Direction::Up))
         .or(ways_differ(server, machine, Direction::Down))
 }
 
-fn facts_differ(server: &Pair, machine: &Pair) -> Option<Difference> {
+fn facts_differ(server: &Pair, machine: &Pair, since: Option<u64>) -> Option<Difference> {
     let same = u64::from(server.verdict() == machine.verdict());
     let (up, down) = server.counts();
     let (machine_up, machine_down) = machine.counts();
+    let moved = match since {
+        Some(since) => machine.moved().saturating_add(since),
+        None => server.moved(),
+    };
     first_of(&[
         ("generation", server.generation(), machine.generation()),
         ("same verdict", same, 1),
         ("bytes up", up, machine_up),
         ("bytes down", down, machine_down),
-        ("second of the last bytes", server.moved(), machine.moved()),
+        ("second of the last bytes", server.moved(), moved),
         (
             "whether it is the turn of the way up",
             u64::from(server.turn() == Direction::Up),

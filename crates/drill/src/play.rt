@@ -4,23 +4,23 @@ use crate::likeness::Difference;
 use crate::reading::{Step, Unread, read_step};
 use crate::stage::Stage;
 use drill_outside::{Outside, Tape};
-use log::Log;
-use std::alloc::Global;
+use log::{Level, Log};
+use std::alloc::{AllocError, Global};
 use std::io::{self, ErrorKind};
 use std::sync::Wait;
 
-/// What a line did.
+/// What became of a line.
 #[derive(Clone, Copy)]
 pub enum Played {
-    /// A step after which the server and the worlds agree.
+    /// The server and the machines agree after it.
     Agreed,
-    /// They differ, which was printed.
+    /// They differ.
     Differs,
     /// It is no step.
     Malformed,
 }
 
-/// Makes the step of a line, and compares the server with the worlds.
+/// Plays one line of a script.
 pub fn play_line<R: Wait + Log + Print>(
     rt: &R,
     alloc: Global,
@@ -41,19 +41,18 @@ fn play<R: Wait + Log + Print>(
     step: Step,
 ) -> io::Result<Played> {
     match step {
-        Step::Later(later) => {
-            if let Ok(mut outside) = stage.outside.try_borrow_mut() {
-                outside.add(later)?;
-            }
-            return Ok(Played::Agreed);
-        }
+        Step::Now(step) => stage.make(rt, alloc, step),
+        Step::Ticket(ticket) => stage.take_made_up(rt, alloc, ticket),
+        Step::Lose(slot) => stage.lose(rt, slot),
         Step::Show => {
             show(rt, alloc, stage)?;
             return Ok(Played::Agreed);
         }
-        Step::Now(step) => stage.make(rt, alloc, step),
+        step => {
+            prepare(alloc, stage, step)?;
+            return Ok(Played::Agreed);
+        }
     }
-    stage.count_step();
     if agrees(rt, alloc, stage)? {
         Ok(Played::Agreed)
     } else {
@@ -61,7 +60,24 @@ fn play<R: Wait + Log + Print>(
     }
 }
 
-/// Prints for each slot the script of its world, and its report.
+/// Makes a step after which nothing is compared yet.
+fn prepare(alloc: Global, stage: &Stage, step: Step) -> Result<(), AllocError> {
+    let Ok(mut outside) = stage.outside.try_borrow_mut() else {
+        return Err(AllocError);
+    };
+    match step {
+        Step::Later(later) => outside.add(later)?,
+        Step::Machine(slot, event) => outside.mislead(slot, &event),
+        Step::Listener(poller, event) => outside.mislead_listener(poller, &event),
+        Step::ForgetTicket => outside.forget_ticket(),
+        Step::ForgetSlot(poller) => outside.forget_slot(poller),
+        Step::Line(line) => outside.book.expect(Level::Info, String::from_str(alloc, line.as_str())),
+        _ => {}
+    }
+    Ok(())
+}
+
+/// Prints for each slot the script of its world, and its report, and then the log.
 fn show<R: Wait + Print>(rt: &R, alloc: Global, stage: &Stage) -> io::Result<()> {
     let Ok(outside) = stage.outside.try_borrow() else {
         return Err(io::Error::from(ErrorKind::Other));
@@ -70,7 +86,8 @@ fn show<R: Wait + Print>(rt: &R, alloc: Global, stage: &Stage) -> io::Result<()>
         println!(rt; "slot {slot}")?;
         show_tape(rt, alloc, tape)?;
     }
-    Ok(())
+    let log = outside.book.text.as_str();
+    print!(rt; "log\n{log}end\n")
 }
 
 fn show_tape<R: Print>(rt: &R, alloc: Global, tape: &Tape) -> io::Result<()> {
@@ -81,6 +98,9 @@ fn show_tape<R: Print>(rt: &R, alloc: Global, tape: &Tape) -> io::Result<()> {
 
 /// Whether the server and the machines agree. The first difference is printed.
 fn agrees<R: Wait + Print>(rt: &R, alloc: Global, stage: &Stage) -> io::Result<bool> {
+    if let Ok(mut outside) = stage.outside.try_borrow_mut() {
+        outside.totals.steps = outside.totals.steps.saturating_add(1);
+    }
     let Some(differs) = compare(rt, alloc, stage)? else {
         return Ok(true);
     };
@@ -91,39 +111,34 @@ fn agrees<R: Wait + Print>(rt: &R, alloc: Global, stage: &Stage) -> io::Result<b
     Ok(false)
 }
 
-/// Prints a difference.
+/// Prints a difference, and the script and report of the world that differs.
 fn tell<R: Print>(rt: &R, alloc: Global, outside: &Outside, differs: &Differs) -> io::Result<()> {
-    match differs {
+    let tape = match differs {
         Differs::Wrong => {
-            let text = outside.wrong.as_ref().map_or("", |text| text.as_str());
-            println!(rt; "not as it has to be: {text}")
+            let text = outside.book.wrong.as_ref().map_or("", |text| text.as_str());
+            return println!(rt; "differs: {text}");
         }
         Differs::Poller(poller, difference) => {
-            let Difference { what, server, machine } = *difference;
-            println!(rt; "poller {poller}: {what}: server {server}, machine {machine}")
+            tell_numbers(rt, "poller", *poller, difference)?;
+            outside.stations.get(*poller).map(|station| &station.tape)
         }
-        Differs::RefusedListener(poller) => match outside.stations.get(*poller) {
-            Some(station) => tell_refused(rt, alloc, &station.tape),
-            None => Ok(()),
-        },
         Differs::Slot(slot, difference) => {
-            let Difference { what, server, machine } = *difference;
-            println!(rt; "slot {slot}: {what}: server {server}, machine {machine}")?;
-            match outside.tapes.get(*slot) {
-                Some(tape) => show_tape(rt, alloc, tape),
-                None => Ok(()),
-            }
+            tell_numbers(rt, "slot", *slot, difference)?;
+            outside.tapes.get(*slot)
         }
-        Differs::Refused(slot) => match outside.tapes.get(*slot) {
-            Some(tape) => tell_refused(rt, alloc, tape),
-            None => Ok(()),
-        },
+    };
+    match tape {
+        Some(tape) => show_tape(rt, alloc, tape),
+        None => Ok(()),
     }
 }
 
-/// Prints the event that a world refused.
-fn tell_refused<R: Print>(rt: &R, alloc: Global, tape: &Tape) -> io::Result<()> {
-    let event = tape.refused.as_ref().map_or("", |text| text.as_str());
-    println!(rt; "refused: {event}")?;
-    show_tape(rt, alloc, tape)
+fn tell_numbers<R: Print>(
+    rt: &R,
+    place: &str,
+    number: usize,
+    difference: &Difference,
+) -> io::Result<()> {
+    let Difference { what, server, machine } = *difference;
+    println!(rt; "differs: {place} {number}: {what}: server {server}, machine {machine}")
 }

@@ -2,15 +2,11 @@
 use dispatch::Unopened;
 use drill_outside::{Fronted, Inner, Later, Outcome, Outer, Polled, Turned, Untold, Wanted};
 use kernel_model::Accepting;
+use ready::Ticket;
+use script_text::{NotRead, read_event};
 use std::alloc::Global;
-use token::{Kind, Side};
-use world::{Change, Event, Listening, Reported};
-
-/// The most bytes that one arrival brings.
-const MAX_BYTES: usize = 1_024;
-
-/// The most seconds that pass at once.
-const MAX_TICK: u64 = 4_294_967_295;
+use token::Kind;
+use world::{Event, Listening};
 
 /// One step of a script.
 #[derive(Drop)]
@@ -19,6 +15,20 @@ pub enum Step {
     Now(Inner),
     /// What one of the next calls gets, or what happens between two of them.
     Later(Later),
+    /// A worker takes this ticket, which nobody made.
+    Ticket(Ticket),
+    /// The connection in this slot is taken away.
+    Lose(usize),
+    /// This happens in the world of this slot alone.
+    Machine(usize, Event),
+    /// This happens in the world of this poller's listener alone.
+    Listener(usize, Event),
+    /// The log has to get this line.
+    Line(String),
+    /// What is reckoned forgets a ticket.
+    ForgetTicket,
+    /// What is reckoned forgets a free slot of this poller.
+    ForgetSlot(usize),
     /// The world's script and the report are printed.
     Show,
 }
@@ -61,6 +71,9 @@ pub fn read_step(alloc: Global, line: &str) -> Result<Step, Unread> {
     let (word, rest) = cut(line);
     match word {
         "show" => Ok(Step::Show),
+        "log" | "forget" | "machine" | "listener" => wrong(alloc, word, rest),
+        "ticket" => Ok(Step::Ticket(ticket(rest)?)),
+        "lose" => Ok(Step::Lose(number(rest)?)),
         "accept" | "open" | "poll" | "polled" => {
             let (poller, rest) = cut_poller(rest);
             Ok(Step::Later(Later::Round(poller, fronted(alloc, word, rest)?)))
@@ -69,6 +82,21 @@ pub fn read_step(alloc: Global, line: &str) -> Result<Step, Unread> {
             Ok(Step::Later(Later::Turn(turned(alloc, word, rest)?)))
         }
         _ => Ok(Step::Now(inner(alloc, line)?)),
+    }
+}
+
+/// A step by which the machine's side alone is changed, so that the comparison has to tell it.
+fn wrong(alloc: Global, word: &str, rest: &str) -> Result<Step, Unread> {
+    let (first, last) = cut(rest);
+    match word {
+        "log" => match String::from_str(alloc, rest) {
+            Ok(line) => Ok(Step::Line(line)),
+            Err(_) => Err(Unread::NoMemory),
+        },
+        "machine" => Ok(Step::Machine(number(first)?, event(alloc, last)?)),
+        "listener" => Ok(Step::Listener(number(first)?, event(alloc, last)?)),
+        _ if first == "ticket" => Ok(Step::ForgetTicket),
+        _ => Ok(Step::ForgetSlot(number(last)?)),
     }
 }
 
@@ -109,72 +137,40 @@ fn number(word: &str) -> Result<usize, Unread> {
     }
 }
 
-/// How many seconds pass.
-fn seconds(word: &str) -> Result<u64, Unread> {
-    match word.parse::<u64>() {
-        Ok(seconds) if 1 <= seconds && seconds <= MAX_TICK => Ok(seconds),
-        _ => Err(Unread::Malformed),
-    }
-}
-
-fn side(word: &str) -> Result<Side, Unread> {
-    match Side::named(word.as_bytes()) {
-        Some(side) => Ok(side),
-        None => Err(Unread::Malformed),
-    }
-}
-
-/// What happens outside of the server.
+/// What happens outside of the server, as a world's scripts have it. Behind the listener and the waker the number of their
+/// poller may stand.
 fn outside(alloc: Global, text: &str) -> Result<Outer, Unread> {
-    let (word, rest) = cut(text);
-    let (poller, event) = match word {
-        "connect" => (0, Event::Listen(Listening::Connect)),
-        "tick" => (0, Event::Tick(seconds(rest)?)),
-        "spurious" => {
-            let (poller, who) = reported(rest)?;
-            (poller, Event::Spurious(who))
+    let (poller, text) = match text.rsplit_once(' ') {
+        Some((text, last)) if text.ends_with("listener") || text.ends_with("waker") => {
+            (number(last)?, text)
         }
-        "vanish" => {
-            let (poller, who) = reported(rest)?;
-            (poller, Event::Vanish(who))
-        }
-        _ => (0, network(alloc, word, rest)?),
+        _ => (0, text),
     };
+    let event = event(alloc, text)?;
+    match &event {
+        Event::Tick(_) | Event::Network(_, _, _) | Event::Spurious(_) | Event::Vanish(_) => {}
+        Event::Listen(Listening::Connect) => {}
+        _ => return Err(Unread::Malformed),
+    }
     Ok(Outer { poller, event })
 }
 
-/// What the network does to an end.
-fn network(alloc: Global, word: &str, rest: &str) -> Result<Event, Unread> {
-    let (slot_word, rest) = cut(rest);
-    let (side_word, rest) = cut(rest);
-    let (slot, side) = (number(slot_word)?, side(side_word)?);
-    let change = match word {
-        "arrive" => Change::Arrive(bytes(alloc, rest)?),
-        "fin" => Change::Fin,
-        "reset" => Change::Reset,
-        "room" => Change::Room,
-        _ => return Err(Unread::Malformed),
-    };
-    Ok(Event::Network(slot, side, change))
-}
-
-/// 1 to 1,024 bytes in hexadecimal.
-fn bytes(alloc: Global, text: &str) -> Result<Vec<u8>, Unread> {
-    match hex::decode(alloc, text) {
-        Ok(bytes) if !bytes.is_empty() && bytes.len() <= MAX_BYTES => Ok(bytes),
-        Err(hex::FromHexError::OutOfMemory) => Err(Unread::NoMemory),
-        _ => Err(Unread::Malformed),
+/// An event of a world.
+fn event(alloc: Global, text: &str) -> Result<Event, Unread> {
+    match read_event(alloc, text.as_bytes()) {
+        Ok(event) => Ok(event),
+        Err(NotRead::Malformed(_)) => Err(Unread::Malformed),
+        Err(NotRead::NoMemory) => Err(Unread::NoMemory),
     }
 }
 
-/// What a report is about. The listener and the waker are those of a poller, whose number comes first.
-fn reported(text: &str) -> Result<(usize, Reported), Unread> {
-    let (word, rest) = cut(text);
-    match word {
-        "listener" => Ok((lone_poller(rest)?, Reported::Listener)),
-        "waker" => Ok((lone_poller(rest)?, Reported::Waker)),
-        _ => Ok((0, Reported::End(number(word)?, side(rest)?))),
-    }
+/// A ticket, as SLOT.GEN.
+fn ticket(text: &str) -> Result<Ticket, Unread> {
+    let (slot, generation) = text.split_once('.').unwrap_or((text, ""));
+    Ok(Ticket {
+        slot: number(slot)?,
+        generation: number(generation)? as u64,
+    })
 }
 
 fn wanted(text: &str) -> Result<Wanted, Unread> {

@@ -91,8 +91,12 @@ fn play_server<R: Wait + Log + Print, B: BufRead>(
     let Ok(stage) = stage_of(rt, alloc, outside, clock, sizes) else {
         return Err(io::Error::from(ErrorKind::OutOfMemory));
     };
+    stage.begin(rt, alloc);
     let ending = play_lines(rt, alloc, &stage, source)?;
-    Ok((ending, stage.end()))
+    match stage.outside.try_borrow() {
+        Ok(outside) => Ok((ending, outside.played())),
+        Err(_) => Err(io::Error::from(ErrorKind::Other)),
+    }
 }
 
 /// Plays the lines up to the next header.

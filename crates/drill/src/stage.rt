@@ -1,8 +1,9 @@
 // The threads of the server together, and the steps that they make.
 use crate::gate::{Nested, Planned};
 use crate::looking::tickets_of;
-use dispatch::{Gate, Split, Timing};
-use drill_outside::{Inner, KernelFront, Outside, Sizes, Thread, Ticks, Totals};
+use claims::Claimed;
+use dispatch::{Gate, Timing};
+use drill_outside::{Acting, Inner, KernelFront, Outside, Sizes, Thread, Ticks};
 use log::Log;
 use ready::Ticket;
 use std::alloc::Global;
@@ -31,7 +32,6 @@ impl<T> Player<T> {
 #[derive(Drop)]
 pub struct Stage {
     pub sizes: Sizes,
-    pub split: Split,
     pub outside: Rc<RefCell<Outside>>,
     pub clock: Rc<Ticks>,
     pub ending: Ending,
@@ -40,6 +40,19 @@ pub struct Stage {
 }
 
 impl Stage {
+    /// The threads begin.
+    pub fn begin<R: Wait + Log>(&self, rt: &R, alloc: Global) {
+        let gate = Nested {
+            outside: &self.outside,
+        };
+        let crew = self.crew(rt, alloc, &gate);
+        for player in &self.pollers {
+            if let Ok(mut thread) = player.thread.try_borrow_mut() {
+                thread.begin(&crew);
+            }
+        }
+    }
+
     /// A step that may also be made inside a turn is made there.
     pub fn make_inside<R: Wait + Log>(&self, rt: &R, alloc: Global, step: Inner) {
         let gate = Nested {
@@ -66,7 +79,7 @@ impl Stage {
                 }
             }
             Inner::Round(poller) => self.round(rt, alloc, poller, gate),
-            Inner::Turn(number) => self.turn(rt, alloc, number, gate),
+            Inner::Turn(number) => self.turn(rt, alloc, number, gate, None),
         }
     }
 
@@ -86,7 +99,7 @@ impl Stage {
                 limit: self.sizes.limits.idle,
             },
             ending: &self.ending,
-            split: self.split,
+            split: self.sizes.split,
         }
     }
 
@@ -133,32 +146,48 @@ impl Stage {
             None => return,
         };
         if ended != (is_due || failed) {
-            outside.blame("a poller's thread goes on or ends when it has not to");
+            outside.book.blame("a poller's thread goes on or ends when it has not to");
         }
         if over != is_over {
-            outside.blame("a poller is over or not when it has not to be");
+            outside.book.blame("a poller is over or not when it has not to be");
         }
         if failed && !is_due {
             outside.expect_wakes();
         }
     }
 
-    /// One step of a worker's thread, unless it would wait, is in a turn or has ended.
-    fn turn<G: Gate, R: Wait + Log>(&self, rt: &R, alloc: Global, number: usize, gate: &G) {
+    /// One step of a worker's thread, unless it would wait, is in a turn or has ended. It takes the oldest ticket, or this
+    /// one, which nobody made and which is no more than taken.
+    fn turn<G: Gate, R: Wait + Log>(
+        &self,
+        rt: &R,
+        alloc: Global,
+        number: usize,
+        gate: &G,
+        made_up: Option<Ticket>,
+    ) {
         let Some(player) = self.workers.get(number) else {
             return;
         };
         let Ok(mut worker) = player.thread.try_borrow_mut() else {
             return;
         };
-        let Ok(tickets) = tickets_of(rt, alloc, &mut worker.own.ready) else {
-            return;
+        let queued = match tickets_of(rt, alloc, &mut worker.own.ready) {
+            Ok(tickets) => tickets.len(),
+            Err(_) => return self.blame(""),
         };
-        let is_due = self.worker_is_due(tickets.as_slice());
-        if player.ended.get() || tickets.is_empty() && !is_due {
+        let is_due = self.worker_is_due(queued);
+        if player.ended.get() || queued == 0 && !is_due && made_up.is_none() {
             return;
         }
         let former = self.enter(Thread::Worker);
+        match made_up {
+            Some(ticket) => {
+                let _ = worker.own.ready.put(rt, ticket);
+            }
+            None if !is_due => self.take_next(),
+            None => {}
+        }
         let crew = self.crew(rt, alloc, gate);
         if let Err(ended) = worker.step(&crew) {
             worker.finish(&crew, ended);
@@ -170,8 +199,8 @@ impl Stage {
         }
     }
 
-    /// Whether a worker's thread has to end with its next step, where these tickets are queued.
-    fn worker_is_due(&self, tickets: &[Ticket]) -> bool {
+    /// Whether a worker's thread has to end with its next step, where so many tickets are queued.
+    fn worker_is_due(&self, queued: usize) -> bool {
         let mut polling = false;
         for player in &self.pollers {
             polling = polling || !player.ended.get();
@@ -180,40 +209,95 @@ impl Stage {
             Ok(outside) => outside.faulty,
             Err(_) => false,
         };
-        faulty || !polling && tickets.is_empty()
+        faulty || !polling && queued == 0
+    }
+
+    /// The first worker takes this ticket, which nobody made, if all queues are empty and the ticket is for no slot, for a free
+    /// one, or for another connection than that of a slot without notes.
+    pub fn take_made_up<R: Wait + Log>(&self, rt: &R, alloc: Global, ticket: Ticket) {
+        let Some(word) = self.word_of(ticket.slot) else {
+            return self.take_it(rt, alloc, ticket);
+        };
+        if word % 4 == 3 || word == 0 && self.generation_of(ticket.slot) != ticket.generation {
+            self.take_it(rt, alloc, ticket);
+        }
+    }
+
+    fn take_it<R: Wait + Log>(&self, rt: &R, alloc: Global, ticket: Ticket) {
+        let (is_empty, is_due) = match self.outside.try_borrow() {
+            Ok(outside) => (outside.ready.is_empty(), outside.faulty),
+            Err(_) => return,
+        };
+        if is_empty && !is_due && !self.worker_is_due(0) {
+            let gate = Nested {
+                outside: &self.outside,
+            };
+            self.turn(rt, alloc, 0, &gate, Some(ticket));
+        }
+    }
+
+    /// The claim word of a slot.
+    fn word_of(&self, slot: usize) -> Option<u64> {
+        let thread = self.pollers.first()?.thread.try_borrow().ok()?;
+        if slot < thread.shared.claims.slots() {
+            Some(thread.shared.claims.peek(slot))
+        } else {
+            None
+        }
+    }
+
+    /// The generation of a slot's last connection.
+    fn generation_of(&self, slot: usize) -> u64 {
+        match self.outside.try_borrow() {
+            Ok(outside) => outside.generation_of(slot),
+            Err(_) => 0,
+        }
+    }
+
+    /// The connection in this slot is taken away, if there is one and no idle limit, by which a lost slot would get notes.
+    pub fn lose<R: Wait>(&self, rt: &R, slot: usize) {
+        let (Some(word), Some(player)) = (self.word_of(slot), self.pollers.first()) else {
+            return;
+        };
+        let Ok(mut thread) = player.thread.try_borrow_mut() else {
+            return;
+        };
+        if word % 4 != 0 || self.sizes.limits.idle > 0 || slot >= thread.shared.claims.slots() {
+            return;
+        }
+        if let Ok(mut outside) = self.outside.try_borrow_mut() {
+            outside.lose(slot, word);
+        }
+        let thread = &mut *thread;
+        let (shared, seat) = (&thread.shared, &mut thread.own.seat);
+        if shared.claims.claim(seat, slot) == Claimed::Held {
+            drop(shared.berths.take_out(rt, seat, slot));
+            shared.claims.release(seat, slot);
+        }
     }
 
     fn blame(&self, text: &str) {
         if let Ok(mut outside) = self.outside.try_borrow_mut() {
-            outside.blame(text);
+            outside.book.blame(text);
         }
     }
 
-    fn enter(&self, thread: Thread) -> Option<(Thread, Option<drill_outside::Turn>, usize)> {
+    fn take_next(&self) {
+        if let Ok(mut outside) = self.outside.try_borrow_mut() {
+            outside.take_next();
+        }
+    }
+
+    fn enter(&self, thread: Thread) -> Option<Acting> {
         match self.outside.try_borrow_mut() {
             Ok(mut outside) => Some(outside.enter(thread)),
             Err(_) => None,
         }
     }
 
-    fn leave(&self, former: Option<(Thread, Option<drill_outside::Turn>, usize)>) {
+    fn leave(&self, former: Option<Acting>) {
         if let (Some(former), Ok(mut outside)) = (former, self.outside.try_borrow_mut()) {
             outside.leave(former);
-        }
-    }
-
-    /// One step more was made.
-    pub fn count_step(&self) {
-        if let Ok(mut outside) = self.outside.try_borrow_mut() {
-            outside.totals.steps = outside.totals.steps.saturating_add(1);
-        }
-    }
-
-    /// Nothing that happens from now on is recorded. Answers what was played in all.
-    pub fn end(&self) -> Totals {
-        match self.outside.try_borrow_mut() {
-            Ok(mut outside) => outside.end(),
-            Err(_) => Totals::new(),
         }
     }
 }

@@ -1,11 +1,11 @@
 -- The sizes of a server that can be compared with worlds.
-use Rattle.std.specs.Prelude.{◌<◌, ◌≤◌}
+use Rattle.std.specs.Prelude.{◌<◌, ◌≤◌, ◌≡◌}
 use Rattle.drill_outside.specs.declared.sizes.Sizes.{Sizes}
 
 -- as a world's
 pub record IsServerSize (s : Sizes) : Type 0 where
-  pub size : (1 ≤ s.size) × (s.size ≤ s.limits.slots)
   pub slots : s.limits.slots ≤ 64
+  pub split : s.split.slots ≡ s.limits.slots
   pub workers : (1 ≤ s.limits.workers) × (s.limits.workers ≤ 16)
   pub ring : (1 ≤ s.limits.ring) × (s.limits.ring ≤ 65536)
   pub budget : (1 ≤ s.limits.budget) × (s.limits.budget ≤ 1024)

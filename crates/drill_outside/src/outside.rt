@@ -1,66 +1,46 @@
 // What is outside of the server: for each poller a station, for each slot a tape, the clients that no poller has accepted
-// yet, what the next calls get, and what the log still has to say.
+// yet, the tickets that are queued, what the next calls get, and the log.
 ghost use Rattle.drill_outside.specs.Sizes.{IsServerSize};
 
-use crate::addresses::peer_of;
+use crate::book::Book;
 use crate::plan::Plan;
 use crate::sizes::Sizes;
-use crate::station::{Started, Station};
-use crate::step::{Later, Outer, Polled};
+use crate::station::Station;
+use crate::step::{Later, Outer};
 use crate::tape::Tape;
 use crate::ticks::Ticks;
 use crate::totals::Totals;
-use crate::turn::{Thread, Turn};
-use dispatch::{Clock, MAX_OWN_TURNS, Unopened};
-use kernel_model::{Accepting, MAX_BACKLOG, MAX_POLLED, Watched};
+use crate::turn::{Acting, Thread};
+use kernel_model::MAX_BACKLOG;
 use log::Level;
-use relay_core::{Fault, Verdict};
+use ready::Ticket;
 use std::alloc::{AllocError, Global};
 use std::collections::VecDeque;
-use std::io::{self, ErrorKind};
 use std::rc::Rc;
-use token::{MAX_GENERATION, Name, Token};
-use world::{Act, Event, Listening, Polling, Reported};
-
-/// The most calls of a turn of a poller's own thread.
-const OWN_BUDGET: usize = 8;
-
-/// A line of the log.
-#[derive(Drop)]
-pub struct Logged {
-    pub level: Level,
-    pub text: String,
-}
+use token::Name;
+use world::{Event, Listening, Reported};
 
 /// What is outside of the server.
 #[derive(Drop)]
 pub struct Outside {
-    alloc: Global,
-    pub sizes: Sizes,
-    clock: Rc<Ticks>,
+    pub(crate) alloc: Global,
+    pub(crate) sizes: Sizes,
+    pub(crate) clock: Rc<Ticks>,
     /// What is each poller's.
     pub stations: Vec<Station>,
     /// What is each slot's.
     pub tapes: Vec<Tape>,
+    /// The tickets that have to be in the queue, in order.
+    pub ready: VecDeque<Ticket>,
     pub plan: Plan,
     /// How many clients wait outside of all kernels.
-    waiting: usize,
-    /// Whose step it is.
-    pub thread: Thread,
-    /// The turn in progress.
-    turn: Option<Turn>,
-    /// How many turns the step has begun.
-    turns: usize,
+    pub(crate) waiting: usize,
+    pub(crate) acting: Acting,
     /// How many turns have read the clock and may still make calls.
-    calling: usize,
-    /// The lines that the log has to get next, in order.
-    due: VecDeque<Logged>,
-    /// The first thing that was not as it has to be.
-    pub wrong: Option<String>,
+    pub(crate) calling: usize,
+    pub book: Book,
     /// Whether a thread has met a fault.
     pub faulty: bool,
-    /// Whether nothing is recorded any more.
-    over: bool,
     pub totals: Totals,
 }
 
@@ -79,25 +59,15 @@ impl Outside {
             clock,
             stations: stations_of(alloc, sizes)?,
             tapes: tapes_of(alloc, sizes)?,
+            ready: VecDeque::new(alloc),
             plan: Plan::new(alloc),
             waiting: 0,
-            thread: Thread::Nobody,
-            turn: None,
-            turns: 0,
+            acting: Acting::new(Thread::Nobody, None),
             calling: 0,
-            due: VecDeque::new(alloc),
-            wrong: None,
+            book: Book::new(alloc),
             faulty: false,
-            over: false,
             totals,
         })
-    }
-
-    /// Something is not as it has to be.
-    pub fn blame(&mut self, text: &str) {
-        if self.wrong.is_none() && !self.over {
-            self.wrong = String::from_str(self.alloc, text).ok();
-        }
     }
 
     /// Adds what a later call gets.
@@ -112,225 +82,22 @@ impl Outside {
     }
 
     /// An event has happened in the world of this slot.
-    fn record(&mut self, slot: usize, event: Event) {
+    pub(crate) fn record(&mut self, slot: usize, event: &Event) {
         if let Some(tape) = self.tapes.get_mut(slot) {
             tape.put(event);
         }
     }
 
-    /// The thread of the turn in progress has done this.
-    pub(crate) fn act(&mut self, act: Act) {
-        if let Some(turn) = self.turn {
-            self.record(turn.slot, Event::Work(0, act));
-        }
-    }
-
-    /// A step of this thread begins. Answers what goes on behind it.
-    pub fn enter(&mut self, thread: Thread) -> (Thread, Option<Turn>, usize) {
-        let former = (self.thread, self.turn, self.turns);
-        self.thread = thread;
-        self.turn = None;
-        self.turns = 0;
-        former
-    }
-
-    /// The step is over, and what was before it goes on.
-    pub fn leave(&mut self, former: (Thread, Option<Turn>, usize)) {
-        self.settle();
-        self.end_round();
-        self.thread = former.0;
-        self.turn = former.1;
-        self.turns = former.2;
-    }
-
-    /// The slot of a turn was claimed, and its notes were taken.
-    pub fn begin_turn(&mut self, slot: usize) {
-        self.settle();
-        self.end_round();
-        self.turns = self.turns.saturating_add(1);
-        self.calling = self.calling.saturating_add(1);
-        let most = match self.thread {
-            Thread::Poller(_) => MAX_OWN_TURNS,
-            _ => 1,
-        };
-        if self.turns > most {
-            self.blame("a step with too many turns");
-        }
-        if let Some(tape) = self.tapes.get_mut(slot) {
-            tape.begin();
-        }
-        self.turn = Some(Turn::new(slot));
-    }
-
-    /// A call of the turn in progress was made.
-    pub(crate) fn count_call(&mut self) {
-        if let Some(turn) = &mut self.turn {
-            turn.calls = turn.calls.saturating_add(1);
-        }
-    }
-
-    /// The turn in progress has made its last call.
-    pub fn end_calls(&mut self) {
-        let Some(mut turn) = self.turn else {
-            return;
-        };
-        turn.calling = false;
-        self.calling = self.calling.saturating_sub(1);
-        let Some(tape) = self.tapes.get_mut(turn.slot) else {
-            return;
-        };
-        tape.expire();
-        turn.again = tape.is_due_again();
-        self.turn = Some(turn);
-        self.check_calls(turn);
-    }
-
-    /// The log has to tell next what became of the connection of the turn in progress, if that has ended.
-    fn expect_ended(&mut self) {
-        let Some(mut turn) = self.turn else {
-            return;
-        };
-        if turn.calling || turn.logged {
-            return;
-        }
-        turn.logged = true;
-        self.turn = Some(turn);
-        let verdict = match self.tapes.get(turn.slot) {
-            Some(tape) => tape.verdict(),
-            None => None,
-        };
-        if let Some((generation, verdict, counts)) = verdict {
-            self.expect_end(turn.slot, generation, verdict, counts);
-        }
-    }
-
-    /// A turn that left its connection due has spent its whole budget, and none has spent more.
-    fn check_calls(&mut self, turn: Turn) {
-        let budget = self.sizes.limits.budget;
-        let most = match self.thread {
-            Thread::Poller(_) => budget.min(OWN_BUDGET),
-            _ => budget,
-        };
-        if turn.calls > most || turn.again && turn.calls != most {
-            self.blame("a turn with too few or too many calls");
-        }
-    }
-
-    /// The log has to tell of a connection that has ended.
-    fn expect_end(&mut self, slot: usize, generation: u64, verdict: Verdict, counts: (u64, u64)) {
-        let alloc = self.alloc;
-        let (up, down) = counts;
-        match verdict {
-            Verdict::Live => {}
-            Verdict::Done => self.expect(
-                Level::Info,
-                format!(in alloc; "done s={slot} g={generation} up={up} down={down}"),
-            ),
-            Verdict::Failed(Fault::Idle) => {
-                self.expect(Level::Warn, format!(in alloc; "fail s={slot} g={generation} idle"))
-            }
-            Verdict::Failed(Fault::Broken { side, call, kind }) => {
-                let (side, call, kind) = (side.name(), call.name(), kind.name());
-                self.expect(
-                    Level::Warn,
-                    format!(in alloc; "fail s={slot} g={generation} side={side} call={call} kind={kind}"),
-                )
-            }
-        }
-    }
-
-    /// The log has to get this line next.
-    fn expect(&mut self, level: Level, text: Result<String, AllocError>) {
-        if let Ok(text) = text {
-            let _ = self.due.push_back(Logged { level, text });
-        }
-    }
-
     /// The log gets this line.
     pub fn log(&mut self, level: Level, text: &str) {
-        if self.due.is_empty() {
+        if self.book.is_complete() {
             self.expect_ended();
         }
-        let due = self.due.pop_front();
-        let is_due = match &due {
-            Some(line) => line.level == level && line.text.as_str() == text,
-            None => false,
-        };
-        if !is_due {
-            let due = due.as_ref().map_or("no line", |line| line.text.as_str());
-            if let Ok(wrong) = format!(in self.alloc; "the log gets `{text}` instead of `{due}`") {
-                self.blame(wrong.as_str());
-            }
-        }
+        self.book.write(level, text);
     }
 
-    /// Whether the log lacks a line. Then that is what is wrong.
-    pub fn check_log(&mut self) {
-        if let Some(line) = self.due.pop_front() {
-            let text = line.text.as_str();
-            if let Ok(wrong) = format!(in self.alloc; "the log lacks `{text}`") {
-                self.blame(wrong.as_str());
-            }
-        }
-    }
-
-    /// The turn before is over: the slot is released or given back.
-    fn settle(&mut self) {
-        let Some(turn) = self.turn else {
-            return;
-        };
-        if turn.closed {
-            self.give_back(turn);
-        } else {
-            if turn.again {
-                self.act(Act::Post);
-            }
-            self.act(Act::Release);
-        }
-        self.turn = None;
-    }
-
-    /// The slot of a turn whose connection was closed is given back, and its poller is woken: by a worker, and by its own
-    /// thread only if no more connections are to be opened.
-    fn give_back(&mut self, turn: Turn) {
-        self.act(Act::Retire);
-        self.act(Act::Free);
-        let is_worn = match self.tapes.get(turn.slot) {
-            Some(tape) => tape.world.table_entry(0) == Some(MAX_GENERATION),
-            None => true,
-        };
-        let alone = matches!(self.thread, Thread::Poller(_));
-        let poller = self.sizes.poller_of(turn.slot);
-        if let Some(station) = self.stations.get_mut(poller) {
-            if !is_worn {
-                let _ = station.free.push_back(turn.slot);
-            }
-            if !alone || station.has_opened_all() {
-                station.tape.put(Event::Spurious(Reported::Waker));
-            }
-        }
-    }
-
-    /// A poller's round has ended, which its step began with.
-    fn end_round(&mut self) {
-        let Thread::Poller(poller) = self.thread else {
-            return;
-        };
-        let Some(station) = self.stations.get_mut(poller) else {
-            return;
-        };
-        if !station.in_round {
-            return;
-        }
-        station.in_round = false;
-        station.end_round();
-        if !station.may_rest() {
-            self.blame("a poller ended a round while it could accept");
-        }
-    }
-
-    /// Something happens outside. Where the kernel refuses it, nothing does. While a client waits, no report of the
-    /// listener vanishes.
+    /// Something happens outside. Where neither the kernel nor the world allows it, nothing does. While a client waits, no
+    /// report of the listener vanishes.
     pub fn happen(&mut self, outer: Outer) {
         let Outer { poller, event } = outer;
         match &event {
@@ -345,7 +112,7 @@ impl Outside {
             }
             _ => {
                 if let Some(station) = self.stations.get_mut(poller) {
-                    station.happen(event);
+                    station.happen(&event);
                 }
             }
         }
@@ -353,27 +120,24 @@ impl Outside {
 
     /// Something happens to an end of this slot.
     fn change(&mut self, slot: usize, event: Event) {
-        let poller = self.sizes.poller_of(slot);
-        let made = match self.stations.get_mut(poller) {
-            Some(station) => station.make(&event).is_ok(),
-            None => false,
-        };
-        if made {
-            self.record(slot, event);
+        let station = self.stations.get_mut(self.sizes.split.poller_of(slot));
+        if let (Some(station), Some(tape)) = (station, self.tapes.get_mut(slot)) {
+            station.change(tape, event);
         }
     }
 
     /// The clock goes on, and so does the second of each world, if there is an idle limit. Nothing happens while a turn
     /// that has read the clock may still make calls: the server makes them at the second that it read.
     fn tick(&mut self, seconds: u64) {
-        if self.sizes.limits.idle == 0 || self.calling > 0 || !self.clock.go_on(seconds) {
+        if self.calling > 0 || !self.clock.go_on(seconds) || self.sizes.limits.idle == 0 {
             return;
         }
+        let event = Event::Tick(seconds);
         for station in self.stations.iter_mut() {
-            station.tape.put(Event::Tick(seconds));
+            station.tape.put(&event);
         }
         for tape in self.tapes.iter_mut() {
-            tape.put(Event::Tick(seconds));
+            tape.put(&event);
         }
     }
 
@@ -386,7 +150,7 @@ impl Outside {
         self.waiting += 1;
         for station in self.stations.iter_mut() {
             if station.kernel.is_armed() {
-                station.happen(Event::Spurious(Reported::Listener));
+                station.happen(&Event::Spurious(Reported::Listener));
             }
         }
     }
@@ -399,226 +163,87 @@ impl Outside {
         }
     }
 
-    /// A poller's poll: the names that it gives, or the error by which it fails.
-    pub(crate) fn poll(&mut self, poller: usize) -> io::Result<Vec<Name>> {
-        let Some(station) = self.stations.get_mut(poller) else {
-            return Err(io::Error::from(ErrorKind::Other));
-        };
-        let polled = station.plan.polls.pop_front();
-        if polled == Some(Polled::Failed) {
-            station.failed = true;
-            self.faulty = true;
-            return self.fail_poll();
-        }
-        let names = station.poll(polled)?;
-        self.take_names(names.as_slice())?;
-        for _event in 0..MAX_POLLED {
-            let Some(outer) = self.next_polled(poller) else {
-                break;
-            };
-            self.happen(outer);
-        }
-        self.deliver(poller, names.as_slice());
-        match polled {
-            Some(Polled::Interrupted) => Err(io::Error::from(ErrorKind::Interrupted)),
-            _ => Ok(names),
-        }
-    }
-
-    /// A poll fails, which the log has to say.
-    fn fail_poll(&mut self) -> io::Result<Vec<Name>> {
-        let error = io::Error::from(ErrorKind::PermissionDenied);
-        let text = format!(in self.alloc; "poll: {error}");
-        self.expect(Level::Error, text);
-        Err(error)
-    }
-
-    fn next_polled(&mut self, poller: usize) -> Option<Outer> {
-        self.stations.get_mut(poller)?.plan.polled.pop_front()
-    }
-
-    /// The worlds of the slots take their names from their queues.
-    fn take_names(&mut self, names: &[Name]) -> Result<(), AllocError> {
-        for slot in 0..self.tapes.len() {
-            let mut own = Vec::new(self.alloc);
-            for name in names {
-                if is_of(name, slot) {
-                    own.push(*name)?;
-                }
-            }
-            if !own.is_empty() {
-                self.record(slot, Event::Poll(Polling::Poll(own)));
-            }
-        }
-        Ok(())
-    }
-
-    /// A poller delivers these reports, and then its round comes to its sweep.
-    fn deliver(&mut self, poller: usize, names: &[Name]) {
-        for name in names {
-            match name {
-                Name::End(token) => self.record(token.slot(), Event::Poll(Polling::Deliver)),
-                Name::Listener | Name::Waker => {
-                    if let Some(station) = self.stations.get_mut(poller) {
-                        station.tape.put(Event::Poll(Polling::Deliver));
-                    }
-                }
-            }
-        }
-        let second = self.clock.second();
-        let Some(station) = self.stations.get_mut(poller) else {
-            return;
-        };
-        if station.falls_due(second) {
-            let part = station.part;
-            self.sweep(part.first, part.slots);
-        }
-    }
-
-    /// A note for each of these slots in which a connection was ever opened.
-    fn sweep(&mut self, first: usize, slots: usize) {
-        for index in 0..slots {
-            let slot = first.saturating_add(index);
-            if let Some(tape) = self.tapes.get_mut(slot) {
-                if tape.world.table_entry(0).unwrap_or(0) > 0 {
-                    tape.put(Event::Poll(Polling::Sweep(slot)));
-                }
-            }
-        }
-    }
-
-    /// What a poller's accept(2) is answered.
-    pub(crate) fn accept(&mut self, poller: usize) -> Accepting {
-        let Some(station) = self.stations.get_mut(poller) else {
-            return Accepting::Starved;
-        };
-        let reply = station.accept(self.waiting > 0);
-        let (all, told) = (station.has_opened_all(), station.starved);
-        if reply == Accepting::Accepted {
-            station.let_in();
-            self.waiting = self.waiting.saturating_sub(1);
-        } else {
-            station.answer(reply);
-        }
-        if all {
-            self.blame("accept(2) after the last connection of a poller");
-        }
-        if reply == Accepting::Starved && !told {
-            let error = io::Error::from(ErrorKind::Other);
-            let text = format!(in self.alloc; "accept: {error}");
-            self.expect(Level::Error, text);
-        }
-        reply
-    }
-
-    /// Both ends of a connection that a poller accepted are opened, or that fails as it is planned. From then on the log has
-    /// to say so.
-    pub(crate) fn open(
-        &mut self,
-        poller: usize,
-        client: Token,
-        target: Token,
-    ) -> Result<Started, Unopened> {
-        let (slot, generation) = (client.slot(), client.generation());
-        let started = match self.stations.get_mut(poller) {
-            Some(station) => station.open(client, target),
-            None => Err(Unopened::Connect),
-        };
-        match &started {
-            Err(Unopened::Connect) => self.expect_drop("connect"),
-            Err(Unopened::Register) => self.expect_drop("register"),
-            Ok(started) if started.ends.is_none() => self.expect_drop("address"),
-            Ok(_) => self.opened(poller, slot, generation),
-        }
-        started
-    }
-
-    fn expect_drop(&mut self, cause: &str) {
-        let text = format!(in self.alloc; "drop kind={cause}");
-        self.expect(Level::Warn, text);
-    }
-
-    /// A poller has opened a connection in this slot, which has to be its first free one.
-    fn opened(&mut self, poller: usize, slot: usize, generation: u64) {
-        let alloc = self.alloc;
-        let first = match self.stations.get_mut(poller) {
-            Some(station) => station.take_free(),
-            None => None,
-        };
-        if first != Some(slot) {
-            self.blame("a poller opened another slot than its first free one");
-        }
-        self.record(slot, Event::Listen(Listening::Connect));
-        self.record(slot, Event::Listen(Listening::Accept(Accepting::Accepted)));
-        self.record(slot, Event::Poll(Polling::Open));
-        let from = peer_of(slot, generation);
-        self.expect(
-            Level::Debug,
-            format!(in alloc; "peer s={slot} g={generation} from={from}"),
-        );
-        self.expect(Level::Info, format!(in alloc; "open s={slot} g={generation}"));
-    }
-
-    /// An end of a poller's kernel is closed.
-    pub(crate) fn close(&mut self, poller: usize, descriptor: usize, token: Token) {
-        let slot = token.slot();
-        let both = match self.stations.get_mut(poller) {
-            Some(station) => station.close(descriptor, slot),
-            None => return,
-        };
-        let in_turn = matches!(self.turn, Some(turn) if turn.slot == slot && turn.logged);
-        if !in_turn {
-            self.blame("an end was closed outside of its turn, or before the log told of it");
-        }
-        if both {
-            self.act(Act::Close);
-            if let Some(turn) = &mut self.turn {
-                turn.closed = true;
-            }
-        }
-    }
-
     /// The poller that has this slot is woken.
     pub(crate) fn wake(&mut self, slot: usize) {
-        let poller = self.sizes.poller_of(slot);
-        if let Some(station) = self.stations.get_mut(poller) {
-            let _ = station.kernel.spurious(Watched::Waker);
+        if let Some(station) = self.stations.get_mut(self.sizes.split.poller_of(slot)) {
+            station.wake();
         }
     }
 
     /// All pollers have been woken.
     pub fn expect_wakes(&mut self) {
         for station in self.stations.iter_mut() {
-            station.tape.put(Event::Spurious(Reported::Waker));
+            station.tape.put(&Event::Spurious(Reported::Waker));
         }
     }
 
-    /// Nothing that happens from now on is recorded. Answers what was played in all.
-    pub fn end(&mut self) -> Totals {
-        self.over = true;
-        for station in self.stations.iter_mut() {
-            station.tape.over = true;
-            self.totals.add(&station.tape.totals);
-        }
-        for tape in self.tapes.iter_mut() {
-            tape.over = true;
-            self.totals.add(&tape.totals);
-        }
-        self.totals
+    /// How many connections this slot has had.
+    pub fn generation_of(&self, slot: usize) -> u64 {
+        self.tapes.get(slot).map_or(0, |tape| tape.generation())
     }
-}
 
-/// Whether a report is about an end of this slot.
-fn is_of(name: &Name, slot: usize) -> bool {
-    matches!(name, Name::End(token) if token.slot() == slot)
+    /// Whether a ticket for this slot has to be in the queue.
+    pub fn is_queued(&self, slot: usize) -> bool {
+        for ticket in self.ready.iter() {
+            if ticket.slot == slot {
+                return true;
+            }
+        }
+        false
+    }
+
+    /// The connection in this slot, which has this claim word, is taken away from its place. From now on there is nothing
+    /// to compare at the slot but its word.
+    pub fn lose(&mut self, slot: usize, word: u64) {
+        if let Some(tape) = self.tapes.get_mut(slot) {
+            tape.lost = Some(word);
+        }
+    }
+
+    /// This happens in the world of a slot alone.
+    pub fn mislead(&mut self, slot: usize, event: &Event) {
+        self.record(slot, event);
+    }
+
+    /// This happens in the world of a poller's listener alone.
+    pub fn mislead_listener(&mut self, poller: usize, event: &Event) {
+        if let Some(station) = self.stations.get_mut(poller) {
+            station.tape.put(event);
+        }
+    }
+
+    /// A ticket that has to be in the queue is forgotten.
+    pub fn forget_ticket(&mut self) {
+        let _ = self.ready.pop_front();
+    }
+
+    /// A free slot of a poller is forgotten.
+    pub fn forget_slot(&mut self, poller: usize) {
+        if let Some(station) = self.stations.get_mut(poller) {
+            let _ = station.free.pop_front();
+        }
+    }
+
+    /// What was played in all.
+    pub fn played(&self) -> Totals {
+        let mut totals = self.totals;
+        for station in self.stations.iter() {
+            totals.add(&station.tape.totals);
+        }
+        for tape in self.tapes.iter() {
+            totals.add(&tape.totals);
+        }
+        totals
+    }
 }
 
 /// A station for each poller of a server of these sizes.
 fn stations_of(alloc: Global, sizes: Sizes) -> Result<Vec<Station>, AllocError>
     requires { IsServerSize sizes }
 {
-    let mut stations = Vec::with_capacity(alloc, sizes.pollers())?;
-    for poller in 0..sizes.pollers() {
+    let pollers = sizes.split.pollers();
+    let mut stations = Vec::with_capacity(alloc, pollers)?;
+    for poller in 0..pollers {
         stations.push(Station::new(alloc, sizes, poller)?)?;
     }
     Ok(stations)

@@ -1,6 +1,5 @@
 // The sizes of the server of a script, and which slots are whose.
-ghost use Rattle.drill_outside.specs.Sizes.{IsServerSize};
-
+use dispatch::Split;
 use world::Limits;
 
 /// The sizes of the server of a script.
@@ -8,8 +7,8 @@ use world::Limits;
 pub struct Sizes {
     /// Those of the whole server, without a lead.
     pub limits: Limits,
-    /// How many slots each poller has, but for the last, which may have fewer.
-    pub size: usize,
+    /// Which slots are which poller's.
+    pub split: Split,
     /// After how many connections the server ends, 0 for never.
     pub stop_after: u64,
     /// Whether targets get a PROXY line.
@@ -17,23 +16,12 @@ pub struct Sizes {
 }
 
 impl Sizes {
-    /// How many pollers there are.
-    pub fn pollers(&self) -> usize {
-        let size = self.size.max(1);
-        self.limits.slots.saturating_sub(1) / size + 1
-    }
-
-    /// The number of the poller that has this slot.
-    pub fn poller_of(&self, slot: usize) -> usize {
-        slot / self.size.max(1)
-    }
-
     /// How many connections this poller may open.
-    pub fn share_of(&self, poller: usize) -> u64 {
+    pub(crate) fn share_of(&self, poller: usize) -> u64 {
         if self.stop_after == 0 {
             return u64::MAX;
         }
-        let pollers = self.pollers().max(1) as u64;
+        let pollers = self.split.pollers() as u64;
         let more = (poller as u64) < self.stop_after % pollers;
         (self.stop_after / pollers).saturating_add(u64::from(more))
     }

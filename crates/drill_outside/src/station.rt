@@ -1,4 +1,7 @@
-// One poller's share of what is outside: the kernel as its epoll instance shows it, and the world beside it.
+// One poller's share of what is outside: the kernel as its epoll instance shows it, and the world beside it. And what its
+// thread has to do next, by a reckoning of its own, so that the server is not asked.
+ghost use Rattle.std.specs.Prelude.{◌<◌};
+ghost use Rattle.dispatch.specs.Splits.{parts_of};
 ghost use Rattle.drill_outside.specs.Sizes.{IsServerSize};
 
 use crate::addresses::route_of;
@@ -6,9 +9,11 @@ use crate::plan::RoundPlan;
 use crate::sizes::Sizes;
 use crate::step::{Outcome, Polled};
 use crate::sweeps::Sweeps;
-use crate::tape::Tape;
-use dispatch::{MAX_ACCEPTS, Part, Route, Unopened};
+use crate::tape::{Tape, at_first};
+use crate::ticks::START;
+use dispatch::{MAX_ACCEPTS, MAX_OWN_TURNS, Part, Route, Unopened};
 use kernel_model::{Accepting, Descriptors, Kernel, MAX_POLLED, Refusal, Watched};
+use ready::Ticket;
 use std::alloc::{AllocError, Global};
 use std::collections::VecDeque;
 use token::{Name, Side, Token};
@@ -16,6 +21,9 @@ use world::{Change, Event, Listening, Polling, Reported};
 
 /// The most descriptors that a kernel has: two for each slot.
 const MOST: usize = 128;
+
+/// So many tickets of a connection that spent the budget of its poller's thread are for the workers.
+const HEAVY: u8 = 16;
 
 /// A connection that a poller started to open.
 #[derive(Clone, Copy)]
@@ -32,6 +40,8 @@ pub struct Station {
     alloc: Global,
     /// The ends of this poller's connections, and its reports.
     pub kernel: Kernel,
+    /// Whether the kernel, or the memory for a list, refused what has to be possible.
+    pub refused: bool,
     pub plan: RoundPlan,
     /// The world of its listener and its waker, in which nothing is ever opened.
     pub tape: Tape,
@@ -39,6 +49,11 @@ pub struct Station {
     pub(crate) part: Part,
     /// Its free slots, in the order in which they are to be used.
     pub free: VecDeque<usize>,
+    /// The tickets that its round has made so far, and those that its thread has to run then.
+    hand: VecDeque<Ticket>,
+    kept: VecDeque<Ticket>,
+    /// Of each slot's next tickets, how many are for the workers.
+    heavy: [u8; 64],
     /// How many connections it may still open.
     left: u64,
     sweeps: Sweeps,
@@ -61,24 +76,25 @@ pub struct Station {
 
 impl Station {
     pub(crate) fn new(alloc: Global, sizes: Sizes, poller: usize) -> Result<Station, AllocError>
-        requires { IsServerSize sizes }
+        requires sizes { IsServerSize sizes }
+        requires poller { poller < parts_of sizes.split.slots sizes.split.size }
     {
-        let first = sizes.size.saturating_mul(poller);
-        let part = Part {
-            first,
-            slots: sizes.size.min(sizes.limits.slots.saturating_sub(first)),
-        };
+        let part = sizes.split.part(poller);
         Ok(Station {
             alloc,
             kernel: Kernel::new(alloc),
+            refused: false,
             plan: RoundPlan::new(alloc),
             tape: Tape::of_listener(alloc, sizes)?,
             free: slots_of(alloc, part)?,
             part,
+            hand: VecDeque::new(alloc),
+            kept: VecDeque::new(alloc),
+            heavy: [0; 64],
             left: sizes.share_of(poller),
             sweeps: Sweeps {
                 limit: sizes.limits.idle,
-                last: 0,
+                last: START,
             },
             poller,
             proxy: sizes.proxy,
@@ -91,14 +107,34 @@ impl Station {
         })
     }
 
-    /// Something happens outside. Where the kernel refuses it, nothing does.
-    pub(crate) fn happen(&mut self, event: Event) {
-        if self.make(&event).is_ok() {
-            self.tape.put(event);
+    /// The kernel has to make this.
+    fn must<T: Drop, E: Drop>(&mut self, made: Result<T, E>) {
+        if made.is_err() {
+            self.refused = true;
         }
     }
 
-    pub(crate) fn make(&mut self, event: &Event) -> Result<(), Refusal> {
+    /// Something happens to the listener or the waker. What the kernel does not allow, the world may not allow either.
+    pub(crate) fn happen(&mut self, event: &Event) {
+        match self.make(event) {
+            Ok(()) => self.tape.put(event),
+            Err(Refusal::NotAllowed) => self.tape.put_not_allowed(event),
+            Err(Refusal::NoMemory) => self.refused = true,
+        }
+    }
+
+    /// Something happens to an end of this slot, which has this tape.
+    pub(crate) fn change(&mut self, tape: &mut Tape, event: Event) {
+        let made = self.make(&event);
+        let event = at_first(event);
+        match made {
+            Ok(()) => tape.put(&event),
+            Err(Refusal::NotAllowed) => tape.put_not_allowed(&event),
+            Err(Refusal::NoMemory) => self.refused = true,
+        }
+    }
+
+    fn make(&mut self, event: &Event) -> Result<(), Refusal> {
         match event {
             Event::Listen(Listening::Connect) => self.kernel.connect_in(),
             Event::Spurious(who) => {
@@ -111,13 +147,13 @@ impl Station {
             }
             Event::Network(slot, side, change) => {
                 let descriptor = self.descriptor(*slot, *side)?;
-                self.change(descriptor, change)
+                self.change_end(descriptor, change)
             }
             _ => Err(Refusal::NotAllowed),
         }
     }
 
-    fn change(&mut self, descriptor: usize, change: &Change) -> Result<(), Refusal> {
+    fn change_end(&mut self, descriptor: usize, change: &Change) -> Result<(), Refusal> {
         match change {
             Change::Arrive(bytes) => self.kernel.arrive(descriptor, bytes.as_slice()),
             Change::Fin => self.kernel.fin(descriptor),
@@ -146,19 +182,26 @@ impl Station {
         Err(Refusal::NotAllowed)
     }
 
+    /// The poller is woken.
+    pub(crate) fn wake(&mut self) {
+        let woken = self.kernel.spurious(Watched::Waker);
+        self.must(woken);
+    }
+
     /// A poll takes these names.
     pub(crate) fn poll(&mut self, polled: Option<Polled>) -> Result<Vec<Name>, AllocError> {
         let names = self.chosen(polled)?;
         self.tries = 0;
         self.in_round = true;
-        let _ = self.kernel.poll(names.as_slice());
+        let taken = self.kernel.poll(names.as_slice());
+        self.must(taken);
         let mut own = Vec::new(self.alloc);
         for name in &names {
             if !matches!(name, Name::End(_)) {
                 own.push(*name)?;
             }
         }
-        self.tape.put(Event::Poll(Polling::Poll(own)));
+        self.tape.put(&Event::Poll(Polling::Poll(own)));
         Ok(names)
     }
 
@@ -182,6 +225,61 @@ impl Station {
         self.sweeps.falls_due(second)
     }
 
+    /// Its round does this at the slot of this tape, which may make a ticket.
+    pub(crate) fn note(&mut self, slot: usize, tape: &mut Tape, event: &Event) {
+        let had = tape.poller_ticket().is_some();
+        tape.put(event);
+        if let (false, Some(ticket)) = (had, tape.poller_ticket()) {
+            let kept = self.hand.push_back(Ticket {
+                slot,
+                generation: ticket.generation,
+            });
+            self.must(kept);
+        }
+    }
+
+    /// Its round has ended: the tickets of heavy connections, and all behind the first 16 others, are for the workers.
+    pub(crate) fn end_round(&mut self, ready: &mut VecDeque<Ticket>) {
+        self.in_round = false;
+        // A slot that has had its last connection never comes back: a server that is to end has opened too few for that.
+        self.over = self.has_opened_all() && self.free.len() >= self.part.slots;
+        for _ticket in 0..self.hand.len() {
+            let Some(ticket) = self.hand.pop_front() else {
+                return;
+            };
+            let stays = self.is_light(ticket.slot) && self.kept.len() < MAX_OWN_TURNS;
+            let put = if stays {
+                self.kept.push_back(ticket)
+            } else {
+                ready.push_back(ticket)
+            };
+            self.must(put);
+        }
+    }
+
+    /// Whether the slot's next ticket is for its own thread.
+    fn is_light(&mut self, slot: usize) -> bool {
+        match self.heavy.get_mut(slot) {
+            Some(left) if *left > 0 => {
+                *left -= 1;
+                false
+            }
+            _ => true,
+        }
+    }
+
+    /// Its own thread has run a turn at this slot that left the connection due.
+    pub(crate) fn mark_heavy(&mut self, slot: usize) {
+        if let Some(left) = self.heavy.get_mut(slot) {
+            *left = HEAVY;
+        }
+    }
+
+    /// The ticket that its thread has to run next.
+    pub(crate) fn next_kept(&mut self) -> Option<Ticket> {
+        self.kept.pop_front()
+    }
+
     /// Whether it has opened all that it may open.
     pub(crate) fn has_opened_all(&self) -> bool {
         self.left == 0
@@ -193,10 +291,10 @@ impl Station {
         self.free.pop_front()
     }
 
-    /// Its round has ended. A slot that has had its last connection never comes back: a server that is to end has opened
-    /// too few for that.
-    pub(crate) fn end_round(&mut self) {
-        self.over = self.has_opened_all() && self.free.len() >= self.part.slots;
+    /// A slot that can be used again is given back to it.
+    pub(crate) fn give(&mut self, slot: usize) {
+        let given = self.free.push_back(slot);
+        self.must(given);
     }
 
     /// What accept(2) is answered, where a client waits or not.
@@ -213,10 +311,11 @@ impl Station {
     pub(crate) fn answer(&mut self, reply: Accepting) {
         self.tries = self.tries.saturating_add(1);
         self.starved = reply == Accepting::Starved || reply == Accepting::Again && self.starved;
-        let _ = self.kernel.accept(reply);
-        self.tape.put(Event::Listen(Listening::Accept(reply)));
+        let answered = self.kernel.accept(reply);
+        self.must(answered);
+        self.tape.put(&Event::Listen(Listening::Accept(reply)));
         if reply == Accepting::Accepted {
-            self.tape.put(Event::Listen(Listening::Drop));
+            self.tape.put(&Event::Listen(Listening::Drop));
         }
     }
 
@@ -224,23 +323,27 @@ impl Station {
     /// report is withdrawn: this poller was told of it when it came, or did not have to be.
     pub(crate) fn let_in(&mut self) {
         let was_queued = self.kernel.is_queued(&Name::Listener);
-        self.happen(Event::Listen(Listening::Connect));
+        self.happen(&Event::Listen(Listening::Connect));
         self.answer(Accepting::Accepted);
         if !was_queued {
-            self.happen(Event::Vanish(Reported::Listener));
+            self.happen(&Event::Vanish(Reported::Listener));
         }
+    }
+
+    /// Whether accept(2) is to be tried.
+    pub(crate) fn could_accept(&self) -> bool {
+        self.tape.world.accept_flag() && !self.free.is_empty() && !self.has_opened_all()
     }
 
     /// Whether a round may end here: it could not accept, has tried accept(2) as often as a round does, or the system lacked
     /// what that needs.
     pub(crate) fn may_rest(&self) -> bool {
-        let could = self.tape.world.accept_flag() && !self.free.is_empty() && !self.has_opened_all();
-        !could || self.starved || self.tries >= MAX_ACCEPTS
+        !self.could_accept() || self.starved || self.tries >= MAX_ACCEPTS
     }
 
-    /// Both ends of an accepted connection are opened, or that fails: as it is planned, or for want of memory. Answers its
-    /// addresses, too. There are no ends where a PROXY line lacks one of these: then the server has to close both at once, and
-    /// to the world the connection was never open.
+    /// Both ends of an accepted connection are opened, or that fails as it is planned. Answers its addresses, too. There are
+    /// no ends where a PROXY line lacks one of these: then the server has to close both at once, and to the world the
+    /// connection was never open.
     pub(crate) fn open(&mut self, client: Token, target: Token) -> Result<Started, Unopened> {
         let untold = match self.plan.opens.pop_front() {
             Some(Outcome::Fails(unopened)) => return Err(unopened),
@@ -251,20 +354,22 @@ impl Station {
         if self.proxy && untold.is_some() {
             return Ok(Started { ends: None, route });
         }
-        let Ok(ends) = self.kernel.open_both(client, target) else {
-            return Err(Unopened::Connect);
-        };
-        Ok(Started {
-            ends: Some(ends),
-            route,
-        })
+        match self.kernel.open_both(client, target) {
+            Ok(ends) => Ok(Started {
+                ends: Some(ends),
+                route,
+            }),
+            Err(_) => {
+                self.refused = true;
+                Err(Unopened::Connect)
+            }
+        }
     }
 
     /// An end of this slot is closed. Answers whether that was the second of its connection.
     pub(crate) fn close(&mut self, descriptor: usize, slot: usize) -> bool {
-        if self.kernel.close(descriptor).is_err() {
-            return false;
-        }
+        let closed = self.kernel.close(descriptor);
+        self.must(closed);
         let is_second = self.half == Some(slot);
         self.half = if is_second { None } else { Some(slot) };
         is_second

@@ -177,5 +177,9 @@ impl Wire for EndWire {
 }
 
 impl Settle for EndWire {
-    fn settle(&mut self) {}
+    fn settle(&mut self) {
+        if let Ok(mut outside) = self.outside.try_borrow_mut() {
+            outside.settle_end();
+        }
+    }
 }
