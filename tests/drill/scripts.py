@@ -75,13 +75,13 @@ class Maker:
     def header(self):
         ring = self.random.randint(1, 8)
         budget = self.random.choice([1, 2, 3, 4, 8, 9, 16])
-        header = f"drill slots={self.slots} workers={self.workers} ring={ring} budget={budget}"
+        header = f"world slots={self.slots} workers={self.workers} ring={ring} budget={budget}"
         if self.left is not None:
             header += f" gen={LAST_GENERATION - self.left}"
         if self.idle is not None:
             header += f" idle={self.idle}"
-        if self.pollers > 1:
-            header += f" pollers={self.pollers}"
+        if self.pollers > 1 or self.stop is not None or self.proxy:
+            header += f" with pollers={self.pollers}"
         if self.stop is not None:
             header += f" stop={self.stop}"
         return f"{header} proxy" if self.proxy else header

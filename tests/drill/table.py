@@ -20,7 +20,7 @@ class Row:
         self.name = lines[0].removeprefix("row ")
         self.wanted = [line[2:] for line in lines[2:] if line.startswith("> ")]
         steps = [step for line in lines[2:] if not line.startswith("> ") for step in steps_of(line)]
-        self.script = "\n".join([f"drill {lines[1]}", *steps, "show", ""]).replace("BYTES", BYTES)
+        self.script = "\n".join([f"world {lines[1]}", *steps, "show", ""]).replace("BYTES", BYTES)
 
 
 def steps_of(line):

@@ -44,8 +44,8 @@ def play(folder, rows):
             file.write(row.script)
     command = ["rt", "try", "--cases", cases]
     done = subprocess.run(command, cwd=os.path.join(folder, "crates/drill"), capture_output=True, text=True)
-    told = done.stdout + done.stderr
-    if "\ncases=" not in told:
-        print(told[-3000:])
-    found = re.findall(r"^== (\S+)\n(.*?)^case=\1 ", told, flags=re.M | re.S)
-    return {name: line for name, output in found for line in output.splitlines() if line.startswith("differs: ")}
+    if done.stdout.count("== ") < len(rows):
+        print(done.stdout[-2000:] + done.stderr[-2000:])
+    told = re.split(r"^== (\S+)\n", done.stdout, flags=re.M)[1:]
+    lines = {name: output.splitlines() for name, output in zip(told[::2], told[1::2])}
+    return {name: line for name in lines for line in lines[name] if line.startswith("differs: ")}

@@ -1,6 +1,7 @@
 // Whether a connection of the server is that of the machine.
 use kernel_model::End;
 use relay_core::Pair;
+use std::alloc::AllocError;
 use token::{Direction, Side};
 
 /// What differs, as two numbers: a count, a byte, or 1 for yes and up.
@@ -11,139 +12,128 @@ pub struct Difference {
     pub machine: u64,
 }
 
-/// A line of what is compared.
-type Line = (&'static str, u64, u64);
+impl From<AllocError> for Difference {
+    fn from(_error: AllocError) -> Difference {
+        Difference {
+            what: "memory",
+            server: 0,
+            machine: 1,
+        }
+    }
+}
 
-/// The first of these lines in which the two differ.
-pub fn first_of(lines: &[Line]) -> Option<Difference> {
+/// A line of what is compared.
+pub type Line = (&'static str, u64, u64);
+
+/// A line of what is yes or no.
+pub fn flag(what: &'static str, server: bool, machine: bool) -> Line {
+    (what, u64::from(server), u64::from(machine))
+}
+
+/// The first of these lines in which the two differ is refused.
+pub fn same(lines: &[Line]) -> Result<(), Difference> {
     for (what, server, machine) in lines {
         if server != machine {
-            return Some(Difference {
+            return Err(Difference {
                 what: *what,
                 server: *server,
                 machine: *machine,
             });
         }
     }
-    None
+    Ok(())
 }
 
-/// How the server's pair differs from the machine's, whose second 0 is this one of the server. Without it the machine has no
-/// clock.
-pub fn pairs_differ(server: &Pair, machine: &Pair, since: Option<u64>) -> Option<Difference> {
-    facts_differ(server, machine, since)
-        .or(flags_differ(server, machine))
-        .or(ways_differ(server, machine, Direction::Up))
-        .or(ways_differ(server, machine, Direction::Down))
+/// The server's pair is the machine's, whose second 0 is this one of the server. Without it the machine has no clock.
+pub fn pairs_agree(server: &Pair, machine: &Pair, since: Option<u64>) -> Result<(), Difference> {
+    facts_agree(server, machine, since)?;
+    flags_agree(server, machine)?;
+    ways_agree(server, machine, Direction::Up)?;
+    ways_agree(server, machine, Direction::Down)
 }
 
-fn facts_differ(server: &Pair, machine: &Pair, since: Option<u64>) -> Option<Difference> {
-    let same = u64::from(server.verdict() == machine.verdict());
+fn facts_agree(server: &Pair, machine: &Pair, since: Option<u64>) -> Result<(), Difference> {
+    let agree = server.verdict() == machine.verdict();
     let (up, down) = server.counts();
     let (machine_up, machine_down) = machine.counts();
     let moved = match since {
         Some(since) => machine.moved().saturating_add(since),
         None => server.moved(),
     };
-    first_of(&[
+    let (turn, machine_turn) = (server.turn(), machine.turn());
+    same(&[
         ("generation", server.generation(), machine.generation()),
-        ("same verdict", same, 1),
+        flag("same verdict", agree, true),
         ("bytes up", up, machine_up),
         ("bytes down", down, machine_down),
         ("second of the last bytes", server.moved(), moved),
-        (
-            "whether it is the turn of the way up",
-            u64::from(server.turn() == Direction::Up),
-            u64::from(machine.turn() == Direction::Up),
+        flag(
+            "turn of the way up",
+            turn == Direction::Up,
+            machine_turn == Direction::Up,
         ),
     ])
 }
 
-fn flags_differ(server: &Pair, machine: &Pair) -> Option<Difference> {
-    let (client, target) = (server.flags(Side::Client), server.flags(Side::Target));
-    let (of_client, of_target) = (machine.flags(Side::Client), machine.flags(Side::Target));
-    first_of(&[
-        ("client read flag", u64::from(client.read), u64::from(of_client.read)),
-        ("client write flag", u64::from(client.write), u64::from(of_client.write)),
-        ("target read flag", u64::from(target.read), u64::from(of_target.read)),
-        ("target write flag", u64::from(target.write), u64::from(of_target.write)),
-        (
-            "whether the client is joined",
-            u64::from(server.joined(Side::Client)),
-            u64::from(machine.joined(Side::Client)),
-        ),
-        (
-            "whether the target is joined",
-            u64::from(server.joined(Side::Target)),
-            u64::from(machine.joined(Side::Target)),
-        ),
-    ])
+fn flags_agree(server: &Pair, machine: &Pair) -> Result<(), Difference> {
+    for side in [Side::Client, Side::Target] {
+        let (flags, wanted) = (server.flags(side), machine.flags(side));
+        let (joined, is_joined) = (server.joined(side), machine.joined(side));
+        same(&[
+            flag("read flag", flags.read, wanted.read),
+            flag("write flag", flags.write, wanted.write),
+            flag("joined", joined, is_joined),
+        ])?;
+    }
+    Ok(())
 }
 
-fn ways_differ(server: &Pair, machine: &Pair, way: Direction) -> Option<Difference> {
-    first_of(&[
-        ("bytes of the lead", server.lead_len(way) as u64, machine.lead_len(way) as u64),
-        ("bytes in a ring", server.ring_len(way) as u64, machine.ring_len(way) as u64),
-        (
-            "whether an end was seen",
-            u64::from(server.end_seen(way)),
-            u64::from(machine.end_seen(way)),
-        ),
-        (
-            "whether an end was passed on",
-            u64::from(server.is_shut(way)),
-            u64::from(machine.is_shut(way)),
-        ),
-    ])
-    .or(rings_differ(server, machine, way))
-}
-
-/// Of rings and leads of one length the first byte that differs.
-fn rings_differ(server: &Pair, machine: &Pair, way: Direction) -> Option<Difference> {
+fn ways_agree(server: &Pair, machine: &Pair, way: Direction) -> Result<(), Difference> {
+    let (lead, ring) = (server.lead_len(way), server.ring_len(way));
+    let (machine_lead, machine_ring) = (machine.lead_len(way), machine.ring_len(way));
+    same(&[
+        ("length of the lead", lead as u64, machine_lead as u64),
+        ("length of a ring", ring as u64, machine_ring as u64),
+        flag("end seen", server.end_seen(way), machine.end_seen(way)),
+        flag("end passed on", server.is_shut(way), machine.is_shut(way)),
+    ])?;
     for index in 0..server.ring_len(way).min(machine.ring_len(way)) {
-        let (one, other) = (server.ring_byte(way, index), machine.ring_byte(way, index));
-        if one != other {
-            return first_of(&[("byte in a ring", u64::from(one), u64::from(other))]);
-        }
+        let (byte, wanted) = (server.ring_byte(way, index), machine.ring_byte(way, index));
+        same(&[("byte in a ring", u64::from(byte), u64::from(wanted))])?;
     }
     for index in 0..server.lead_len(way).min(machine.lead_len(way)) {
-        let (one, other) = (server.lead_byte(way, index), machine.lead_byte(way, index));
-        if one != other {
-            return first_of(&[("byte of the lead", u64::from(one), u64::from(other))]);
-        }
+        let (byte, wanted) = (server.lead_byte(way, index), machine.lead_byte(way, index));
+        same(&[("byte of the lead", u64::from(byte), u64::from(wanted))])?;
     }
-    None
+    Ok(())
 }
 
-/// How an end of the server's kernel differs from the machine's.
-pub fn ends_differ(server: &End, machine: &End) -> Option<Difference> {
-    first_of(&[
-        ("fin at an end", u64::from(server.has_fin()), u64::from(machine.has_fin())),
-        ("error at an end", u64::from(server.has_err()), u64::from(machine.has_err())),
-        ("room at an end", u64::from(server.has_room()), u64::from(machine.has_room())),
-        ("shut end", u64::from(server.is_shut()), u64::from(machine.is_shut())),
+/// An end of the server's kernel is the machine's.
+pub fn ends_agree(server: &End, machine: &End) -> Result<(), Difference> {
+    let (reads, writes) = (server.is_read_armed(), server.is_write_armed());
+    let (machine_reads, machine_writes) = (machine.is_read_armed(), machine.is_write_armed());
+    same(&[
+        flag("fin at an end", server.has_fin(), machine.has_fin()),
+        flag("error at an end", server.has_err(), machine.has_err()),
+        flag("room at an end", server.has_room(), machine.has_room()),
+        flag("shut end", server.is_shut(), machine.is_shut()),
+        flag("armed for reads", reads, machine_reads),
+        flag("armed for writes", writes, machine_writes),
         (
-            "end armed for reads",
-            u64::from(server.is_read_armed()),
-            u64::from(machine.is_read_armed()),
+            "bytes taken",
+            server.taken().len() as u64,
+            machine.taken().len() as u64,
         ),
         (
-            "end armed for writes",
-            u64::from(server.is_write_armed()),
-            u64::from(machine.is_write_armed()),
+            "bytes unread",
+            server.unread().len() as u64,
+            machine.unread().len() as u64,
+        ),
+        flag("same bytes taken", server.taken() == machine.taken(), true),
+        flag(
+            "same bytes unread",
+            server.unread() == machine.unread(),
+            true,
         ),
     ])
-    .or(bytes_differ("bytes that an end took", server.taken(), machine.taken()))
-    .or(bytes_differ("bytes that wait at an end", server.unread(), machine.unread()))
-}
-
-fn bytes_differ(what: &'static str, server: &[u8], machine: &[u8]) -> Option<Difference> {
-    if server == machine {
-        return None;
-    }
-    Some(Difference {
-        what,
-        server: server.len() as u64,
-        machine: machine.len() as u64,
-    })
 }

@@ -1,7 +1,7 @@
 // One script: the server's steps, and the comparison after each of them.
 use crate::compare::{Differs, compare};
 use crate::likeness::Difference;
-use crate::reading::{Step, Unread, read_step};
+use crate::reading::{Step, read_step};
 use crate::stage::Stage;
 use drill_outside::{Outside, Tape};
 use log::{Level, Log};
@@ -28,9 +28,8 @@ pub fn play_line<R: Wait + Log + Print>(
     line: &str,
 ) -> io::Result<Played> {
     match read_step(alloc, line) {
-        Ok(step) => play(rt, alloc, stage, step),
-        Err(Unread::Malformed) => Ok(Played::Malformed),
-        Err(Unread::NoMemory) => Err(io::Error::from(ErrorKind::OutOfMemory)),
+        Some(step) => play(rt, alloc, stage, step),
+        None => Ok(Played::Malformed),
     }
 }
 
@@ -49,7 +48,9 @@ fn play<R: Wait + Log + Print>(
             return Ok(Played::Agreed);
         }
         step => {
-            prepare(alloc, stage, step)?;
+            if let Ok(mut outside) = stage.outside.try_borrow_mut() {
+                prepare(&mut outside, step)?;
+            }
             return Ok(Played::Agreed);
         }
     }
@@ -61,17 +62,14 @@ fn play<R: Wait + Log + Print>(
 }
 
 /// Makes a step after which nothing is compared yet.
-fn prepare(alloc: Global, stage: &Stage, step: Step) -> Result<(), AllocError> {
-    let Ok(mut outside) = stage.outside.try_borrow_mut() else {
-        return Err(AllocError);
-    };
+fn prepare(outside: &mut Outside, step: Step) -> Result<(), AllocError> {
     match step {
         Step::Later(later) => outside.add(later)?,
         Step::Machine(slot, event) => outside.mislead(slot, &event),
         Step::Listener(poller, event) => outside.mislead_listener(poller, &event),
         Step::ForgetTicket => outside.forget_ticket(),
         Step::ForgetSlot(poller) => outside.forget_slot(poller),
-        Step::Line(line) => outside.book.expect(Level::Info, String::from_str(alloc, line.as_str())),
+        Step::Line(line) => outside.book.expect(Level::Info, Ok(line)),
         _ => {}
     }
     Ok(())
@@ -101,30 +99,30 @@ fn agrees<R: Wait + Print>(rt: &R, alloc: Global, stage: &Stage) -> io::Result<b
     if let Ok(mut outside) = stage.outside.try_borrow_mut() {
         outside.totals.steps = outside.totals.steps.saturating_add(1);
     }
-    let Some(differs) = compare(rt, alloc, stage)? else {
+    let Err(differs) = compare(rt, alloc, stage) else {
         return Ok(true);
     };
     let Ok(outside) = stage.outside.try_borrow() else {
         return Err(io::Error::from(ErrorKind::Other));
     };
-    tell(rt, alloc, &outside, &differs)?;
+    tell(rt, alloc, &outside, differs)?;
     Ok(false)
 }
 
 /// Prints a difference, and the script and report of the world that differs.
-fn tell<R: Print>(rt: &R, alloc: Global, outside: &Outside, differs: &Differs) -> io::Result<()> {
+fn tell<R: Print>(rt: &R, alloc: Global, outside: &Outside, differs: Differs) -> io::Result<()> {
     let tape = match differs {
-        Differs::Wrong => {
+        Differs::Server => {
             let text = outside.book.wrong.as_ref().map_or("", |text| text.as_str());
             return println!(rt; "differs: {text}");
         }
         Differs::Poller(poller, difference) => {
-            tell_numbers(rt, "poller", *poller, difference)?;
-            outside.stations.get(*poller).map(|station| &station.tape)
+            tell_numbers(rt, "poller", poller, difference)?;
+            outside.stations.get(poller).map(|station| &station.tape)
         }
         Differs::Slot(slot, difference) => {
-            tell_numbers(rt, "slot", *slot, difference)?;
-            outside.tapes.get(*slot)
+            tell_numbers(rt, "slot", slot, difference)?;
+            outside.tapes.get(slot)
         }
     };
     match tape {
@@ -137,8 +135,12 @@ fn tell_numbers<R: Print>(
     rt: &R,
     place: &str,
     number: usize,
-    difference: &Difference,
+    difference: Difference,
 ) -> io::Result<()> {
-    let Difference { what, server, machine } = *difference;
+    let Difference {
+        what,
+        server,
+        machine,
+    } = difference;
     println!(rt; "differs: {place} {number}: {what}: server {server}, machine {machine}")
 }

@@ -3,7 +3,7 @@ ghost use Rattle.drill_outside.specs.Sizes.{IsServerSize};
 
 use crate::casting::stage_of;
 use crate::diary::Diary;
-use crate::header::read_header;
+use crate::header::read_sizes;
 use crate::play::{Played, play_line};
 use crate::source::Source;
 use crate::stage::Stage;
@@ -38,7 +38,7 @@ where
         let Some(line) = header else {
             break;
         };
-        let Some(sizes) = read_header(line.as_str()) else {
+        let Some(sizes) = read_sizes(line.as_str()) else {
             let number = source.number;
             println!(rt; "line {number}: no header")?;
             return Ok(false);
@@ -110,7 +110,7 @@ fn play_lines<R: Wait + Log + Print, B: BufRead>(
         let Some(line) = source.next()? else {
             return Ok(Ending::Input);
         };
-        if line.as_str().starts_with("drill ") {
+        if line.as_str().starts_with("world ") {
             return Ok(Ending::Header(line));
         }
         let number = source.number;

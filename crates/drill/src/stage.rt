@@ -84,12 +84,7 @@ impl Stage {
     }
 
     /// What a thread is handed for a step.
-    fn crew<'a, G, R>(
-        &'a self,
-        rt: &'a R,
-        alloc: Global,
-        gate: &'a G,
-    ) -> Crew<'a, G, Ticks, R> {
+    fn crew<'a, G, R>(&'a self, rt: &'a R, alloc: Global, gate: &'a G) -> Crew<'a, G, Ticks, R> {
         Crew {
             rt,
             alloc,
@@ -146,10 +141,14 @@ impl Stage {
             None => return,
         };
         if ended != (is_due || failed) {
-            outside.book.blame("a poller's thread goes on or ends when it has not to");
+            outside
+                .book
+                .blame("a poller's thread goes on or ends when it has not to");
         }
         if over != is_over {
-            outside.book.blame("a poller is over or not when it has not to be");
+            outside
+                .book
+                .blame("a poller is over or not when it has not to be");
         }
         if failed && !is_due {
             outside.expect_wakes();
@@ -262,17 +261,11 @@ impl Stage {
         let Ok(mut thread) = player.thread.try_borrow_mut() else {
             return;
         };
-        if word % 4 != 0 || self.sizes.limits.idle > 0 || slot >= thread.shared.claims.slots() {
-            return;
-        }
-        if let Ok(mut outside) = self.outside.try_borrow_mut() {
-            outside.lose(slot, word);
-        }
-        let thread = &mut *thread;
-        let (shared, seat) = (&thread.shared, &mut thread.own.seat);
-        if shared.claims.claim(seat, slot) == Claimed::Held {
-            drop(shared.berths.take_out(rt, seat, slot));
-            shared.claims.release(seat, slot);
+        if word % 4 == 0 && self.sizes.limits.idle == 0 {
+            if let Ok(mut outside) = self.outside.try_borrow_mut() {
+                outside.lose(slot, word);
+            }
+            take_away(rt, &mut thread, slot);
         }
     }
 
@@ -299,5 +292,17 @@ impl Stage {
         if let (Some(former), Ok(mut outside)) = (former, self.outside.try_borrow_mut()) {
             outside.leave(former);
         }
+    }
+}
+
+/// Takes the connection of a slot that nobody holds out of its place, and closes it.
+fn take_away<R: Wait>(rt: &R, thread: &mut PollerThread<KernelFront>, slot: usize) {
+    let (shared, seat) = (&thread.shared, &mut thread.own.seat);
+    if slot >= shared.claims.slots() {
+        return;
+    }
+    if shared.claims.claim(seat, slot) == Claimed::Held {
+        drop(shared.berths.take_out(rt, seat, slot));
+        shared.claims.release(seat, slot);
     }
 }

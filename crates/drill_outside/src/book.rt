@@ -53,7 +53,13 @@ impl Book {
     }
 
     /// The log has to tell of a connection that has ended.
-    pub(crate) fn expect_end(&mut self, slot: usize, generation: u64, verdict: Verdict, counts: (u64, u64)) {
+    pub(crate) fn expect_end(
+        &mut self,
+        slot: usize,
+        generation: u64,
+        verdict: Verdict,
+        counts: (u64, u64),
+    ) {
         let alloc = self.alloc;
         let (up, down) = counts;
         match verdict {
@@ -63,13 +69,18 @@ impl Book {
                 format!(in alloc; "done s={slot} g={generation} up={up} down={down}"),
             ),
             Verdict::Failed(Fault::Idle) => {
-                self.expect(Level::Warn, format!(in alloc; "fail s={slot} g={generation} idle"))
+                self.expect(
+                    Level::Warn,
+                    format!(in alloc; "fail s={slot} g={generation} idle"),
+                )
             }
             Verdict::Failed(Fault::Broken { side, call, kind }) => {
                 let (side, call, kind) = (side.name(), call.name(), kind.name());
                 self.expect(
                     Level::Warn,
-                    format!(in alloc; "fail s={slot} g={generation} side={side} call={call} kind={kind}"),
+                    format!(in alloc;
+                        "fail s={slot} g={generation} side={side} call={call} kind={kind}"
+                    ),
                 )
             }
         }
@@ -90,8 +101,7 @@ impl Book {
         };
         if !is_due || added.is_err() {
             let due = due.as_ref().map_or("no line", |line| line.text.as_str());
-            let wrong = format!(in self.alloc; "the log gets `{text}` in place of `{due}`");
-            self.blame(wrong.as_ref().map_or("", |wrong| wrong.as_str()));
+            self.blame_for(format!(in self.alloc; "the log gets `{text}` in place of `{due}`"));
         }
     }
 
@@ -99,8 +109,14 @@ impl Book {
     pub fn check(&mut self) {
         if let Some(line) = self.due.pop_front() {
             let text = line.text.as_str();
-            let wrong = format!(in self.alloc; "the log lacks `{text}`");
-            self.blame(wrong.as_ref().map_or("", |wrong| wrong.as_str()));
+            self.blame_for(format!(in self.alloc; "the log lacks `{text}`"));
+        }
+    }
+
+    fn blame_for(&mut self, text: Result<String, AllocError>) {
+        match text {
+            Ok(text) => self.blame(text.as_str()),
+            Err(_) => self.blame(""),
         }
     }
 }

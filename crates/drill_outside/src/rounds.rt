@@ -19,7 +19,8 @@ impl Outside {
             return Err(io::Error::from(ErrorKind::Other));
         };
         if wait == (station.could_accept() && !station.starved) {
-            self.book.blame("a poll waits while it may not, or does not while it may");
+            self.book
+                .blame("a poll waits while it may not, or does not while it may");
         }
         let polled = station.plan.polls.pop_front();
         if polled == Some(Polled::Failed) {
@@ -95,9 +96,10 @@ impl Outside {
 
     /// A poller's round does this at a slot, which may make a ticket.
     fn note(&mut self, poller: usize, slot: usize, event: &Event) {
-        if let (Some(station), Some(tape)) =
-            (self.stations.get_mut(poller), self.tapes.get_mut(slot))
-        {
+        if let (Some(station), Some(tape)) = (
+            self.stations.get_mut(poller),
+            self.tapes.get_mut(slot),
+        ) {
             station.note(slot, tape, event);
         }
     }
@@ -127,7 +129,8 @@ impl Outside {
             station.answer(reply);
         }
         if all {
-            self.book.blame("accept(2) after the last connection of a poller");
+            self.book
+                .blame("accept(2) after the last connection of a poller");
         }
         if reply == Accepting::Starved && !told {
             let error = io::Error::from(ErrorKind::Other);
@@ -170,7 +173,8 @@ impl Outside {
             None => None,
         };
         if first != Some(slot) {
-            self.book.blame("a poller opens another slot than its first free one");
+            self.book
+                .blame("a poller opens another slot than its first free one");
         }
         self.record(slot, &Event::Listen(Listening::Connect));
         self.record(slot, &Event::Listen(Listening::Accept(Accepting::Accepted)));

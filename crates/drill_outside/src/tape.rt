@@ -83,7 +83,10 @@ impl Tape {
             Err(_) => String::new(self.alloc),
         };
         self.totals.count(kind_of(line.as_str()));
-        let added = self.script.push_str(line.as_str()).and(self.script.push_str("\n"));
+        let added = self
+            .script
+            .push_str(line.as_str())
+            .and(self.script.push_str("\n"));
         if refused || added.is_err() || line.is_empty() {
             self.refused = Some(line);
         }
@@ -130,7 +133,7 @@ impl Tape {
     }
 
     /// How many connections the slot has had.
-    pub(crate) fn generation(&self) -> u64 {
+    pub fn generation(&self) -> u64 {
         self.world.table_entry(0).unwrap_or(0)
     }
 

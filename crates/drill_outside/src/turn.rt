@@ -74,7 +74,8 @@ impl Outside {
         self.settle();
         self.end_round();
         if self.next_ticket().is_some() {
-            self.book.blame("a ticket is taken or kept, and has no turn");
+            self.book
+                .blame("a ticket is taken or kept, and has no turn");
         }
         self.acting = former;
     }
@@ -100,7 +101,8 @@ impl Outside {
         self.calling = self.calling.saturating_add(1);
         let is_next = matches!(self.next_ticket(), Some(ticket) if ticket.slot == slot);
         if !is_next {
-            self.book.blame("a turn of another ticket than the next one");
+            self.book
+                .blame("a turn of another ticket than the next one");
         }
         if let Some(tape) = self.tapes.get_mut(slot) {
             tape.begin();
@@ -224,7 +226,8 @@ impl Outside {
             self.act(Act::Post);
         }
         if turn.settled != if turn.again { 0 } else { 2 } {
-            self.book.blame("a turn without a call has not settled both ends");
+            self.book
+                .blame("a turn without a call has not settled both ends");
         }
         self.act(Act::Release);
         let made = match self.tapes.get(turn.slot) {
@@ -247,7 +250,8 @@ impl Outside {
     fn give_back(&mut self, slot: usize) {
         self.act(Act::Retire);
         self.act(Act::Free);
-        let is_worn = matches!(self.tapes.get(slot), Some(tape) if tape.generation() == MAX_GENERATION);
+        let is_worn =
+            matches!(self.tapes.get(slot), Some(tape) if tape.generation() == MAX_GENERATION);
         let alone = matches!(self.acting.thread, Thread::Poller(_));
         if let Some(station) = self.stations.get_mut(self.sizes.split.poller_of(slot)) {
             if !is_worn {
@@ -272,7 +276,8 @@ impl Outside {
         }
         station.end_round(&mut self.ready);
         if !station.may_rest() {
-            self.book.blame("a poller ends a round while it could accept");
+            self.book
+                .blame("a poller ends a round while it could accept");
         }
     }
 }
