@@ -11,7 +11,7 @@ class Maker:
 
     def __init__(self, seed):
         self.random = random.Random(seed)
-        self.slots = self.random.choice([1, 1, 2, 2, 3, 4, 8])
+        self.slots = self.random.choice([1, 1, 2, 2, 3, 4, 8, 24])
         self.workers = self.random.randint(1, 4)
         self.steps = self.random.randint(1, self.random.choice([20, 80, 200]))
         # How often something other than the kernel's own answer, and something inside of a turn.
@@ -21,9 +21,16 @@ class Maker:
         # How many connections each slot may still have; None for a server that begins at its first.
         worn = random.Random(f"worn {seed}")
         self.left = worn.randint(1, 4) if worn.random() < 0.2 else None
-        # Two pollers in about one script of three. A choice of its own leaves the others of the script as they are.
+        # Several pollers in about two scripts of five. A choice of its own leaves the others of the script as they are.
         self.shared = random.Random(f"dealt {seed}")
-        self.pollers = 2 if self.slots > 1 and self.shared.random() < 0.5 else 1
+        self.pollers = min(self.slots, self.shared.choice([1, 1, 2, 2, 3]))
+        # An end after some connections in about one script of three, and now and then a poll that fails.
+        ends = random.Random(f"ends {seed}")
+        self.stop = ends.randint(1, 8) if ends.random() < 1 / 3 else None
+        self.faults = 0.02 if ends.random() < 0.2 else 0.0
+        # Now and then something happens at many slots at once, so that a round has many tickets.
+        self.crowd = random.Random(f"crowd {seed}")
+        self.bursts = self.crowd.choice([0.0, 0.1]) if self.slots > 2 else 0.0
         # An idle limit in about one script of three, and what the clock does, which is a choice of its own, too.
         self.time = random.Random(f"day {seed}")
         self.idle = self.time.randint(1, 4) if self.time.random() < 1 / 3 else None
@@ -32,30 +39,51 @@ class Maker:
         self.proxy = self.line.random() < 0.2
 
     def script(self):
-        """The lines: a header, and steps."""
+        """The lines: a header, and steps. A large server begins with many connections in about one script of two."""
         lines = [self.header()]
+        if self.slots > 16 and self.bursts:
+            lines += ["connect"] * self.slots + [f"round {poller}" for poller in range(self.pollers)] * 7
         for _ in range(self.steps):
+            if self.crowd.random() < self.bursts:
+                lines += self.burst()
             while self.random.random() < self.oddity:
                 lines.append(self.later())
             while self.random.random() < self.inside:
                 lines.append(f"{self.random.choice(['before', 'after'])} {self.inner()}")
             if self.proxy:
                 lines += self.pieces()
+            if self.faults and self.random.random() < self.faults:
+                lines.append(f"{self.word('poll')} failed")
             lines.append(self.large())
             if self.idle is not None:
                 lines += self.ticks()
         return lines
 
+    def burst(self):
+        """Bytes, or a report alone, at most slots, and a round of each poller."""
+        lines = []
+        for slot in range(self.slots):
+            what = self.crowd.random()
+            side = self.crowd.choice(["client", "target"])
+            if what < 0.3:
+                data = bytes(self.crowd.randrange(256) for _ in range(self.crowd.randint(1, 20)))
+                lines += [f"arrive {slot} {side} {data.hex()}", f"room {slot} {'target' if side == 'client' else 'client'}"]
+            elif what < 0.9:
+                lines.append(f"spurious {slot} {side}")
+        return lines + [f"round {poller}" for poller in range(self.pollers)]
+
     def header(self):
         ring = self.random.randint(1, 8)
-        budget = self.random.randint(1, 4)
-        header = f"drill slots={self.slots} workers={self.workers} ring={ring} budget={budget}"
+        budget = self.random.choice([1, 2, 3, 4, 8, 9, 16])
+        header = f"world slots={self.slots} workers={self.workers} ring={ring} budget={budget}"
         if self.left is not None:
             header += f" gen={LAST_GENERATION - self.left}"
         if self.idle is not None:
             header += f" idle={self.idle}"
-        if self.pollers > 1:
-            header += f" pollers={self.pollers}"
+        if self.pollers > 1 or self.stop is not None or self.proxy:
+            header += f" with pollers={self.pollers}"
+        if self.stop is not None:
+            header += f" stop={self.stop}"
         return f"{header} proxy" if self.proxy else header
 
     def ticks(self):
@@ -87,8 +115,8 @@ class Maker:
 
     def large(self):
         """A large step."""
-        step = self.pick({"outside": 40, "round": 26, "own": 8, "turn": 26})
-        if step in ("round", "own"):
+        step = self.pick({"outside": 44, "round": 30, "turn": 26})
+        if step == "round":
             return self.word(step)
         return self.turn() if step == "turn" else self.outside()
 

@@ -1,110 +1,120 @@
-// The threads of the server, made from its parts.
-ghost use Rattle.std.specs.Prelude.{◌≡◌, ◌≤◌, length, IfOk};
-ghost use Rattle.claims.specs.Seats.{fresh_seat};
+// The threads of the server of a script, made from its settings as the product makes them.
+ghost use Rattle.std.specs.Prelude.{◌≤◌, ◌≡◌, length};
 ghost use Rattle.drill_outside.specs.Sizes.{IsServerSize};
-ghost use Rattle.dispatch.specs.Parts.{AreFresh};
 
-use crate::actors::{Lead, Worker};
-use crate::crew::Crew;
-use crate::parts::Rest;
-use dispatch::{Opening, Own, Part, Poller, Shared};
-use drill_outside::{KernelFront, MAX_POLLERS, Outside, Sizes, Ticks};
-use ready::FreeQueue;
+use crate::stage::{Player, Stage};
+use dispatch::{Poller, ServerFault};
+use drill_outside::{KernelFront, Outside, Sizes, Ticks};
+use server::build;
+use settings::{Settings, parse};
 use std::alloc::{AllocError, Global};
 use std::cell::RefCell;
 use std::rc::Rc;
+use std::sync::{Arc, Wait};
+use threads::{Cast, Ending, Rest, Server, divide};
 
-/// A server with its threads over this cell and by this clock.
-pub fn crew_of<'s>(
+/// A server of these sizes over this cell and by this clock.
+pub fn stage_of<R: Wait>(
+    rt: &R,
     alloc: Global,
     outside: Rc<RefCell<Outside>>,
     clock: Rc<Ticks>,
-    shared: &'s Shared<KernelFront>,
-    mut rest: Rest,
     sizes: Sizes,
-) -> Result<Crew<'s>, AllocError>
-    requires sizes { IsServerSize sizes }
-    requires sized { shared.now.claims.words ≡ sizes.limits.slots }
-    requires fresh { AreFresh shared.now.claims rest.parts.seats.items }
+) -> Result<Stage, ServerFault>
+    requires { IsServerSize sizes }
 {
-    let leads = leads_of(alloc, &outside, shared, &mut rest, sizes)?;
-    let spare = RefCell::new(next_worker(alloc, shared, &mut rest)?);
-    let workers = workers_of(alloc, shared, &mut rest, sizes.limits.workers)?;
-    Ok(Crew {
+    let settings = settings_of(alloc, sizes)?;
+    let Cast {
+        pollers,
+        mut workers,
+    } = cast_of(rt, alloc, &outside, &settings, sizes)?;
+    workers.reverse();
+    Ok(Stage {
         sizes,
         outside,
         clock,
-        leads,
-        workers,
-        spare,
+        ending: Ending::new(pollers.len()),
+        pollers: players(alloc, pollers)?,
+        workers: players(alloc, workers)?,
     })
 }
 
-/// The threads of the pollers.
-fn leads_of<'s>(
-    alloc: Global,
-    outside: &Rc<RefCell<Outside>>,
-    shared: &'s Shared<KernelFront>,
-    rest: &mut Rest,
-    sizes: Sizes,
-) -> Result<Vec<RefCell<Lead<'s>>>, AllocError>
-    requires sizes { IsServerSize sizes }
-    requires sized { shared.now.claims.words ≡ sizes.limits.slots }
-    requires fresh { AreFresh shared.now.claims rest.old.parts.seats.items }
-    ensures { AreFresh shared.now.claims rest.new.parts.seats.items }
-{
-    let mut leads = Vec::with_capacity(alloc, MAX_POLLERS)?;
-    for number in 0..MAX_POLLERS {
-        if let Some(part) = sizes.part(number) {
-            let front = KernelFront::new(alloc, outside.clone()?, number)?;
-            let poller = poller_of(alloc, front, part, sizes)?;
-            let own = rest.next_own(alloc, shared, number)?;
-            leads.push(RefCell::new(lead_of(shared, own, poller)))?;
+/// These threads, the last one first.
+fn players<T: Drop>(alloc: Global, mut threads: Vec<T>) -> Result<Vec<Player<T>>, AllocError> {
+    let mut players = Vec::with_capacity(alloc, threads.len())?;
+    for _thread in 0..threads.len() {
+        if let Some(thread) = threads.pop() {
+            players.push(Player::new(thread))?;
         }
     }
-    Ok(leads)
+    Ok(players)
 }
 
-/// So many workers.
-fn workers_of<'s>(
-    alloc: Global,
-    shared: &'s Shared<KernelFront>,
-    rest: &mut Rest,
-    wanted: usize,
-) -> Result<Vec<RefCell<Worker<'s>>>, AllocError>
-    requires { AreFresh shared.now.claims rest.old.parts.seats.items }
-{
-    let mut workers = Vec::with_capacity(alloc, wanted)?;
-    for _worker in 0..wanted {
-        workers.push(RefCell::new(next_worker(alloc, shared, rest)?))?;
-    }
-    Ok(workers)
+/// The settings that a server of these sizes is made from.
+fn settings_of(alloc: Global, sizes: Sizes) -> Result<Settings, AllocError> {
+    let (slots, workers) = (sizes.limits.slots, sizes.limits.workers);
+    let (ring, budget) = (sizes.limits.ring, sizes.limits.budget);
+    let (idle, stop_after, proxy) = (sizes.limits.idle, sizes.stop_after, sizes.proxy);
+    let text = format!(in alloc;
+        "listen = \"127.0.0.1:0\"\ntarget = \"127.0.0.1:1\"\nslots = {slots}\nworkers = {workers}\nring = {ring}\nbudget = {budget}\nidle = {idle}\nstop_after = {stop_after}\nproxy = {proxy}\n"
+    )?;
+    parse(alloc, text.as_bytes()).or(Err(AllocError))
 }
 
-/// The poller of this part of a server that has opened no connection yet.
-fn poller_of(
+/// The threads of such a server.
+fn cast_of<R: Wait>(
+    rt: &R,
     alloc: Global,
-    front: KernelFront,
-    part: Part,
+    outside: &Rc<RefCell<Outside>>,
+    settings: &Settings,
     sizes: Sizes,
-) -> Result<Poller<KernelFront>, AllocError>
+) -> Result<Cast<KernelFront>, ServerFault>
     requires { IsServerSize sizes }
-    ensures { IfOk result (λ poller. length poller.table ≡ sizes.limits.slots) }
 {
-    let opening = Opening {
-        ring: sizes.limits.ring,
-        proxy: sizes.proxy,
-    };
-    let slots = sizes.limits.slots;
-    let mut poller = Poller::new(alloc, front, slots, part, opening, u64::MAX)?;
-    start_all(&mut poller, sizes.limits.generation);
-    Ok(poller)
+    let split = sizes.split;
+    let fronts = fronts_of(alloc, outside, split.pollers())?;
+    if fronts.len() != split.pollers() || split.slots() != settings.slots {
+        return Err(ServerFault::NoMemory);
+    }
+    let server = build(rt, alloc, settings, split, fronts, outside.clone()?)?;
+    let Server {
+        shared,
+        parts,
+        free,
+        mut pollers,
+        workers,
+        ..
+    } = server;
+    start_each(&mut pollers, sizes.limits.generation);
+    let shared = Arc::new(alloc, shared)?;
+    divide(alloc, &shared, Rest { parts, free }, pollers, workers)
+}
+
+/// So many fronts.
+fn fronts_of(
+    alloc: Global,
+    outside: &Rc<RefCell<Outside>>,
+    pollers: usize,
+) -> Result<Vec<KernelFront>, AllocError> {
+    let mut fronts = Vec::with_capacity(alloc, pollers)?;
+    for poller in 0..pollers {
+        fronts.push(KernelFront::new(alloc, outside.clone()?, poller)?)?;
+    }
+    Ok(fronts)
+}
+
+/// Each slot counts as having had so many connections.
+fn start_each(pollers: &mut Vec<Poller<KernelFront>>, generation: u64)
+    requires { generation ≤ 140737488355327 }
+{
+    for poller in pollers.iter_mut() {
+        start_all(poller, generation);
+    }
 }
 
 /// Each of the poller's slots counts as having had so many connections.
 fn start_all(poller: &mut Poller<KernelFront>, generation: u64)
     requires { generation ≤ 140737488355327 }
-    ensures { length poller.new.table ≡ length poller.old.table }
 {
     let part = poller.part();
     for slot in 0..poller.table().len() {
@@ -112,36 +122,4 @@ fn start_all(poller: &mut Poller<KernelFront>, generation: u64)
             poller.start_at(slot, generation);
         }
     }
-}
-
-#[tactic(auto, using(claims::proofs::Seats::fresh_holds_nothing))]
-fn lead_of<'s>(shared: &'s Shared<KernelFront>, own: Own, poller: Poller<KernelFront>) -> Lead<'s>
-    requires seat { own.seat ≡ fresh_seat shared.now.claims }
-    requires sized { length poller.table ≡ shared.now.claims.words }
-{
-    Lead {
-        shared,
-        own,
-        poller,
-    }
-}
-
-/// A worker, with an end of each poller's queue of free slots.
-fn next_worker<'s>(
-    alloc: Global,
-    shared: &'s Shared<KernelFront>,
-    rest: &mut Rest,
-) -> Result<Worker<'s>, AllocError>
-    requires { AreFresh shared.now.claims rest.old.parts.seats.items }
-    ensures { AreFresh shared.now.claims rest.new.parts.seats.items }
-{
-    let own = rest.next_own(alloc, shared, 0)?;
-    Ok(worker_of(shared, own, rest.next_end(1)))
-}
-
-#[tactic(auto, using(claims::proofs::Seats::fresh_holds_nothing))]
-fn worker_of<'s>(shared: &'s Shared<KernelFront>, own: Own, other: Option<FreeQueue>) -> Worker<'s>
-    requires seat { own.seat ≡ fresh_seat shared.now.claims }
-{
-    Worker { shared, own, other }
 }

@@ -1,4 +1,4 @@
-// What the server logs about connections.
+// What the server logs.
 use drill_outside::Outside;
 use log::kv::Source;
 use log::span::Spans;
@@ -8,7 +8,7 @@ use std::cell::RefCell;
 use std::fmt::Display;
 use std::rc::Rc;
 
-/// Keeps the last message.
+/// Passes each line on.
 #[derive(Drop)]
 pub struct Diary {
     pub alloc: Global,
@@ -26,7 +26,7 @@ impl Log for Diary {
             format!(in self.alloc; "{text}"),
             self.outside.try_borrow_mut(),
         ) {
-            outside.log(message);
+            outside.log(record.level(), message.as_str());
         }
     }
 

@@ -1,5 +1,5 @@
 // What happens inside a turn.
-use crate::crew::Crew;
+use crate::stage::Stage;
 use dispatch::Gate;
 use drill_outside::Outside;
 use kernel_model::MAX_POLLED;
@@ -15,8 +15,8 @@ pub struct Nested<'a> {
 }
 
 impl Gate for Nested<'_> {
-    fn before_turn(&self, _slot: usize) {
-        begin(self.outside);
+    fn before_turn(&self, slot: usize) {
+        begin(self.outside, slot);
     }
 
     fn after_turn(&self, _slot: usize) {
@@ -26,46 +26,46 @@ impl Gate for Nested<'_> {
 
 /// The gate of a turn inside of which happens what is planned for it.
 #[derive(Drop)]
-pub struct Planned<'c, 's, R> {
+pub struct Planned<'c, R> {
     pub rt: &'c R,
     pub alloc: Global,
-    pub crew: &'c Crew<'s>,
+    pub stage: &'c Stage,
 }
 
-impl<R: Wait + Log> Gate for Planned<'_, '_, R> {
-    fn before_turn(&self, _slot: usize) {
-        begin(&self.crew.outside);
+impl<R: Wait + Log> Gate for Planned<'_, R> {
+    fn before_turn(&self, slot: usize) {
+        begin(&self.stage.outside, slot);
         for _step in 0..MAX_POLLED {
-            let step = match self.crew.outside.try_borrow_mut() {
+            let step = match self.stage.outside.try_borrow_mut() {
                 Ok(mut outside) => outside.plan.before.pop_front(),
                 Err(_) => None,
             };
             let Some(step) = step else {
                 return;
             };
-            self.crew.make_inside(self.rt, self.alloc, step);
+            self.stage.make_inside(self.rt, self.alloc, step);
         }
     }
 
     fn after_turn(&self, _slot: usize) {
-        end(&self.crew.outside);
+        end(&self.stage.outside);
         for _step in 0..MAX_POLLED {
-            let step = match self.crew.outside.try_borrow_mut() {
+            let step = match self.stage.outside.try_borrow_mut() {
                 Ok(mut outside) => outside.plan.after.pop_front(),
                 Err(_) => None,
             };
             let Some(step) = step else {
                 return;
             };
-            self.crew.make_inside(self.rt, self.alloc, step);
+            self.stage.make_inside(self.rt, self.alloc, step);
         }
     }
 }
 
 /// The slot was claimed, and its notes were taken.
-fn begin(outside: &RefCell<Outside>) {
+fn begin(outside: &RefCell<Outside>, slot: usize) {
     if let Ok(mut outside) = outside.try_borrow_mut() {
-        outside.begin_calls();
+        outside.begin_turn(slot);
     }
 }
 

@@ -26,45 +26,29 @@ pub fn tickets_of(
     Ok(tickets)
 }
 
-/// The slots in the free queue, in order.
+/// The free slots of a poller, in order: those in hand, and those in its queue.
 pub fn slots_of(
     rt: &impl Wait,
     alloc: Global,
+    hand: &mut Hand,
     free: &mut FreeQueue,
 ) -> Result<Vec<usize>, AllocError> {
     let mut slots = Vec::with_capacity(alloc, MOST)?;
+    for _slot in 0..hand.slots() {
+        if let Some(slot) = hand.take_slot() {
+            hand.keep_slot(slot);
+            slots.push(slot)?;
+        }
+    }
+    let held = slots.len();
     for _slot in 0..MOST {
         let Some(slot) = free.try_take(rt) else {
             break;
         };
         slots.push(slot)?;
     }
-    for slot in &slots {
+    for slot in slots.iter().skip(held) {
         let _ = free.give(rt, *slot);
-    }
-    Ok(slots)
-}
-
-/// The tickets in a hand, in order.
-pub fn tickets_in(alloc: Global, hand: &mut Hand) -> Result<Vec<Ticket>, AllocError> {
-    let mut tickets = Vec::with_capacity(alloc, hand.tickets())?;
-    for _ticket in 0..hand.tickets() {
-        if let Some(ticket) = hand.take_ticket() {
-            hand.keep_ticket(ticket);
-            tickets.push(ticket)?;
-        }
-    }
-    Ok(tickets)
-}
-
-/// The slots in a hand, in order.
-pub fn slots_in(alloc: Global, hand: &mut Hand) -> Result<Vec<usize>, AllocError> {
-    let mut slots = Vec::with_capacity(alloc, hand.slots())?;
-    for _slot in 0..hand.slots() {
-        if let Some(slot) = hand.take_slot() {
-            hand.keep_slot(slot);
-            slots.push(slot)?;
-        }
     }
     Ok(slots)
 }

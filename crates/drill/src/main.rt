@@ -1,31 +1,27 @@
-//! Compares the server with the machine of `world`.
+//! Compares a server with the machine of `world`.
 //!
-//! The program owns a server in memory: its claim words, places, queues, workers and one poller or two, each over a
-//! modelled kernel of its own. It reads scripts of large steps from standard input, makes each step by the server's own
-//! call, and writes down the events of a world to which the step amounts: for each poller a world, which has the poller's
-//! slots alone. The worlds make the same events. After every step the report of the server's own state at a poller's
-//! slots has to be its world's report, byte for byte.
+//! The program owns a server in memory, made from its settings as the product makes it, over modelled kernels. It reads scripts
+//! of large steps from standard input, has the server's own threads make them, and writes down the events to which that
+//! amounts: for each slot in a world of its own, and for each poller's listener. The worlds make the same events. After every
+//! step what the server has at each slot and at each poller has to be what its world has.
 //!
-//! `session.rt` plays the scripts, `reading.rt` reads their steps, `crew.rt` makes them, and `report.rt` is the server's
-//! report. What the server's calls get, the clock, and the worlds are those of `drill_outside`. `tests/drill` makes random
-//! scripts.
+//! `session.rt` plays the scripts, `reading.rt` reads their steps, `casting.rt` makes the server, `stage.rt` makes its threads'
+//! steps, and `compare.rt` and `likeness.rt` compare. What the threads get, the worlds, and what has to be of tickets and the
+//! log are those of `drill_outside`. `tests/drill` has scripts, and makes random ones.
 #![tactic(auto)]
 
-mod actors;
 mod casting;
-mod crew;
+mod compare;
 mod diary;
 mod gate;
 mod header;
+mod likeness;
 mod looking;
-mod parts;
-mod place;
 mod play;
 mod reading;
-mod report;
 mod session;
-mod sheet;
 mod source;
+mod stage;
 
 use std::io::BufReader;
 use std::process::ExitCode;

@@ -1,164 +1,146 @@
 // One script: the server's steps, and the comparison after each of them.
-use crate::crew::Crew;
-use crate::reading::{Step, Unread, read_step};
-use crate::report::report_of;
-use drill_outside::{Station, Tape, Unlogged};
-use log::Log;
-use std::alloc::Global;
+use crate::compare::{Differs, compare};
+use crate::likeness::Difference;
+use crate::reading::{Step, read_step};
+use crate::stage::Stage;
+use drill_outside::{Outside, Tape};
+use log::{Level, Log};
+use std::alloc::{AllocError, Global};
 use std::io::{self, ErrorKind};
 use std::sync::Wait;
 
-/// What a line did.
+/// What became of a line.
 #[derive(Clone, Copy)]
 pub enum Played {
-    /// A step after which the server and the worlds agree.
+    /// The server and the machines agree after it.
     Agreed,
-    /// They differ, which was printed.
+    /// They differ.
     Differs,
     /// It is no step.
     Malformed,
 }
 
-/// Makes the step of a line, and compares the server with the worlds.
+/// Plays one line of a script.
 pub fn play_line<R: Wait + Log + Print>(
     rt: &R,
     alloc: Global,
-    crew: &Crew<'_>,
+    stage: &Stage,
     line: &str,
 ) -> io::Result<Played> {
     match read_step(alloc, line) {
-        Ok(step) => play(rt, alloc, crew, step),
-        Err(Unread::Malformed) => Ok(Played::Malformed),
-        Err(Unread::NoMemory) => Err(io::Error::from(ErrorKind::OutOfMemory)),
+        Some(step) => play(rt, alloc, stage, step),
+        None => Ok(Played::Malformed),
     }
 }
 
 fn play<R: Wait + Log + Print>(
     rt: &R,
     alloc: Global,
-    crew: &Crew<'_>,
+    stage: &Stage,
     step: Step,
 ) -> io::Result<Played> {
     match step {
-        Step::Later(later) => {
-            if let Ok(mut outside) = crew.outside.try_borrow_mut() {
-                outside.add(later)?;
+        Step::Now(step) => stage.make(rt, alloc, step),
+        Step::Ticket(ticket) => stage.take_made_up(rt, alloc, ticket),
+        Step::Lose(slot) => stage.lose(rt, slot),
+        Step::Show => {
+            show(rt, alloc, stage)?;
+            return Ok(Played::Agreed);
+        }
+        step => {
+            if let Ok(mut outside) = stage.outside.try_borrow_mut() {
+                prepare(&mut outside, step)?;
             }
             return Ok(Played::Agreed);
         }
-        Step::Show => {
-            show(rt, alloc, crew)?;
-            return Ok(Played::Agreed);
-        }
-        Step::Own(poller) => crew.turn_alone(rt, alloc, poller),
-        Step::Now(step) => crew.make(rt, alloc, step),
     }
-    crew.count_step();
-    if compare(rt, alloc, crew)? {
+    if agrees(rt, alloc, stage)? {
         Ok(Played::Agreed)
     } else {
         Ok(Played::Differs)
     }
 }
 
-/// Prints for each poller the script of its world and the server's report.
-fn show<R: Wait + Print>(rt: &R, alloc: Global, crew: &Crew<'_>) -> io::Result<()> {
-    for poller in 0..crew.leads.len() {
-        let report = report_of(rt, alloc, crew, poller)?;
-        if let Ok(outside) = crew.outside.try_borrow() {
-            if let Some(station) = outside.stations.get(poller) {
-                show_station(rt, station, report.as_str())?;
-            }
-        }
+/// Makes a step after which nothing is compared yet.
+fn prepare(outside: &mut Outside, step: Step) -> Result<(), AllocError> {
+    match step {
+        Step::Later(later) => outside.add(later)?,
+        Step::Machine(slot, event) => outside.mislead(slot, &event),
+        Step::Listener(poller, event) => outside.mislead_listener(poller, &event),
+        Step::ForgetTicket => outside.forget_ticket(),
+        Step::ForgetSlot(poller) => outside.forget_slot(poller),
+        Step::Line(line) => outside.book.expect(Level::Info, Ok(line)),
+        _ => {}
     }
     Ok(())
 }
 
-fn show_station<R: Print>(rt: &R, station: &Station, report: &str) -> io::Result<()> {
-    let script = station.tape.script.as_str();
+/// Prints for each slot the script of its world, and its report, and then the log.
+fn show<R: Wait + Print>(rt: &R, alloc: Global, stage: &Stage) -> io::Result<()> {
+    let Ok(outside) = stage.outside.try_borrow() else {
+        return Err(io::Error::from(ErrorKind::Other));
+    };
+    for (slot, tape) in outside.tapes.iter().enumerate() {
+        println!(rt; "slot {slot}")?;
+        show_tape(rt, alloc, tape)?;
+    }
+    let log = outside.book.text.as_str();
+    print!(rt; "log\n{log}end\n")
+}
+
+fn show_tape<R: Print>(rt: &R, alloc: Global, tape: &Tape) -> io::Result<()> {
+    let script = tape.script.as_str();
+    let report = script_text::print(alloc, &tape.world)?;
     print!(rt; "script\n{script}report\n{report}end\n")
 }
 
-/// Whether the server's reports are those of the worlds, each poller gets to know of a client that waits, none ends a
-/// round while it could accept, and the log tells of each connection that could not be opened. The first difference is
-/// printed.
-fn compare<R: Wait + Print>(rt: &R, alloc: Global, crew: &Crew<'_>) -> io::Result<bool> {
-    for poller in 0..crew.leads.len() {
-        if !agrees(rt, alloc, crew, poller)? || !hears(rt, crew, poller)? {
-            return Ok(false);
-        }
+/// Whether the server and the machines agree. The first difference is printed.
+fn agrees<R: Wait + Print>(rt: &R, alloc: Global, stage: &Stage) -> io::Result<bool> {
+    if let Ok(mut outside) = stage.outside.try_borrow_mut() {
+        outside.totals.steps = outside.totals.steps.saturating_add(1);
     }
-    let (idle, unlogged) = match crew.outside.try_borrow() {
-        Ok(outside) => (outside.idle, outside.unlogged),
-        Err(_) => return Err(io::Error::from(ErrorKind::Other)),
+    let Err(differs) = compare(rt, alloc, stage) else {
+        return Ok(true);
     };
-    is_settled(rt, idle, unlogged)
-}
-
-/// Whether a poller gets to know of a client that waits.
-fn hears<R: Print>(rt: &R, crew: &Crew<'_>, poller: usize) -> io::Result<bool> {
-    let hears = crew.hears(poller);
-    if !hears {
-        println!(rt; "a client waits, and poller {poller} would not accept it")?;
-    }
-    Ok(hears)
-}
-
-/// Whether no poller ended a round too early, and nothing is missing in the log.
-fn is_settled<R: Print>(
-    rt: &R,
-    idle: Option<usize>,
-    unlogged: Option<Unlogged>,
-) -> io::Result<bool> {
-    if let Some(poller) = idle {
-        println!(rt; "poller {poller} ended a round while it could accept")?;
-        return Ok(false);
-    }
-    if let Some(unlogged) = unlogged {
-        let line = unlogged.line();
-        println!(rt; "not in the log: {line}")?;
-        return Ok(false);
-    }
-    Ok(true)
-}
-
-/// Whether the server's report of a poller is that of the poller's world.
-fn agrees<R: Wait + Print>(
-    rt: &R,
-    alloc: Global,
-    crew: &Crew<'_>,
-    poller: usize,
-) -> io::Result<bool> {
-    let report = report_of(rt, alloc, crew, poller)?;
-    let Ok(outside) = crew.outside.try_borrow() else {
+    let Ok(outside) = stage.outside.try_borrow() else {
         return Err(io::Error::from(ErrorKind::Other));
     };
-    let Some(station) = outside.stations.get(poller) else {
-        return Ok(false);
-    };
-    let wanted = script_text::print(alloc, &station.tape.world)?;
-    if station.tape.refused.is_none() && wanted.as_str() == report.as_str() {
-        return Ok(true);
-    }
-    tell(
-        rt,
-        poller,
-        &station.tape,
-        (report.as_str(), wanted.as_str()),
-    )?;
+    tell(rt, alloc, &outside, differs)?;
     Ok(false)
 }
 
-/// Prints how the server's report of a poller and that of the poller's world differ.
-fn tell<R: Print>(
-    rt: &R,
-    poller: usize,
-    tape: &Tape,
-    (report, wanted): (&str, &str),
-) -> io::Result<()> {
-    if let Some(event) = &tape.refused {
-        println!(rt; "refused by the world of poller {poller}: {event}")?;
+/// Prints a difference, and the script and report of the world that differs.
+fn tell<R: Print>(rt: &R, alloc: Global, outside: &Outside, differs: Differs) -> io::Result<()> {
+    let tape = match differs {
+        Differs::Server => {
+            let text = outside.book.wrong.as_ref().map_or("", |text| text.as_str());
+            return println!(rt; "differs: {text}");
+        }
+        Differs::Poller(poller, difference) => {
+            tell_numbers(rt, "poller", poller, difference)?;
+            outside.stations.get(poller).map(|station| &station.tape)
+        }
+        Differs::Slot(slot, difference) => {
+            tell_numbers(rt, "slot", slot, difference)?;
+            outside.tapes.get(slot)
+        }
+    };
+    match tape {
+        Some(tape) => show_tape(rt, alloc, tape),
+        None => Ok(()),
     }
-    let script = tape.script.as_str();
-    print!(rt; "poller {poller}\nscript\n{script}server\n{report}world\n{wanted}")
+}
+
+fn tell_numbers<R: Print>(
+    rt: &R,
+    place: &str,
+    number: usize,
+    difference: Difference,
+) -> io::Result<()> {
+    let Difference {
+        what,
+        server,
+        machine,
+    } = difference;
+    println!(rt; "differs: {place} {number}: {what}: server {server}, machine {machine}")
 }

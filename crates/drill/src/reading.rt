@@ -2,36 +2,35 @@
 use dispatch::Unopened;
 use drill_outside::{Fronted, Inner, Later, Outcome, Outer, Polled, Turned, Untold, Wanted};
 use kernel_model::Accepting;
+use ready::Ticket;
+use script_text::read_event;
 use std::alloc::Global;
-use token::{Kind, Side};
-use world::{Change, Event, Listening, Reported};
-
-/// The most bytes that one arrival brings.
-const MAX_BYTES: usize = 1_024;
-
-/// The most seconds that pass at once.
-const MAX_TICK: u64 = 4_294_967_295;
+use token::Kind;
+use world::{Event, Listening};
 
 /// One step of a script.
 #[derive(Drop)]
 pub enum Step {
     /// A step that is made at once.
     Now(Inner),
-    /// The own turn of this poller's thread, after a round that left exactly one ticket.
-    Own(usize),
     /// What one of the next calls gets, or what happens between two of them.
     Later(Later),
+    /// A worker takes this ticket, which nobody made.
+    Ticket(Ticket),
+    /// The connection in this slot is taken away.
+    Lose(usize),
+    /// This happens in the world of this slot alone.
+    Machine(usize, Event),
+    /// This happens in the world of this poller's listener alone.
+    Listener(usize, Event),
+    /// The log has to get this line.
+    Line(String),
+    /// What is reckoned forgets a ticket.
+    ForgetTicket,
+    /// What is reckoned forgets a free slot of this poller.
+    ForgetSlot(usize),
     /// The world's script and the report are printed.
     Show,
-}
-
-/// Why no step was read.
-#[derive(Clone, Copy)]
-pub enum Unread {
-    /// The line is no step.
-    Malformed,
-    /// There was no memory for it.
-    NoMemory,
 }
 
 /// The first word of a text, and what follows the space behind it.
@@ -42,207 +41,153 @@ fn cut(text: &str) -> (&str, &str) {
 /// The number of a poller in front of a text, 0 if there is none, and the rest of the text.
 fn cut_poller(text: &str) -> (usize, &str) {
     let (word, rest) = cut(text);
-    match number(word) {
-        Ok(poller) => (poller, rest),
-        Err(_) => (0, text),
-    }
+    number(word).map_or((0, text), |poller| (poller, rest))
 }
 
 /// The number of a poller and nothing behind it. 0 for no text.
-fn lone_poller(text: &str) -> Result<usize, Unread> {
-    let (poller, rest) = cut_poller(text);
-    if rest.is_empty() {
-        Ok(poller)
+fn lone_poller(text: &str) -> Option<usize> {
+    if text.is_empty() {
+        Some(0)
     } else {
-        Err(Unread::Malformed)
+        number(text)
     }
 }
 
-/// The step that a line stands for.
-pub fn read_step(alloc: Global, line: &str) -> Result<Step, Unread> {
+/// The step that a line stands for. None if it is no step, or if memory for it ran out.
+pub fn read_step(alloc: Global, line: &str) -> Option<Step> {
     let (word, rest) = cut(line);
     match word {
-        "own" => Ok(Step::Own(lone_poller(rest)?)),
-        "show" => Ok(Step::Show),
+        "show" => Some(Step::Show),
+        "log" | "forget" | "machine" | "listener" => wrong(alloc, word, rest),
+        "ticket" => Some(Step::Ticket(ticket(rest)?)),
+        "lose" => Some(Step::Lose(number(rest)?)),
         "accept" | "open" | "poll" | "polled" => {
             let (poller, rest) = cut_poller(rest);
-            Ok(Step::Later(Later::Round(poller, fronted(alloc, word, rest)?)))
+            Some(Step::Later(Later::Round(poller, fronted(alloc, word, rest)?)))
         }
         "call" | "meanwhile" | "before" | "after" => {
-            Ok(Step::Later(Later::Turn(turned(alloc, word, rest)?)))
+            Some(Step::Later(Later::Turn(turned(alloc, word, rest)?)))
         }
-        _ => Ok(Step::Now(inner(alloc, line)?)),
+        _ => Some(Step::Now(inner(alloc, line)?)),
+    }
+}
+
+/// A step by which the machine's side alone is changed, so that the comparison has to tell it.
+fn wrong(alloc: Global, word: &str, rest: &str) -> Option<Step> {
+    let (first, last) = cut(rest);
+    match word {
+        "log" => Some(Step::Line(String::from_str(alloc, rest).ok()?)),
+        "machine" => Some(Step::Machine(number(first)?, event(alloc, last)?)),
+        "listener" => Some(Step::Listener(number(first)?, event(alloc, last)?)),
+        _ if first == "ticket" => Some(Step::ForgetTicket),
+        _ => Some(Step::ForgetSlot(number(last)?)),
     }
 }
 
 /// What a call of a turn gets, or what happens around it.
-fn turned(alloc: Global, word: &str, rest: &str) -> Result<Turned, Unread> {
+fn turned(alloc: Global, word: &str, rest: &str) -> Option<Turned> {
     match word {
-        "call" => Ok(Turned::Call(wanted(rest)?)),
-        "meanwhile" => Ok(Turned::Meanwhile(outside(alloc, rest)?)),
-        "before" => Ok(Turned::Before(inner(alloc, rest)?)),
-        _ => Ok(Turned::After(inner(alloc, rest)?)),
+        "call" => Some(Turned::Call(wanted(rest)?)),
+        "meanwhile" => Some(Turned::Meanwhile(outside(alloc, rest)?)),
+        "before" => Some(Turned::Before(inner(alloc, rest)?)),
+        _ => Some(Turned::After(inner(alloc, rest)?)),
     }
 }
 
 /// What a call of a poller's round gets.
-fn fronted(alloc: Global, word: &str, rest: &str) -> Result<Fronted, Unread> {
+fn fronted(alloc: Global, word: &str, rest: &str) -> Option<Fronted> {
     match word {
-        "accept" => Ok(Fronted::Accept(accepting(rest)?)),
-        "open" => Ok(Fronted::Open(outcome(rest)?)),
-        "poll" => Ok(Fronted::Poll(polled(rest)?)),
-        _ => Ok(Fronted::Polled(outside(alloc, rest)?)),
+        "accept" => Some(Fronted::Accept(accepting(rest)?)),
+        "open" => Some(Fronted::Open(outcome(rest)?)),
+        "poll" => Some(Fronted::Poll(polled(rest)?)),
+        _ => Some(Fronted::Polled(outside(alloc, rest)?)),
     }
 }
 
 /// A step that may be made inside a turn.
-fn inner(alloc: Global, text: &str) -> Result<Inner, Unread> {
+fn inner(alloc: Global, text: &str) -> Option<Inner> {
     let (word, rest) = cut(text);
     match word {
-        "round" => Ok(Inner::Round(lone_poller(rest)?)),
-        "turn" => Ok(Inner::Turn(number(rest)?)),
-        _ => Ok(Inner::Outside(outside(alloc, text)?)),
+        "round" => Some(Inner::Round(lone_poller(rest)?)),
+        "turn" => Some(Inner::Turn(number(rest)?)),
+        _ => Some(Inner::Outside(outside(alloc, text)?)),
     }
 }
 
-fn number(word: &str) -> Result<usize, Unread> {
-    match word.parse::<usize>() {
-        Ok(number) => Ok(number),
-        Err(_) => Err(Unread::Malformed),
-    }
+fn number(word: &str) -> Option<usize> {
+    word.parse::<usize>().ok()
 }
 
-/// How many seconds pass.
-fn seconds(word: &str) -> Result<u64, Unread> {
-    match word.parse::<u64>() {
-        Ok(seconds) if 1 <= seconds && seconds <= MAX_TICK => Ok(seconds),
-        _ => Err(Unread::Malformed),
-    }
-}
-
-fn side(word: &str) -> Result<Side, Unread> {
-    match Side::named(word.as_bytes()) {
-        Some(side) => Ok(side),
-        None => Err(Unread::Malformed),
-    }
-}
-
-/// What happens outside of the server.
-fn outside(alloc: Global, text: &str) -> Result<Outer, Unread> {
-    let (word, rest) = cut(text);
-    let (poller, event) = match word {
-        "connect" => (0, Event::Listen(Listening::Connect)),
-        "tick" => (0, Event::Tick(seconds(rest)?)),
-        "spurious" => {
-            let (poller, who) = reported(rest)?;
-            (poller, Event::Spurious(who))
+/// What happens outside of the server, as a world's scripts have it. Behind the listener and the waker the number of their
+/// poller may stand.
+fn outside(alloc: Global, text: &str) -> Option<Outer> {
+    let (poller, text) = match text.rsplit_once(' ') {
+        Some((text, last)) if text.ends_with("listener") || text.ends_with("waker") => {
+            (number(last)?, text)
         }
-        "vanish" => {
-            let (poller, who) = reported(rest)?;
-            (poller, Event::Vanish(who))
-        }
-        _ => (0, network(alloc, word, rest)?),
+        _ => (0, text),
     };
-    Ok(Outer { poller, event })
-}
-
-/// What the network does to an end.
-fn network(alloc: Global, word: &str, rest: &str) -> Result<Event, Unread> {
-    let (slot_word, rest) = cut(rest);
-    let (side_word, rest) = cut(rest);
-    let (slot, side) = (number(slot_word)?, side(side_word)?);
-    let change = match word {
-        "arrive" => Change::Arrive(bytes(alloc, rest)?),
-        "fin" => Change::Fin,
-        "reset" => Change::Reset,
-        "room" => Change::Room,
-        _ => return Err(Unread::Malformed),
-    };
-    Ok(Event::Network(slot, side, change))
-}
-
-/// 1 to 1,024 bytes in hexadecimal.
-fn bytes(alloc: Global, text: &str) -> Result<Vec<u8>, Unread> {
-    match hex::decode(alloc, text) {
-        Ok(bytes) if !bytes.is_empty() && bytes.len() <= MAX_BYTES => Ok(bytes),
-        Err(hex::FromHexError::OutOfMemory) => Err(Unread::NoMemory),
-        _ => Err(Unread::Malformed),
+    let event = event(alloc, text)?;
+    match event {
+        Event::Listen(Listening::Accept(_) | Listening::Drop) => None,
+        Event::Poll(_) | Event::Work(_, _) => None,
+        event => Some(Outer { poller, event }),
     }
 }
 
-/// What a report is about. The listener and the waker are those of a poller, whose number comes first.
-fn reported(text: &str) -> Result<(usize, Reported), Unread> {
+/// An event of a world.
+fn event(alloc: Global, text: &str) -> Option<Event> {
+    read_event(alloc, text.as_bytes()).ok()
+}
+
+/// A ticket, as SLOT.GEN.
+fn ticket(text: &str) -> Option<Ticket> {
+    let (slot, generation) = text.split_once('.').unwrap_or((text, ""));
+    Some(Ticket {
+        slot: number(slot)?,
+        generation: number(generation)? as u64,
+    })
+}
+
+fn wanted(text: &str) -> Option<Wanted> {
     let (word, rest) = cut(text);
     match word {
-        "listener" => Ok((lone_poller(rest)?, Reported::Listener)),
-        "waker" => Ok((lone_poller(rest)?, Reported::Waker)),
-        _ => Ok((0, Reported::End(number(word)?, side(rest)?))),
+        "plain" => Some(Wanted::Plain),
+        "interrupted" => Some(Wanted::Interrupted),
+        "short" => Some(Wanted::Short(number(rest)?)),
+        "full" => Some(Wanted::Full(number(rest)?)),
+        "failed" => Some(Wanted::Failed(Kind::named(rest.as_bytes())?)),
+        _ => None,
     }
 }
 
-fn wanted(text: &str) -> Result<Wanted, Unread> {
+fn accepting(word: &str) -> Option<Accepting> {
+    match word {
+        "plain" => Some(Accepting::Accepted),
+        "again" => Some(Accepting::Again),
+        "starved" => Some(Accepting::Starved),
+        _ => None,
+    }
+}
+
+fn outcome(text: &str) -> Option<Outcome> {
+    match text {
+        "plain" => Some(Outcome::Plain),
+        "connect" => Some(Outcome::Fails(Unopened::Connect)),
+        "register" => Some(Outcome::Fails(Unopened::Register)),
+        "address client" => Some(Outcome::Lacks(Untold::Client)),
+        "address accepted" => Some(Outcome::Lacks(Untold::Accepted)),
+        _ => None,
+    }
+}
+
+fn polled(text: &str) -> Option<Polled> {
     let (word, rest) = cut(text);
     match word {
-        "short" => Ok(Wanted::Short(number(rest)?)),
-        "full" => Ok(Wanted::Full(number(rest)?)),
-        "failed" => match Kind::named(rest.as_bytes()) {
-            Some(kind) => Ok(Wanted::Failed(kind)),
-            None => Err(Unread::Malformed),
-        },
-        _ => named(
-            &[
-                ("plain", Wanted::Plain),
-                ("interrupted", Wanted::Interrupted),
-            ],
-            word,
-        ),
+        "first" => Some(Polled::First(number(rest)?)),
+        "interrupted" => Some(Polled::Interrupted),
+        "backwards" => Some(Polled::Backwards),
+        "failed" => Some(Polled::Failed),
+        _ => None,
     }
-}
-
-fn accepting(word: &str) -> Result<Accepting, Unread> {
-    named(
-        &[
-            ("plain", Accepting::Accepted),
-            ("again", Accepting::Again),
-            ("starved", Accepting::Starved),
-        ],
-        word,
-    )
-}
-
-fn outcome(text: &str) -> Result<Outcome, Unread> {
-    named(
-        &[
-            ("plain", Outcome::Plain),
-            ("connect", Outcome::Fails(Unopened::Connect)),
-            ("register", Outcome::Fails(Unopened::Register)),
-            ("address client", Outcome::Lacks(Untold::Client)),
-            ("address accepted", Outcome::Lacks(Untold::Accepted)),
-        ],
-        text,
-    )
-}
-
-fn polled(text: &str) -> Result<Polled, Unread> {
-    let (word, rest) = cut(text);
-    match word {
-        "first" => Ok(Polled::First(number(rest)?)),
-        _ => named(
-            &[
-                ("interrupted", Polled::Interrupted),
-                ("backwards", Polled::Backwards),
-            ],
-            word,
-        ),
-    }
-}
-
-/// What has this name.
-fn named<T: Copy>(rows: &[(&str, T)], name: &str) -> Result<T, Unread> {
-    for (word, value) in rows {
-        if *word == name {
-            return Ok(*value);
-        }
-    }
-    Err(Unread::Malformed)
 }

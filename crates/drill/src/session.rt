@@ -1,18 +1,17 @@
 // The scripts of the input, one after the other.
 ghost use Rattle.drill_outside.specs.Sizes.{IsServerSize};
 
-use crate::casting::crew_of;
-use crate::crew::Crew;
+use crate::casting::stage_of;
 use crate::diary::Diary;
-use crate::header::read_header;
-use crate::parts::parts_of;
+use crate::header::read_sizes;
 use crate::play::{Played, play_line};
 use crate::source::Source;
+use crate::stage::Stage;
 use drill_outside::{Outside, Sizes, Ticks, Totals};
 use log::{Level, Log, Logged};
 use std::alloc::Global;
 use std::cell::RefCell;
-use std::io::{self, BufRead};
+use std::io::{self, BufRead, ErrorKind};
 use std::rc::Rc;
 use std::sync::Wait;
 
@@ -39,7 +38,7 @@ where
         let Some(line) = header else {
             break;
         };
-        let Some(sizes) = read_header(line.as_str()) else {
+        let Some(sizes) = read_sizes(line.as_str()) else {
             let number = source.number;
             println!(rt; "line {number}: no header")?;
             return Ok(false);
@@ -72,7 +71,7 @@ fn play_script<R: Wait + AllocGlobal + Print, B: BufRead>(
         alloc,
         outside: outside.clone()?,
     };
-    let log = Logged::new(rt, Level::Info, diary);
+    let log = Logged::new(rt, Level::Debug, diary);
     let (ending, played) = play_server(&log, alloc, outside, clock, sizes, source)?;
     *totals = played;
     Ok(ending)
@@ -89,28 +88,33 @@ fn play_server<R: Wait + Log + Print, B: BufRead>(
 ) -> io::Result<(Ending, Totals)>
     requires { IsServerSize sizes }
 {
-    let (shared, rest) = parts_of(rt, alloc, outside.clone()?, sizes)?;
-    let crew = crew_of(alloc, outside, clock, &shared, rest, sizes)?;
-    let ending = play_lines(rt, alloc, &crew, source)?;
-    Ok((ending, crew.end()))
+    let Ok(stage) = stage_of(rt, alloc, outside, clock, sizes) else {
+        return Err(io::Error::from(ErrorKind::OutOfMemory));
+    };
+    stage.begin(rt, alloc);
+    let ending = play_lines(rt, alloc, &stage, source)?;
+    match stage.outside.try_borrow() {
+        Ok(outside) => Ok((ending, outside.played())),
+        Err(_) => Err(io::Error::from(ErrorKind::Other)),
+    }
 }
 
 /// Plays the lines up to the next header.
 fn play_lines<R: Wait + Log + Print, B: BufRead>(
     rt: &R,
     alloc: Global,
-    crew: &Crew<'_>,
+    stage: &Stage,
     source: &mut Source<B>,
 ) -> io::Result<Ending> {
     for _line in 0..u64::MAX {
         let Some(line) = source.next()? else {
             return Ok(Ending::Input);
         };
-        if line.as_str().starts_with("drill ") {
+        if line.as_str().starts_with("world ") {
             return Ok(Ending::Header(line));
         }
         let number = source.number;
-        let fault = match play_line(rt, alloc, crew, line.as_str())? {
+        let fault = match play_line(rt, alloc, stage, line.as_str())? {
             Played::Agreed => continue,
             Played::Differs => "they differ after",
             Played::Malformed => "malformed",

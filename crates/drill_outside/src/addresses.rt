@@ -1,7 +1,7 @@
 // The addresses of a poller's connections, and the line by which their targets get to know them.
 use crate::step::Untold;
 use dispatch::Route;
-use std::net::{Ipv4Addr, SocketAddrV4};
+use std::net::{Ipv4Addr, SocketAddr, SocketAddrV4};
 use world::Lead;
 
 /// What a poller's front tells of a connection, of which one address may be untold. It is the same for all of its
@@ -41,4 +41,11 @@ pub fn lead_of(poller: usize) -> Lead {
         b"PROXY TCP4 203.0.113.255 198.51.100.0 65535 9\r\n"
     };
     Lead::new(line).unwrap_or(Lead::NONE)
+}
+
+/// The address from which the client of a connection came, another one for each connection of a script.
+pub fn peer_of(slot: usize, generation: u64) -> SocketAddr {
+    let port = (generation % 65_536) as u16;
+    let last = (slot % 256) as u8;
+    SocketAddr::V4(SocketAddrV4::new(Ipv4Addr::new(10, 1, 0, last), port))
 }

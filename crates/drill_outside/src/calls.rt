@@ -40,9 +40,11 @@ impl Outside {
             return Err(ErrorKind::Other);
         };
         let Some(reply) = make(&mut station.kernel, asked, wanted, buffer) else {
+            station.refused = true;
             return Err(ErrorKind::Other);
         };
         self.act(Act::Call(reply));
+        self.count_call();
         given(reply, wanted)
     }
 
@@ -59,7 +61,7 @@ impl Outside {
     }
 }
 
-/// Makes a call in the kernel, and answers its reply.
+/// Makes a call in the kernel, and answers its reply. None if the kernel refuses it, which it may not.
 fn make(kernel: &mut Kernel, asked: Asked<'_>, wanted: Wanted, buffer: &mut [u8]) -> Option<Reply> {
     let end = &kernel.end(asked.descriptor)?.socket;
     let own = own_reply(end, asked.call, buffer.len(), wanted);
@@ -69,7 +71,7 @@ fn make(kernel: &mut Kernel, asked: Asked<'_>, wanted: Wanted, buffer: &mut [u8]
             fill(buffer, bytes);
         }
     }
-    let _ = change(kernel, asked, buffer.len(), reply);
+    change(kernel, asked, buffer.len(), reply).ok()?;
     Some(reply)
 }
 

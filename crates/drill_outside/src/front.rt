@@ -57,6 +57,7 @@ fn fill(numbers: &mut Vec<u64>, names: &[Name])
 fn take_reports(
     outside: &Rc<RefCell<Outside>>,
     poller: usize,
+    wait: bool,
     numbers: &mut Vec<u64>,
 ) -> io::Result<()>
     requires empty { vec_len numbers.old ≡ 0 }
@@ -68,13 +69,12 @@ fn take_reports(
     let Ok(mut outside) = outside.try_borrow_mut() else {
         return Err(io::Error::from(ErrorKind::Other));
     };
-    match outside.poll(poller) {
-        Ok(Some(names)) => {
+    match outside.poll(poller, wait) {
+        Ok(names) => {
             fill(numbers, names.as_slice());
             Ok(())
         }
-        Ok(None) => Err(io::Error::from(ErrorKind::Interrupted)),
-        Err(_) => Err(io::Error::from(ErrorKind::OutOfMemory)),
+        Err(error) => Err(error),
     }
 }
 
@@ -101,10 +101,10 @@ impl Front for KernelFront {
     type Waker = Rc<RefCell<Outside>>;
 
     /// Nothing comes while it would wait, so it never does.
-    fn poll(&mut self, batch: &mut Vec<u64>, _wait: bool) -> io::Result<()> {
+    fn poll(&mut self, batch: &mut Vec<u64>, wait: bool) -> io::Result<()> {
         batch.clear();
         self.reported.clear();
-        let answer = take_reports(&self.outside, self.poller, &mut self.reported);
+        let answer = take_reports(&self.outside, self.poller, wait, &mut self.reported);
         copy(batch, self.reported.as_slice());
         answer
     }
@@ -157,7 +157,7 @@ impl Front for KernelFront {
         }
     }
 
-    fn peer(_client: &EndWire) -> Option<SocketAddr> {
-        None
+    fn peer(client: &EndWire) -> Option<SocketAddr> {
+        client.peer()
     }
 }

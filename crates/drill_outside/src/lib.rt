@@ -6,19 +6,19 @@
 //! in a world at once. A [`KernelFront`] is a poller's front over its kernel, an [`EndWire`] one end of a connection, and
 //! [`Ticks`] the clock. [`Outer`], [`Inner`] and [`Later`] are what a script may tell it.
 //!
-//! `outside.rt` has what happens outside of the server, `station.rt` one poller's share of it, `calls.rt` the calls of a
-//! turn, `addresses.rt` the line that targets may get first, `sweeps.rt` when a sweep is due, `words.rt` the lines of
-//! events, and `past.rt` those of closed connections.
+//! `outside.rt` has what happens outside of the server, `rounds.rt` what a poller's round gets, `calls.rt` the calls of a
+//! turn, `turn.rt` what has to be of turns, `station.rt` one poller's share, with the tickets that its thread has to run,
+//! `book.rt` what the log has to say, `addresses.rt` the line that targets may get first, and `sweeps.rt` when a sweep is due.
 #![tactic(auto)]
 
 mod addresses;
+mod book;
 mod calls;
 mod front;
-mod local;
+mod kinds;
 mod outside;
-mod page;
-mod past;
 mod plan;
+mod rounds;
 mod sizes;
 mod station;
 mod step;
@@ -26,20 +26,18 @@ mod sweeps;
 mod tape;
 mod ticks;
 mod totals;
+mod turn;
 mod wire;
-mod words;
 
+pub use book::Book;
 pub use front::KernelFront;
-pub use local::{local_slot, make_local};
-pub use outside::{Actor, Outside, Unlogged};
-pub use page::{Page, Piece};
-pub use past::Past;
+pub use outside::Outside;
 pub use plan::{Plan, RoundPlan};
-pub use sizes::{MAX_POLLERS, Sizes};
+pub use sizes::Sizes;
 pub use station::Station;
 pub use step::{Fronted, Inner, Later, Outcome, Outer, Polled, Turned, Untold, Wanted};
 pub use tape::Tape;
-pub use ticks::Ticks;
+pub use ticks::{START, Ticks};
 pub use totals::Totals;
+pub use turn::{Acting, Thread};
 pub use wire::EndWire;
-pub use words::put_names;

@@ -1,50 +1,28 @@
 // The sizes of the server of a script, and which slots are whose.
-ghost use Rattle.std.specs.Prelude.{IfSome};
-ghost use Rattle.drill_outside.specs.Sizes.{IsServerSize, IsServerPart};
-
-use dispatch::Part;
+use dispatch::Split;
 use world::Limits;
-
-/// The most pollers.
-pub const MAX_POLLERS: usize = 2;
 
 /// The sizes of the server of a script.
 #[derive(Clone, Copy)]
 pub struct Sizes {
-    /// Those of the whole server, without a lead: each poller's world has its own.
+    /// Those of the whole server, without a lead.
     pub limits: Limits,
-    /// So many slots are the first poller's. If there are more, those are the second one's.
-    pub half: usize,
+    /// Which slots are which poller's.
+    pub split: Split,
+    /// After how many connections the server ends, 0 for never.
+    pub stop_after: u64,
     /// Whether targets get a PROXY line.
     pub proxy: bool,
 }
 
 impl Sizes {
-    /// The slots of a poller, if there is such a poller.
-    pub fn part(&self, poller: usize) -> Option<Part>
-        requires { IsServerSize self.now }
-        ensures { IfSome result IsServerPart }
-    {
-        let (half, slots) = (self.half, self.limits.slots);
-        match poller {
-            0 => Some(Part {
-                first: 0,
-                slots: half,
-            }),
-            1 if half < slots => Some(Part {
-                first: half,
-                slots: slots - half,
-            }),
-            _ => None,
+    /// How many connections this poller may open.
+    pub(crate) fn share_of(&self, poller: usize) -> u64 {
+        if self.stop_after == 0 {
+            return u64::MAX;
         }
-    }
-
-    /// The number of the poller that has this slot.
-    pub fn poller_of(&self, slot: usize) -> usize {
-        if self.half <= slot && self.half < self.limits.slots {
-            1
-        } else {
-            0
-        }
+        let pollers = self.split.pollers() as u64;
+        let more = (poller as u64) < self.stop_after % pollers;
+        (self.stop_after / pollers).saturating_add(u64::from(more))
     }
 }

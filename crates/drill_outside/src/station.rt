@@ -1,21 +1,29 @@
-// One poller's share of what is outside: the kernel as its epoll instance shows it, and the world beside it.
-ghost use Rattle.drill_outside.specs.Sizes.{IsServerPart, IsServerSize};
+// One poller's share of what is outside: the kernel as its epoll instance shows it, and the world beside it. And what its
+// thread has to do next, by a reckoning of its own, so that the server is not asked.
+ghost use Rattle.std.specs.Prelude.{◌<◌};
+ghost use Rattle.dispatch.specs.Splits.{parts_of};
+ghost use Rattle.drill_outside.specs.Sizes.{IsServerSize};
 
-use crate::addresses::{lead_of, route_of};
-use crate::past::Past;
+use crate::addresses::route_of;
 use crate::plan::RoundPlan;
 use crate::sizes::Sizes;
 use crate::step::{Outcome, Polled};
 use crate::sweeps::Sweeps;
-use crate::tape::Tape;
-use dispatch::{MAX_ACCEPTS, Part, Route, Unopened};
+use crate::tape::{Tape, at_first};
+use crate::ticks::START;
+use dispatch::{MAX_ACCEPTS, MAX_OWN_TURNS, Part, Route, Unopened};
 use kernel_model::{Accepting, Descriptors, Kernel, MAX_POLLED, Refusal, Watched};
+use ready::Ticket;
 use std::alloc::{AllocError, Global};
+use std::collections::VecDeque;
 use token::{Name, Side, Token};
-use world::{Change, Event, Lead, Listening, Polling, Reported};
+use world::{Change, Event, Listening, Polling, Reported};
 
 /// The most descriptors that a kernel has: two for each slot.
 const MOST: usize = 128;
+
+/// So many tickets of a connection that spent the budget of its poller's thread are for the workers.
+const HEAVY: u8 = 16;
 
 /// A connection that a poller started to open.
 #[derive(Clone, Copy)]
@@ -32,11 +40,22 @@ pub struct Station {
     alloc: Global,
     /// The ends of this poller's connections, and its reports.
     pub kernel: Kernel,
+    /// Whether the kernel, or the memory for a list, refused what has to be possible.
+    pub refused: bool,
     pub plan: RoundPlan,
+    /// The world of its listener and its waker, in which nothing is ever opened.
     pub tape: Tape,
-    pub past: Past,
     /// The slots of this poller.
-    part: Part,
+    pub(crate) part: Part,
+    /// Its free slots, in the order in which they are to be used.
+    pub free: VecDeque<usize>,
+    /// The tickets that its round has made so far, and those that its thread has to run then.
+    hand: VecDeque<Ticket>,
+    kept: VecDeque<Ticket>,
+    /// Of each slot's next tickets, how many are for the workers.
+    heavy: [u8; 64],
+    /// How many connections it may still open.
+    left: u64,
     sweeps: Sweeps,
     poller: usize,
     /// Whether targets get a PROXY line.
@@ -44,51 +63,74 @@ pub struct Station {
     /// How often accept(2) was called since the last poll.
     tries: usize,
     /// Whether accept(2) was starved when it was last called.
-    starved: bool,
+    pub(crate) starved: bool,
+    /// Whether a round has begun, and not ended.
+    pub(crate) in_round: bool,
+    /// Whether it is over: all that it may open was opened, and all its slots were free at the end of its last round.
+    pub over: bool,
+    /// Whether its poll has failed.
+    pub failed: bool,
+    /// The client's end of this slot was closed, and the target's was not.
+    half: Option<usize>,
 }
 
 impl Station {
-    pub(crate) fn new(
-        alloc: Global,
-        sizes: Sizes,
-        part: Part,
-        poller: usize,
-    ) -> Result<Station, AllocError>
+    pub(crate) fn new(alloc: Global, sizes: Sizes, poller: usize) -> Result<Station, AllocError>
         requires sizes { IsServerSize sizes }
-        requires part { IsServerPart part }
+        requires poller { poller < parts_of sizes.split.slots sizes.split.size }
     {
-        let lead = if sizes.proxy {
-            lead_of(poller)
-        } else {
-            Lead::NONE
-        };
+        let part = sizes.split.part(poller);
         Ok(Station {
             alloc,
             kernel: Kernel::new(alloc),
+            refused: false,
             plan: RoundPlan::new(alloc),
-            tape: Tape::new(alloc, sizes, part, lead)?,
-            past: Past {
-                alloc,
-                part,
-                lines: String::new(alloc),
-                half: None,
-            },
+            tape: Tape::of_listener(alloc, sizes)?,
+            free: slots_of(alloc, part)?,
             part,
+            hand: VecDeque::new(alloc),
+            kept: VecDeque::new(alloc),
+            heavy: [0; 64],
+            left: sizes.share_of(poller),
             sweeps: Sweeps {
                 limit: sizes.limits.idle,
-                last: 0,
+                last: START,
             },
             poller,
             proxy: sizes.proxy,
             tries: 0,
             starved: false,
+            in_round: false,
+            over: false,
+            failed: false,
+            half: None,
         })
     }
 
-    /// Something happens outside. Where the kernel refuses it, nothing does.
-    pub(crate) fn happen(&mut self, event: Event) {
-        if self.make(&event).is_ok() {
-            self.tape.put(event);
+    /// The kernel has to make this.
+    fn must<T: Drop, E: Drop>(&mut self, made: Result<T, E>) {
+        if made.is_err() {
+            self.refused = true;
+        }
+    }
+
+    /// Something happens to the listener or the waker. What the kernel does not allow, the world may not allow either.
+    pub(crate) fn happen(&mut self, event: &Event) {
+        match self.make(event) {
+            Ok(()) => self.tape.put(event),
+            Err(Refusal::NotAllowed) => self.tape.put_not_allowed(event),
+            Err(Refusal::NoMemory) => self.refused = true,
+        }
+    }
+
+    /// Something happens to an end of this slot, which has this tape.
+    pub(crate) fn change(&mut self, tape: &mut Tape, event: Event) {
+        let made = self.make(&event);
+        let event = at_first(event);
+        match made {
+            Ok(()) => tape.put(&event),
+            Err(Refusal::NotAllowed) => tape.put_not_allowed(&event),
+            Err(Refusal::NoMemory) => self.refused = true,
         }
     }
 
@@ -105,13 +147,13 @@ impl Station {
             }
             Event::Network(slot, side, change) => {
                 let descriptor = self.descriptor(*slot, *side)?;
-                self.change(descriptor, change)
+                self.change_end(descriptor, change)
             }
             _ => Err(Refusal::NotAllowed),
         }
     }
 
-    fn change(&mut self, descriptor: usize, change: &Change) -> Result<(), Refusal> {
+    fn change_end(&mut self, descriptor: usize, change: &Change) -> Result<(), Refusal> {
         match change {
             Change::Arrive(bytes) => self.kernel.arrive(descriptor, bytes.as_slice()),
             Change::Fin => self.kernel.fin(descriptor),
@@ -129,7 +171,7 @@ impl Station {
     }
 
     /// The descriptor of the open end of this slot and side.
-    fn descriptor(&self, slot: usize, side: Side) -> Result<usize, Refusal> {
+    pub fn descriptor(&self, slot: usize, side: Side) -> Result<usize, Refusal> {
         for descriptor in 0..MOST {
             if let Some(open) = self.kernel.end(descriptor) {
                 if open.token.slot() == slot && open.token.side() == side {
@@ -140,12 +182,26 @@ impl Station {
         Err(Refusal::NotAllowed)
     }
 
+    /// The poller is woken.
+    pub(crate) fn wake(&mut self) {
+        let woken = self.kernel.spurious(Watched::Waker);
+        self.must(woken);
+    }
+
     /// A poll takes these names.
     pub(crate) fn poll(&mut self, polled: Option<Polled>) -> Result<Vec<Name>, AllocError> {
         let names = self.chosen(polled)?;
         self.tries = 0;
-        let _ = self.kernel.poll(names.as_slice());
-        self.tape.put(Event::Poll(Polling::Poll(names.as_slice().to_vec(self.alloc)?)));
+        self.in_round = true;
+        let taken = self.kernel.poll(names.as_slice());
+        self.must(taken);
+        let mut own = Vec::new(self.alloc);
+        for name in &names {
+            if !matches!(name, Name::End(_)) {
+                own.push(*name)?;
+            }
+        }
+        self.tape.put(&Event::Poll(Polling::Poll(own)));
         Ok(names)
     }
 
@@ -154,7 +210,7 @@ impl Station {
         let most = match polled {
             Some(Polled::Interrupted) => 0,
             Some(Polled::First(most)) => most.min(MAX_POLLED),
-            Some(Polled::Backwards) | None => MAX_POLLED,
+            Some(Polled::Backwards | Polled::Failed) | None => MAX_POLLED,
         };
         let mut names = self.kernel.queue().to_vec(self.alloc)?;
         names.truncate(most);
@@ -164,18 +220,81 @@ impl Station {
         Ok(names)
     }
 
-    /// A round has delivered its reports at this second. If a sweep is due, each slot that the table has opened is posted to,
-    /// in rising order.
-    pub(crate) fn sweep(&mut self, second: u64) {
-        if !self.sweeps.falls_due(second) {
-            return;
+    /// Whether a sweep is due at this second, which is then the last one.
+    pub(crate) fn falls_due(&mut self, second: u64) -> bool {
+        self.sweeps.falls_due(second)
+    }
+
+    /// Its round does this at the slot of this tape, which may make a ticket.
+    pub(crate) fn note(&mut self, slot: usize, tape: &mut Tape, event: &Event) {
+        let had = tape.poller_ticket().is_some();
+        tape.put(event);
+        if let (false, Some(ticket)) = (had, tape.poller_ticket()) {
+            let kept = self.hand.push_back(Ticket {
+                slot,
+                generation: ticket.generation,
+            });
+            self.must(kept);
         }
-        for slot in 0..self.part.slots {
-            if self.tape.world.table_entry(slot).unwrap_or(0) > 0 {
-                let slot = self.part.first.saturating_add(slot);
-                self.tape.put(Event::Poll(Polling::Sweep(slot)));
+    }
+
+    /// Its round has ended: the tickets of heavy connections, and all behind the first 16 others, are for the workers.
+    pub(crate) fn end_round(&mut self, ready: &mut VecDeque<Ticket>) {
+        self.in_round = false;
+        // A slot that has had its last connection never comes back: a server that is to end has opened too few for that.
+        self.over = self.has_opened_all() && self.free.len() >= self.part.slots;
+        for _ticket in 0..self.hand.len() {
+            let Some(ticket) = self.hand.pop_front() else {
+                return;
+            };
+            let stays = self.is_light(ticket.slot) && self.kept.len() < MAX_OWN_TURNS;
+            let put = if stays {
+                self.kept.push_back(ticket)
+            } else {
+                ready.push_back(ticket)
+            };
+            self.must(put);
+        }
+    }
+
+    /// Whether the slot's next ticket is for its own thread.
+    fn is_light(&mut self, slot: usize) -> bool {
+        match self.heavy.get_mut(slot) {
+            Some(left) if *left > 0 => {
+                *left -= 1;
+                false
             }
+            _ => true,
         }
+    }
+
+    /// Its own thread has run a turn at this slot that left the connection due.
+    pub(crate) fn mark_heavy(&mut self, slot: usize) {
+        if let Some(left) = self.heavy.get_mut(slot) {
+            *left = HEAVY;
+        }
+    }
+
+    /// The ticket that its thread has to run next.
+    pub(crate) fn next_kept(&mut self) -> Option<Ticket> {
+        self.kept.pop_front()
+    }
+
+    /// Whether it has opened all that it may open.
+    pub(crate) fn has_opened_all(&self) -> bool {
+        self.left == 0
+    }
+
+    /// It opens a connection in its first free slot.
+    pub(crate) fn take_free(&mut self) -> Option<usize> {
+        self.left = self.left.saturating_sub(1);
+        self.free.pop_front()
+    }
+
+    /// A slot that can be used again is given back to it.
+    pub(crate) fn give(&mut self, slot: usize) {
+        let given = self.free.push_back(slot);
+        self.must(given);
     }
 
     /// What accept(2) is answered, where a client waits or not.
@@ -191,31 +310,40 @@ impl Station {
     /// accept(2) was answered so.
     pub(crate) fn answer(&mut self, reply: Accepting) {
         self.tries = self.tries.saturating_add(1);
-        self.starved = reply == Accepting::Starved;
-        let _ = self.kernel.accept(reply);
-        self.tape.put(Event::Listen(Listening::Accept(reply)));
+        self.starved = reply == Accepting::Starved || reply == Accepting::Again && self.starved;
+        let answered = self.kernel.accept(reply);
+        self.must(answered);
+        self.tape.put(&Event::Listen(Listening::Accept(reply)));
+        if reply == Accepting::Accepted {
+            self.tape.put(&Event::Listen(Listening::Drop));
+        }
     }
 
     /// A client that waited outside of the kernel comes in and is accepted at once. If it is reported on the way, the
     /// report is withdrawn: this poller was told of it when it came, or did not have to be.
     pub(crate) fn let_in(&mut self) {
         let was_queued = self.kernel.is_queued(&Name::Listener);
-        self.happen(Event::Listen(Listening::Connect));
+        self.happen(&Event::Listen(Listening::Connect));
         self.answer(Accepting::Accepted);
         if !was_queued {
-            self.happen(Event::Vanish(Reported::Listener));
+            self.happen(&Event::Vanish(Reported::Listener));
         }
     }
 
-    /// Whether a round may end here although a client may wait and a slot is free: it has tried accept(2) as often as a
-    /// round does, or the system lacked what that needs.
-    pub(crate) fn may_rest(&self) -> bool {
-        self.starved || self.tries >= MAX_ACCEPTS
+    /// Whether accept(2) is to be tried.
+    pub(crate) fn could_accept(&self) -> bool {
+        self.tape.world.accept_flag() && !self.free.is_empty() && !self.has_opened_all()
     }
 
-    /// Both ends of an accepted connection are opened, or that fails: as it is planned, or for want of memory. Answers its
-    /// addresses, too. There are no ends where a PROXY line lacks one of these: then the server has to close both at once, and
-    /// to the world the connection was never open.
+    /// Whether a round may end here: it could not accept, has tried accept(2) as often as a round does, or the system lacked
+    /// what that needs.
+    pub(crate) fn may_rest(&self) -> bool {
+        !self.could_accept() || self.starved || self.tries >= MAX_ACCEPTS
+    }
+
+    /// Both ends of an accepted connection are opened, or that fails as it is planned. Answers its addresses, too. There are
+    /// no ends where a PROXY line lacks one of these: then the server has to close both at once, and to the world the
+    /// connection was never open.
     pub(crate) fn open(&mut self, client: Token, target: Token) -> Result<Started, Unopened> {
         let untold = match self.plan.opens.pop_front() {
             Some(Outcome::Fails(unopened)) => return Err(unopened),
@@ -226,21 +354,33 @@ impl Station {
         if self.proxy && untold.is_some() {
             return Ok(Started { ends: None, route });
         }
-        let Ok(ends) = self.kernel.open_both(client, target) else {
-            return Err(Unopened::Connect);
-        };
-        self.tape.put(Event::Poll(Polling::Open));
-        Ok(Started {
-            ends: Some(ends),
-            route,
-        })
-    }
-
-    /// An end is closed, after this log message. Answers whether that was the second of its connection.
-    pub(crate) fn close(&mut self, descriptor: usize, token: Token, message: &str) -> bool {
-        match self.kernel.close(descriptor) {
-            Ok(end) => self.past.close(token, end, message) == Ok(true),
-            Err(_) => false,
+        match self.kernel.open_both(client, target) {
+            Ok(ends) => Ok(Started {
+                ends: Some(ends),
+                route,
+            }),
+            Err(_) => {
+                self.refused = true;
+                Err(Unopened::Connect)
+            }
         }
     }
+
+    /// An end of this slot is closed. Answers whether that was the second of its connection.
+    pub(crate) fn close(&mut self, descriptor: usize, slot: usize) -> bool {
+        let closed = self.kernel.close(descriptor);
+        self.must(closed);
+        let is_second = self.half == Some(slot);
+        self.half = if is_second { None } else { Some(slot) };
+        is_second
+    }
+}
+
+/// The slots of a part, in rising order.
+fn slots_of(alloc: Global, part: Part) -> Result<VecDeque<usize>, AllocError> {
+    let mut slots = VecDeque::new(alloc);
+    for index in 0..part.slots {
+        slots.push_back(part.first.saturating_add(index))?;
+    }
+    Ok(slots)
 }

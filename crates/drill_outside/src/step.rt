@@ -95,7 +95,7 @@ pub enum Wanted {
 }
 
 /// How a poll gives the names that are queued.
-#[derive(Clone, Copy)]
+#[derive(Clone, Copy, PartialEq, Eq)]
 pub enum Polled {
     /// Not at all, since a signal came first.
     Interrupted,
@@ -103,4 +103,6 @@ pub enum Polled {
     First(usize),
     /// All, newest first.
     Backwards,
+    /// It fails, which is a fault of the poller's thread.
+    Failed,
 }

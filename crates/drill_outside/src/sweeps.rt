@@ -1,6 +1,6 @@
 // When a poller sweeps, by a reckoning of its own, so that the poller is not asked.
 
-/// The second of a poller's last sweep, at first that at which the poller began.
+/// The second of a poller's last sweep, at first that at which the server began.
 #[derive(Clone, Copy)]
 pub struct Sweeps {
     /// The idle limit; 0 is none.

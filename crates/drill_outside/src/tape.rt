@@ -1,121 +1,164 @@
-// The events to which the server's steps amount at the slots of one poller, and the world that they lead to.
-ghost use Rattle.drill_outside.specs.Sizes.{IsServerPart, IsServerSize};
+// The events to which the server's steps amount at one slot, and the world that they lead to.
+ghost use Rattle.drill_outside.specs.Sizes.{IsServerSize};
 
-use crate::local::local_event;
-use crate::page::{Page, Piece};
+use crate::addresses::lead_of;
+use crate::kinds::kind_of;
 use crate::sizes::Sizes;
 use crate::totals::Totals;
-use crate::words::{WORDS, kind_of, put_event};
-use dispatch::{Part, Worked};
+use kernel_model::Refusal;
+use relay_core::Verdict;
+use script_text::{Page, Piece, put_event};
 use std::alloc::{AllocError, Global};
-use world::{Act, Doing, Event, Lead, Limits, World};
+use world::{Act, Event, Lead, Limits, Polling, Reported, Ticket, World};
 
-/// A world that makes each event at once, and the script of these events.
+/// A world of one slot that makes each event at once, and the script of these events.
 #[derive(Drop)]
 pub struct Tape {
     alloc: Global,
-    part: Part,
     pub world: World,
     /// The script of all events.
     pub script: String,
-    /// The line of the first event that the world refused.
+    /// The line of the first event that the world refused. Empty if memory ran out for one.
     pub refused: Option<String>,
-    /// Whether no event is recorded any more.
-    pub(crate) over: bool,
+    /// The claim word of the slot when its connection was taken away. From then on no event is recorded.
+    pub lost: Option<u64>,
     pub(crate) totals: Totals,
 }
 
 impl Tape {
-    /// The opening world of a poller with these slots, in a server of these sizes: it has one worker more, for the turns
-    /// of the poller's thread. Its targets get this lead.
-    pub(crate) fn new(
-        alloc: Global,
-        sizes: Sizes,
-        part: Part,
-        lead: Lead,
-    ) -> Result<Tape, AllocError>
-        requires sizes { IsServerSize sizes }
-        requires part { IsServerPart part }
+    /// The opening world of a slot in a server of these sizes. Its target gets the lead of the slot's poller.
+    pub(crate) fn of_slot(alloc: Global, sizes: Sizes, slot: usize) -> Result<Tape, AllocError>
+        requires { IsServerSize sizes }
+    {
+        let lead = if sizes.proxy {
+            lead_of(sizes.split.poller_of(slot))
+        } else {
+            Lead::NONE
+        };
+        Tape::new(alloc, sizes, lead)
+    }
+
+    /// The opening world of a listener in a server of these sizes.
+    pub(crate) fn of_listener(alloc: Global, sizes: Sizes) -> Result<Tape, AllocError>
+        requires { IsServerSize sizes }
+    {
+        Tape::new(alloc, sizes, Lead::NONE)
+    }
+
+    /// The opening world of one slot, with one worker.
+    fn new(alloc: Global, sizes: Sizes, lead: Lead) -> Result<Tape, AllocError>
+        requires { IsServerSize sizes }
     {
         let limits = Limits {
-            slots: part.slots,
-            workers: sizes.limits.workers + 1,
+            slots: 1,
+            workers: 1,
             lead,
             ..sizes.limits
         };
         Ok(Tape {
             alloc,
-            part,
             script: header_of(alloc, &limits)?,
             world: World::new(alloc, limits)?,
             refused: None,
-            over: false,
+            lost: None,
             totals: Totals::new(),
         })
     }
 
-    /// An event has happened. Memory that runs out for it ends the tape.
-    pub(crate) fn put(&mut self, event: Event) {
-        if self.over {
+    /// An event has happened. The slot of an event is that of the world.
+    pub fn put(&mut self, event: &Event) {
+        if self.lost.is_some() || self.refused.is_some() {
             return;
         }
-        let event = local_event(self.part, event);
-        if self.write(&event).is_err() {
-            self.over = true;
-        }
+        let refused = self.world.step(event).is_err();
+        self.write(event, refused);
     }
 
-    /// Writes an event, and makes it in the world.
-    fn write(&mut self, event: &Event) -> Result<(), AllocError> {
-        let line = self.write_line(event)?;
-        if self.world.step(event).is_err() && self.refused.is_none() {
+    /// Adds the line of an event to the script, and counts it. It may have been refused.
+    fn write(&mut self, event: &Event, refused: bool) {
+        let mut page = Page::new(self.alloc);
+        put_event(&mut page, event);
+        let line = match page.finish() {
+            Ok(line) => line,
+            Err(_) => String::new(self.alloc),
+        };
+        self.totals.count(kind_of(line.as_str()));
+        let added = self
+            .script
+            .push_str(line.as_str())
+            .and(self.script.push_str("\n"));
+        if refused || added.is_err() || line.is_empty() {
             self.refused = Some(line);
         }
-        Ok(())
     }
 
-    /// Counts an event, and adds its line to the script.
-    fn write_line(&mut self, event: &Event) -> Result<String, AllocError> {
-        let kind = kind_of(event);
-        self.totals.count(kind);
-        let mut page = Page::new(self.alloc);
-        put_event(&mut page, &WORDS[kind], event);
-        let line = page.finish()?;
-        self.script.push_str(line.as_str())?;
-        self.script.push_str("\n")?;
-        Ok(line)
-    }
-
-    /// The connection that the world's worker of this number holds expires, if the world has it past the idle limit.
-    pub(crate) fn expire(&mut self, worker: usize) {
-        let event = Event::Work(worker, Act::Expire);
-        if self.over || self.world.step(&event).is_err() {
-            return;
-        }
-        if self.write_line(&event).is_err() {
-            self.over = true;
+    /// An event that the kernel did not allow is none of the world either.
+    pub(crate) fn put_not_allowed(&mut self, event: &Event) {
+        let refused = matches!(self.world.step(event), Err(Refusal::NotAllowed));
+        if !refused && self.lost.is_none() {
+            self.write(event, true);
         }
     }
 
-    /// Whether the world's worker of this number has a ticket to put.
-    pub(crate) fn has_ticket(&self, worker: usize) -> bool {
-        match self.world.workers().get(worker) {
-            Some(worker) => !worker.hand().is_empty(),
+    /// A turn begins: the ticket is put, wherever it is, and taken.
+    pub(crate) fn begin(&mut self) {
+        if !self.world.poller_hand().is_empty() {
+            self.put(&Event::Poll(Polling::Put));
+        } else if self.world.ready().is_empty() {
+            self.put(&Event::Work(0, Act::Put));
+        }
+        for act in [Act::Pop, Act::Claim, Act::Take] {
+            self.put(&Event::Work(0, act));
+        }
+    }
+
+    /// The connection of the turn in progress expires, if the world has it past the idle limit.
+    pub(crate) fn expire(&mut self) {
+        let event = Event::Work(0, Act::Expire);
+        match self.world.step(&event) {
+            Ok(()) => self.write(&event, false),
+            Err(Refusal::NotAllowed) => {}
+            Err(Refusal::NoMemory) => self.write(&event, true),
+        }
+    }
+
+    /// The ticket that the poller has in hand.
+    pub(crate) fn poller_ticket(&self) -> Option<Ticket> {
+        self.world.poller_hand().first().copied()
+    }
+
+    /// The ticket that the worker has in hand.
+    pub(crate) fn worker_ticket(&self) -> Option<Ticket> {
+        self.world.workers().first()?.hand().first().copied()
+    }
+
+    /// How many connections the slot has had.
+    pub fn generation(&self) -> u64 {
+        self.world.table_entry(0).unwrap_or(0)
+    }
+
+    /// Whether the connection has a call to make.
+    pub(crate) fn is_due_again(&self) -> bool {
+        match self.world.connection(0) {
+            Some(connection) => connection.pair.next().is_some(),
             None => false,
         }
     }
 
-    /// How the turn of the world's worker of this number has to end. None if it is in no turn.
-    pub(crate) fn ending(&self, worker: usize) -> Option<Worked> {
-        match self.world.workers().get(worker)?.doing() {
-            Doing::Idle | Doing::Retired(_) => None,
-            Doing::Tries(_) => Some(Worked::Busy),
-            Doing::Closed(_) => Some(Worked::Ended),
-            Doing::Holds(slot, _) => match self.world.connection(slot)?.pair.next() {
-                Some(_) => Some(Worked::Again),
-                None => Some(Worked::Quiet),
-            },
-        }
+    /// The generation of the connection, what has become of it, and how many bytes went up and down.
+    pub(crate) fn verdict(&self) -> Option<(u64, Verdict, (u64, u64))> {
+        let pair = &self.world.connection(0)?.pair;
+        Some((pair.generation(), pair.verdict(), pair.counts()))
+    }
+}
+
+/// The same event at the only slot of a world.
+pub fn at_first(event: Event) -> Event {
+    match event {
+        Event::Network(_, side, change) => Event::Network(0, side, change),
+        Event::Spurious(Reported::End(_, side)) => Event::Spurious(Reported::End(0, side)),
+        Event::Vanish(Reported::End(_, side)) => Event::Vanish(Reported::End(0, side)),
+        event => event,
     }
 }
 
@@ -123,11 +166,7 @@ impl Tape {
 fn header_of(alloc: Global, limits: &Limits) -> Result<String, AllocError> {
     let mut page = Page::new(alloc);
     page.put(&[
-        Piece::Text("world slots="),
-        Piece::Number(limits.slots as u64),
-        Piece::Text(" workers="),
-        Piece::Number(limits.workers as u64),
-        Piece::Text(" ring="),
+        Piece::Text("world slots=1 workers=1 ring="),
         Piece::Number(limits.ring as u64),
         Piece::Text(" budget="),
         Piece::Number(limits.budget as u64),

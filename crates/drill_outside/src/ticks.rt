@@ -2,7 +2,10 @@
 use dispatch::Clock;
 use std::cell::Cell;
 
-/// A clock in memory. It begins at second 0, and stands still until a step of the script sets it on.
+/// The second at which the server begins. It is the second 0 of a world.
+pub const START: u64 = 1_000;
+
+/// A clock in memory, which stands still until a step of the script sets it on.
 #[derive(Drop)]
 pub struct Ticks {
     second: Cell<u64>,
@@ -11,7 +14,7 @@ pub struct Ticks {
 impl Ticks {
     pub fn new() -> Ticks {
         Ticks {
-            second: Cell::new(0),
+            second: Cell::new(START),
         }
     }
 

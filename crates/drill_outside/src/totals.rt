@@ -1,7 +1,5 @@
 // What was played in all.
-ghost use Rattle.std.specs.Prelude.{◌<◌};
-
-use crate::words::{KINDS, WORDS};
+use crate::kinds::{KINDS, NAMES};
 use std::io;
 
 /// How many scripts and steps were played, and how many events of each kind that came to.
@@ -22,26 +20,23 @@ impl Totals {
     }
 
     /// Counts an event of this kind.
-    pub(crate) fn count(&mut self, kind: usize)
-        requires { kind < 37 }
-    {
-        self.kinds[kind] = self.kinds[kind].saturating_add(1);
+    pub(crate) fn count(&mut self, kind: usize) {
+        if let Some(count) = self.kinds.get_mut(kind) {
+            *count = count.saturating_add(1);
+        }
     }
 
     /// Adds what was played elsewhere.
     pub(crate) fn add(&mut self, other: &Totals) {
-        self.scripts = self.scripts.saturating_add(other.scripts);
-        self.steps = self.steps.saturating_add(other.steps);
-        for kind in 0..KINDS {
-            self.kinds[kind] = self.kinds[kind].saturating_add(other.kinds[kind]);
+        for (count, more) in self.kinds.iter_mut().zip(other.kinds.iter()) {
+            *count = count.saturating_add(*more);
         }
     }
 
     /// A line for each kind of event, and one for the scripts and the steps.
     pub fn print<R: Print + AllocGlobal>(&self, rt: &R) -> io::Result<()> {
-        for (kind, words) in WORDS.iter().enumerate() {
-            let (count, first, second, last) = (self.kinds[kind], words[0], words[1], words[2]);
-            println!(rt; "count {count} {first}{second}{last}")?;
+        for ((first, word), count) in NAMES.iter().zip(self.kinds.iter()) {
+            println!(rt; "count {count} {first} {word}")?;
         }
         let (scripts, steps) = (self.scripts, self.steps);
         println!(rt; "{scripts} scripts, {steps} steps")

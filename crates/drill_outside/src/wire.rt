@@ -4,6 +4,7 @@ ghost use Rattle.relay_core.specs.Calls.{side_of};
 ghost use Rattle.engine.specs.Classes.{class_of};
 ghost use Rattle.engine.specs.Tallies.{counted};
 
+use crate::addresses::peer_of;
 use crate::calls::{Asked, Asking};
 use crate::outside::Outside;
 use dispatch::Settle;
@@ -11,9 +12,9 @@ use engine::{Tally, Wire};
 use relay_core::Call;
 use std::cell::RefCell;
 use std::io::{self, ErrorKind};
+use std::net::SocketAddr;
 use std::rc::Rc;
 use token::{Side, Token};
-use world::{Event, Listening};
 
 /// A wire over an end of the modelled kernel, which is closed with it.
 pub struct EndWire {
@@ -66,6 +67,14 @@ impl EndWire {
         }
     }
 
+    /// The address of its client. None if it is not open.
+    pub(crate) fn peer(&self) -> Option<SocketAddr> {
+        match self.state {
+            EndState::Open(token, _) => Some(peer_of(token.slot(), token.generation())),
+            EndState::Accepted | EndState::Never => None,
+        }
+    }
+
     /// Makes a call. A read fills the front of the buffer.
     fn ask(&self, call: Asking<'_>, buffer: &mut [u8]) -> Result<usize, ErrorKind> {
         let (Some(descriptor), Ok(mut outside)) = (self.descriptor(), self.outside.try_borrow_mut())
@@ -97,8 +106,7 @@ impl Drop for EndWire {
         if let Ok(mut outside) = self.outside.try_borrow_mut() {
             match state {
                 EndState::Open(token, descriptor) => outside.close(poller, descriptor, token),
-                EndState::Accepted => outside.record(poller, Event::Listen(Listening::Drop)),
-                EndState::Never => {}
+                EndState::Accepted | EndState::Never => {}
             }
         }
         let EndWire {
@@ -169,5 +177,9 @@ impl Wire for EndWire {
 }
 
 impl Settle for EndWire {
-    fn settle(&mut self) {}
+    fn settle(&mut self) {
+        if let Ok(mut outside) = self.outside.try_borrow_mut() {
+            outside.settle_end();
+        }
+    }
 }

@@ -1,0 +1,308 @@
+// The threads of the server together, and the steps that they make.
+use crate::gate::{Nested, Planned};
+use crate::looking::tickets_of;
+use claims::Claimed;
+use dispatch::{Gate, Timing};
+use drill_outside::{Acting, Inner, KernelFront, Outside, Sizes, Thread, Ticks};
+use log::Log;
+use ready::Ticket;
+use std::alloc::Global;
+use std::cell::{Cell, RefCell};
+use std::rc::Rc;
+use std::sync::Wait;
+use threads::{Crew, Ending, PollerThread, Worker};
+
+/// A thread of the server. It is in a cell, so that one can make a step inside a step of another.
+#[derive(Drop)]
+pub struct Player<T> {
+    pub thread: RefCell<T>,
+    pub ended: Cell<bool>,
+}
+
+impl<T> Player<T> {
+    pub fn new(thread: T) -> Player<T> {
+        Player {
+            thread: RefCell::new(thread),
+            ended: Cell::new(false),
+        }
+    }
+}
+
+/// The threads of the server, and what is outside of it.
+#[derive(Drop)]
+pub struct Stage {
+    pub sizes: Sizes,
+    pub outside: Rc<RefCell<Outside>>,
+    pub clock: Rc<Ticks>,
+    pub ending: Ending,
+    pub pollers: Vec<Player<PollerThread<KernelFront>>>,
+    pub workers: Vec<Player<Worker<KernelFront>>>,
+}
+
+impl Stage {
+    /// The threads begin.
+    pub fn begin<R: Wait + Log>(&self, rt: &R, alloc: Global) {
+        let gate = Nested {
+            outside: &self.outside,
+        };
+        let crew = self.crew(rt, alloc, &gate);
+        for player in &self.pollers {
+            if let Ok(mut thread) = player.thread.try_borrow_mut() {
+                thread.begin(&crew);
+            }
+        }
+    }
+
+    /// A step that may also be made inside a turn is made there.
+    pub fn make_inside<R: Wait + Log>(&self, rt: &R, alloc: Global, step: Inner) {
+        let gate = Nested {
+            outside: &self.outside,
+        };
+        self.make_by(rt, alloc, step, &gate);
+    }
+
+    /// The same step is made on its own.
+    pub fn make<R: Wait + Log>(&self, rt: &R, alloc: Global, step: Inner) {
+        let gate = Planned {
+            rt,
+            alloc,
+            stage: self,
+        };
+        self.make_by(rt, alloc, step, &gate);
+    }
+
+    fn make_by<G: Gate, R: Wait + Log>(&self, rt: &R, alloc: Global, step: Inner, gate: &G) {
+        match step {
+            Inner::Outside(outer) => {
+                if let Ok(mut outside) = self.outside.try_borrow_mut() {
+                    outside.happen(outer);
+                }
+            }
+            Inner::Round(poller) => self.round(rt, alloc, poller, gate),
+            Inner::Turn(number) => self.turn(rt, alloc, number, gate, None),
+        }
+    }
+
+    /// What a thread is handed for a step.
+    fn crew<'a, G, R>(&'a self, rt: &'a R, alloc: Global, gate: &'a G) -> Crew<'a, G, Ticks, R> {
+        Crew {
+            rt,
+            alloc,
+            gate,
+            timing: Timing {
+                clock: &self.clock,
+                limit: self.sizes.limits.idle,
+            },
+            ending: &self.ending,
+            split: self.sizes.split,
+        }
+    }
+
+    /// One step of a poller's thread, unless it is in a turn or has ended.
+    fn round<G: Gate, R: Wait + Log>(&self, rt: &R, alloc: Global, poller: usize, gate: &G) {
+        let Some(player) = self.pollers.get(poller) else {
+            return;
+        };
+        let Ok(mut thread) = player.thread.try_borrow_mut() else {
+            return;
+        };
+        if player.ended.get() {
+            return;
+        }
+        let is_due = self.poller_is_due(poller);
+        let former = self.enter(Thread::Poller(poller));
+        let crew = self.crew(rt, alloc, gate);
+        if let Err(ended) = thread.step(&crew) {
+            thread.finish(&crew, ended);
+            player.ended.set(true);
+        }
+        self.leave(former);
+        self.check_poller(poller, is_due, player.ended.get(), thread.poller.is_over());
+    }
+
+    /// Whether a poller's thread has to end with its next step.
+    fn poller_is_due(&self, poller: usize) -> bool {
+        match self.outside.try_borrow() {
+            Ok(outside) => match outside.stations.get(poller) {
+                Some(station) => station.over || outside.faulty,
+                None => false,
+            },
+            Err(_) => false,
+        }
+    }
+
+    /// Whether a poller's thread ended as it has to, and knows whether the poller is over.
+    fn check_poller(&self, poller: usize, is_due: bool, ended: bool, over: bool) {
+        let Ok(mut outside) = self.outside.try_borrow_mut() else {
+            return;
+        };
+        let (failed, is_over) = match outside.stations.get(poller) {
+            Some(station) => (station.failed, station.over),
+            None => return,
+        };
+        if ended != (is_due || failed) {
+            outside
+                .book
+                .blame("a poller's thread goes on or ends when it has not to");
+        }
+        if over != is_over {
+            outside
+                .book
+                .blame("a poller is over or not when it has not to be");
+        }
+        if failed && !is_due {
+            outside.expect_wakes();
+        }
+    }
+
+    /// One step of a worker's thread, unless it would wait, is in a turn or has ended. It takes the oldest ticket, or this
+    /// one, which nobody made and which is no more than taken.
+    fn turn<G: Gate, R: Wait + Log>(
+        &self,
+        rt: &R,
+        alloc: Global,
+        number: usize,
+        gate: &G,
+        made_up: Option<Ticket>,
+    ) {
+        let Some(player) = self.workers.get(number) else {
+            return;
+        };
+        let Ok(mut worker) = player.thread.try_borrow_mut() else {
+            return;
+        };
+        let queued = match tickets_of(rt, alloc, &mut worker.own.ready) {
+            Ok(tickets) => tickets.len(),
+            Err(_) => return self.blame(""),
+        };
+        let is_due = self.worker_is_due(queued);
+        if player.ended.get() || queued == 0 && !is_due && made_up.is_none() {
+            return;
+        }
+        let former = self.enter(Thread::Worker);
+        match made_up {
+            Some(ticket) => {
+                let _ = worker.own.ready.put(rt, ticket);
+            }
+            None if !is_due => self.take_next(),
+            None => {}
+        }
+        let crew = self.crew(rt, alloc, gate);
+        if let Err(ended) = worker.step(&crew) {
+            worker.finish(&crew, ended);
+            player.ended.set(true);
+        }
+        self.leave(former);
+        if player.ended.get() != is_due {
+            self.blame("a worker's thread goes on or ends when it has not to");
+        }
+    }
+
+    /// Whether a worker's thread has to end with its next step, where so many tickets are queued.
+    fn worker_is_due(&self, queued: usize) -> bool {
+        let mut polling = false;
+        for player in &self.pollers {
+            polling = polling || !player.ended.get();
+        }
+        let faulty = match self.outside.try_borrow() {
+            Ok(outside) => outside.faulty,
+            Err(_) => false,
+        };
+        faulty || !polling && queued == 0
+    }
+
+    /// The first worker takes this ticket, which nobody made, if all queues are empty and the ticket is for no slot, for a free
+    /// one, or for another connection than that of a slot without notes.
+    pub fn take_made_up<R: Wait + Log>(&self, rt: &R, alloc: Global, ticket: Ticket) {
+        let Some(word) = self.word_of(ticket.slot) else {
+            return self.take_it(rt, alloc, ticket);
+        };
+        if word % 4 == 3 || word == 0 && self.generation_of(ticket.slot) != ticket.generation {
+            self.take_it(rt, alloc, ticket);
+        }
+    }
+
+    fn take_it<R: Wait + Log>(&self, rt: &R, alloc: Global, ticket: Ticket) {
+        let (is_empty, is_due) = match self.outside.try_borrow() {
+            Ok(outside) => (outside.ready.is_empty(), outside.faulty),
+            Err(_) => return,
+        };
+        if is_empty && !is_due && !self.worker_is_due(0) {
+            let gate = Nested {
+                outside: &self.outside,
+            };
+            self.turn(rt, alloc, 0, &gate, Some(ticket));
+        }
+    }
+
+    /// The claim word of a slot.
+    fn word_of(&self, slot: usize) -> Option<u64> {
+        let thread = self.pollers.first()?.thread.try_borrow().ok()?;
+        if slot < thread.shared.claims.slots() {
+            Some(thread.shared.claims.peek(slot))
+        } else {
+            None
+        }
+    }
+
+    /// The generation of a slot's last connection.
+    fn generation_of(&self, slot: usize) -> u64 {
+        match self.outside.try_borrow() {
+            Ok(outside) => outside.generation_of(slot),
+            Err(_) => 0,
+        }
+    }
+
+    /// The connection in this slot is taken away, if there is one and no idle limit, by which a lost slot would get notes.
+    pub fn lose<R: Wait>(&self, rt: &R, slot: usize) {
+        let (Some(word), Some(player)) = (self.word_of(slot), self.pollers.first()) else {
+            return;
+        };
+        let Ok(mut thread) = player.thread.try_borrow_mut() else {
+            return;
+        };
+        if word % 4 == 0 && self.sizes.limits.idle == 0 {
+            if let Ok(mut outside) = self.outside.try_borrow_mut() {
+                outside.lose(slot, word);
+            }
+            take_away(rt, &mut thread, slot);
+        }
+    }
+
+    fn blame(&self, text: &str) {
+        if let Ok(mut outside) = self.outside.try_borrow_mut() {
+            outside.book.blame(text);
+        }
+    }
+
+    fn take_next(&self) {
+        if let Ok(mut outside) = self.outside.try_borrow_mut() {
+            outside.take_next();
+        }
+    }
+
+    fn enter(&self, thread: Thread) -> Option<Acting> {
+        match self.outside.try_borrow_mut() {
+            Ok(mut outside) => Some(outside.enter(thread)),
+            Err(_) => None,
+        }
+    }
+
+    fn leave(&self, former: Option<Acting>) {
+        if let (Some(former), Ok(mut outside)) = (former, self.outside.try_borrow_mut()) {
+            outside.leave(former);
+        }
+    }
+}
+
+/// Takes the connection of a slot that nobody holds out of its place, and closes it.
+fn take_away<R: Wait>(rt: &R, thread: &mut PollerThread<KernelFront>, slot: usize) {
+    let (shared, seat) = (&thread.shared, &mut thread.own.seat);
+    if slot >= shared.claims.slots() {
+        return;
+    }
+    if shared.claims.claim(seat, slot) == Claimed::Held {
+        drop(shared.berths.take_out(rt, seat, slot));
+        shared.claims.release(seat, slot);
+    }
+}

@@ -1,0 +1,205 @@
+// What a poller's round gets, and to what it amounts.
+use crate::addresses::peer_of;
+use crate::outside::Outside;
+use crate::station::Started;
+use crate::step::{Outer, Polled};
+use dispatch::{Clock, Unopened};
+use kernel_model::{Accepting, MAX_POLLED};
+use log::Level;
+use std::alloc::AllocError;
+use std::io::{self, ErrorKind};
+use token::{Name, Token};
+use world::{Event, Listening, Polling};
+
+impl Outside {
+    /// A poller's poll: the names that it gives, or the error by which it fails. It may wait just where the poller could not
+    /// accept at once.
+    pub(crate) fn poll(&mut self, poller: usize, wait: bool) -> io::Result<Vec<Name>> {
+        let Some(station) = self.stations.get_mut(poller) else {
+            return Err(io::Error::from(ErrorKind::Other));
+        };
+        if wait == (station.could_accept() && !station.starved) {
+            self.book
+                .blame("a poll waits while it may not, or does not while it may");
+        }
+        let polled = station.plan.polls.pop_front();
+        if polled == Some(Polled::Failed) {
+            station.failed = true;
+            self.faulty = true;
+            return self.fail_poll();
+        }
+        let names = station.poll(polled)?;
+        self.take_names(names.as_slice())?;
+        for _event in 0..MAX_POLLED {
+            let Some(outer) = self.next_polled(poller) else {
+                break;
+            };
+            self.happen(outer);
+        }
+        self.deliver(poller, names.as_slice());
+        match polled {
+            Some(Polled::Interrupted) => Err(io::Error::from(ErrorKind::Interrupted)),
+            _ => Ok(names),
+        }
+    }
+
+    /// A poll fails, which the log has to say.
+    fn fail_poll(&mut self) -> io::Result<Vec<Name>> {
+        let error = io::Error::from(ErrorKind::PermissionDenied);
+        let text = format!(in self.alloc; "poll: {error}");
+        self.book.expect(Level::Error, text);
+        Err(error)
+    }
+
+    fn next_polled(&mut self, poller: usize) -> Option<Outer> {
+        self.stations.get_mut(poller)?.plan.polled.pop_front()
+    }
+
+    /// The worlds of the slots take their names from their queues.
+    fn take_names(&mut self, names: &[Name]) -> Result<(), AllocError> {
+        for slot in 0..self.tapes.len() {
+            let mut own = Vec::new(self.alloc);
+            for name in names {
+                if let Some(name) = own_name(*name, slot) {
+                    own.push(name)?;
+                }
+            }
+            if !own.is_empty() {
+                self.record(slot, &Event::Poll(Polling::Poll(own)));
+            }
+        }
+        Ok(())
+    }
+
+    /// A poller delivers these reports, and then its round comes to its sweep.
+    fn deliver(&mut self, poller: usize, names: &[Name]) {
+        let event = Event::Poll(Polling::Deliver);
+        for name in names {
+            match name {
+                Name::End(token) => self.note(poller, token.slot(), &event),
+                Name::Listener | Name::Waker => {
+                    if let Some(station) = self.stations.get_mut(poller) {
+                        station.tape.put(&event);
+                    }
+                }
+            }
+        }
+        let second = self.clock.second();
+        let Some(station) = self.stations.get_mut(poller) else {
+            return;
+        };
+        if station.falls_due(second) {
+            let part = station.part;
+            self.sweep(poller, part.first, part.slots);
+        }
+    }
+
+    /// A poller's round does this at a slot, which may make a ticket.
+    fn note(&mut self, poller: usize, slot: usize, event: &Event) {
+        if let (Some(station), Some(tape)) = (
+            self.stations.get_mut(poller),
+            self.tapes.get_mut(slot),
+        ) {
+            station.note(slot, tape, event);
+        }
+    }
+
+    /// A note for each of these slots in which a connection was ever opened.
+    fn sweep(&mut self, poller: usize, first: usize, slots: usize) {
+        let event = Event::Poll(Polling::Sweep(0));
+        for index in 0..slots {
+            let slot = first.saturating_add(index);
+            if matches!(self.tapes.get(slot), Some(tape) if tape.generation() > 0) {
+                self.note(poller, slot, &event);
+            }
+        }
+    }
+
+    /// What a poller's accept(2) is answered.
+    pub(crate) fn accept(&mut self, poller: usize) -> Accepting {
+        let Some(station) = self.stations.get_mut(poller) else {
+            return Accepting::Starved;
+        };
+        let reply = station.accept(self.waiting > 0);
+        let (all, told) = (station.has_opened_all(), station.starved);
+        if reply == Accepting::Accepted {
+            station.let_in();
+            self.waiting = self.waiting.saturating_sub(1);
+        } else {
+            station.answer(reply);
+        }
+        if all {
+            self.book
+                .blame("accept(2) after the last connection of a poller");
+        }
+        if reply == Accepting::Starved && !told {
+            let error = io::Error::from(ErrorKind::Other);
+            let text = format!(in self.alloc; "accept: {error}");
+            self.book.expect(Level::Error, text);
+        }
+        reply
+    }
+
+    /// Both ends of a connection that a poller accepted are opened, or that fails as it is planned. From then on the log has
+    /// to say so.
+    pub(crate) fn open(
+        &mut self,
+        poller: usize,
+        client: Token,
+        target: Token,
+    ) -> Result<Started, Unopened> {
+        let started = match self.stations.get_mut(poller) {
+            Some(station) => station.open(client, target),
+            None => Err(Unopened::Connect),
+        };
+        match &started {
+            Err(Unopened::Connect) => self.expect_drop("connect"),
+            Err(Unopened::Register) => self.expect_drop("register"),
+            Ok(started) if started.ends.is_none() => self.expect_drop("address"),
+            Ok(_) => self.opened(poller, client.slot(), client.generation()),
+        }
+        started
+    }
+
+    fn expect_drop(&mut self, cause: &str) {
+        let text = format!(in self.alloc; "drop kind={cause}");
+        self.book.expect(Level::Warn, text);
+    }
+
+    /// A poller has opened a connection in this slot, which has to be its first free one.
+    fn opened(&mut self, poller: usize, slot: usize, generation: u64) {
+        let first = match self.stations.get_mut(poller) {
+            Some(station) => station.take_free(),
+            None => None,
+        };
+        if first != Some(slot) {
+            self.book
+                .blame("a poller opens another slot than its first free one");
+        }
+        self.record(slot, &Event::Listen(Listening::Connect));
+        self.record(slot, &Event::Listen(Listening::Accept(Accepting::Accepted)));
+        self.note(poller, slot, &Event::Poll(Polling::Open));
+        self.expect_open(slot, generation);
+    }
+
+    fn expect_open(&mut self, slot: usize, generation: u64) {
+        let from = peer_of(slot, generation);
+        let peer = format!(in self.alloc; "peer s={slot} g={generation} from={from}");
+        self.book.expect(Level::Debug, peer);
+        let open = format!(in self.alloc; "open s={slot} g={generation}");
+        self.book.expect(Level::Info, open);
+    }
+}
+
+/// The name in the world of this slot, if it is about an end there.
+fn own_name(name: Name, slot: usize) -> Option<Name> {
+    match name {
+        Name::End(token) if token.slot() == slot => {
+            match Token::pack(0, token.side(), token.generation()) {
+                Ok(token) => Some(Name::End(token)),
+                Err(_) => None,
+            }
+        }
+        _ => None,
+    }
+}

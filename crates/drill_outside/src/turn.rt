@@ -1,0 +1,283 @@
+// Whose step it is, and what has to be of its turns.
+use crate::outside::Outside;
+use dispatch::MAX_OWN_TURNS;
+use ready::Ticket;
+use token::{MAX_GENERATION, Token};
+use world::{Act, Event, Reported};
+
+/// The most calls of a turn of a poller's own thread.
+const OWN_BUDGET: usize = 8;
+
+/// Whose step it is.
+#[derive(Clone, Copy)]
+pub enum Thread {
+    Nobody,
+    /// This poller's.
+    Poller(usize),
+    Worker,
+}
+
+/// A step of a thread.
+#[derive(Clone, Copy)]
+pub struct Acting {
+    thread: Thread,
+    /// The ticket that a worker has to take.
+    next: Option<Ticket>,
+    /// The turn in progress.
+    turn: Option<Turn>,
+}
+
+/// A turn in progress.
+#[derive(Clone, Copy)]
+struct Turn {
+    slot: usize,
+    /// How many calls it has made.
+    calls: usize,
+    /// Whether it may still make calls.
+    calling: bool,
+    /// Whether it left its connection due.
+    again: bool,
+    /// Whether the log has told what became of its connection.
+    logged: bool,
+    /// How many of its ends were told to send what they held back.
+    settled: usize,
+    /// Whether both ends of its connection were closed.
+    closed: bool,
+}
+
+impl Acting {
+    /// Nothing has been done. A worker has to take this ticket.
+    pub(crate) fn new(thread: Thread, next: Option<Ticket>) -> Acting {
+        Acting {
+            thread,
+            next,
+            turn: None,
+        }
+    }
+}
+
+impl Outside {
+    /// A step of this thread begins. Answers what goes on behind it.
+    pub fn enter(&mut self, thread: Thread) -> Acting {
+        let former = self.acting;
+        self.acting = Acting::new(thread, None);
+        former
+    }
+
+    /// The worker whose step it is has to take the oldest ticket in the queue.
+    pub fn take_next(&mut self) {
+        self.acting.next = self.ready.pop_front();
+    }
+
+    /// The step is over, and what was before it goes on.
+    pub fn leave(&mut self, former: Acting) {
+        self.settle();
+        self.end_round();
+        if self.next_ticket().is_some() {
+            self.book
+                .blame("a ticket is taken or kept, and has no turn");
+        }
+        self.acting = former;
+    }
+
+    /// The ticket of which the thread has to run a turn next. A connection that was taken away has none.
+    fn next_ticket(&mut self) -> Option<Ticket> {
+        for _ticket in 0..MAX_OWN_TURNS + 1 {
+            let ticket = match self.acting.thread {
+                Thread::Poller(poller) => self.stations.get_mut(poller)?.next_kept()?,
+                _ => self.acting.next.take()?,
+            };
+            if self.tapes.get(ticket.slot)?.lost.is_none() {
+                return Some(ticket);
+            }
+        }
+        None
+    }
+
+    /// The slot of a turn was claimed, and its notes were taken.
+    pub fn begin_turn(&mut self, slot: usize) {
+        self.settle();
+        self.end_round();
+        self.calling = self.calling.saturating_add(1);
+        let is_next = matches!(self.next_ticket(), Some(ticket) if ticket.slot == slot);
+        if !is_next {
+            self.book
+                .blame("a turn of another ticket than the next one");
+        }
+        if let Some(tape) = self.tapes.get_mut(slot) {
+            tape.begin();
+        }
+        self.acting.turn = Some(Turn {
+            slot,
+            calls: 0,
+            calling: true,
+            again: false,
+            logged: false,
+            settled: 0,
+            closed: false,
+        });
+    }
+
+    /// The thread of the turn in progress has done this.
+    pub(crate) fn act(&mut self, act: Act) {
+        if let Some(turn) = self.acting.turn {
+            self.record(turn.slot, &Event::Work(0, act));
+        }
+    }
+
+    /// A call of the turn in progress was made.
+    pub(crate) fn count_call(&mut self) {
+        if let Some(turn) = &mut self.acting.turn {
+            turn.calls = turn.calls.saturating_add(1);
+        }
+    }
+
+    /// The turn in progress has made its last call.
+    pub fn end_calls(&mut self) {
+        let Some(mut turn) = self.acting.turn else {
+            return;
+        };
+        turn.calling = false;
+        self.calling = self.calling.saturating_sub(1);
+        let Some(tape) = self.tapes.get_mut(turn.slot) else {
+            return;
+        };
+        tape.expire();
+        turn.again = tape.is_due_again();
+        self.acting.turn = Some(turn);
+        self.check_calls(turn);
+    }
+
+    /// A turn that left its connection due has spent its whole budget, and none has spent more.
+    fn check_calls(&mut self, turn: Turn) {
+        let mut most = self.sizes.limits.budget;
+        if let Thread::Poller(poller) = self.acting.thread {
+            most = most.min(OWN_BUDGET);
+            if let (true, Some(station)) = (turn.again, self.stations.get_mut(poller)) {
+                station.mark_heavy(turn.slot);
+            }
+        }
+        if turn.calls > most || turn.again && turn.calls != most {
+            self.book.blame("a turn with too few or too many calls");
+        }
+    }
+
+    /// The log has to tell next what became of the connection of the turn in progress, if that has ended.
+    pub(crate) fn expect_ended(&mut self) {
+        let Some(turn) = &mut self.acting.turn else {
+            return;
+        };
+        if turn.calling || turn.logged {
+            return;
+        }
+        turn.logged = true;
+        let slot = turn.slot;
+        if let Some(tape) = self.tapes.get(slot) {
+            if let Some((generation, verdict, counts)) = tape.verdict() {
+                self.book.expect_end(slot, generation, verdict, counts);
+            }
+        }
+    }
+
+    /// An end of a poller's kernel is closed.
+    pub(crate) fn close(&mut self, poller: usize, descriptor: usize, token: Token) {
+        let slot = token.slot();
+        let Some(station) = self.stations.get_mut(poller) else {
+            return;
+        };
+        let both = station.close(descriptor, slot);
+        let is_lost = matches!(self.tapes.get(slot), Some(tape) if tape.lost.is_some());
+        let in_turn = matches!(self.acting.turn, Some(turn) if turn.slot == slot && turn.logged);
+        if !in_turn && !is_lost {
+            self.book.blame("an end is closed outside of its turn, or before the log tells of it");
+        }
+        if both && !is_lost {
+            self.act(Act::Close);
+            if let Some(turn) = &mut self.acting.turn {
+                turn.closed = true;
+            }
+        }
+    }
+
+    /// The turn before is over: the slot is released or given back.
+    fn settle(&mut self) {
+        let Some(turn) = self.acting.turn else {
+            return;
+        };
+        if turn.closed {
+            self.give_back(turn.slot);
+        } else {
+            self.release(turn);
+        }
+        self.acting.turn = None;
+    }
+
+    /// An end of the turn in progress is told to send what it held back.
+    pub(crate) fn settle_end(&mut self) {
+        if let Some(turn) = &mut self.acting.turn {
+            turn.settled = turn.settled.saturating_add(1);
+        }
+    }
+
+    /// The slot of a turn is released, which may make a ticket. Where the turn did not spend its budget, both ends were told
+    /// to send what they held back.
+    fn release(&mut self, turn: Turn) {
+        if turn.again {
+            self.act(Act::Post);
+        }
+        if turn.settled != if turn.again { 0 } else { 2 } {
+            self.book
+                .blame("a turn without a call has not settled both ends");
+        }
+        self.act(Act::Release);
+        let made = match self.tapes.get(turn.slot) {
+            Some(tape) => tape.worker_ticket(),
+            None => None,
+        };
+        if let Some(ticket) = made {
+            let put = self.ready.push_back(Ticket {
+                slot: turn.slot,
+                generation: ticket.generation,
+            });
+            if put.is_err() {
+                self.book.blame("");
+            }
+        }
+    }
+
+    /// The slot of a turn whose connection was closed is given back, and its poller is woken: by a worker, and by its own
+    /// thread only if no more connections are to be opened.
+    fn give_back(&mut self, slot: usize) {
+        self.act(Act::Retire);
+        self.act(Act::Free);
+        let is_worn =
+            matches!(self.tapes.get(slot), Some(tape) if tape.generation() == MAX_GENERATION);
+        let alone = matches!(self.acting.thread, Thread::Poller(_));
+        if let Some(station) = self.stations.get_mut(self.sizes.split.poller_of(slot)) {
+            if !is_worn {
+                station.give(slot);
+            }
+            if !alone || station.has_opened_all() {
+                station.tape.put(&Event::Spurious(Reported::Waker));
+            }
+        }
+    }
+
+    /// A poller's round has ended, which its step began with.
+    fn end_round(&mut self) {
+        let Thread::Poller(poller) = self.acting.thread else {
+            return;
+        };
+        let Some(station) = self.stations.get_mut(poller) else {
+            return;
+        };
+        if !station.in_round {
+            return;
+        }
+        station.end_round(&mut self.ready);
+        if !station.may_rest() {
+            self.book
+                .blame("a poller ends a round while it could accept");
+        }
+    }
+}
