@@ -10,16 +10,12 @@ pub(crate) type Answer = Result<usize, ErrorKind>;
 /// One thing that is done at a wire, and what is seen of it.
 #[derive(Clone, Copy)]
 pub(crate) enum Act {
-    /// A read of at most so many bytes.
-    Read(usize, Answer),
+    /// A read of at most four bytes.
+    Read(Answer),
     /// A read that brings these bytes.
     Brings([u8; 4]),
-    Write(&'static [u8], Answer),
     Join(Answer),
-    Shut(Answer),
-    /// A write of as many bytes as the relay writes at a time.
-    WriteFull(Answer),
-    /// The same, whatever it answers.
+    /// A write of as many bytes as the relay writes at a time, whatever it answers.
     Offer,
     /// The wire is told that its connection is quiet.
     Settle,
@@ -29,20 +25,17 @@ pub(crate) enum Act {
     Counts(u64, u64),
 }
 
-/// As many bytes as the relay reads and writes at a time.
-pub(crate) static FULL: [u8; 16_384] = [7; 16_384];
+/// As many bytes as the relay writes at a time.
+static FULL: [u8; 16_384] = [7; 16_384];
 
 /// Does this, and answers whether that is seen of it.
 pub(crate) fn goes(wire: &mut SocketWire, act: &Act) -> bool {
     match *act {
-        Act::Read(most, wanted) => read(wire, most) == wanted,
+        Act::Read(wanted) => read(wire) == wanted,
         Act::Brings(bytes) => brings(wire, bytes),
-        Act::Write(offer, wanted) => write(wire, offer) == wanted,
         Act::Join(wanted) => join(wire) == wanted,
-        Act::Shut(wanted) => shut(wire) == wanted,
-        Act::WriteFull(wanted) => write(wire, &FULL) == wanted,
         Act::Offer => {
-            let _taken = write(wire, &FULL);
+            let _taken = wire.write(&FULL);
             true
         }
         Act::Settle => {
@@ -54,10 +47,8 @@ pub(crate) fn goes(wire: &mut SocketWire, act: &Act) -> bool {
     }
 }
 
-fn read(wire: &mut SocketWire, most: usize) -> Answer {
-    let mut buffer = [0; 16_384];
-    let most = most.min(buffer.len());
-    wire.read(&mut buffer[..most]).map_err(|error| error.kind())
+fn read(wire: &mut SocketWire) -> Answer {
+    wire.read(&mut [0; 4]).map_err(|error| error.kind())
 }
 
 fn brings(wire: &mut SocketWire, bytes: [u8; 4]) -> bool {
@@ -65,14 +56,6 @@ fn brings(wire: &mut SocketWire, bytes: [u8; 4]) -> bool {
     wire.read(&mut buffer).is_ok() && buffer == bytes
 }
 
-fn write(wire: &mut SocketWire, offer: &[u8]) -> Answer {
-    wire.write(offer).map_err(|error| error.kind())
-}
-
 fn join(wire: &mut SocketWire) -> Answer {
     wire.joined().map(|()| 0).map_err(|error| error.kind())
-}
-
-fn shut(wire: &mut SocketWire) -> Answer {
-    wire.shut_write().map(|()| 0).map_err(|error| error.kind())
 }

@@ -1,7 +1,7 @@
 // What a fault of one thread does to the others, and which fault is answered.
 
 use crate::failing::{Failing, server_without_reports};
-use crate::still::{NO_LIMIT, Still};
+use crate::serving::{NO_LIMIT, Still};
 use dispatch::{OpenGate, ServerFault, Shared, Split};
 use log::sink::{Discard, Locked};
 use log::{Level, Log, Logged};
@@ -25,44 +25,6 @@ fn crew_of<'a, R>(rt: &'a R, alloc: Global, ending: &'a Ending) -> Crew<'a, Open
     }
 }
 
-/// Threads by number, the poller's first, and the fault of each, in the order in which they are noted.
-const NOTED: [(&[(usize, ServerFault)], Option<ServerFault>); 5] = [
-    (&[], None),
-    (
-        &[
-            (2, ServerFault::Worn),
-            (1, ServerFault::NoMemory),
-            (3, ServerFault::Threads),
-        ],
-        Some(ServerFault::NoMemory),
-    ),
-    (
-        &[(1, ServerFault::Worn), (0, ServerFault::Poll)],
-        Some(ServerFault::Poll),
-    ),
-    (
-        &[(0, ServerFault::Poll), (1, ServerFault::Worn)],
-        Some(ServerFault::Poll),
-    ),
-    (
-        &[(0, ServerFault::Threads), (0, ServerFault::Poll)],
-        Some(ServerFault::Threads),
-    ),
-];
-
-#[test]
-fn the_fault_of_the_first_thread_is_kept(rt: HostRuntime) -> Result<(), Fail> {
-    for (row, (faults, kept)) in NOTED.iter().enumerate() {
-        let ending = Ending::new(1);
-        for (number, fault) in *faults {
-            ending.record(&rt, *number, *fault);
-        }
-        assert_eq!(rt; ending.is_recorded(), kept.is_some(), "in row {row}");
-        assert_eq!(rt; ending.into_fault(), *kept, "in row {row}");
-    }
-    Ok(())
-}
-
 /// A worker fails, and later another thread. Answers the fault that is kept.
 fn fails_first<R: Wait + Log>(
     rt: &R,
@@ -77,24 +39,6 @@ fn fails_first<R: Wait + Log>(
     }
     ending.record(rt, later, ServerFault::NoMemory);
     ending.into_fault()
-}
-
-/// The thread that fails later, and the fault that is kept: the first worker's goes before, the third worker's does not.
-const LATER: [(usize, ServerFault); 2] = [(3, ServerFault::Worn), (1, ServerFault::NoMemory)];
-
-/// The first row of the table in which another fault is kept.
-fn kept_otherwise<R: Wait + Log>(
-    rt: &R,
-    alloc: Global,
-    shared: &Shared<Failing>,
-    mine: &mut ReadyQueue,
-) -> Option<usize> {
-    for (row, (later, kept)) in LATER.iter().enumerate() {
-        if fails_first(rt, alloc, shared, mine, *later) != Some(*kept) {
-            return Some(row);
-        }
-    }
-    None
 }
 
 /// What all threads of a server share, and two ends of its queue of tickets.
@@ -117,8 +61,11 @@ fn a_worker_s_fault_is_told_to_all(rt: HostRuntime) -> Result<(), Fail> {
     let log = Logged::new(&rt, Level::Error, Discard);
     let server = server_without_reports(&rt, rt.alloc(), ErrorKind::Other)?;
     let (shared, mut mine, mut other) = ends_of(server)?;
-    let row = kept_otherwise(&log, rt.alloc(), &shared, &mut mine);
-    assert_eq!(rt; row, None);
+    // The first worker's fault goes before, the third worker's does not.
+    for (later, kept) in [(3, ServerFault::Worn), (1, ServerFault::NoMemory)] {
+        let fault = fails_first(&log, rt.alloc(), &shared, &mut mine, later);
+        assert_eq!(rt; fault, Some(kept));
+    }
     assert_eq!(rt; other.take(&rt), None);
     assert_eq!(rt; shared.waker.load(SeqCst), 2);
     Ok(())

@@ -17,6 +17,4 @@ mod serving;
 #[cfg(test)]
 mod stage;
 #[cfg(test)]
-mod still;
-#[cfg(test)]
 mod wires;

@@ -2,7 +2,7 @@
 // shown by `tests/relay`, with the built program.
 
 use crate::holding::Holding;
-use crate::still::Still;
+use dispatch::{Clock, Timing};
 use log::sink::Discard;
 use log::{Level, Logged};
 use server::serve;
@@ -12,6 +12,21 @@ use std::alloc::Global;
 use std::net::{Shutdown, SocketAddr, TcpListener, TcpStream};
 use std::test::Fail;
 use std::{io, thread};
+
+/// A clock that stands still, for servers without an idle limit.
+pub(crate) struct Still;
+
+impl Clock for Still {
+    fn second(&self) -> u64 {
+        0
+    }
+}
+
+/// No connection fails by time.
+pub(crate) const NO_LIMIT: Timing<'static, Still> = Timing {
+    clock: &Still,
+    limit: 0,
+};
 
 /// Two workers and two slots, on a port that the system chooses, and one call a turn. So the first turn of a connection, which
 /// is its poller's, leaves it to the workers. The server ends after two connections.

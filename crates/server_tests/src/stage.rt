@@ -1,12 +1,12 @@
 // A front over loopback with one connection, and what is done there, as rows: each step, and what is seen of it.
-use crate::acts::{Act, FULL, goes};
+use crate::acts::{Act, goes};
 use dispatch::{Front, MAX_BATCH, ServerFault, Split, Unopened};
 use log::sink::{Lines, Memory};
 use log::{Level, Logged};
 use settings::{Settings, parse};
 use sockets::{Forwarding, SocketWire, Sockets, Wakers, bind, open_all};
 use std::alloc::{AllocError, Global};
-use std::io::{self, ErrorKind, Read, Write};
+use std::io::{self, ErrorKind, Write};
 use std::net::{SocketAddr, TcpListener, TcpStream};
 use token::{Side, Token};
 
@@ -32,10 +32,6 @@ pub(crate) enum Step {
     Target(Act),
     /// The client sends these bytes.
     Sends(&'static [u8]),
-    /// The client sends as many bytes as the relay reads at a time.
-    SendsFull,
-    /// The client reads these bytes, and then the end.
-    Hears([u8; 3]),
     /// The client closes its socket.
     Leaves,
 }
@@ -211,20 +207,6 @@ impl Stage<'_> {
             None => false,
         }
     }
-
-    /// Whether the client reads these bytes, and then the end.
-    fn hears(&mut self, bytes: [u8; 3]) -> bool {
-        match &mut self.peer {
-            Some(peer) => hears(peer, bytes),
-            None => false,
-        }
-    }
-}
-
-fn hears(peer: &mut TcpStream, bytes: [u8; 3]) -> bool {
-    let mut buffer = [0; 3];
-    let brought = peer.read(&mut buffer).is_ok() && buffer == bytes;
-    brought && peer.read(&mut buffer).ok() == Some(0)
 }
 
 /// Makes a step, and answers whether it goes as it tells.
@@ -243,8 +225,6 @@ fn makes_at_once(rt: &HostRuntime, stage: &mut Stage<'_>, step: &Step) -> bool {
         Step::Client(act) => goes(&mut stage.client, act),
         Step::Target(act) => stage.at_target(act),
         Step::Sends(bytes) => stage.sends(bytes),
-        Step::SendsFull => stage.sends(&FULL),
-        Step::Hears(bytes) => stage.hears(*bytes),
         Step::Leaves => {
             stage.peer = None;
             true

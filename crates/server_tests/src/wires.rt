@@ -1,6 +1,6 @@
 // What fronts and wires over sockets answer.
-use crate::acts::Act::{AtOnce, Brings, Counts, Join, Offer, Read, Settle, Shut, Write, WriteFull};
-use crate::stage::Step::{self, Client, Hears, Leaves, Open, Reports, Sends, SendsFull, Target};
+use crate::acts::Act::{AtOnce, Brings, Counts, Join, Offer, Read, Settle};
+use crate::stage::Step::{self, Client, Leaves, Open, Reports, Sends, Target};
 use crate::stage::{BOTH, Fronts, NEAR, Row, STORY, first_wrong, fronts_for, reports};
 use dispatch::{Front, Split, Unopened};
 use sockets::{Sockets, Wakers};
@@ -9,27 +9,9 @@ use std::io::{self, ErrorKind};
 use std::net::{SocketAddr, TcpStream};
 use std::test::Fail;
 
-const BLOCKED: Step = Client(Read(4, Err(ErrorKind::WouldBlock)));
+const BLOCKED: Step = Client(Read(Err(ErrorKind::WouldBlock)));
 
-static ROWS: [Row; 6] = [
-    // A wire hands bytes on both ways, reads on after its own shutdown, and counts each error by its class.
-    Row {
-        steps: &[
-            Open(None),
-            BOTH,
-            Client(Join(Ok(0))),
-            Client(Write(b"xyz", Ok(3))),
-            Client(Shut(Ok(0))),
-            Hears(*b"xyz"),
-            Sends(b"abcd"),
-            Client(Brings(*b"abcd")),
-            Leaves,
-            Client(Read(4, Ok(0))),
-            Client(Write(b"a", Err(ErrorKind::BrokenPipe))),
-            Client(Counts(1, 0)),
-        ],
-        ..STORY
-    },
+static ROWS: [Row; 4] = [
     // After a read that would block, a wire reads its socket again only once its front has reported something to read:
     // bytes, or the end of input.
     Row {
@@ -48,22 +30,8 @@ static ROWS: [Row; 6] = [
             BLOCKED,
             BLOCKED,
             Reports(&[NEAR]),
-            Client(Read(4, Ok(0))),
+            Client(Read(Ok(0))),
             Client(Counts(0, 8)),
-        ],
-        ..STORY
-    },
-    // A wire asks for as many bytes as it may, and a reset is told as such. The peer resets since it leaves bytes unread.
-    Row {
-        steps: &[
-            Open(None),
-            BOTH,
-            SendsFull,
-            Client(Read(16_384, Ok(16_384))),
-            Client(WriteFull(Ok(16_384))),
-            Leaves,
-            Client(Read(4, Err(ErrorKind::ConnectionReset))),
-            Client(Counts(1, 0)),
         ],
         ..STORY
     },
