@@ -1,126 +1,366 @@
 -- What the calls of a thread's loop do with the tickets that it is obliged to put.
-use Rattle.std.proofs.Common.{◌≡◌, ◌≢◌, ℕ, ◌+◌, ◌≤◌, List, [], ◌∷◌, ◌++◌, length-append, sym, ◌∙◌, subst, ap, arith, inl, inr}
-use Rattle.std.specs.Prelude.{Option, Some, None, Result, Ok, Err, IfErr, IfSome, slice_get}
+use Rattle.std.proofs.Common.{◌≡◌, ◌≢◌, ℕ, zero, suc, ◌+◌, ◌*◌, ◌<◌, ◌≤◌, Bool, true, false, cond, List, [], ◌∷◌, ◌++◌, length, length-append, drop, sym, ◌∙◌, refl, subst, ap, arith, inl, inr, append_assoc, ltb}
+use Rattle.std.specs.Prelude.{◌⊎◌, ◌==◌, ◌&&◌, Option, Some, None, Result, Ok, Err, IfErr, IfOk, IfSome, OnOk, OnErr, slice_get, map, nat_lt, if◌then◌else◌, sum_by}
+use Rattle.std.proofs.lemmas.List.{map-append, append-nil}
+use Rattle.std.proofs.lemmas.List.Sums.{sum_by-append, sum_by-cons}
+use Rattle.std.proofs.lemmas.Bool.{ltb-true, ltb-false, false≢true}
+use Rattle.std.specs.Option.{is_some}
+use Rattle.std.proofs.lemmas.Option.{none-some, same_Some}
 use mathlib.Core.Logic.{dite}
 use native.Mathlib.Decide.{ℕ_discrete}
 use Rattle.claims.specs.declared.view.Account.{Account}
-use Rattle.claims.specs.Seats.{SeatState, account_at, OnlyAt}
+use Rattle.claims.specs.Seats.{SeatState, TableId, account_at, OnlyAt}
+use Rattle.ready.specs.declared.history.History.{History}
 use Rattle.ready.specs.declared.ticket.Ticket.{Ticket}
+use Rattle.ready.specs.Steps.{EndState, TookOne}
 use Rattle.relay_log.specs.declared.faults.ServerFault.{ServerFault}
 use Rattle.relay_log.specs.declared.faults.ServerFault.TheVariants.{Worn}
 use Rattle.dispatch.specs.declared.shared.Own.{Own}
-use Rattle.dispatch.specs.Deliveries.{at_slot}
-use Rattle.dispatch.specs.Outgoing.{tickets_out, without_first, KeepsOut}
-use Rattle.dispatch.specs.Polls.{PollerState}
-use Rattle.dispatch.specs.Rounds.{RoundDone}
-use Rattle.dispatch.specs.Turns.{TicketsKept, OwnTurn}
-use Rattle.dispatch.proofs.Reports.{at_slot-append, one_at, none_at}
 use Rattle.dispatch.specs.declared.worker.Worked.{Worked}
-use Rattle.dispatch.proofs.Shares.{count_inserted, count_taken}
+use Rattle.dispatch.specs.declared.worker.Worked.TheVariants as worked
+use Rattle.dispatch.specs.Deliveries.{at_slot, IsSubsequence}
+use Rattle.dispatch.specs.Outgoing.{outgoing, Inserted, tickets_out, without_first}
+use Rattle.dispatch.specs.Polls.{PollerState, looked_at}
+use Rattle.dispatch.specs.Rounds.{RoundDone}
+use Rattle.dispatch.specs.Shares.{AreShared, OneShared, TicketsShared}
+use Rattle.dispatch.specs.Turns.{exchanges, TicketsKept, TurnMade, OwnTurn}
+use Rattle.dispatch.proofs.Reports.{at_slot-append, one_at, none_at, subsequence-append}
 use Rattle.threads.specs.declared.ended.Ended.{Ended}
-use Rattle.threads.specs.Loops.{Balanced, BalancedBut, RanAtMost, RanSome}
+use Rattle.threads.specs.Loops.{times_of, Run, tickets_of, exchanges_of, TurnsMade, OneRan, tickets_in, WorkerRan, OwnTurnsRan, StepMade, StepCut, StepsMade, PollerRan}
 
--- at the slot of the turn's ticket
-balanced_here : (t : Ticket) (a b : Own) → TicketsKept t a b →
-    at_slot t.slot (tickets_out b) + (account_at a.seat t.slot).minted ≡ at_slot t.slot (tickets_out a) + (account_at b.seat t.slot).minted
-balanced_here t a b (inl none) =
-    let out : at_slot t.slot (tickets_out b) ≡ at_slot t.slot (tickets_out a) = ap (λ (ts : List Ticket). at_slot t.slot ts) none.tickets in
-    let minted = none.minted in
-    omega arith
-balanced_here t a b (inr one) =
-    let out = count_inserted t.slot t (tickets_out a) (tickets_out b) one.tickets in
-    let this = one_at t in
-    let minted = one.minted in
-    omega arith
+-- how often a ticket stands in lists one behind the other
+times-append : (u : Ticket) (xs ys : List Ticket) → times_of u (xs ++ ys) ≡ times_of u xs + times_of u ys
+times-append u xs ys = sum_by-append (λ (t : Ticket). cond ((t.slot == u.slot) && (t.generation == u.generation)) 1 0) xs ys
 
--- at any other slot a turn puts nothing
-out_elsewhere : (t : Ticket) (a b : Own) (slot : ℕ) → slot ≢ t.slot → TicketsKept t a b → at_slot slot (tickets_out b) ≡ at_slot slot (tickets_out a)
-out_elsewhere t a b slot other (inl none) = ap (λ (ts : List Ticket). at_slot slot ts) none.tickets
-out_elsewhere t a b slot other (inr one) =
-    let out = count_inserted slot t (tickets_out a) (tickets_out b) one.tickets in
-    let none = none_at t slot other in
+times_inserted : (u t : Ticket) (old new : List Ticket) → Inserted t old new → times_of u new ≡ times_of u (t ∷ []) + times_of u old
+times_inserted u t old new more =
+    let is : times_of u new ≡ times_of u (more.before ++ t ∷ more.after) = ap (λ (ts : List Ticket). times_of u ts) more.is in
+    let was : times_of u old ≡ times_of u (more.before ++ more.after) = ap (λ (ts : List Ticket). times_of u ts) more.was in
+    let whole = times-append u more.before (t ∷ more.after) in
+    let rest = times-append u (t ∷ []) more.after in
+    let both = times-append u more.before more.after in
     omega arith
 
--- a turn with this ticket
-pub turn_balances : (t : Ticket) (a b : Own) → OnlyAt t.slot a.seat b.seat → TicketsKept t a b → Balanced a b
-turn_balances t a b only kept slot = dite (ℕ_discrete slot t.slot)
-    (λ same. subst (λ (s : ℕ). at_slot s (tickets_out b) + (account_at a.seat s).minted ≡ at_slot s (tickets_out a) + (account_at b.seat s).minted) (sym same) (balanced_here t a b kept))
+-- Turns, one after the other
+
+turns_none : (s : SeatState) → TurnsMade [] [] s s
+turns_none s = record { table = refl; in_order = refl; minted = λ slot. omega arith; exchanges = omega arith }
+
+turns_both : (xs ys : List Run) (ds es : List Ticket) (a b c : SeatState) → TurnsMade xs ds a b → TurnsMade ys es b c → TurnsMade (xs ++ ys) (ds ++ es) a c
+turns_both xs ys ds es a b c one two = record {
+  table = two.table ∙ one.table;
+  in_order = subst (λ (ts : List Ticket). IsSubsequence (ds ++ es) ts) (sym (map-append (λ (run : Run). run.ticket) xs ys))
+      (subsequence-append ds es (tickets_of xs) (tickets_of ys) one.in_order two.in_order);
+  minted = λ slot. (
+      let first = one.minted slot in
+      let second = two.minted slot in
+      let both = at_slot-append slot ds es in
+      omega arith);
+  exchanges = (
+      let first = one.exchanges in
+      let second = two.exchanges in
+      let same : exchanges_of b.table.words ys ≡ exchanges_of a.table.words ys = ap (λ (t : TableId). exchanges_of t.words ys) one.table in
+      let both : exchanges_of a.table.words (xs ++ ys) ≡ exchanges_of a.table.words xs + exchanges_of a.table.words ys = sum_by-append (λ (run : Run). if nat_lt run.ticket.slot a.table.words then exchanges run.answer else 0) xs ys in
+      omega arith);
+}
+
+-- at the slot of a turn's ticket, and at the others
+minted_one : (t : Ticket) (due : List Ticket) (old new : SeatState) → OnlyAt t.slot old new → ((slot : ℕ) → slot ≢ t.slot → at_slot slot due ≡ 0)
+    → (account_at new t.slot).minted ≡ (account_at old t.slot).minted + at_slot t.slot due
+    → (slot : ℕ) → (account_at new slot).minted ≡ (account_at old slot).minted + at_slot slot due
+minted_one t due old new only elsewhere here slot = dite (ℕ_discrete slot t.slot)
+    (λ same. subst (λ (s : ℕ). (account_at new s).minted ≡ (account_at old s).minted + at_slot s due) (sym same) here)
     (λ other. (
-    let out = out_elsewhere t a b slot other kept in
-    let minted : (account_at b.seat slot).minted ≡ (account_at a.seat slot).minted = ap (λ (x : Account). x.minted) (only.others slot other) in
+    let none = elsewhere slot other in
+    let minted : (account_at new slot).minted ≡ (account_at old slot).minted = ap (λ (x : Account). x.minted) (only.others slot other) in
     omega arith))
 
--- a round
-pub round_balances : {p q : PollerState} {a b : Own} → RoundDone p q a b → Balanced a b
-round_balances {p} {q} {a} {b} done slot =
-    let out : at_slot slot (tickets_out b) ≡ at_slot slot (tickets_out a ++ (done.woke ++ (done.roused ++ done.opened))) = ap (λ (ts : List Ticket). at_slot slot ts) done.tickets in
-    let whole = at_slot-append slot (tickets_out a) (done.woke ++ (done.roused ++ done.opened)) in
-    let rest = at_slot-append slot done.woke (done.roused ++ done.opened) in
-    let last = at_slot-append slot done.roused done.opened in
-    let minted = (done.accounts slot).minted in
+exchanges_if : (t : Ticket) (answer : Result Worked ServerFault) (old new : SeatState)
+    → (t.slot < old.table.words → new.steps ≡ old.steps + exchanges answer) → (old.table.words ≤ t.slot → new ≡ old)
+    → (within : Bool) → nat_lt t.slot old.table.words ≡ within → new.steps ≡ old.steps + (if within then exchanges answer else 0)
+exchanges_if t answer old new inside outside true is = inside (ltb-true t.slot old.table.words is)
+exchanges_if t answer old new inside outside false is =
+    let same : new.steps ≡ old.steps = ap (λ (s : SeatState). s.steps) (outside (ltb-false t.slot old.table.words is)) in
     omega arith
+
+exchanges_one : (t : Ticket) (answer : Result Worked ServerFault) (old new : SeatState)
+    → (t.slot < old.table.words → new.steps ≡ old.steps + exchanges answer) → (old.table.words ≤ t.slot → new ≡ old)
+    → new.steps ≡ old.steps + exchanges_of old.table.words (record { ticket = t; answer = answer } ∷ [])
+exchanges_one t answer old new inside outside =
+    let one : exchanges_of old.table.words (record { ticket = t; answer = answer } ∷ []) ≡ (if nat_lt t.slot old.table.words then exchanges answer else 0) + 0 =
+    sum_by-cons (λ (run : Run). if nat_lt run.ticket.slot old.table.words then exchanges run.answer else 0) (record { ticket = t; answer = answer }) [] in
+    let made = exchanges_if t answer old new inside outside (nat_lt t.slot old.table.words) refl in
+    omega arith
+
+pub one_ran : (words : ℕ) (t : Ticket) (answer : Result Worked ServerFault) (old new : Own) → old.seat.table.words ≡ words → OnlyAt t.slot old.seat new.seat → TicketsKept t old new
+    → (t.slot < words → new.seat.steps ≡ old.seat.steps + exchanges answer) → (words ≤ t.slot → new.seat ≡ old.seat)
+    → OneRan t answer old new
+one_ran words t answer old new same only (inl none) inside outside = record {
+  due = [];
+  turns = record {
+    table = only.table;
+    in_order = inl refl;
+    minted = minted_one t [] old.seat new.seat only (λ slot other. refl) (let still = none.minted in omega arith);
+    exchanges = exchanges_one t answer old.seat new.seat (λ within. inside (omega arith)) (λ past. outside (omega arith));
+  };
+  tickets = λ u. (let out : times_of u (tickets_out new) ≡ times_of u (tickets_out old) = ap (λ (ts : List Ticket). times_of u ts) none.tickets in omega arith);
+}
+one_ran words t answer old new same only (inr one) inside outside = record {
+  due = t ∷ [];
+  turns = record {
+    table = only.table;
+    in_order = inr ([], refl, refl);
+    minted = minted_one t (t ∷ []) old.seat new.seat only (λ slot other. none_at t slot other) (let more = one.minted in let here = one_at t in omega arith);
+    exchanges = exchanges_one t answer old.seat new.seat (λ within. inside (omega arith)) (λ past. outside (omega arith));
+  };
+  tickets = λ u. (let more = times_inserted u t (tickets_out old) (tickets_out new) one.tickets in omega arith);
+}
+
+-- between two states whose seats are these, and where the same was to be put
+pub one_between : (t : Ticket) (answer : Result Worked ServerFault) (a b c d : Own) → b.seat ≡ a.seat → tickets_out b ≡ tickets_out a → OneRan t answer b c
+    → d.seat ≡ c.seat → tickets_out d ≡ tickets_out c → OneRan t answer a d
+one_between t answer a b c d seat out ran seat_then out_then = record {
+  due = ran.due;
+  turns = subst (λ (s : SeatState). TurnsMade (record { ticket = t; answer = answer } ∷ []) ran.due s d.seat) seat
+      (subst (λ (s : SeatState). TurnsMade (record { ticket = t; answer = answer } ∷ []) ran.due b.seat s) (sym seat_then) ran.turns);
+  tickets = λ u. (
+      let turn = ran.tickets u in
+      let before : times_of u (tickets_out b) ≡ times_of u (tickets_out a) = ap (λ (ts : List Ticket). times_of u ts) out in
+      let after : times_of u (tickets_out d) ≡ times_of u (tickets_out c) = ap (λ (ts : List Ticket). times_of u ts) out_then in
+      omega arith);
+}
+
+-- what was to be put, where the queue's end and the hand are the same
+pub out_same : (a b : Own) → b.ready ≡ a.ready → b.hand.tickets ≡ a.hand.tickets → tickets_out b ≡ tickets_out a
+out_same a b ready hand = ap (λ (q : EndState Ticket). outgoing q.history b.hand.tickets) ready ∙ ap (λ (ts : List Ticket). outgoing a.ready.history ts) hand
+
+-- A worker
+
+-- nothing was taken and nothing was run, and what was to be put is put or in hand
+pub worker_none : (a b : Own) → b.seat ≡ a.seat → tickets_out b ≡ tickets_out a → b.ready.history.taken ≡ a.ready.history.taken → WorkerRan a b
+worker_none a b seat out taken = record {
+  ran = [];
+  due = [];
+  turns = subst (λ (s : SeatState). TurnsMade [] [] a.seat s) (sym seat) (turns_none a.seat);
+  taken = ap (λ (takes : List (ℕ × Ticket)). map (λ (take : ℕ × Ticket). take.1) takes) taken ∙ sym (append-nil (tickets_in a));
+  tickets = λ u. (let same : times_of u (tickets_out b) ≡ times_of u (tickets_out a) = ap (λ (ts : List Ticket). times_of u ts) out in omega arith);
+}
+
+pub worker_both : (a b c : Own) → WorkerRan a b → WorkerRan b c → WorkerRan a c
+worker_both a b c one two = record {
+  ran = one.ran ++ two.ran;
+  due = one.due ++ two.due;
+  turns = turns_both one.ran two.ran one.due two.due a.seat b.seat c.seat one.turns two.turns;
+  taken = two.taken ∙ ap (λ (ts : List Ticket). ts ++ tickets_of two.ran) one.taken ∙ append_assoc (tickets_in a) (tickets_of one.ran) (tickets_of two.ran)
+      ∙ ap (λ (ts : List Ticket). tickets_in a ++ ts) (sym (map-append (λ (run : Run). run.ticket) one.ran two.ran));
+  tickets = λ u. (let first = one.tickets u in let second = two.tickets u in let both = times-append u one.due two.due in omega arith);
+}
+
+-- a ticket was taken, and its turn was run
+pub worker_one : (t : Ticket) (answer : Result Worked ServerFault) (a b c : Own) → TookOne a.ready.history t b.ready.history → b.seat ≡ a.seat → b.hand ≡ a.hand
+    → OneRan t answer b c → c.ready.history.taken ≡ b.ready.history.taken → WorkerRan a c
+worker_one t answer a b c took seat hand ran taken = record {
+  ran = record { ticket = t; answer = answer } ∷ [];
+  due = ran.due;
+  turns = subst (λ (s : SeatState). TurnsMade (record { ticket = t; answer = answer } ∷ []) ran.due s c.seat) seat ran.turns;
+  taken = ap (λ (takes : List (ℕ × Ticket)). map (λ (take : ℕ × Ticket). take.1) takes) (taken ∙ ap (λ (h : History Ticket). h.taken) took.taken)
+      ∙ map-append (λ (take : ℕ × Ticket). take.1) a.ready.history.taken ((length took.before.gone, t) ∷ []);
+  tickets = λ u. (
+      let after = ran.tickets u in
+      let out : tickets_out b ≡ tickets_out a = ap (λ (h : History Ticket). outgoing h b.hand.tickets) took.taken ∙ ap (λ h. outgoing a.ready.history h) (ap (λ h. h.tickets) hand) in
+      let same : times_of u (tickets_out b) ≡ times_of u (tickets_out a) = ap (λ (ts : List Ticket). times_of u ts) out in
+      omega arith);
+}
+
+-- A poller
+
+-- sharing the tickets in hand loses none
+abbrev puts : EndState Ticket → List Ticket
+puts end = map (λ (put : ℕ × Ticket). put.1) end.history.put
+
+one_shared : (u : Ticket) (stayed : ℕ) (heavy : List ℕ) (t : Ticket) (queue : EndState Ticket) (after : ℕ) (behind : List Ticket) (next : EndState Ticket) → OneShared stayed heavy t queue after behind next
+    → times_of u (puts next) + times_of u behind ≡ times_of u (puts queue) + times_of u (t ∷ [])
+one_shared u stayed heavy t queue after behind next (inl stays) =
+    let same : times_of u behind ≡ times_of u (t ∷ []) = ap (λ (ts : List Ticket). times_of u ts) stays.2 in
+    let queued : times_of u (puts next) ≡ times_of u (puts queue) = ap (λ (q : EndState Ticket). times_of u (puts q)) stays.3 in
+    omega arith
+one_shared u stayed heavy t queue after behind next (inr (goes, still, inl put)) =
+    let none : times_of u behind ≡ times_of u [] = ap (λ (ts : List Ticket). times_of u ts) put.1 in
+    let queued : times_of u (puts next) ≡ times_of u (puts queue ++ t ∷ []) =
+    ap (λ (h : History Ticket). times_of u (map (λ (put : ℕ × Ticket). put.1) h.put)) put.0.put.put
+    ∙ ap (λ (ts : List Ticket). times_of u ts) (map-append (λ (put : ℕ × Ticket). put.1) queue.history.put ((_, t) ∷ [])) in
+    let both = times-append u (puts queue) (t ∷ []) in
+    omega arith
+one_shared u stayed heavy t queue after behind next (inr (goes, still, inr refused)) =
+    let same : times_of u behind ≡ times_of u (t ∷ []) = ap (λ (ts : List Ticket). times_of u ts) refused.1 in
+    let queued : times_of u (puts next) ≡ times_of u (puts queue) = ap (λ (q : EndState Ticket). times_of u (puts q)) refused.0.same in
+    omega arith
+
+all_shared : (u : Ticket) (stayed : ℕ) (heavy : List ℕ) (ts : List Ticket) (queue : EndState Ticket) (kept : List Ticket) (left : List ℕ) (end : EndState Ticket) → AreShared stayed heavy ts queue kept left end
+    → times_of u (puts end) + times_of u kept ≡ times_of u (puts queue) + times_of u ts
+all_shared u stayed heavy [] queue kept left end none =
+    let hand : times_of u kept ≡ times_of u [] = ap (λ (ts : List Ticket). times_of u ts) none.0 in
+    let queued : times_of u (puts end) ≡ times_of u (puts queue) = ap (λ (q : EndState Ticket). times_of u (puts q)) none.2 in
+    omega arith
+all_shared u stayed heavy (t ∷ ts) queue kept left end (after, behind, next, rest, one, is, more) =
+    let first = one_shared u stayed heavy t queue after behind next one in
+    let others = all_shared u after (looked_at t.slot heavy) ts next rest left end more in
+    let hand : times_of u kept ≡ times_of u (behind ++ rest) = ap (λ (us : List Ticket). times_of u us) is in
+    let both = times-append u behind rest in
+    let whole = times-append u (t ∷ []) ts in
+    omega arith
+
+shared_same : (u : Ticket) (heavy left : List ℕ) (a b : Own) → TicketsShared heavy left a b → times_of u (tickets_out b) ≡ times_of u (tickets_out a)
+shared_same u heavy left a b shared =
+    let all = all_shared u 0 heavy a.hand.tickets a.ready b.hand.tickets left b.ready shared.tickets in
+    let before = times-append u (puts a.ready) a.hand.tickets in
+    let after = times-append u (puts b.ready) b.hand.tickets in
+    omega arith
+
+-- no turn was run
+pub own_none : (a : Own) → OwnTurnsRan 0 a a
+own_none a = record { ran = []; due = []; each = refl; turns = turns_none a.seat; tickets = λ u. omega arith }
+
+pub own_both : (n m : ℕ) (a b c : Own) → OwnTurnsRan n a b → OwnTurnsRan m b c → OwnTurnsRan (n + m) a c
+own_both n m a b c one two = record {
+  ran = one.ran ++ two.ran;
+  due = one.due ++ two.due;
+  each = (let long = length-append one.ran two.ran in let first = one.each in let second = two.each in omega arith);
+  turns = turns_both one.ran two.ran one.due two.due a.seat b.seat c.seat one.turns two.turns;
+  tickets = λ u. (
+      let first = one.tickets u in
+      let second = two.tickets u in
+      let dues = times-append u one.due two.due in
+      let mapped : times_of u (tickets_of (one.ran ++ two.ran)) ≡ times_of u (tickets_of one.ran ++ tickets_of two.ran) = ap (λ (ts : List Ticket). times_of u ts) (map-append (λ (run : Run). run.ticket) one.ran two.ran) in
+      let runs = times-append u (tickets_of one.ran) (tickets_of two.ran) in
+      omega arith);
+}
+
+-- the oldest ticket in hand was run
+own_one : (t : Ticket) (ts : List Ticket) (answer : Result Worked ServerFault) (a b : Own) → a.hand.tickets ≡ t ∷ ts → OneRan t answer (without_first a) b → OwnTurnsRan 1 a b
+own_one t ts answer a b is ran = record {
+  ran = record { ticket = t; answer = answer } ∷ [];
+  due = ran.due;
+  each = refl;
+  turns = ran.turns;
+  tickets = λ u. (
+      let turn = ran.tickets u in
+      let had : times_of u (tickets_out a) ≡ times_of u (outgoing a.ready.history (t ∷ ts)) = ap (λ (us : List Ticket). times_of u (outgoing a.ready.history us)) is in
+      let left : times_of u (tickets_out (without_first a)) ≡ times_of u (outgoing a.ready.history ts) = ap (λ (us : List Ticket). times_of u (outgoing a.ready.history (drop 1 us))) is in
+      let first = times-append u (puts a.ready) (t ∷ ts) in
+      let second = times-append u (puts a.ready) ts in
+      let whole = times-append u (t ∷ []) ts in
+      omega arith);
+}
+
+turn_ran : (words : ℕ) (t : Ticket) (ts : List Ticket) (answer : Result Worked ServerFault) (a b : Own) → a.seat.table.words ≡ words → a.hand.tickets ≡ t ∷ ts → OnlyAt t.slot a.seat b.seat → TurnMade words t answer (without_first a) b → OwnTurnsRan 1 a b
+turn_ran words t ts answer a b same is only turn =
+    own_one t ts answer a b is (one_ran words t answer (without_first a) b same only turn.tickets turn.exchanges (λ outside. (turn.outside outside).1))
+
+own_turn_of : (words : ℕ) (t : Ticket) (ts : List Ticket) (result : Result (Option Worked) ServerFault) (a b : Own) → a.seat.table.words ≡ words → a.hand.tickets ≡ t ∷ ts → OnlyAt t.slot a.seat b.seat
+    → OwnTurn words t result a b → result ≢ Ok None → OwnTurnsRan 1 a b
+own_turn_of words t ts (Ok None) a b same is only turn some = absurd (some refl)
+own_turn_of words t ts (Ok (Some worked)) a b same is only turn some = turn_ran words t ts (Ok worked) a b same is only turn
+own_turn_of words t ts (Err fault) a b same is only turn some = turn_ran words t ts (Err fault) a b same is only turn
+
+own_turn_by : (words : ℕ) (us : List Ticket) (result : Result (Option Worked) ServerFault) (a b : Own) → a.seat.table.words ≡ words → a.hand.tickets ≡ us
+    → IfSome (slice_get us 0) (λ t. OnlyAt t.slot a.seat b.seat)
+    → IfSome (slice_get us 0) (λ t. OwnTurn words t result a b)
+    → (a.hand.tickets ≡ [] → result ≡ Ok None) → result ≢ Ok None → OwnTurnsRan 1 a b
+own_turn_by words [] result a b same is only turn none some = absurd (some (none is))
+own_turn_by words (t ∷ ts) result a b same is only turn none some = own_turn_of words t ts result a b same is only turn some
+
+pub own_turn_ran : (words : ℕ) (result : Result (Option Worked) ServerFault) (a b : Own) → a.seat.table.words ≡ words
+    → IfSome (slice_get a.hand.tickets 0) (λ t. OnlyAt t.slot a.seat b.seat)
+    → IfSome (slice_get a.hand.tickets 0) (λ t. OwnTurn words t result a b)
+    → (a.hand.tickets ≡ [] → result ≡ Ok None) → result ≢ Ok None → OwnTurnsRan 1 a b
+own_turn_ran words result a b same only turn none some = own_turn_by words a.hand.tickets result a b same (λ i. a.hand.tickets) only turn none some
+
+-- Rounds and steps, by ticket
+
+ran_none : (a : Own) → PollerRan a a
+ran_none a = record { ran = []; came_up = []; tickets = λ u. omega arith; minted = λ slot. omega arith }
+
+ran_both : (a b c : Own) → PollerRan a b → PollerRan b c → PollerRan a c
+ran_both a b c one two = record {
+  ran = one.ran ++ two.ran;
+  came_up = one.came_up ++ two.came_up;
+  tickets = λ u. (
+      let first = one.tickets u in
+      let second = two.tickets u in
+      let runs = times-append u one.ran two.ran in
+      let ups = times-append u one.came_up two.came_up in
+      omega arith);
+  minted = λ slot. (let first = one.minted slot in let second = two.minted slot in let both = at_slot-append slot one.came_up two.came_up in omega arith);
+}
+
+round_ran : (p q : PollerState) (a b : Own) → RoundDone p q a b → PollerRan a b
+round_ran p q a b done = record {
+  ran = [];
+  came_up = done.woke ++ (done.roused ++ done.opened);
+  tickets = λ u. (
+      let out : times_of u (tickets_out b) ≡ times_of u (tickets_out a ++ (done.woke ++ (done.roused ++ done.opened))) = ap (λ (ts : List Ticket). times_of u ts) done.tickets in
+      let both = times-append u (tickets_out a) (done.woke ++ (done.roused ++ done.opened)) in
+      omega arith);
+  minted = λ slot. (
+      let rose = (done.accounts slot).minted in
+      let rest = at_slot-append slot done.woke (done.roused ++ done.opened) in
+      let last = at_slot-append slot done.roused done.opened in
+      omega arith);
+}
+
+turns_ran : (count : ℕ) (heavy left : List ℕ) (a b c : Own) → TicketsShared heavy left a b → OwnTurnsRan count b c → PollerRan a c
+turns_ran count heavy left a b c shared turns = record {
+  ran = tickets_of turns.ran;
+  came_up = turns.due;
+  tickets = λ u. (let law = turns.tickets u in let same = shared_same u heavy left a b shared in omega arith);
+  minted = λ slot. (
+      let law = turns.turns.minted slot in
+      let same : (account_at b.seat slot).minted ≡ (account_at a.seat slot).minted = ap (λ (s : SeatState). (account_at s slot).minted) shared.seat in
+      omega arith);
+}
+
+pub step_ran : (p q : PollerState) (a b : Own) → StepMade p q a b → PollerRan a b
+step_ran p q a b step =
+    ran_both a step.between b (round_ran p step.polled a step.between step.round) (turns_ran step.turns.count step.polled.heavy step.turns.heavy step.between step.turns.shared b step.turns.sharing step.turns.turns)
+
+pub cut_ran : (p q : PollerState) (a b : Own) → StepCut p q a b → PollerRan a b
+cut_ran p q a b (inl same) = subst (λ (o : Own). PollerRan a o) (sym same.1) (ran_none a)
+cut_ran p q a b (inr done) = round_ran p q a b done
+
+pub steps_ran : (steps : ℕ) (p q : PollerState) (a b : Own) → StepsMade steps p q a b → PollerRan a b
+steps_ran zero p q a b same = subst (λ (o : Own). PollerRan a o) (sym same.1) (ran_none a)
+steps_ran (suc steps) p q a b (r, c, before, last) = ran_both a c b (steps_ran steps p r a c before) (step_ran r q c b last)
+
+pub loop_ran : (steps : ℕ) (p r q : PollerState) (a c b : Own) → StepsMade steps p r a c → StepCut r q c b → PollerRan a b
+loop_ran steps p r q a c b before last = ran_both a c b (steps_ran steps p r a c before) (cut_ran r q c b last)
+
+pub step_told : (told : Result (Unit {0}) Ended) (p q : PollerState) (a b : Own) → OnOk told (StepMade p q a b) → OnErr told (told ≢ Err (record { fault = Some Worn }) → StepCut p q a b)
+    → told ≢ Err (record { fault = Some Worn }) → PollerRan a b
+step_told (Ok done) p q a b made cut well = step_ran p q a b made
+step_told (Err ended) p q a b made cut well = cut_ran p q a b (cut well)
 
 -- The loop is not told that the seat was worn: then the answer did not say so
 pub not_worn : {T : Type 0} (answer : Result T ServerFault) (told : Result T Ended)
     → IfErr answer (λ fault. told ≡ Err (record { fault = Some fault })) → told ≢ Err (record { fault = Some Worn }) → answer ≢ Err Worn
 not_worn {T} answer told by well worn = well (subst (λ (r : Result T ServerFault). IfErr r (λ fault. told ≡ Err (record { fault = Some fault }))) worn by)
 
--- no turn was run, and nothing changed but the queue that a ticket is in
-pub ran_none : (n : ℕ) (a b : Own) → Balanced a b → RanAtMost n a b
-ran_none n a b same = ([], omega arith, λ slot. (let at = same slot in omega arith))
+-- which turn was run, if one was
+abbrev ran_of : Result (Option Worked) Ended → Option Worked
+ran_of (Ok o) = o
+ran_of (Err ended) = None
 
-pub moved_balances : (a b : Own) → KeepsOut a b → Balanced a b
-moved_balances a b kept slot =
-    let out = kept.tickets slot in
-    let minted : (account_at b.seat slot).minted ≡ (account_at a.seat slot).minted = ap (λ (s : SeatState). (account_at s slot).minted) kept.seat in
-    omega arith
+pub some_is : (o : Option Worked) (answer : Result (Option Worked) Ended) → answer ≡ Ok o → is_some o ≡ true → answer ≢ Ok None
+some_is None answer is some none = false≢true some
+some_is (Some worked) answer is some none = absurd (none-some worked (ap (λ (r : Result (Option Worked) Ended). ran_of r) (sym none ∙ is)))
 
--- one after the other
-pub ran_both : (xs ys : List Ticket) (a b c : Own) → BalancedBut xs a b → BalancedBut ys b c → BalancedBut (xs ++ ys) a c
-ran_both xs ys a b c first second slot =
-    let one = first slot in
-    let two = second slot in
-    let both = at_slot-append slot xs ys in
-    omega arith
+-- that no turn was run is told as it was answered
+pub none_told : (answer : Result (Option Worked) ServerFault) (told : Result (Option Worked) Ended)
+    → IfOk answer (λ value. told ≡ Ok value) → answer ≡ Ok None → told ≡ Ok None
+none_told answer told good none = subst (λ (r : Result (Option Worked) ServerFault). IfOk r (λ value. told ≡ Ok value)) none good
 
-pub ran_on : (n : ℕ) (a b c : Own) → RanSome a b → RanAtMost n b c → RanSome a c
-ran_on n a b c first second = (first.0 ++ second.0, ran_both first.0 second.0 a b c first.1 second.2)
-
-pub ran_more : (n m k : ℕ) (a b c : Own) → n + m ≤ k → RanAtMost n a b → RanAtMost m b c → RanAtMost k a c
-ran_more n m k a b c within first second = (
-  first.0 ++ second.0,
-  (let long = length-append first.0 second.0 in let one = first.1 in let two = second.1 in omega arith),
-  ran_both first.0 second.0 a b c first.2 second.2,
-)
-
--- a turn of the poller's own
-ran_one : (t : Ticket) (ts : List Ticket) (a b : Own) → a.hand.tickets ≡ t ∷ ts → OnlyAt t.slot a.seat b.seat → TicketsKept t (without_first a) b → RanAtMost 1 a b
-ran_one t ts a b is only kept = (
-  t ∷ [],
-  omega arith,
-  λ slot. (
-      let turn = turn_balances t (without_first a) b only kept slot in
-      let taken = count_taken slot a.ready.history a.hand.tickets t (ap (λ (us : List Ticket). slice_get us 0) is) in
-      omega arith),
-)
-
-own_turn_of : (words : ℕ) (t : Ticket) (ts : List Ticket) (result : Result (Option Worked) ServerFault) (a b : Own) → a.hand.tickets ≡ t ∷ ts → OnlyAt t.slot a.seat b.seat → OwnTurn words t result a b → RanAtMost 1 a b
-own_turn_of words t ts (Ok None) a b is only turn = subst (λ (o : Own). RanAtMost 1 a o) (sym turn) (ran_none 1 a a (λ slot. omega arith))
-own_turn_of words t ts (Ok (Some worked)) a b is only turn = ran_one t ts a b is only turn.tickets
-own_turn_of words t ts (Err fault) a b is only turn = ran_one t ts a b is only turn.tickets
-
-own_turn_by : (words : ℕ) (us : List Ticket) (result : Result (Option Worked) ServerFault) (a b : Own) → a.hand.tickets ≡ us
-    → IfSome (slice_get us 0) (λ t. OnlyAt t.slot a.seat b.seat)
-    → IfSome (slice_get us 0) (λ t. OwnTurn words t result a b)
-    → (a.hand.tickets ≡ [] → b ≡ a) → RanAtMost 1 a b
-own_turn_by words [] result a b is only turn none = subst (λ (o : Own). RanAtMost 1 a o) (sym (none is)) (ran_none 1 a a (λ slot. omega arith))
-own_turn_by words (t ∷ ts) result a b is only turn none = own_turn_of words t ts result a b is only turn
-
-pub own_turn_ran : (words : ℕ) (result : Result (Option Worked) ServerFault) (a b : Own)
-    → IfSome (slice_get a.hand.tickets 0) (λ t. OnlyAt t.slot a.seat b.seat)
-    → IfSome (slice_get a.hand.tickets 0) (λ t. OwnTurn words t result a b)
-    → (a.hand.tickets ≡ [] → b ≡ a) → RanAtMost 1 a b
-own_turn_ran words result a b only turn none = own_turn_by words a.hand.tickets result a b (λ i. a.hand.tickets) only turn none
+pub loop_steps : (steps : ℕ) (p q r : PollerState) (a b c : Own) → StepsMade steps p q a b → StepMade q r b c → (more : ℕ) × StepsMade more p r a c
+loop_steps steps p q r a b c before last = (suc steps, (q, b, before, last))
 
 -- the fault with which a loop was told to end
 abbrev told : {T : Type 0} → Result T Ended → Option ServerFault

@@ -1,31 +1,112 @@
--- What a thread's loop does with the tickets that it is obliged to put, and with free slots. Part of the promises.
-use Rattle.std.specs.Prelude.{◌≡◌, ◌≢◌, ℕ, ◌+◌, ◌<◌, ◌≤◌, List, length, slice_get}
-use Rattle.claims.specs.Seats.{account_at}
+-- What a thread's loop does with tickets, and with free slots. Part of the promises.
+use Rattle.std.specs.Prelude.{◌≡◌, ◌≢◌, ◌⊎◌, ℕ, zero, suc, ◌+◌, ◌<◌, ◌≤◌, ◌==◌, ◌&&◌, nat_lt, if◌then◌else◌, List, [], ◌∷◌, ◌++◌, length, map, sum_by, Result, slice_get}
+use Rattle.std.specs.List.{count_by}
+use Rattle.claims.specs.Seats.{SeatState, account_at}
 use Rattle.ready.specs.declared.ticket.Ticket.{Ticket}
 use Rattle.ready.specs.Steps.{EndState}
+use Rattle.relay_log.specs.declared.faults.ServerFault.{ServerFault}
 use Rattle.dispatch.specs.declared.shared.Own.{Own}
-use Rattle.dispatch.specs.Deliveries.{at_slot}
+use Rattle.dispatch.specs.declared.worker.Worked.{Worked}
+use Rattle.dispatch.specs.Deliveries.{at_slot, IsSubsequence}
 use Rattle.dispatch.specs.Outgoing.{tickets_out}
-use Rattle.dispatch.specs.Polls.{IsIn}
+use Rattle.dispatch.specs.Polls.{PollerState, IsIn}
+use Rattle.dispatch.specs.Rounds.{RoundDone}
+use Rattle.dispatch.specs.Shares.{TicketsShared}
+use Rattle.dispatch.specs.Turns.{exchanges, NoOwnTurn}
 use Rattle.dispatch.specs.declared.split.Split.{Split}
 use Rattle.dispatch.specs.Splits.{part_of}
 
--- at each slot as many tickets more were put or are in hand as exchanges obliged the thread to put one: none is lost, and none is put
--- twice
-abbrev pub Balanced : Own → Own → Type 0
-Balanced old new = (slot : ℕ) → at_slot slot (tickets_out new) + (account_at old.seat slot).minted ≡ at_slot slot (tickets_out old) + (account_at new.seat slot).minted
+-- how often this very ticket, of its slot and its generation, stands in a list
+abbrev pub times_of : Ticket → List Ticket → ℕ
+times_of ticket tickets = count_by (λ t. (t.slot == ticket.slot) && (t.generation == ticket.generation)) tickets
 
--- the same, but that these tickets are neither put nor in hand any more: the thread ran their turns itself
-abbrev pub BalancedBut : List Ticket → Own → Own → Type 0
-BalancedBut ran old new = (slot : ℕ) → at_slot slot (tickets_out new) + at_slot slot ran + (account_at old.seat slot).minted ≡ at_slot slot (tickets_out old) + (account_at new.seat slot).minted
+-- a turn that a thread ran: with this ticket, and with this answer
+pub record Run : Type 0 where
+  pub ticket : Ticket
+  pub answer : Result Worked ServerFault
 
--- the thread ran some turns itself, and no more than this
-abbrev pub RanAtMost : ℕ → Own → Own → Type 0
-RanAtMost turns old new = (ran : List Ticket) × (length ran ≤ turns) × BalancedBut ran old new
+abbrev pub tickets_of : List Run → List Ticket
+tickets_of ran = map (λ (run : Run). run.ticket) ran
 
--- the thread ran some turns itself
-abbrev pub RanSome : Own → Own → Type 0
-RanSome old new = (ran : List Ticket) × BalancedBut ran old new
+-- the exchanges of these turns; one with a ticket whose slot the claim words lack makes none
+abbrev pub exchanges_of : ℕ → List Run → ℕ
+exchanges_of words ran = sum_by (λ (run : Run). if nat_lt run.ticket.slot words then exchanges run.answer else 0) ran
+
+-- These turns were made by this seat, and nothing else was: their exchanges are all that it made, and some of their tickets are due
+-- again, one for each mint
+pub record TurnsMade (ran : List Run) (due : List Ticket) (old new : SeatState) : Type 0 where
+  pub table : new.table ≡ old.table
+  pub in_order : IsSubsequence due (tickets_of ran)
+  pub minted : (slot : ℕ) → (account_at new slot).minted ≡ (account_at old slot).minted + at_slot slot due
+  pub exchanges : new.steps ≡ old.steps + exchanges_of old.table.words ran
+
+-- One turn with this ticket, by its answer. What was to be put before, and the ticket if it is due again, are put or in hand
+pub record OneRan (ticket : Ticket) (answer : Result Worked ServerFault) (old new : Own) : Type 0 where
+  pub due : List Ticket
+  pub turns : TurnsMade (record { ticket = ticket; answer = answer } ∷ []) due old.seat new.seat
+  pub tickets : (t : Ticket) → times_of t (tickets_out new) ≡ times_of t (tickets_out old) + times_of t due
+
+-- the tickets that a thread has taken out of their queue so far
+abbrev pub tickets_in : Own → List Ticket
+tickets_in own = map (λ (take : ℕ × Ticket). take.1) own.ready.history.taken
+
+-- A worker's thread ran each ticket that it took, in order. What it was to put before, and the tickets that are due again, are put or
+-- in hand
+pub record WorkerRan (old new : Own) : Type 0 where
+  pub ran : List Run
+  pub due : List Ticket
+  pub turns : TurnsMade ran due old.seat new.seat
+  pub taken : tickets_in new ≡ tickets_in old ++ tickets_of ran
+  pub tickets : (t : Ticket) → times_of t (tickets_out new) ≡ times_of t (tickets_out old) + times_of t due
+
+-- A poller's thread ran so many tickets in its hand. What it was to put before, and the tickets that are due again, were run or are put or in
+-- hand, each once
+pub record OwnTurnsRan (count : ℕ) (old new : Own) : Type 0 where
+  pub ran : List Run
+  pub due : List Ticket
+  pub each : length ran ≡ count
+  pub turns : TurnsMade ran due old.seat new.seat
+  pub tickets : (t : Ticket) → times_of t (tickets_out new) + times_of t (tickets_of ran) ≡ times_of t (tickets_out old) + times_of t due
+
+-- Behind a round the tickets in hand were shared, and the poller's thread ran 16 of those that stayed, or fewer: then none is left, or no
+-- slot more fits in hand
+pub record TurnsBehind (p q : PollerState) (a b : Own) : Type 0 where
+  pub heavy : List ℕ
+  pub shared : Own
+  pub count : ℕ
+  pub sharing : TicketsShared p.heavy heavy a shared
+  pub turns : OwnTurnsRan count shared b
+  pub most : count ≤ 16
+  pub ended : (count ≡ 16) ⊎ NoOwnTurn b
+  pub poller : q ≡ record p { heavy = q.heavy }
+
+-- a step of a poller's thread: a round, and the turns behind it
+pub record StepMade (p q : PollerState) (a b : Own) : Type 0 where
+  pub polled : PollerState
+  pub between : Own
+  pub round : RoundDone p polled a between
+  pub turns : TurnsBehind polled q between b
+
+-- the last step: nothing happened, or a round alone
+abbrev pub StepCut : PollerState → PollerState → Own → Own → Type 0
+StepCut p q a b = ((q ≡ p) × (b ≡ a)) ⊎ RoundDone p q a b
+
+-- so many steps, one after the other
+abbrev pub StepsMade : ℕ → PollerState → PollerState → Own → Own → Type 0
+StepsMade zero p q a b = (q ≡ p) × (b ≡ a)
+StepsMade (suc steps) p q a b = (r : PollerState) × (c : Own) × StepsMade steps p r a c × StepMade r q c b
+
+-- steps, and the last one
+abbrev pub LoopMade : PollerState → PollerState → Own → Own → Type 0
+LoopMade p q a b = (steps : ℕ) × (r : PollerState) × (c : Own) × StepsMade steps p r a c × StepCut r q c b
+
+-- By ticket: what a poller's thread was to put before, and the tickets that came up meanwhile, one for each mint, were run by the
+-- thread itself or are put or in hand, each once
+pub record PollerRan (old new : Own) : Type 0 where
+  pub ran : List Ticket
+  pub came_up : List Ticket
+  pub tickets : (t : Ticket) → times_of t (tickets_out new) + times_of t ran ≡ times_of t (tickets_out old) + times_of t came_up
+  pub minted : (slot : ℕ) → (account_at new.seat slot).minted ≡ (account_at old.seat slot).minted + at_slot slot came_up
 
 -- Of a worker's ends of the pollers' queues of free slots, in the pollers' order, none changed but the one of the poller with this number
 abbrev pub OthersKept : ℕ → List (EndState ℕ) → List (EndState ℕ) → Type 0

@@ -1,9 +1,11 @@
 //! The steps of a poller's thread.
-ghost use Rattle.std.specs.Prelude.{◌≡◌, ◌≢◌, length, Some};
+ghost use Rattle.std.specs.Prelude.{◌≡◌, ◌≢◌, length, Some, None, Ok, Err, OnOk, OnErr, IfErr};
 ghost use Rattle.std.specs.Arc.{arc_value};
 ghost use Rattle.claims.specs.Seats.{HoldsNothing};
 ghost use Rattle.relay_log.specs.declared.faults.ServerFault.TheVariants.{Worn};
-ghost use Rattle.threads.specs.Loops.{Balanced, RanAtMost, RanSome};
+ghost use Rattle.dispatch.specs.Rounds.{RoundDone};
+ghost use Rattle.dispatch.specs.Turns.{NoOwnTurn};
+ghost use Rattle.threads.specs.Loops.{LoopMade, OwnTurnsRan, PollerRan, StepCut, StepMade, TurnsBehind};
 
 use crate::crew::Crew;
 use crate::ended::Ended;
@@ -63,7 +65,8 @@ where
         &mut self,
         crew: &Crew<'_, G, C, R>,
     ) -> Ended
-        ensures balance { result.fault ≢ Some Worn → RanSome self.old.own self.new.own }
+        ensures made { result.fault ≢ Some Worn → LoopMade self.old.poller self.new.poller self.old.own self.new.own }
+        ensures tickets { result.fault ≢ Some Worn → PollerRan self.old.own self.new.own }
     {
         for _round in crew.rt.forever() {
             if let Err(ended) = self.step(crew) {
@@ -79,7 +82,9 @@ where
         &mut self,
         crew: &Crew<'_, G, C, R>,
     ) -> Result<(), Ended>
-        ensures balance { result ≢ Err (record { fault = Some Worn }) → RanAtMost 16 self.old.own self.new.own }
+        ensures made { OnOk result (StepMade self.old.poller self.new.poller self.old.own self.new.own) }
+        ensures cut { OnErr result (result ≢ Err (record { fault = Some Worn }) → StepCut self.old.poller self.new.poller self.old.own self.new.own) }
+        ensures tickets { result ≢ Err (record { fault = Some Worn }) → PollerRan self.old.own self.new.own }
     {
         if crew.ending.is_recorded() || self.poller.is_over() {
             return Err(Ended::well());
@@ -92,7 +97,8 @@ where
         &mut self,
         crew: &Crew<'_, G, C, R>,
     ) -> Result<(), Ended>
-        ensures balance { result ≢ Err (record { fault = Some Worn }) → RanAtMost 16 self.old.own self.new.own }
+        ensures made { OnOk result (StepMade self.old.poller self.new.poller self.old.own self.new.own) }
+        ensures cut { OnErr result (result ≢ Err (record { fault = Some Worn }) → StepCut self.old.poller self.new.poller self.old.own self.new.own) }
     {
         match self.poll(crew) {
             Ok(()) => self.run_turns(crew),
@@ -105,7 +111,7 @@ where
         &mut self,
         crew: &Crew<'_, G, C, R>,
     ) -> Result<(), Ended>
-        ensures balance { result ≢ Err (record { fault = Some Worn }) → Balanced self.old.own self.new.own }
+        ensures round { result ≢ Err (record { fault = Some Worn }) → RoundDone self.old.poller self.new.poller self.old.own self.new.own }
     {
         Ended::on_fault(poller_round(
             crew.rt,
@@ -122,7 +128,8 @@ where
         &mut self,
         crew: &Crew<'_, G, C, R>,
     ) -> Result<(), Ended>
-        ensures balance { RanAtMost 16 self.old.own self.new.own }
+        ensures turns { OnOk result (TurnsBehind self.old.poller self.new.poller self.old.own self.new.own) }
+        ensures worn { IfErr result (λ ended. ended ≡ record { fault = Some Worn }) }
     {
         share_tickets(crew.rt, &mut self.own, &mut self.poller);
         for _turn in 0..MAX_OWN_TURNS {
@@ -138,7 +145,10 @@ where
         &mut self,
         crew: &Crew<'_, G, C, R>,
     ) -> Result<Option<Worked>, Ended>
-        ensures balance { RanAtMost 1 self.old.own self.new.own }
+        ensures ran { result ≢ Ok None → OwnTurnsRan 1 self.old.own self.new.own }
+        ensures none { result ≡ Ok None → NoOwnTurn self.old.own × (self.new.own ≡ self.old.own) }
+        ensures poller { self.new.poller ≡ record self.old.poller { heavy = self.new.poller.heavy } }
+        ensures worn { IfErr result (λ ended. ended ≡ record { fault = Some Worn }) }
     {
         Ended::on_fault(own_turn(
             crew.rt,

@@ -1,9 +1,10 @@
 //! The steps of a worker's thread.
-ghost use Rattle.std.specs.Prelude.{◌≡◌, ◌≢◌, ◌<◌, ◌-◌, [], ◌∷◌, length, slice_get, slice_set, IfSome};
+ghost use Rattle.std.specs.Prelude.{◌≡◌, ◌≢◌, ◌<◌, ◌-◌, [], ◌∷◌, Result, length, slice_get, slice_set, IfSome};
 ghost use Rattle.std.specs.Arc.{arc_value};
 ghost use Rattle.claims.specs.Seats.{HoldsNothing};
 ghost use Rattle.dispatch.specs.Hands.{HasRoom};
-ghost use Rattle.threads.specs.Loops.{Balanced, GivesToOwner};
+ghost use Rattle.relay_log.specs.declared.faults.ServerFault.{ServerFault};
+ghost use Rattle.threads.specs.Loops.{GivesToOwner, OneRan, WorkerRan};
 
 use crate::crew::Crew;
 use crate::ended::Ended;
@@ -33,7 +34,7 @@ where
 {
     /// Makes its steps until one ends the thread.
     pub fn run<G: Gate, C: Clock, R: Wait + Log>(&mut self, crew: &Crew<'_, G, C, R>)
-        ensures balance { Balanced self.old.own self.new.own }
+        ensures ran { WorkerRan self.old.own self.new.own }
     {
         let ended = self.run_turns(crew);
         self.finish(crew, ended);
@@ -52,7 +53,7 @@ where
 
     /// Makes steps until the queue of tickets is closed and empty, or a fault is recorded or met.
     fn run_turns<G: Gate, C: Clock, R: Wait + Log>(&mut self, crew: &Crew<'_, G, C, R>) -> Ended
-        ensures balance { Balanced self.old.own self.new.own }
+        ensures ran { WorkerRan self.old.own self.new.own }
     {
         for _turn in crew.rt.forever() {
             if let Err(ended) = self.step(crew) {
@@ -68,7 +69,7 @@ where
         &mut self,
         crew: &Crew<'_, G, C, R>,
     ) -> Result<(), Ended>
-        ensures balance { Balanced self.old.own self.new.own }
+        ensures ran { WorkerRan self.old.own self.new.own }
     {
         if crew.ending.is_recorded() {
             return Err(Ended::well());
@@ -86,7 +87,7 @@ where
 
     /// Puts and gives all in hand, as far as the queues have room, and lets other threads go on.
     fn empty_hand(&mut self, rt: &impl Wait)
-        ensures balance { Balanced self.old.own self.new.own }
+        ensures ran { WorkerRan self.old.own self.new.own }
     {
         put_tickets(rt, &mut self.own.ready, &mut self.own.hand);
         self.give_all(rt);
@@ -100,7 +101,8 @@ where
         ticket: Ticket,
     ) -> Result<Worked, Ended>
         requires { HasRoom self.old.own.hand }
-        ensures balance { Balanced self.old.own self.new.own }
+        ensures ran { (answer : Result Worked ServerFault) × OneRan ticket answer self.old.own self.new.own }
+        ensures took { self.new.own.ready.history.taken ≡ self.old.own.ready.history.taken }
         ensures gives { ticket.slot < crew.now.split.slots → GivesToOwner crew.now.split ticket.slot (self.old.own.free ∷ self.old.others.items) (self.new.own.free ∷ self.new.others.items) }
     {
         let poller = crew.split.poller_of(ticket.slot);

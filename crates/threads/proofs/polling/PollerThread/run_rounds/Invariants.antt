@@ -1,5 +1,6 @@
-use Rattle.threads.specs.Loops.{RanSome}
+use Rattle.std.specs.Prelude.{ℕ}
+use Rattle.threads.specs.Loops.{StepsMade}
 use Rattle.threads.proofs.polling.PollerThread.run_rounds.Given as goal
 
 abbrev pub invariant-loop-round : goal.invariant-loop-round
-invariant-loop-round g l = RanSome l.fn.self.own l.self.own
+invariant-loop-round g l = (steps : ℕ) × StepsMade steps l.fn.self.poller l.self.poller l.fn.self.own l.self.own

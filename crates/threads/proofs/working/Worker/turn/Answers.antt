@@ -1,15 +1,24 @@
-use Rattle.std.proofs.Common.{arith}
+use Rattle.std.proofs.Common.{ap, rules, ◌∙◌}
 use mathlib.Core.Logic.{dite}
 use native.Mathlib.Decide.{ℕ_discrete}
-use Rattle.threads.proofs.Loops.{turn_balances}
+use Rattle.dispatch.specs.Hands.{HandState}
 use Rattle.threads.proofs.Ends.{first_used, other_used}
+use Rattle.threads.proofs.Loops.{one_between, one_ran, out_same}
 use Rattle.threads.proofs.working.Worker.turn.Goals as goal
 
 pub returns : goal.returns
 returns g c = record {
-  balance = λ slot. (
-      let turn = turn_balances c.args.ticket c.change_queue.new.self.own c.worker_turn.new.own c.worker_turn.ensures.only c.worker_turn.ensures.tickets slot in
-      grind arith);
+  ran = (
+    c.worker_turn.result,
+    one_between c.args.ticket c.worker_turn.result c.args.self.now.own c.change_queue.new.self.own c.worker_turn.new.own c.change_queue-2.new.self.own
+        c.change_queue.ensures.seat (out_same c.args.self.now.own c.change_queue.new.self.own c.change_queue.ensures.ready (ap (λ (h : HandState). h.tickets) c.change_queue.ensures.hand))
+        (one_ran _ c.args.ticket c.worker_turn.result c.change_queue.new.self.own c.worker_turn.new.own (search rules) c.worker_turn.ensures.only c.worker_turn.ensures.tickets c.worker_turn.ensures.exchanges
+        (λ outside. (c.worker_turn.ensures.outside outside).1))
+        (c.change_queue-2.ensures.seat ∙ c.give_all.ensures.seat)
+        (out_same c.worker_turn.new.own c.change_queue-2.new.self.own (c.change_queue-2.ensures.ready ∙ c.give_all.ensures.ready)
+        (ap (λ (h : HandState). h.tickets) c.change_queue-2.ensures.hand ∙ c.give_all.ensures.tickets)),
+  );
+  took = search rules;
   gives = λ inside. (
     c.poller_of-poller.result,
     c.poller_of-poller.ensures inside,
