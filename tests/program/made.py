@@ -3,7 +3,7 @@
 import random
 import re
 
-from tables import Row, report_of
+from tables import Row, printed, report_of
 
 WHOLE = b"flow ring=4\narrive 616263\nroom\nread 3\nfin\nwrote 3\nend\nshut\n"
 OPENING = ["connect", "accept ok", "open"]
@@ -125,15 +125,51 @@ def fullest_world():
     return script, report
 
 
+def every_length(lengths):
+    """A flow through which come pieces of these lengths, each read and written at once, and its report."""
+    pieces = [bytes(number % 251 for number in range(length)).hex() for length in lengths]
+    steps = [step for text in pieces for step in (f"arrive {text}", f"read {len(text) // 2}", f"wrote {len(text) // 2}")]
+    return ["flow ring=1024", "room", *steps], [f"up sent={''.join(pieces)} ring=- unread=- end=no shut=no"]
+
+
+def arrivals_both_ways():
+    """A world in which pieces of every length to 700 bytes come to both ends of a connection, and what the report tells."""
+    pieces = [bytes(number % 251 for number in range(length)).hex() for length in range(1, 701)]
+    script = ["world slots=1 workers=1 ring=1 budget=1", *OPENING]
+    script += [f"arrive 0 {side} {text}" for text in pieces for side in ("client", "target")]
+    ways = [f"0 {way} sent=- ring=- unread={''.join(pieces)} end=no shut=no" for way in ("up", "down")]
+    return script, ["poller 0.1", "slot 0 live gen=1 fds=0,1 notes=1 holder=none due=yes movable=yes", *ways]
+
+
+def many_names():
+    """A world with eighteen names in its queue, of which fourteen are then polled, and what the report tells."""
+    ends = [(slot, side) for slot in range(8) for side in ("client", "target")]
+    names = ["listener", "waker", *(f"{slot}.1.{side}" for slot, side in ends)]
+    script = ["world slots=8 workers=1 ring=1 budget=1", *OPENING * 8, "spurious waker", "spurious listener"]
+    script += [f"spurious {slot} {side}" for slot, side in reversed(ends)] + [" ".join(["poll", *names[:1:-1][:14]])]
+    report = [f"queue {' '.join(names[:4])}", f"batch {' '.join(names[:1:-1][:14])}"]
+    report += [f"poller {' '.join(f'{slot}.1' for slot in range(8))}"]
+    live = "notes=1 holder=none due=yes movable=no"
+    return script, report + [f"slot {slot} live gen=1 fds={2 * slot},{2 * slot + 1} {live}" for slot in range(8)]
+
+
+def settings_of_lengths():
+    """Settings files of every length round the sizes of a read, each of whose last bytes says something."""
+    begin, end = b'listen = "127.0.0.1:7000"\ntarget = "127.0.0.1:7001"\n#', b"\nring = 7"
+    for length in [*range(4090, 4104), *range(8188, 8197), 65535, 65536]:
+        text = begin + b"x" * (length - len(begin) - len(end)) + end
+        yield Row(f"settings of {length} bytes", [b"check", b"--config", b"t.toml"], files={"t.toml": text}, output=printed("ring=7"))
+
+
 def reuses():
-    """A slot that is used a hundred times, each time with a late report of its last use, and what the report tells."""
+    """A slot that is used four hundred times, each time with a late report of its last use, and what the report tells."""
     claiming = ["put poller", "pop 0", "claim 0", "take 0"]
     script = ["world slots=1 workers=1 ring=4 budget=64", *OPENING, *claiming]
-    for generation in range(1, 101):
+    for generation in range(1, 401):
         script += ["call 0 failed reset", "spurious 0 target", f"poll 0.{generation}.target"]
         script += ["close 0", "retire 0", "free 0", *OPENING, "deliver", *claiming]
-    past = [f"past 0.{number} failed side=client call=read kind=reset up=- down=-" for number in range(1, 101)]
-    slot = "slot 0 live gen=101 fds=0,1 notes=0 holder=w0 due=yes movable=no"
+    past = [f"past 0.{number} failed side=client call=read kind=reset up=- down=-" for number in range(1, 401)]
+    slot = "slot 0 live gen=401 fds=0,1 notes=0 holder=w0 due=yes movable=no"
     return script, ["worker 0 holds 0 left=64", slot, *past]
 
 
@@ -163,7 +199,11 @@ def largest():
         "10,000 events": ([world, *["spurious waker", "vanish waker"] * 5000], ["free 0", *nothing]),
         "the most steps": ([flow, "room", *byte * 41942], [f"up sent={'61' * 41942} ring=- unread=- end=no shut=no"]),
         "the most events": ([world, *["poll"] * 209707], ["free 0", *nothing]),
-        "a hundred uses of a slot": reuses(),
+        "four hundred uses of a slot": reuses(),
+        "pieces of every odd length": every_length(range(1, 1025, 2)),
+        "pieces of every even length": every_length(range(2, 1025, 2)),
+        "pieces of every length both ways": arrivals_both_ways(),
+        "over nine names": many_names(),
         "the last pair of the largest world": last_pair(),
         "the fullest world": fullest_world(),
     }
@@ -192,4 +232,4 @@ def largest():
 
 
 def rows():
-    return [*cut(), *worlds(), *largest()]
+    return [*cut(), *worlds(), *largest(), *settings_of_lengths()]

@@ -24,7 +24,7 @@ causes/TOPIC has scripts with a fault in their last line, `STEPS => WHY: CAUSE` 
 `no world` or `script too long`, and CAUSE is what the log tells, without the number of the line. `begins: STEPS` is as above.
 
 settings/TOPIC has settings texts, `TEXT => WANTED` for each, on which `relayd check` is run. WANTED is the fault that is
-told, or the settings that differ from their defaults, as `ring=1 log=off`. In the table `addresses` TEXT is the value of
+told, and behind ` | ` the cause that the log tells, or the settings that differ from their defaults, as `ring=1 log=off`. In the table `addresses` TEXT is the value of
 `target`, and in `more` it follows the two addresses.
 
 In all of them `\xHH` is a byte, and `\xHH*N` that byte N times. Lines that begin with `#` are comments.
@@ -183,15 +183,16 @@ def causes(lines):
 
 
 def settings(lines, around):
-    """The rows of a table of settings texts. Before a fault stands a line with its cause, and nothing else."""
+    """The rows of a table of settings texts."""
     for name, text, wanted in sides(lines):
         text = around % (text if around == AROUND["addresses"] else text.rstrip(" ")).replace(" | ", "\n")
         row = Row(name, [b"check", b"--config", b"t.toml"], files={"t.toml": bytes_of(text)})
         if re.match("[a-z_]+=", wanted):
             row.output = printed(wanted)
         else:
-            fault = re.compile(rb"\[ERROR relayd\] settings: .*\n" + re.escape(f"relayd: {wanted}\n".encode()))
-            row.will_do = lambda *had, fault=fault: had[:2] == (1, b"") and fault.fullmatch(had[2])
+            told, _, cause = wanted.partition(" | ")
+            row.status = 1
+            row.errors = bytes_of(f"[ERROR relayd] settings: {cause}\n") + f"relayd: {told}\n".encode()
         yield row
 
 

@@ -1,7 +1,7 @@
 ghost use Rattle.std.specs.Prelude.{◌≡◌, ◌≤◌, IfOk, IfErr, IfSome, take, vec_len};
 ghost use Rattle.input.specs.Reads.{TakesAtMost, TakesSome, ReadsOn, Stops};
 
-use std::alloc::Global;
+use std::alloc::{AllocError, Global};
 use std::io::Read;
 use thiserror::Error;
 
@@ -14,6 +14,16 @@ pub enum InputFault {
     /// Memory ran out.
     #[error("out of memory")]
     NoMemory,
+}
+
+impl From<AllocError> for InputFault {
+    ghost use Rattle.input.specs.declared.reading.InputFault.TheVariants.{NoMemory};
+
+    ghost from_gives = { λ _ fault. fault ≡ NoMemory };
+
+    fn from(_error: AllocError) -> InputFault {
+        InputFault::NoMemory
+    }
 }
 
 /// Reads the start of an input: at most `most` bytes, and all of it if it has no more. A caller that allows n bytes
@@ -63,7 +73,7 @@ fn read_on<R: Read>(reader: &mut R, text: &mut Vec<u8>, most: usize) -> Result<u
         Ok(0) => Ok(0),
         Ok(count) => match text.extend_from_slice(&buffer[..count]) {
             Ok(()) => Ok(count),
-            Err(_) => Err(InputFault::NoMemory),
+            Err(error) => Err(InputFault::from(error)),
         },
         Err(_) => Err(InputFault::Unreadable),
     }

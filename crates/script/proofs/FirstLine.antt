@@ -1,5 +1,6 @@
 -- What a text is by its first line, and the lines behind it one by one.
-use Rattle.std.proofs.Common.{◌≡◌, ℕ, ◌≤◌, List, [], ◌∷◌, ◌++◌, length, Some, None, Result, Ok, Err, refl, sym, ap, ◌∙◌, subst}
+use Rattle.std.proofs.Common.{◌≡◌, ℕ, ◌≤◌, true, List, [], ◌∷◌, ◌++◌, length, Some, None, Result, Ok, Err, refl, sym, ap, ◌∙◌, subst}
+use Rattle.std.specs.Prelude.{IsErrOf}
 use Rattle.std.specs.Result.{IsErrAnd}
 use Rattle.std.proofs.lemmas.Bool.{le-ltb}
 use Rattle.world.specs.declared.limits.Limits.{Limits}
@@ -18,7 +19,7 @@ use Rattle.script_text.specs.Headers.{header_of}
 use Rattle.script_text.specs.Steps.{step_of}
 use Rattle.script_text.specs.Events.{said_of, event_of}
 use Rattle.script.specs.Faults.{GivesBy, and_then}
-use Rattle.script.specs.Scripts.{Plan, FlowOf, WorldOf, SaidLine, MayBeScript, most_bytes, or_malformed, headed, parsed, plan_of, said_by, said_line, said_lines, steps_of, events_of}
+use Rattle.script.specs.Scripts.{Plan, FlowOf, WorldOf, SaidLine, BeginsWell, starts_with_event, starts_with_step, most_bytes, or_malformed, headed, parsed, plan_of, said_by, said_line, said_lines, steps_of, events_of}
 
 -- a text that is not too long is what its first line says
 pub headed_is : (text : List ℕ) (ls : List NumberedLine) (first : NumberedLine) (rest : List NumberedLine)
@@ -90,11 +91,30 @@ world_fails text ls first rest limits view fault r short lines is world fails er
     (subst (λ (p : Result Plan Fault). GivesBy said_by p (Err fault)) (sym (world_first text ls first rest limits short lines is world))
     (passes_on view (λ (events : List SaidLine). WorldOf limits events) (events_of rest) fault fails))
 
--- a text whose header is good may be a script
-pub good_first : (text : List ℕ) (ls : List NumberedLine) (first : NumberedLine) (rest : List NumberedLine) (h : Header)
-    → length text ≤ most_bytes → ls ≡ telling_lines 1 (lines_of text) → ls ≡ first ∷ rest → header_of first.text ≡ Some h
-    → MayBeScript text
-good_first text ls first rest h short lines is good = (short, rw (sym lines ∙ is, good) refl)
+-- a fault that is handed on is the same
+pub same_fault : {X : Type 0} (r : Result X Fault) (fault other : Fault) → IsErrAnd r (λ f. f ≡ fault) → IsErrOf r other → fault ≡ other
+same_fault (Ok x) fault other is that = absurd is
+same_fault (Err f) fault other is that = cc
+
+-- a text whose header is good, and the line behind it
+pub flow_begins : (text : List ℕ) (ls : List NumberedLine) (first : NumberedLine) (rest : List NumberedLine) (ring : ℕ)
+    → length text ≤ most_bytes → ls ≡ telling_lines 1 (lines_of text) → ls ≡ first ∷ rest → header_of first.text ≡ Some (header.Flow ring)
+    → starts_with_step rest ≡ true → BeginsWell text
+flow_begins text ls first rest ring short lines is flow good = (short, rw (sym lines ∙ is, flow) good)
+
+pub world_begins : (text : List ℕ) (ls : List NumberedLine) (first : NumberedLine) (rest : List NumberedLine) (limits : Limits)
+    → length text ≤ most_bytes → ls ≡ telling_lines 1 (lines_of text) → ls ≡ first ∷ rest → header_of first.text ≡ Some (header.World limits)
+    → starts_with_event rest ≡ true → BeginsWell text
+world_begins text ls first rest limits short lines is world good = (short, rw (sym lines ∙ is, world) good)
+
+-- the first line that is left was read
+pub first_step : (ls : List NumberedLine) (l : NumberedLine) (rest : List NumberedLine) (step : Step) → ls ≡ l ∷ rest → step_of l.text ≡ Some step
+    → starts_with_step ls ≡ true
+first_step ls l rest step is read = rw (is, read) refl
+
+pub first_event : (ls : List NumberedLine) (l : NumberedLine) (rest : List NumberedLine) (e : Event) → ls ≡ l ∷ rest → event_of l.text ≡ Some (said_of e)
+    → starts_with_event ls ≡ true
+first_event ls l rest e is read = rw (is, read) refl
 
 -- one more event was read
 one_event : (items : List NumberedEvent) (x : NumberedEvent) (rest : List SaidLine) → said_lines items ++ (said_line x ∷ rest) ≡ said_lines (items ++ (x ∷ [])) ++ rest

@@ -1,5 +1,5 @@
 -- Lines that are played one after the other.
-use Rattle.std.proofs.Common.{◌≡◌, ℕ, zero, suc, ◌+◌, List, [], ◌∷◌, take, Some, Result, Ok, Err, refl, sym, subst, add-one}
+use Rattle.std.proofs.Common.{◌≡◌, ℕ, Bool, zero, suc, ◌+◌, List, [], ◌∷◌, take, Some, Result, Ok, Err, refl, sym, subst, add-one}
 use Rattle.std.specs.Prelude.{slice_get}
 use Rattle.script.specs.declared.fault.Fault.{Fault}
 use Rattle.script.specs.declared.fault.Fault.TheVariants.{TooLong, NoWorld, Malformed, NotAllowed, NoMemory}
@@ -32,14 +32,14 @@ pub played_more : {X L : Type 0} (stepped : X → L → Result X Fault) (x y : X
 played_more stepped x y ls i l came here = rw add-one (one_more stepped x y ls i l came here)
 
 -- a line that is refused is where all lines end
-refused_ends : {X L : Type 0} (stepped : X → L → Result X Fault) (fault : Fault) (ls : List L) (r : Result X Fault)
-    → Refused r fault → Gives (and_then (λ (x : X). played stepped x ls) r) (Err fault)
-refused_ends stepped fault ls (Ok x) is = rw is tt
-refused_ends stepped fault ls (Err TooLong) is = rw is refl
-refused_ends stepped fault ls (Err NoWorld) is = rw is refl
-refused_ends stepped fault ls (Err (Malformed line)) is = rw is refl
-refused_ends stepped fault ls (Err (NotAllowed line word)) is = rw is refl
-refused_ends stepped fault ls (Err NoMemory) is = rw is tt
+refused_ends : {X L : Type 0} (stepped : X → L → Result X Fault) (t : Bool) (fault : Fault) (ls : List L) (r : Result X Fault)
+    → Refused t r fault → Gives (and_then (λ (x : X). played stepped x ls) r) (Err fault)
+refused_ends stepped t fault ls (Ok x) is = rw is.0 tt
+refused_ends stepped t fault ls (Err TooLong) is = rw is refl
+refused_ends stepped t fault ls (Err NoWorld) is = rw is refl
+refused_ends stepped t fault ls (Err (Malformed line)) is = rw is refl
+refused_ends stepped t fault ls (Err (NotAllowed line word)) is = rw is refl
+refused_ends stepped t fault ls (Err NoMemory) is = rw is tt
 
 goes_on : {X L : Type 0} (stepped : X → L → Result X Fault) (fault : Fault) (y : X) (ls : List L) (i : ℕ)
     → ((x : X) → played stepped x (take i ls) ≡ Ok y → Gives (played stepped x ls) (Err fault))
@@ -51,20 +51,20 @@ goes_on stepped fault y ls i rest (Err e) came = absurd (cc)
 stepped_same : {X L : Type 0} (stepped : X → L → Result X Fault) (x y : X) (k l : L) → x ≡ y → k ≡ l → stepped x k ≡ stepped y l
 stepped_same stepped x y k l same this = rw (same, this) refl
 
-stops_give : {X L : Type 0} (stepped : X → L → Result X Fault) (x y : X) (ls : List L) (i : ℕ) (l : L) (fault : Fault)
-    → played stepped x (take i ls) ≡ Ok y → slice_get ls i ≡ Some l → Refused (stepped y l) fault
+stops_give : {X L : Type 0} (stepped : X → L → Result X Fault) (t : Bool) (x y : X) (ls : List L) (i : ℕ) (l : L) (fault : Fault)
+    → played stepped x (take i ls) ≡ Ok y → slice_get ls i ≡ Some l → Refused t (stepped y l) fault
     → Gives (played stepped x ls) (Err fault)
-stops_give stepped x y [] i l fault came here is = absurd (cc)
-stops_give {X} stepped x y (k ∷ ls) zero l fault came here is =
+stops_give stepped t x y [] i l fault came here is = absurd (cc)
+stops_give {X} stepped t x y (k ∷ ls) zero l fault came here is =
     let starts : x ≡ y = cc in
     let this : k ≡ l = cc in
     let same : stepped x k ≡ stepped y l = stepped_same stepped x y k l starts this in
-    refused_ends stepped fault ls (stepped x k) (subst (λ (r : Result X Fault). Refused r fault) (sym same) is)
-stops_give stepped x y (k ∷ ls) (suc i) l fault came here is =
-    goes_on stepped fault y ls i (λ z came'. stops_give stepped z y ls i l fault came' here is) (stepped x k) came
+    refused_ends stepped t fault ls (stepped x k) (subst (λ (r : Result X Fault). Refused t r fault) (sym same) is)
+stops_give stepped t x y (k ∷ ls) (suc i) l fault came here is =
+    goes_on stepped fault y ls i (λ z came'. stops_give stepped t z y ls i l fault came' here is) (stepped x k) came
 
 -- where lines stop is the fault of all of them
-pub plays_give : {X L : Type 0} (stepped : X → L → Result X Fault) (x start y : X) (ls : List L) (fault : Fault)
-    → x ≡ start → StopsAt stepped x ls fault y → Gives (played stepped start ls) (Err fault)
-plays_give stepped x start y ls fault same stop =
-    subst (λ z. Gives (played stepped z ls) (Err fault)) same (stops_give stepped x y ls stop.index stop.line fault stop.before stop.there stop.refused)
+pub plays_give : {X L : Type 0} (stepped : X → L → Result X Fault) (takes : X → L → Bool) (x start y : X) (ls : List L) (fault : Fault)
+    → x ≡ start → StopsAt stepped takes x ls fault y → Gives (played stepped start ls) (Err fault)
+plays_give stepped takes x start y ls fault same stop =
+    subst (λ z. Gives (played stepped z ls) (Err fault)) same (stops_give stepped (takes y stop.line) x y ls stop.index stop.line fault stop.before stop.there stop.refused)

@@ -1,10 +1,11 @@
 -- From what was shown of steps to what was written of the text, and from the text that was read to the whole input.
-use Rattle.std.proofs.Common.{◌≡◌, ◌⊎◌, ℕ, ◌+◌, ◌<◌, ◌≤◌, suc, List, [], ◌++◌, length, take, drop, Option, Some, None, Result, Ok, Err, inl, inr, refl, sym, ap, ◌∙◌, subst, add-one, arith}
+use Rattle.std.proofs.Common.{◌≡◌, ◌⊎◌, ℕ, true, ◌+◌, ◌<◌, ◌≤◌, suc, List, [], ◌++◌, length, take, drop, Option, Some, None, Result, Ok, Err, inl, inr, refl, sym, ap, ◌∙◌, subst, add-one, arith}
 use Rattle.std.specs.Prelude.{IfSome, IsErrAnd, slice_get}
 use Rattle.std.proofs.lemmas.List.{take_all}
 use Rattle.std.proofs.lemmas.Bool.{cases_lt}
 use Rattle.std.proofs.KnownBytes.{Appends-nil, Appends-trans}
 use Rattle.std.specs.Io.KnownBytes.{Appends}
+use Rattle.input.specs.Reads.{TakesSome}
 use Rattle.script.specs.declared.fault.Fault.{Fault}
 use Rattle.script.specs.declared.fault.Fault.TheVariants.{TooLong, NoWorld, Malformed, NotAllowed, NoMemory}
 use Rattle.script.specs.declared.running.Outcome.{Outcome}
@@ -22,18 +23,18 @@ use Rattle.script_text.specs.declared.event.NumberedEvent.{NumberedEvent}
 use Rattle.script.specs.declared.transfer.Transfer.{Transfer}
 use Rattle.script.specs.Plans.{FlowPlan, WorldPlan}
 use Rattle.script_text.specs.Texts.{NumberedLine, lines_of, telling_lines}
-use Rattle.script.specs.Faults.{Gives, GivesBy, StopsAt, and_then, played}
+use Rattle.script.specs.Faults.{Gives, GivesBy, StopsAt, always, and_then, played}
 use Rattle.script.specs.Faults as faults
 use Rattle.script.specs.Transfers.{line_stepped}
 use Rattle.script.specs.Transfers as flow
-use Rattle.script.specs.Scripts.{MayBeScript, most_bytes, parsed, said_by}
+use Rattle.script.specs.Scripts.{BeginsWell, most_bytes, parsed, said_by}
 use Rattle.script.specs.Plays.{line_happened, reached_by}
 use Rattle.script.specs.Reports.{report, fault_line}
 use Rattle.script_text.specs.WorldReports.{world_report}
 use Rattle.script.specs.Runs.{LeadsTo}
 use Rattle.script.specs.Each.{AnswersEach, Shows, ShowsEach, ShowsFront, ShowsScript, ShowsSteps, WritesEach, WritesEachFault, first_line, shown, shown_to, told_after}
 use Rattle.script.proofs.Playing.{plays_give, played_more}
-use Rattle.script.proofs.Telling.{by_script, long_is_none, long_parsed, no_script, of_front, script_may}
+use Rattle.script.proofs.Telling.{by_script, long_is_none, long_parsed, no_script, of_front, some_taken}
 
 -- a fault of a text that is no script, before anything is shown
 no_script_is : (text : List ℕ) (fault : Fault) → GivesBy said_by (parsed text) (Err fault) → (parsed text ≡ Err fault) ⊎ (fault ≡ NoMemory)
@@ -44,19 +45,19 @@ no_script_is text (NotAllowed line word) is = inl is
 no_script_is text NoMemory is = inr refl
 
 pub no_script_shown : (text : List ℕ) (fault : Fault) (old : Option (List ℕ)) → GivesBy said_by (parsed text) (Err fault)
-    → (fault ≡ NoMemory → MayBeScript text) → ShowsEach text (Err (Refused fault)) old old
+    → (fault ≡ NoMemory → BeginsWell text) → ShowsEach text (Err (Refused fault)) old old
 no_script_shown text fault old is may = (no_script text fault is may, ([], (inl (refl, no_script_is text fault is), Appends-nil old)))
 
 -- memory ran out for a script before anything is shown
 pub none_shown : (text : List ℕ) (script : Script) (old : Option (List ℕ)) → parsed text ≡ Ok (said_by script) → ShowsEach text (Err (Refused NoMemory)) old old
-none_shown text script old is = (script_may text (said_by script) is, ([], (inl (refl, inr refl), Appends-nil old)))
+none_shown text script old is = (inl (script, is), ([], (inl (refl, inr refl), Appends-nil old)))
 
 halted : (r : Result (Unit {0}) Halt) (fault : Fault) → IsErrAnd r (λ halt. halt ≡ Refused fault) → r ≡ Err (Refused fault)
 halted (Ok all) fault is = absurd is
 halted (Err halt) fault is = ap (λ (h : Halt). Err h) is
 
 pub no_script_halts : (text : List ℕ) (fault : Fault) (r : Result (Unit {0}) Halt) (old : Option (List ℕ)) → IsErrAnd r (λ halt. halt ≡ Refused fault)
-    → GivesBy said_by (parsed text) (Err fault) → (fault ≡ NoMemory → MayBeScript text) → ShowsEach text r old old
+    → GivesBy said_by (parsed text) (Err fault) → (fault ≡ NoMemory → BeginsWell text) → ShowsEach text r old old
 no_script_halts text fault r old is gives may =
     subst (λ (q : Result (Unit {0}) Halt). ShowsEach text q old old) (sym (halted r fault is)) (no_script_shown text fault old gives may)
 
@@ -85,11 +86,11 @@ of_script {X} stepped told wrap text script start steps (Ok all) old new is reac
     let to : reached_by script ≡ Ok (wrap y) = reach ∙ ap (and_then (λ (x : X). Ok (wrap x))) ran in
     (wrap y, (by_script text script (Ok (wrap y)) is to, (shown, ((script, (is, shows None shown ((y, ran), whole))), wrote))))
 of_script stepped told wrap text script start steps (Err (Refused fault)) old new is reach shows (shown, (inl (none, memory), wrote)) =
-    (subst (λ (f : Fault). LeadsTo text (Err f)) (sym memory) (script_may text (said_by script) is), (shown, (inl (none, inr memory), wrote)))
+    (subst (λ (f : Fault). LeadsTo text (Err f)) (sym memory) (inl (script, is)), (shown, (inl (none, inr memory), wrote)))
 of_script stepped told wrap text script start steps (Err (Refused fault)) old new is reach shows (shown, (inr (y, (stop, front)), wrote)) =
     let gives : Gives (reached_by script) (Err fault) =
     subst (λ (q : Result Reached Fault). Gives q (Err fault)) (sym reach)
-    (wrapped wrap fault (played stepped start steps) (plays_give stepped start start y steps fault refl stop)) in
+    (wrapped wrap fault (played stepped start steps) (plays_give stepped always start start y steps fault refl stop)) in
     (by_script text script (Err fault) is gives, (shown, (inr (script, (is, shows (Some fault) shown (y, (stop, front)))), wrote)))
 of_script stepped told wrap text script start steps (Err Unwritten) old new is reach shows all = tt
 
@@ -146,7 +147,7 @@ one_more_shown stepped told lines x steps i y z l left before text old mid new c
 -- a step is refused behind those that were shown
 pub stops_shown : {X L : Type 0} (stepped : X → L → Result X Fault) (told : X → List ℕ) (lines : List NumberedLine) (x : X) (steps : List L)
     (i : ℕ) (y : X) (l : L) (fault : Fault) (r : Result (Unit {0}) Halt) (old new : Option (List ℕ))
-    → IsErrAnd r (λ halt. halt ≡ Refused fault) → played stepped x (take i steps) ≡ Ok y → slice_get steps i ≡ Some l → faults.Refused (stepped y l) fault
+    → IsErrAnd r (λ halt. halt ≡ Refused fault) → played stepped x (take i steps) ≡ Ok y → slice_get steps i ≡ Some l → faults.Refused true (stepped y l) fault
     → Appends old new (shown_to stepped told lines x steps i) → Shows stepped told lines x steps r old new
 stops_shown stepped told lines x steps i y l fault r old new is came here refused wrote =
     subst (λ (q : Result (Unit {0}) Halt). Shows stepped told lines x steps q old new) (sym (halted r fault is))
@@ -201,9 +202,9 @@ refuses_each (Some input) text front r old new same cut told is =
     inl (faults_of_front input old new (subst (λ (t : List ℕ). AnswersEach t old new) (same ∙ cut) (told is)))
 
 -- memory ran out before the script was read
-pub ran_out_each : (a : Option (List ℕ)) (old new : Option (List ℕ)) → Appends old new (fault_line NoMemory) → IfSome a (λ input. WritesEachFault input old new)
-ran_out_each None old new wrote = tt
-ran_out_each (Some input) old new wrote = inr wrote
+pub ran_out_each : (a b old new : Option (List ℕ)) → TakesSome a b → Appends old new (fault_line NoMemory) → IfSome a (λ input. WritesEachFault input old new)
+ran_out_each None b old new some wrote = tt
+ran_out_each (Some input) b old new some wrote = inr (some_taken (Some input) b some, wrote)
 
 -- every step was made and shown
 pub all_shown : {X L : Type 0} (stepped : X → L → Result X Fault) (told : X → List ℕ) (lines : List NumberedLine) (x : X) (steps : List L)

@@ -1,10 +1,11 @@
 -- From what was computed of the text that was read, and what was written of it, to the whole input.
-use Rattle.std.proofs.Common.{◌≡◌, ◌⊎◌, ℕ, ◌+◌, ◌<◌, ◌≤◌, List, [], ◌∷◌, length, take, Option, Some, None, Result, Ok, Err, inl, inr, refl, sym, ◌∙◌, subst, arith}
-use Rattle.std.specs.Prelude.{IfSome, IfOk, IsSome}
+use Rattle.std.proofs.Common.{◌≡◌, ◌≢◌, ◌⊎◌, ℕ, ◌+◌, ◌<◌, ◌≤◌, List, [], ◌++◌, ap, length, length-append, take, Option, Some, None, Result, Ok, Err, inl, inr, refl, sym, ◌∙◌, subst, arith}
+use Rattle.std.specs.Prelude.{IfSome, IfOk}
 use Rattle.std.proofs.lemmas.Result.{IfOk-at_ok}
 use Rattle.std.proofs.lemmas.List.{take_all, length-take-le}
 use Rattle.std.proofs.lemmas.Bool.{cases_lt, lt-ltb, le-ltb}
 use Rattle.std.specs.Io.KnownBytes.{Appends}
+use Rattle.input.specs.Reads.{TakesSome}
 use Rattle.script.specs.declared.fault.Fault.{Fault}
 use Rattle.script.specs.declared.fault.Fault.TheVariants.{TooLong, NoWorld, Malformed, NotAllowed, NoMemory}
 use Rattle.script.specs.declared.running.Outcome.{Outcome}
@@ -12,46 +13,26 @@ use Rattle.script.specs.declared.running.Outcome.TheVariants.{Report, Refused}
 use Rattle.script.specs.declared.running.ScriptFault.{ScriptFault}
 use Rattle.script.specs.declared.script.Script.{Script}
 use Rattle.script.specs.declared.script.Reached.{Reached}
-use Rattle.script_text.specs.declared.header.Header.{Header}
-use Rattle.script.specs.Faults.{Gives, GivesBy, and_then}
-use Rattle.script_text.specs.Texts.{NumberedLine, lines_of, telling_lines}
-use Rattle.script_text.specs.Headers.{header_of, first_header}
-use Rattle.script.specs.Scripts.{Plan, MayBeScript, most_bytes, or_malformed, headed, plan_of, parsed, said_by}
+use Rattle.script.specs.Faults.{Gives, GivesBy}
+use Rattle.script.specs.Scripts.{Plan, BeginsWell, TakesMemory, most_bytes, parsed, said_by}
 use Rattle.script.specs.Plays.{reached_by}
 use Rattle.script.specs.Reports.{fault_line}
 use Rattle.script.specs.Runs.{LeadsTo, Tells, WritesReport, AnswersFault, WritesFault, EveryByte, EveryEnd}
 use Rattle.script.proofs.Keeping.{keeps_bytes, keeps_end}
 
--- a text that is a script is as long as one may be, and has a good header
-at_header : (n : ℕ) (ls : List NumberedLine) (p : Plan) (o : Option Header) → and_then (λ h. headed h ls) (or_malformed n o) ≡ Ok p → IsSome o
-at_header n ls p None is = absurd (cc)
-at_header n ls p (Some h) is = refl
-
-has_header : (ls : List NumberedLine) (p : Plan) → plan_of ls ≡ Ok p → IsSome (first_header ls)
-has_header [] p is = absurd (cc)
-has_header (l ∷ ls) p is = at_header l.number ls p (header_of l.text) is
-
+-- a text that is too long is no script
 pub long_is_none : (text : List ℕ) (p : Plan) → most_bytes < length text → parsed text ≡ Ok p → ⊥
 long_is_none text p long is =
     let clash : Err TooLong ≡ Ok p = rw (lt-ltb most_bytes (length text) long) at is in
     absurd (cc)
 
-pub script_may : (text : List ℕ) (p : Plan) → parsed text ≡ Ok p → MayBeScript text
-script_may text p is = by_length (cases_lt most_bytes (length text))
-  where
-    by_length : (most_bytes < length text) ⊎ (length text ≤ most_bytes) → MayBeScript text
-    by_length (inl long) = absurd (long_is_none text p long is)
-    by_length (inr short) =
-        let planned : plan_of (telling_lines 1 (lines_of text)) ≡ Ok p = rw (le-ltb most_bytes (length text) short) at is in
-        (short, has_header (telling_lines 1 (lines_of text)) p planned)
-
 -- a text that is no script
-pub no_script : (text : List ℕ) (fault : Fault) → GivesBy said_by (parsed text) (Err fault) → (fault ≡ NoMemory → MayBeScript text) → LeadsTo text (Err fault)
+pub no_script : (text : List ℕ) (fault : Fault) → GivesBy said_by (parsed text) (Err fault) → (fault ≡ NoMemory → BeginsWell text) → LeadsTo text (Err fault)
 no_script text TooLong is may = inl is
 no_script text NoWorld is may = inl is
 no_script text (Malformed line) is may = inl is
 no_script text (NotAllowed line word) is may = inl is
-no_script text NoMemory is may = may refl
+no_script text NoMemory is may = inr (may refl)
 
 -- a text that is a script, and what that leads to
 pub by_script : (text : List ℕ) (script : Script) (r : Result Reached Fault) → parsed text ≡ Ok (said_by script) → Gives (reached_by script) r → LeadsTo text r
@@ -60,7 +41,7 @@ by_script text script (Err TooLong) is to = inr (script, (is, to))
 by_script text script (Err NoWorld) is to = inr (script, (is, to))
 by_script text script (Err (Malformed line)) is to = inr (script, (is, to))
 by_script text script (Err (NotAllowed line word)) is to = inr (script, (is, to))
-by_script text script (Err NoMemory) is to = script_may text (said_by script) is
+by_script text script (Err NoMemory) is to = inl (script, is)
 
 -- a front that is one byte longer than a script may be is as long as the input, or too long as the input is
 pub long_parsed : (input : List ℕ) → most_bytes < length input → parsed (take (most_bytes + 1) input) ≡ parsed input
@@ -68,11 +49,12 @@ long_parsed input long =
     let longer : most_bytes < length (take (most_bytes + 1) input) = omega (arith, length-take-le (most_bytes + 1) input (omega (arith, long))) in
     rw (lt-ltb most_bytes (length (take (most_bytes + 1) input)) longer, lt-ltb most_bytes (length input) long) refl
 
-long_may : (input : List ℕ) → most_bytes < length input → MayBeScript (take (most_bytes + 1) input) → ⊥
-long_may input long may = omega (arith, may.0, length-take-le (most_bytes + 1) input (omega (arith, long)))
+long_may : (input : List ℕ) → most_bytes < length input → TakesMemory (take (most_bytes + 1) input) → ⊥
+long_may input long (inl (script, is)) = long_is_none input (said_by script) long (sym (long_parsed input long) ∙ is)
+long_may input long (inr (short, well)) = omega (arith, short, length-take-le (most_bytes + 1) input (omega (arith, long)))
 
 -- texts that are one script lead to the same
-leads_too : (text input : List ℕ) (r : Result Reached Fault) → parsed text ≡ parsed input → (MayBeScript text → MayBeScript input) → LeadsTo text r → LeadsTo input r
+leads_too : (text input : List ℕ) (r : Result Reached Fault) → parsed text ≡ parsed input → (TakesMemory text → TakesMemory input) → LeadsTo text r → LeadsTo input r
 leads_too text input (Ok reached) same may (script, (is, to)) = (script, (sym same ∙ is, to))
 leads_too text input (Err NoMemory) same may to = may to
 leads_too text input (Err TooLong) same may (inl is) = inl (sym same ∙ is)
@@ -116,9 +98,15 @@ refuses (Some input) text front r old new same cut told is = whole (told is)
     whole (fault, (to, wrote)) = inl (fault, (of_input text input (Err fault) (same ∙ cut) to, wrote))
 
 -- memory ran out before the script was read
-pub ran_out : (a : Option (List ℕ)) (old new : Option (List ℕ)) → Appends old new (fault_line NoMemory) → IfSome a (λ input. WritesFault input old new)
-ran_out None old new wrote = tt
-ran_out (Some input) old new wrote = inr wrote
+pub some_taken : (a b : Option (List ℕ)) → TakesSome a b → IfSome a (λ input. input ≢ [])
+some_taken None b taken = tt
+some_taken (Some input) None (bytes, (consumed, some)) = absurd consumed
+some_taken (Some input) (Some rest) (bytes, (consumed, some)) =
+    λ none. omega (arith, some, ap (λ (t : List ℕ). length t) (sym none ∙ consumed), length-append bytes rest)
+
+pub ran_out : (a b old new : Option (List ℕ)) → TakesSome a b → Appends old new (fault_line NoMemory) → IfSome a (λ input. WritesFault input old new)
+ran_out None b old new some wrote = tt
+ran_out (Some input) b old new some wrote = inr (some_taken (Some input) b some, wrote)
 
 -- what was told of a text's outcome
 pub tells_report : (text : List ℕ) (o : Result Reached Fault) (r : Result Outcome ScriptFault) (old new : Option (List ℕ))
@@ -127,8 +115,8 @@ tells_report text (Ok reached) r old new to told is = (reached, (to, IfOk-at_ok 
 tells_report text (Err fault) r old new to told is = absurd (IfOk-at_ok (λ (u : Outcome). Tells (Err fault) u old new) is told)
 
 -- there was no memory for the report of a script
-leads_may : (text : List ℕ) (reached : Reached) → LeadsTo text (Ok reached) → MayBeScript text
-leads_may text reached (script, (is, to)) = script_may text (said_by script) is
+leads_may : (text : List ℕ) (reached : Reached) → LeadsTo text (Ok reached) → TakesMemory text
+leads_may text reached (script, (is, to)) = inl (script, is)
 
 pub tells_refused : (text : List ℕ) (o : Result Reached Fault) (r : Result Outcome ScriptFault) (old new : Option (List ℕ))
     → LeadsTo text o → IfOk r (λ told. Tells o told old new) → r ≡ Ok Refused → AnswersFault text old new

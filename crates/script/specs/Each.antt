@@ -1,6 +1,6 @@
 -- What a run writes that shows each step: the lines of the script, each above what is new in the report after it. Part
 -- of the promises.
-use Rattle.std.specs.Prelude.{◌≡◌, ◌⊎◌, ℕ, zero, suc, Bool, if◌then◌else◌, List, [], ◌∷◌, ◌++◌, codes, length, take, drop, flat_map, Option, Some, None, Result, Ok, Err}
+use Rattle.std.specs.Prelude.{◌≡◌, ◌≢◌, ◌⊎◌, ℕ, zero, suc, Bool, if◌then◌else◌, List, [], ◌∷◌, ◌++◌, codes, length, take, drop, flat_map, Option, Some, None, Result, Ok, Err}
 use Rattle.std.specs.List.{list_any}
 use Rattle.std.specs.Str.{bytes_eq}
 use Rattle.std.specs.Io.KnownBytes.{Appends}
@@ -13,7 +13,7 @@ use Rattle.script.specs.declared.script.Script.{Script}
 use Rattle.script.specs.declared.script.Script.TheVariants.{Flow, World}
 use Rattle.script.specs.declared.script.Reached.{Reached}
 use Rattle.script_text.specs.Texts.{NumberedLine, lines_of, telling_lines}
-use Rattle.script.specs.Faults.{StopsAt, played}
+use Rattle.script.specs.Faults.{StopsAt, always, played}
 use Rattle.script.specs.Scripts.{parsed, said_by}
 use Rattle.script.specs.Transfers.{line_stepped}
 use Rattle.script.specs.Transfers as flow
@@ -72,7 +72,7 @@ ShowsAll {X} stepped told lines x steps text =
 -- this is what is shown before the step that is refused
 abbrev pub ShowsBefore : {X L : Type 0} → (X → L → Result X Fault) → (X → List ℕ) → List NumberedLine → X → List L → Fault → List ℕ → Type 0
 ShowsBefore {X} stepped told lines x steps fault text =
-    (y : X) × ((stop : StopsAt stepped x steps fault y) × (text ≡ shown_to stepped told lines x steps stop.index))
+    (y : X) × ((stop : StopsAt stepped always x steps fault y) × (text ≡ shown_to stepped told lines x steps stop.index))
 
 -- this is what is shown of steps that are all allowed, or that stop with this fault
 abbrev pub ShowsSteps : {X L : Type 0} → (X → L → Result X Fault) → (X → List ℕ) → List NumberedLine → X → List L → Option Fault → List ℕ → Type 0
@@ -106,9 +106,9 @@ abbrev pub AnswersEach : List ℕ → Option (List ℕ) → Option (List ℕ) �
 AnswersEach text old new =
     (fault : Fault) × (LeadsTo text (Err fault) × ((shown : List ℕ) × (ShowsFront text fault shown × Appends old new (shown ++ fault_line fault))))
 
--- the same, or that memory ran out before the script was read
+-- the same, or that memory ran out before the script was read, which has a byte at least
 abbrev pub WritesEachFault : List ℕ → Option (List ℕ) → Option (List ℕ) → Type 0
-WritesEachFault text old new = AnswersEach text old new ⊎ Appends old new (fault_line NoMemory)
+WritesEachFault text old new = AnswersEach text old new ⊎ ((text ≢ []) × Appends old new (fault_line NoMemory))
 
 -- what was written of steps, or of a text, up to where it ended, without the fault's line
 abbrev pub Shows : {X L : Type 0} → (X → L → Result X Fault) → (X → List ℕ) → List NumberedLine → X → List L → Result (Unit {0}) Halt → Option (List ℕ) → Option (List ℕ) → Type 0

@@ -1,5 +1,5 @@
 -- The faults of a script, and the one line that tells each. Part of the promises.
-use Rattle.std.specs.Prelude.{◌≡◌, ℕ, List, [], ◌∷◌, ◌++◌, codes, take, slice_get, Option, Some, None, Result, Ok, Err}
+use Rattle.std.specs.Prelude.{◌≡◌, ℕ, Bool, true, IsTrue, List, [], ◌∷◌, ◌++◌, codes, take, slice_get, Option, Some, None, Result, Ok, Err}
 use Rattle.std.specs.Fmt.{decimal}
 use Rattle.script_text.specs.declared.word.Word.{Word}
 use Rattle.script_text.specs.Words.{word_text}
@@ -35,31 +35,36 @@ abbrev pub or_not_allowed : {X : Type 0} → ℕ → Word → Option X → Resul
 or_not_allowed line word (Some x) = Ok x
 or_not_allowed line word None = Err (NotAllowed line word)
 
--- Why a line is refused: the fault that it is defined to have, or that memory ran out for one that has none.
-abbrev pub Refused : {X : Type 0} → Result X Fault → Fault → Type 0
-Refused (Ok x) fault = fault ≡ NoMemory
-Refused (Err defined) fault = fault ≡ defined
+-- Why a line is refused: the fault that it is defined to have, or that memory ran out for one that has none and that may
+-- take memory.
+abbrev pub Refused : {X : Type 0} → Bool → Result X Fault → Fault → Type 0
+Refused takes (Ok x) fault = (fault ≡ NoMemory) × IsTrue takes
+Refused takes (Err defined) fault = fault ≡ defined
 
 -- The step of a line was made as it is defined, or it is refused and nothing changed.
-abbrev pub Carries : {X : Type 0} → Result X Fault → X → Result (Unit {0}) Fault → X → Type 0
-Carries defined old (Ok x) new = defined ≡ Ok new
-Carries defined old (Err fault) new = Refused defined fault × (new ≡ old)
+abbrev pub Carries : {X : Type 0} → Bool → Result X Fault → X → Result (Unit {0}) Fault → X → Type 0
+Carries takes defined old (Ok x) new = defined ≡ Ok new
+Carries takes defined old (Err fault) new = Refused takes defined fault × (new ≡ old)
 
 -- the steps of lines one after another, to the first fault
 abbrev pub played : {X L : Type 0} → (X → L → Result X Fault) → X → List L → Result X Fault
 played stepped x [] = Ok x
 played stepped x (l ∷ ls) = and_then (λ y. played stepped y ls) (stepped x l)
 
--- The steps were made up to a line that is refused.
-pub record StopsAt {X L : Type 0} (stepped : X → L → Result X Fault) (old : X) (ls : List L) (fault : Fault) (new : X) : Type 0 where
+-- The steps were made up to a line that is refused; `takes` says for which lines memory may run out.
+pub record StopsAt {X L : Type 0} (stepped : X → L → Result X Fault) (takes : X → L → Bool) (old : X) (ls : List L) (fault : Fault) (new : X) : Type 0 where
   pub index : ℕ
   pub line : L
   pub there : slice_get ls index ≡ Some line
   pub before : played stepped old (take index ls) ≡ Ok new
-  pub refused : Refused (stepped new line) fault
+  pub refused : Refused (takes new line) (stepped new line) fault
 
 -- All steps were made, or those before the first that is refused. So a line that is not allowed is never told as out of
 -- memory.
-abbrev pub Plays : {X L : Type 0} → (X → L → Result X Fault) → X → List L → Result (Unit {0}) Fault → X → Type 0
-Plays stepped old ls (Ok x) new = played stepped old ls ≡ Ok new
-Plays stepped old ls (Err fault) new = StopsAt stepped old ls fault new
+abbrev pub Plays : {X L : Type 0} → (X → L → Result X Fault) → (X → L → Bool) → X → List L → Result (Unit {0}) Fault → X → Type 0
+Plays stepped takes old ls (Ok x) new = played stepped old ls ≡ Ok new
+Plays stepped takes old ls (Err fault) new = StopsAt stepped takes old ls fault new
+
+-- any line may take memory: so where a report is made after each
+abbrev pub always : {X L : Type 0} → X → L → Bool
+always x l = true

@@ -1,8 +1,9 @@
 -- What a script leads to. Part of the promises. It is the state after all of it, or the fault of the first line that is
 -- not allowed.
-use Rattle.std.specs.Prelude.{Result, Ok}
+use Rattle.std.specs.Prelude.{Bool, Result, Ok}
 use Rattle.world.specs.States.{State, opening}
 use Rattle.world.specs.Steps.{step}
+use Rattle.world.specs.Memory.{may_allocate}
 use Rattle.script.specs.declared.fault.Fault.{Fault}
 use Rattle.script.specs.declared.script.Script.{Script}
 use Rattle.script.specs.declared.script.Script.TheVariants as script
@@ -17,6 +18,10 @@ use Rattle.script.specs.Faults.{and_then, or_not_allowed, played}
 -- the event of a line
 abbrev pub line_happened : State → NumberedEvent → Result State Fault
 line_happened st e = or_not_allowed e.line (event_word e.event) (step st e.event)
+
+-- whether memory may run out for it
+abbrev pub line_takes_memory : State → NumberedEvent → Bool
+line_takes_memory st e = may_allocate st e.event
 
 abbrev pub world_of : WorldPlan → Result State Fault
 world_of plan = played line_happened (opening plan.limits) plan.events

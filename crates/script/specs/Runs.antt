@@ -1,5 +1,5 @@
 -- What a run writes, given what its reader had. Part of the promises.
-use Rattle.std.specs.Prelude.{◌≡◌, ◌⊎◌, ℕ, List, Option, Some, Result, Ok, Err}
+use Rattle.std.specs.Prelude.{◌≡◌, ◌≢◌, ◌⊎◌, ℕ, List, [], Option, Some, Result, Ok, Err}
 use Rattle.std.specs.Io.KnownBytes.{Appends}
 use Rattle.world.specs.declared.limits.Limits.{Limits}
 use Rattle.world.specs.declared.event.Event.{Event}
@@ -16,7 +16,7 @@ use Rattle.script.specs.declared.script.Script.TheVariants as script
 use Rattle.script.specs.declared.script.Reached.{Reached}
 use Rattle.script.specs.declared.script.Reached.TheVariants.{Flow, World}
 use Rattle.script.specs.Plans.{FlowPlan, WorldPlan, events_in}
-use Rattle.script.specs.Scripts.{FlowOf, MayBeScript, parsed, said_by}
+use Rattle.script.specs.Scripts.{FlowOf, TakesMemory, parsed, said_by}
 use Rattle.script.specs.Plays.{reached_by, world_of}
 use Rattle.script.specs.Reports.{report, fault_line}
 use Rattle.script_text.specs.WorldReports.{world_report}
@@ -28,11 +28,10 @@ report_of (Flow transfer) = report transfer
 report_of (World state) = world_report state
 
 -- What a text leads to: the state after the whole script that it is, or its first fault. The whole text is
--- parsed before the first step is made. Memory runs out only for a text that is a script, or may be one: it is not too
--- long, and its header is good.
+-- parsed before the first step is made. Memory runs out only for a text that takes some.
 abbrev pub LeadsTo : List ℕ → Result Reached Fault → Type 0
 LeadsTo text (Ok reached) = (script : Script) × ((parsed text ≡ Ok (said_by script)) × (reached_by script ≡ Ok reached))
-LeadsTo text (Err NoMemory) = MayBeScript text
+LeadsTo text (Err NoMemory) = TakesMemory text
 LeadsTo text (Err fault) = (parsed text ≡ Err fault) ⊎ ((script : Script) × ((parsed text ≡ Ok (said_by script)) × (reached_by script ≡ Err fault)))
 
 -- the report of the state after the whole script, and nothing else
@@ -43,9 +42,9 @@ WritesReport text old new = (reached : Reached) × (LeadsTo text (Ok reached) ×
 abbrev pub AnswersFault : List ℕ → Option (List ℕ) → Option (List ℕ) → Type 0
 AnswersFault text old new = (fault : Fault) × (LeadsTo text (Err fault) × Appends old new (fault_line fault))
 
--- the same, or that memory ran out before the script was read
+-- the same, or that memory ran out before the script was read, which has a byte at least
 abbrev pub WritesFault : List ℕ → Option (List ℕ) → Option (List ℕ) → Type 0
-WritesFault text old new = AnswersFault text old new ⊎ Appends old new (fault_line NoMemory)
+WritesFault text old new = AnswersFault text old new ⊎ ((text ≢ []) × Appends old new (fault_line NoMemory))
 
 -- what was written of an outcome: the report of a state, or that there was no memory for it; the line of a fault
 abbrev pub Tells : Result Reached Fault → Outcome → Option (List ℕ) → Option (List ℕ) → Type 0

@@ -1,5 +1,5 @@
 -- The script that a text is, or its first fault. Part of the promises.
-use Rattle.std.specs.Prelude.{ℕ, nat_lt, if◌then◌else◌, List, [], ◌∷◌, ◌≤◌, map, length, IsSome, Option, Some, None, Result, Ok, Err}
+use Rattle.std.specs.Prelude.{◌≡◌, ◌⊎◌, ℕ, nat_lt, Bool, false, IsTrue, if◌then◌else◌, List, [], ◌∷◌, ◌≤◌, map, length, is_some, Option, Some, None, Result, Ok, Err}
 use Rattle.world.specs.declared.limits.Limits.{Limits}
 use Rattle.script.specs.declared.fault.Fault.{Fault}
 use Rattle.script.specs.declared.fault.Fault.TheVariants.{TooLong, NoWorld, Malformed}
@@ -11,7 +11,7 @@ use Rattle.script_text.specs.declared.step.NumberedStep.{NumberedStep}
 use Rattle.script_text.specs.declared.event.NumberedEvent.{NumberedEvent}
 use Rattle.script.specs.Plans.{FlowPlan}
 use Rattle.script_text.specs.Texts.{NumberedLine, lines_of, telling_lines}
-use Rattle.script_text.specs.Headers.{header_of, first_header}
+use Rattle.script_text.specs.Headers.{header_of}
 use Rattle.script_text.specs.Steps.{step_of}
 use Rattle.script_text.specs.Events.{Said, said_of, event_of}
 use Rattle.script.specs.Faults.{and_then}
@@ -68,6 +68,34 @@ plan_of (l ∷ ls) = and_then (λ h. headed h ls) (or_malformed l.number (header
 abbrev pub parsed : List ℕ → Result Plan Fault
 parsed text = if nat_lt most_bytes (length text) then Err TooLong else plan_of (telling_lines 1 (lines_of text))
 
--- A text of a script's size whose header is good.
-abbrev pub MayBeScript : List ℕ → Type 0
-MayBeScript text = (length text ≤ most_bytes) × IsSome (first_header (telling_lines 1 (lines_of text)))
+abbrev pub IsScript : List ℕ → Type 0
+IsScript text = (script : Script) × (parsed text ≡ Ok (said_by script))
+
+-- the first of these lines is a step, or an event
+abbrev pub starts_with_step : List NumberedLine → Bool
+starts_with_step [] = false
+starts_with_step (l ∷ ls) = is_some (step_of l.text)
+
+abbrev pub starts_with_event : List NumberedLine → Bool
+starts_with_event [] = false
+starts_with_event (l ∷ ls) = is_some (event_of l.text)
+
+-- the same of the lines behind a header, by what it is of
+abbrev pub goes_on : Option Header → List NumberedLine → Bool
+goes_on None lines = false
+goes_on (Some (header.Flow ring)) lines = starts_with_step lines
+goes_on (Some (header.World limits)) lines = starts_with_event lines
+
+abbrev pub begins_well : List NumberedLine → Bool
+begins_well [] = false
+begins_well (l ∷ ls) = goes_on (header_of l.text) ls
+
+-- A text of a script's size that begins with a good header and a good line behind it. The lines that follow may be malformed:
+-- a list is made of the lines as they are read.
+abbrev pub BeginsWell : List ℕ → Type 0
+BeginsWell text = (length text ≤ most_bytes) × IsTrue (begins_well (telling_lines 1 (lines_of text)))
+
+-- What takes memory once it was read: a script, for which a machine is made, and what begins well. So memory can't run out for
+-- a text that is too long, or has no line, a malformed header, or a malformed line right behind that.
+abbrev pub TakesMemory : List ℕ → Type 0
+TakesMemory text = IsScript text ⊎ BeginsWell text

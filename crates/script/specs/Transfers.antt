@@ -48,6 +48,10 @@ takes_memory (Arrive bytes) = true
 takes_memory (Wrote n full) = true
 takes_memory _ = false
 
+-- the same of the step of a line
+abbrev pub line_takes_memory : Transfer → NumberedStep → Bool
+line_takes_memory t s = takes_memory s.step
+
 -- the step of a line
 abbrev pub line_stepped : Transfer → NumberedStep → Result Transfer Fault
 line_stepped t s = or_not_allowed s.line (word_of s.step) (stepped t s.step)

@@ -1,6 +1,6 @@
 ghost use Rattle.std.specs.Prelude.{◌≡◌, ◌≤◌, IfOk};
 ghost use Rattle.script.specs.Faults.{Gives, Plays};
-ghost use Rattle.script.specs.Transfers.{opening, line_stepped, run_of};
+ghost use Rattle.script.specs.Transfers.{opening, line_stepped, line_takes_memory, run_of};
 
 use crate::{Fault, Transfer};
 use script_text::NumberedStep;
@@ -67,11 +67,11 @@ impl FlowScript {
         Transfer::new(alloc, self.ring)
     }
 
-    /// Makes all steps, or those before the first that is refused, which has the fault: it is not allowed, or it is and
-    /// memory ran out for it.
+    /// Makes all steps, or those before the first that is refused, which has the fault: it is not allowed, or it is, takes
+    /// memory, and that ran out.
     #[tactic(auto, using(crate::proofs::Playing::played_more, std::proofs::lemmas::Option::gets, std::proofs::lemmas::Grind::common_steps))]
     pub fn play(&self, transfer: &mut Transfer) -> Result<(), Fault>
-        ensures { Plays line_stepped transfer.old self.now.steps result transfer.new }
+        ensures { Plays line_stepped line_takes_memory transfer.old self.now.steps result transfer.new }
     {
         for numbered in &self.steps {
             transfer.carry_out(numbered)?;

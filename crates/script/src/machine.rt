@@ -1,5 +1,5 @@
 //! What the steps of a script are made on.
-ghost use Rattle.std.specs.Prelude.{◌≡◌, ℕ, List, Result, IfOk, string_bytes};
+ghost use Rattle.std.specs.Prelude.{◌≡◌, ℕ, true, List, Result, IfOk, string_bytes};
 ghost use Rattle.script.specs.declared.fault.Fault.{Fault};
 ghost use Rattle.script.specs.Faults.{Carries};
 
@@ -21,7 +21,7 @@ pub(crate) trait Machine: Drop {
 
     /// Makes a step, or returns the fault of its line.
     fn make(&mut self, step: &Self::Step) -> Result<(), Fault>
-        ensures { Carries (stepped self.old step.now) self.old result self.new };
+        ensures { Carries true (stepped self.old step.now) self.old result self.new };
 
     /// The report of the state. Fails only if memory for it ran out.
     fn report(&self, alloc: Global) -> Result<String, AllocError>

@@ -1,6 +1,6 @@
-ghost use Rattle.std.specs.Prelude.{◌≡◌, ◌^◌, ◌<◌, IsErrOf};
+ghost use Rattle.std.specs.Prelude.{◌≡◌, ◌^◌, ◌<◌, IsErrOf, IsTrue};
 ghost use Rattle.script.specs.Faults.{GivesBy};
-ghost use Rattle.script.specs.Scripts.{MayBeScript, parsed, steps_of, events_of, said_by, said_lines};
+ghost use Rattle.script.specs.Scripts.{BeginsWell, parsed, steps_of, events_of, said_by, said_lines, starts_with_event, starts_with_step};
 
 use crate::limits::MAX_BYTES;
 use crate::{Fault, FlowScript, Script, WorldScript};
@@ -10,11 +10,11 @@ use script_text::{
 use std::alloc::Global;
 
 /// The script that a text stands for, or its first fault: too long before all else, then no line that is not skipped,
-/// then the first malformed line of the whole text. Or memory ran out, which is answered only for a text that begins as
-/// a script does.
+/// then the first malformed line of the whole text. Or memory ran out, which is answered only for a text that begins with
+/// a good header and a good line behind it.
 pub fn parse(alloc: Global, text: &[u8]) -> Result<Script, Fault>
     ensures script { GivesBy said_by (parsed text.now) result }
-    ensures memory { IsErrOf result Fault.NoMemory → MayBeScript text.now }
+    ensures memory { IsErrOf result Fault.NoMemory → BeginsWell text.now }
 {
     if text.len() > MAX_BYTES {
         return Err(Fault::TooLong);
@@ -35,7 +35,8 @@ pub fn parse(alloc: Global, text: &[u8]) -> Result<Script, Fault>
 
 /// The steps that the lines stand for, or their first fault.
 fn steps(alloc: Global, mut lines: Lines) -> Result<Vec<NumberedStep>, Fault>
-    ensures { GivesBy (λ steps. steps.items) (steps_of lines.entry) result }
+    ensures steps { GivesBy (λ steps. steps.items) (steps_of lines.entry) result }
+    ensures memory { IsErrOf result Fault.NoMemory → IsTrue (starts_with_step lines.entry) }
 {
     let mut steps = Vec::new(alloc);
     while let Some(line) = lines.next() {
@@ -54,7 +55,8 @@ fn steps(alloc: Global, mut lines: Lines) -> Result<Vec<NumberedStep>, Fault>
 
 /// The events that the lines stand for, or their first fault.
 fn events(alloc: Global, mut lines: Lines) -> Result<Vec<NumberedEvent>, Fault>
-    ensures { GivesBy (λ events. said_lines events.items) (events_of lines.entry) result }
+    ensures events { GivesBy (λ events. said_lines events.items) (events_of lines.entry) result }
+    ensures memory { IsErrOf result Fault.NoMemory → IsTrue (starts_with_event lines.entry) }
 {
     let mut events = Vec::new(alloc);
     while let Some(line) = lines.next() {

@@ -37,7 +37,8 @@ pub enum ScriptFault {
 /// state after it or the one line of its fault.
 ///
 /// It makes at most 1,048,577 reads. Any error of the reader, even one that a signal causes, is [`ScriptFault::Read`]
-/// at once. If memory runs out, the line is `out of memory`.
+/// at once. If memory runs out, the line is `out of memory`: so never for an input without a byte, nor, once it was read, for
+/// one that is too long, or whose header or first line behind it is malformed.
 ///
 /// If the script that was read has a fault, `explain` is called once, before anything is written. Otherwise it is not
 /// called; nor is it if memory runs out before the script was read, or for what is to be written.
@@ -94,6 +95,7 @@ pub(crate) fn answer_unread<W: Write>(
     writer: &mut W,
     fault: InputFault,
 ) -> Result<Outcome, ScriptFault>
+    ensures memory { result ≡ Ok Outcome.Refused → fault ≡ InputFault.NoMemory }
     ensures told { result ≡ Ok Outcome.Refused → Appends (W.contents writer.old) (W.contents writer.new) (fault_line Fault.NoMemory) }
     ensures report { result ≢ Ok Outcome.Report }
     ensures unread { result ≡ Err ScriptFault.Read → writer.new ≡ writer.old }
@@ -164,7 +166,7 @@ fn tell_state<W: Write>(
 {
     match reached.report(alloc) {
         Ok(report) => write(writer, report.as_bytes(), Outcome::Report),
-        Err(_) => write(writer, NO_MEMORY, Outcome::Refused),
+        Err(error) => tell_fault(writer, Fault::from(error)),
     }
 }
 
@@ -178,9 +180,6 @@ pub(crate) fn tell_fault<W: Write>(writer: &mut W, fault: Fault) -> Result<Outco
     }
     Ok(Outcome::Refused)
 }
-
-/// The line that says that memory ran out.
-const NO_MEMORY: &[u8] = b"out of memory\n";
 
 /// Writes all of a line, and flushes it.
 pub(crate) fn write<W: Write>(

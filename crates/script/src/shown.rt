@@ -1,5 +1,5 @@
 //! What is shown of a step: its line, and what is new in the report after it.
-ghost use Rattle.std.specs.Prelude.{◌≡◌, ◌++◌, [], drop, IfOk, IfErr, Ok, string_bytes};
+ghost use Rattle.std.specs.Prelude.{◌≡◌, ◌++◌, true, [], drop, IfOk, IfErr, Ok, string_bytes};
 ghost use Rattle.script.specs.Faults.{Refused};
 ghost use Rattle.script.specs.Each.{has_line, first_line, new_lines, shown};
 
@@ -38,7 +38,7 @@ impl<'a> Showing<'a> {
         ensures text { IfOk result (λ text. text.items ≡ shown (first_line self.old.lines) (string_bytes self.old.report) (M.told machine.new)) }
         ensures lines { IfOk result (λ _. self.new.lines ≡ drop 1 self.old.lines) }
         ensures report { IfOk result (λ _. string_bytes self.new.report ≡ M.told machine.new) }
-        ensures refused { IfErr result (λ fault. Refused (M.stepped machine.old step.now) fault) }
+        ensures refused { IfErr result (λ fault. Refused true (M.stepped machine.old step.now) fault) }
     {
         machine.make(step)?;
         Ok(self.next(alloc, machine)?)

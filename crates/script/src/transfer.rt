@@ -1,7 +1,7 @@
 ghost use Rattle.std.specs.Prelude.{◌≡◌, ◌≤◌, IfOk, IsErrOf, IsTrue};
 ghost use Rattle.kernel_model.specs.Outcome.{Meets, MeetsAlways};
 ghost use Rattle.script.specs.Faults.{Carries};
-ghost use Rattle.script.specs.Transfers.{opening, stepped, line_stepped, takes_memory, read_size};
+ghost use Rattle.script.specs.Transfers.{opening, stepped, line_stepped, line_takes_memory, takes_memory, read_size};
 
 use crate::Fault;
 use flow::Flow;
@@ -66,7 +66,7 @@ impl Transfer {
 
     /// Makes the step of a line, or returns the fault of that line.
     pub(crate) fn carry_out(&mut self, numbered: &NumberedStep) -> Result<(), Fault>
-        ensures { Carries (line_stepped self.old numbered.now) self.old result self.new }
+        ensures { Carries (line_takes_memory self.old numbered.now) (line_stepped self.old numbered.now) self.old result self.new }
     {
         match self.step(&numbered.step) {
             Ok(()) => Ok(()),

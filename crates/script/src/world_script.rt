@@ -1,7 +1,7 @@
 ghost use Rattle.std.specs.Prelude.{◌≡◌, IfOk};
 ghost use Rattle.world.specs.States.{IsWithinLimits, opening};
 ghost use Rattle.script.specs.Faults.{Gives, Carries, Plays};
-ghost use Rattle.script.specs.Plays.{line_happened, world_of};
+ghost use Rattle.script.specs.Plays.{line_happened, line_takes_memory, world_of};
 
 use crate::Fault;
 use kernel_model::Refusal;
@@ -70,10 +70,10 @@ impl WorldScript {
     }
 
     /// Makes all events happen, or those before the first that is refused, which has the fault: it is not allowed, or
-    /// it is and memory ran out for it.
+    /// it is, may take memory, and that ran out.
     #[tactic(auto, using(crate::proofs::Playing::played_more, std::proofs::lemmas::Option::gets, std::proofs::lemmas::Grind::common_steps))]
     pub fn play(&self, world: &mut World) -> Result<(), Fault>
-        ensures { Plays line_happened world.old self.now.events result world.new }
+        ensures { Plays line_happened line_takes_memory world.old self.now.events result world.new }
     {
         for numbered in &self.events {
             happen(world, numbered)?;
@@ -84,7 +84,7 @@ impl WorldScript {
 
 /// Makes the event of a line happen, or returns the fault of that line.
 pub(crate) fn happen(world: &mut World, numbered: &NumberedEvent) -> Result<(), Fault>
-    ensures { Carries (line_happened world.old numbered.now) world.old result world.new }
+    ensures { Carries (line_takes_memory world.old numbered.now) (line_happened world.old numbered.now) world.old result world.new }
 {
     match world.step(&numbered.event) {
         Ok(()) => Ok(()),

@@ -1,5 +1,5 @@
 -- The events of a world's script, and the lines that say them. Part of the promises.
-use Rattle.std.specs.Prelude.{ℕ, nat_lt, nat_le, ◌&&◌, if◌then◌else◌, List, [], ◌∷◌, length, codes, Option, Some, None, option_map, option_and_then}
+use Rattle.std.specs.Prelude.{ℕ, ◌+◌, nat_lt, nat_le, ◌&&◌, if◌then◌else◌, List, [], ◌∷◌, length, codes, Option, Some, None, option_map, option_and_then}
 use Rattle.std.specs.Str.{bytes_eq}
 use Rattle.token.specs.declared.side.Side.{Side}
 use Rattle.token.specs.Sides.{side_named}
@@ -65,9 +65,15 @@ abbrev pub all_names : List (List ℕ) → Option (List Name)
 all_names [] = Some []
 all_names (word ∷ words) = option_and_then (λ n. option_map (λ ns. n ∷ ns) (all_names words)) (name_of word)
 
--- 256 names at most
+-- 256 names at most, with those that stand before them
+abbrev pub names_behind : ℕ → List (List ℕ) → Option (List Name)
+names_behind count words = if nat_le (count + length words) 256 then all_names words else None
+
+abbrev pub are_names : ℕ → List (List ℕ) → Option (Unit {0})
+are_names count words = option_map (λ _. tt) (names_behind count words)
+
 abbrev pub names_of : List (List ℕ) → Option (List Name)
-names_of words = if nat_le (length words) 256 then all_names words else None
+names_of words = names_behind 0 words
 
 abbrev pub accepting_of : List ℕ → Option Accepting
 accepting_of word =

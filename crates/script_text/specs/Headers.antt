@@ -7,7 +7,7 @@ use Rattle.world.specs.States.{IsWithinLimits}
 use Rattle.script_text.specs.declared.header.Extras.{Extras}
 use Rattle.script_text.specs.declared.header.Header.{Header}
 use Rattle.script_text.specs.declared.header.Header.TheVariants.{Flow, World}
-use Rattle.script_text.specs.Texts.{NumberedLine, words_of, value_after, bytes_after}
+use Rattle.script_text.specs.Texts.{words_of, value_after, bytes_after}
 use Rattle.script_text.specs.Reading.{Found, word_then, if_last}
 
 -- `KEY=N` with N from 1 to the most
@@ -81,8 +81,3 @@ header_of_words (name ∷ words) =
 
 abbrev pub header_of : List ℕ → Option Header
 header_of line = header_of_words (words_of line)
-
--- the header of a text, whose lines that say something are these
-abbrev pub first_header : List NumberedLine → Option Header
-first_header [] = None
-first_header (l ∷ ls) = header_of l.text

@@ -1,8 +1,8 @@
 // The parts of a line for an event that several words say, or one of many words.
-ghost use Rattle.std.specs.Prelude.{◌≡◌, ◌∷◌, [], option_map};
+ghost use Rattle.std.specs.Prelude.{◌≡◌, ◌≤◌, nat_lt, ◌∷◌, [], None, Err, if◌then◌else◌, option_map};
 ghost use Rattle.script_text.specs.Texts.{number_of};
 ghost use Rattle.script_text.specs.Reading.{word_then, if_last, full_of, Reads, ReadsBy};
-ghost use Rattle.script_text.specs.Events.{generation_of, end_of, name_of, names_of, reply_of, reported_of};
+ghost use Rattle.script_text.specs.Events.{generation_of, end_of, name_of, are_names, names_of, reply_of, reported_of};
 ghost use Rattle.token.specs.Kinds.{kind_named};
 
 use crate::limits::MAX_SLOTS;
@@ -11,7 +11,7 @@ use crate::readers::{count, is_full, kind, last, said, side, word};
 use crate::values::{is, number, number_below};
 use crate::wrong::{NotRead, Wrong};
 use kernel_model::{MAX_POLLED, Reply};
-use std::alloc::Global;
+use std::alloc::{AllocError, Global};
 use token::{MAX_GENERATION, Name, Side, Token};
 use world::Reported;
 
@@ -84,18 +84,57 @@ pub(crate) fn names<'a>(alloc: Global, mut words: Pieces<'a>) -> Result<Vec<Name
 {
     let mut names = Vec::new(alloc);
     while let Some(word) = words.next() {
-        if names.len() == MAX_POLLED {
-            return Err(NotRead::Malformed(Wrong::malformed(word, "a poll has at most 256 names")));
-        }
-        let Some(name) = name(word) else {
-            return Err(NotRead::Malformed(Wrong::malformed(
-                word,
-                "listener, waker or SLOT.GEN.SIDE, as in 0.1.client, is wanted",
-            )));
+        let Some(name) = name_behind(names.len(), word) else {
+            return Err(NotRead::Malformed(not_a_name(names.len(), word)));
         };
-        names.push(name)?;
+        match names.reserve(1) {
+            Ok(()) => names.push(name).unwrap(),
+            Err(error) => return Err(lacking(error, names.len() + 1, words)),
+        }
     }
     Ok(names)
+}
+
+/// The name that a word says, if so few stand before it that the poll may have it.
+fn name_behind(count: usize, word: &[u8]) -> Option<Name>
+    ensures { result ≡ (if nat_lt count 256 then name_of word.now else None) }
+{
+    if count < MAX_POLLED { name(word) } else { None }
+}
+
+/// What is wrong with a word that is no name of a poll.
+fn not_a_name<'a>(count: usize, word: &'a [u8]) -> Wrong<'a> {
+    if count < MAX_POLLED {
+        let wanted = "listener, waker or SLOT.GEN.SIDE, as in 0.1.client, is wanted";
+        Wrong::malformed(word, wanted)
+    } else {
+        Wrong::malformed(word, "a poll has at most 256 names")
+    }
+}
+
+/// Why a poll is not read whose names there was no memory for: a word behind the first `count` is malformed, even so.
+fn lacking<'a>(error: AllocError, count: usize, words: Pieces<'a>) -> NotRead<'a>
+    requires { count ≤ 256 }
+    ensures { ReadsBy (λ all. all) (are_names count words.entry) (Err result) }
+{
+    match are_names(count, words) {
+        Ok(()) => NotRead::from(error),
+        Err(wrong) => NotRead::Malformed(wrong),
+    }
+}
+
+/// Whether these words, behind so many names, are names too.
+fn are_names<'a>(mut count: usize, mut words: Pieces<'a>) -> Result<(), Wrong<'a>>
+    requires { count ≤ 256 }
+    ensures { Reads (are_names count words.entry) result }
+{
+    while let Some(word) = words.next() {
+        if name_behind(count, word).is_none() {
+            return Err(not_a_name(count, word));
+        }
+        count += 1;
+    }
+    Ok(())
 }
 
 /// What a report without cause is about: `listener`, `waker`, or a slot and a side.

@@ -20,15 +20,16 @@ pub enum Piece<'a> {
 pub struct Page {
     alloc: Global,
     text: String,
-    is_lost: bool,
+    /// What the allocator answered, once memory ran out.
+    lost: Option<AllocError>,
 }
 
 impl Model for Page {
-    ghost use Rattle.std.specs.Prelude.{ℕ, List, Option, Some, None, if◌then◌else◌, string_bytes};
+    ghost use Rattle.std.specs.Prelude.{ℕ, List, Option, Some, None, is_some, if◌then◌else◌, string_bytes};
 
     ghost Value = { Option (List ℕ) };
 
-    ghost view = { λ p. if p.is_lost then None else Some (string_bytes p.text) };
+    ghost view = { λ p. if is_some p.lost then None else Some (string_bytes p.text) };
 }
 
 impl Page {
@@ -39,7 +40,7 @@ impl Page {
         Page {
             alloc,
             text: String::new(alloc),
-            is_lost: false,
+            lost: None,
         }
     }
 
@@ -49,10 +50,10 @@ impl Page {
     }
 
     /// Memory for what is to be added ran out.
-    pub(crate) fn lose(&mut self)
+    pub(crate) fn lose(&mut self, error: AllocError)
         ensures { self.new ≡ None }
     {
-        self.is_lost = true;
+        self.lost = Some(error);
     }
 
     /// Adds these pieces.
@@ -60,8 +61,8 @@ impl Page {
         ensures { Adds self.old self.new (pieces_text pieces.now) }
     {
         for piece in pieces {
-            if self.add(piece).is_err() {
-                self.is_lost = true;
+            if let Err(error) = self.add(piece) {
+                self.lost = Some(error);
             }
         }
     }
@@ -84,10 +85,9 @@ impl Page {
     pub fn finish(self) -> Result<String, AllocError>
         ensures { IfOk result (λ text. self ≡ Some (string_bytes text)) }
     {
-        if self.is_lost {
-            Err(AllocError)
-        } else {
-            Ok(self.text)
+        match self.lost {
+            Some(error) => Err(error),
+            None => Ok(self.text),
         }
     }
 }

@@ -157,11 +157,13 @@ pub(crate) fn last_bytes<'a>(alloc: Global, mut words: Pieces<'a>) -> Result<Byt
 {
     let wanted = "1 to 1024 bytes as pairs of lower-case hexadecimal digits are wanted";
     let word = word(&mut words, wanted)?;
-    let Ok(bytes) = bytes(alloc, word) else {
-        end(words)?;
-        return Err(NotRead::NoMemory);
-    };
-    Ok(last(said(bytes, word, wanted)?, words)?)
+    match bytes(alloc, word) {
+        Ok(bytes) => Ok(last(said(bytes, word, wanted)?, words)?),
+        Err(error) => {
+            end(words)?;
+            Err(NotRead::from(error))
+        }
+    }
 }
 
 /// Whether a write left no room, which `full` at the end of the line says.

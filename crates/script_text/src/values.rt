@@ -1,4 +1,4 @@
-ghost use Rattle.std.specs.Prelude.{◌≡◌, IfOk};
+ghost use Rattle.std.specs.Prelude.{◌≡◌, IfOk, IfErr, IsSome};
 ghost use Rattle.std.specs.Str.{bytes_eq};
 ghost use Rattle.std.specs.List.{list_all};
 ghost use Rattle.script_text.specs.Texts.{number_of, number_below, value_after, bytes_of, is_digit, is_lower_hex, is_hex_text, is_plain};
@@ -66,18 +66,22 @@ fn is_plain(text: &[u8]) -> bool
     }
 }
 
-/// The bytes that a text stands for in lower-case hexadecimal, 1 to 1,024 of them.
+/// The bytes that a text stands for in lower-case hexadecimal, 1 to 1,024 of them. Memory is asked for only if it stands for
+/// some.
 pub(crate) fn bytes(alloc: Global, text: &[u8]) -> Result<Option<Bytes>, AllocError>
-    ensures { IfOk result (λ bytes. bytes ≡ bytes_of text.now) }
+    ensures value { IfOk result (λ bytes. bytes ≡ bytes_of text.now) }
+    ensures memory { IfErr result (λ _. IsSome (bytes_of text.now)) }
 {
     if !is_hex_text(text) {
         return Ok(None);
     }
-    match hex::decode(alloc, text) {
-        Ok(bytes) => Ok(Some(Bytes::new(bytes))),
-        Err(hex::FromHexError::OutOfMemory) => Err(AllocError),
-        Err(_) => Ok(None),
+    let mut room = [0; MAX_DIGITS / 2];
+    let length = text.len() / 2;
+    if hex::decode_to_slice(text, &mut room[..length]).is_err() {
+        return Ok(None);
     }
+    let bytes = Vec::from_slice(alloc, &room[..length])?;
+    Ok(Some(Bytes::new(bytes)))
 }
 
 /// Whether a text is 1 to 1,024 bytes in lower-case hexadecimal, except that its length may be odd.

@@ -1,4 +1,4 @@
-use Rattle.script.proofs.Showing.{refuses_each, reports_each}
+use Rattle.script.proofs.Showing.{ran_out_each, refuses_each, reports_each}
 use Rattle.script.proofs.each.run_each.Goals as goal
 
 pub returns-in-Ok-clause-report : goal.returns-in-Ok-clause-report
@@ -6,3 +6,8 @@ returns-in-Ok-clause-report g c = reports_each _ c.as_slice.result.now _ c.answe
 
 pub returns-in-Ok-clause-refused : goal.returns-in-Ok-clause-refused
 returns-in-Ok-clause-refused g c = refuses_each _ c.as_slice.result.now _ c.answer_each.result _ _ c.as_slice.ensures.value c.in-Ok.ensures.text c.answer_each.ensures.refused
+
+pub returns-in-Err-clause-refused : goal.returns-in-Err-clause-refused
+returns-in-Err-clause-refused g c =
+    λ is. ran_out_each (g.R.Read.remaining c.args.reader.now) (g.R.Read.remaining c.read_at_most.new.reader) _ _
+    (c.in-Err.ensures.memory (c.answer_unread.ensures.memory is)) (c.answer_unread.ensures.told is)

@@ -1,8 +1,9 @@
-use Rattle.std.proofs.Common.{Some, Vec, Global, ap, ◌∙◌, rules}
+use Rattle.std.proofs.Common.{Some, Err, Vec, Global, ap, ◌∙◌, rules}
 use Rattle.script_text.specs.declared.step.NumberedStep.{NumberedStep}
 use Rattle.script_text.specs.declared.event.NumberedEvent.{NumberedEvent}
+use Rattle.script.specs.declared.fault.Fault.{Fault}
 use Rattle.script.specs.Scripts.{said_lines}
-use Rattle.script.proofs.FirstLine.{bad_first, flow_read, flow_fails, world_read, world_fails, good_first}
+use Rattle.script.proofs.FirstLine.{bad_first, flow_read, flow_fails, world_read, world_fails, flow_begins, world_begins, same_fault}
 use Rattle.script.proofs.parsing.parse.Goals as goal
 
 pub returns-in-Err-clause-script : goal.returns-in-Err-clause-script
@@ -12,27 +13,29 @@ returns-in-Err-clause-script c =
 pub returns-in_ok-steps-in-Ok-Flow-clause-script : goal.returns-in_ok-steps-in-Ok-Flow-clause-script
 returns-in_ok-steps-in-Ok-Flow-clause-script c =
     flow_read _ _ _ _ _ _ _ _ c.if-text-gt-MAX_BYTES.false c.new-lines.ensures c.in-Some.ensures (c.in-Ok-Flow.ensures.value ∙ ap (λ h. Some h) c.in-Ok-Flow.field-0-is)
-    c.in_ok-steps-in-Ok-Flow.ensures c.new.ensures c.in-Ok-Flow.ring-is
+    c.in_ok-steps-in-Ok-Flow.ensures.steps c.new.ensures c.in-Ok-Flow.ring-is
 
 pub returns-in_err-steps-in-Ok-Flow-clause-script : goal.returns-in_err-steps-in-Ok-Flow-clause-script
 returns-in_err-steps-in-Ok-Flow-clause-script c =
     flow_fails _ _ _ _ _ {Y = Vec NumberedStep Global} (λ steps. steps.items) _ _ c.if-text-gt-MAX_BYTES.false c.new-lines.ensures c.in-Some.ensures (c.in-Ok-Flow.ensures.value ∙ ap (λ h. Some h) c.in-Ok-Flow.field-0-is)
-    c.in_err-steps-in-Ok-Flow.ensures c.from_residual.ensures.1
+    c.in_err-steps-in-Ok-Flow.ensures.steps c.from_residual.ensures.1
 
 pub returns-in_err-steps-in-Ok-Flow-clause-memory : goal.returns-in_err-steps-in-Ok-Flow-clause-memory
 returns-in_err-steps-in-Ok-Flow-clause-memory c =
-    λ _. good_first _ _ _ _ _ c.if-text-gt-MAX_BYTES.false c.new-lines.ensures c.in-Some.ensures (c.in-Ok-Flow.ensures.value ∙ ap (λ h. Some h) c.in-Ok-Flow.field-0-is)
+    λ is. flow_begins _ _ _ _ _ c.if-text-gt-MAX_BYTES.false c.new-lines.ensures c.in-Some.ensures (c.in-Ok-Flow.ensures.value ∙ ap (λ h. Some h) c.in-Ok-Flow.field-0-is)
+    (c.in_err-steps-in-Ok-Flow.ensures.memory (ap (λ (f : Fault). Err f) (same_fault _ _ _ c.from_residual.ensures.1 is)))
 
 pub returns-in_ok-events-in-Ok-World-clause-script : goal.returns-in_ok-events-in-Ok-World-clause-script
 returns-in_ok-events-in-Ok-World-clause-script c =
     world_read _ _ _ _ _ _ _ _ c.if-text-gt-MAX_BYTES.false c.new-lines.ensures c.in-Some.ensures (c.in-Ok-World.ensures.value ∙ ap (λ h. Some h) c.in-Ok-World.field-0-is)
-    c.in_ok-events-in-Ok-World.ensures c.new-in-Ok-World.ensures c.in-Ok-World.limits-is
+    c.in_ok-events-in-Ok-World.ensures.events c.new-in-Ok-World.ensures c.in-Ok-World.limits-is
 
 pub returns-in_err-events-in-Ok-World-clause-script : goal.returns-in_err-events-in-Ok-World-clause-script
 returns-in_err-events-in-Ok-World-clause-script c =
     world_fails _ _ _ _ _ {Y = Vec NumberedEvent Global} (λ events. said_lines events.items) _ _ c.if-text-gt-MAX_BYTES.false c.new-lines.ensures c.in-Some.ensures (c.in-Ok-World.ensures.value ∙ ap (λ h. Some h) c.in-Ok-World.field-0-is)
-    c.in_err-events-in-Ok-World.ensures c.from_residual-in_err-events-in-Ok-World.ensures.1
+    c.in_err-events-in-Ok-World.ensures.events c.from_residual-in_err-events-in-Ok-World.ensures.1
 
 pub returns-in_err-events-in-Ok-World-clause-memory : goal.returns-in_err-events-in-Ok-World-clause-memory
 returns-in_err-events-in-Ok-World-clause-memory c =
-    λ _. good_first _ _ _ _ _ c.if-text-gt-MAX_BYTES.false c.new-lines.ensures c.in-Some.ensures (c.in-Ok-World.ensures.value ∙ ap (λ h. Some h) c.in-Ok-World.field-0-is)
+    λ is. world_begins _ _ _ _ _ c.if-text-gt-MAX_BYTES.false c.new-lines.ensures c.in-Some.ensures (c.in-Ok-World.ensures.value ∙ ap (λ h. Some h) c.in-Ok-World.field-0-is)
+    (c.in_err-events-in-Ok-World.ensures.memory (ap (λ (f : Fault). Err f) (same_fault _ _ _ c.from_residual-in_err-events-in-Ok-World.ensures.1 is)))

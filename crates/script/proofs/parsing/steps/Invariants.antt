@@ -1,11 +1,14 @@
-use Rattle.std.proofs.Common.{◌≡◌, ◌++◌, length, Ok}
+use Rattle.std.proofs.Common.{◌≡◌, ◌++◌, true, length, Ok}
 use Rattle.script.specs.Faults.{and_then}
-use Rattle.script.specs.Scripts.{steps_of}
+use Rattle.script.specs.Scripts.{steps_of, starts_with_step}
 use Rattle.script.proofs.parsing.steps.Given as goal
 
--- the steps so far, and those of the lines that are left, are the steps of all lines
+-- the steps so far, and those of the lines that are left, are the steps of all lines; and if there is a step, the
+-- first line is one
 abbrev pub invariant-loop-line : goal.invariant-loop-line
-invariant-loop-line l = steps_of l.fn.lines ≡ and_then (λ rest. Ok (l.steps.items ++ rest)) (steps_of l.lines)
+invariant-loop-line l =
+    (steps_of l.fn.lines ≡ and_then (λ rest. Ok (l.steps.items ++ rest)) (steps_of l.lines))
+    × (starts_with_step l.lines ≡ true → starts_with_step l.fn.lines ≡ true)
 
 abbrev pub decreases-loop-line : goal.decreases-loop-line
 decreases-loop-line l = length l.lines

@@ -1,4 +1,4 @@
-use Rattle.script.proofs.Telling.{reports, refuses}
+use Rattle.script.proofs.Telling.{ran_out, reports, refuses}
 use Rattle.script.proofs.running.read_and_answer.Goals as goal
 
 pub returns-in-Ok-clause-report : goal.returns-in-Ok-clause-report
@@ -6,3 +6,8 @@ returns-in-Ok-clause-report g c = reports _ c.as_slice.result.now _ c.answer.res
 
 pub returns-in-Ok-clause-refused : goal.returns-in-Ok-clause-refused
 returns-in-Ok-clause-refused g c = refuses _ c.as_slice.result.now _ c.answer.result _ _ c.as_slice.ensures.value c.in-Ok.ensures.text c.answer.ensures.refused
+
+pub returns-in-Err-clause-refused : goal.returns-in-Err-clause-refused
+returns-in-Err-clause-refused g c =
+    λ is. ran_out (g.R.Read.remaining c.args.reader.now) (g.R.Read.remaining c.read_at_most.new.reader) _ _
+    (c.in-Err.ensures.memory (c.answer_unread.ensures.memory is)) (c.answer_unread.ensures.told is)
