@@ -183,14 +183,14 @@ def causes(lines):
 
 
 def settings(lines, around):
-    """The rows of a table of settings texts. Before a fault stands a line with its cause, and nothing else."""
+    """The rows of a table of settings texts. Before a fault stands a line with the file and the cause, and nothing else."""
     for name, text, wanted in sides(lines):
         text = around % (text if around == AROUND["addresses"] else text.rstrip(" ")).replace(" | ", "\n")
         row = Row(name, [b"check", b"--config", b"t.toml"], files={"t.toml": bytes_of(text)})
         if re.match("[a-z_]+=", wanted):
             row.output = printed(wanted)
         else:
-            fault = re.compile(rb"\[ERROR relayd\] settings: .*\n" + re.escape(f"relayd: {wanted}\n".encode()))
+            fault = re.compile(rb"\[ERROR relayd\] settings: t.toml: .*\n" + re.escape(f"relayd: {wanted}\n".encode()))
             row.will_do = lambda *had, fault=fault: had[:2] == (1, b"") and fault.fullmatch(had[2])
         yield row
 
