@@ -9,13 +9,17 @@ PREFIX ?= /usr/local
 DESTDIR ?=
 
 PROGRAM = crates/relayd/out/relayd
+# The version stands with the program that prints it.
+VERSION = $(shell sed -n 's/^pub const VERSION: &str = "\(.*\)";$$/\1/p' crates/program/src/constants.rt)
+ARCHIVE = build/relayd-$(VERSION)-linux-x86_64.tar.gz
 
 help:
+	@command -v rt >/dev/null || echo 'The command `rt` of the Rattle toolchain is not in PATH. Without it nothing is built or tested; an archive of a built relayd needs none (README.md).'
 	@echo 'make build         proves and builds crates/relayd/out/relayd; takes ten to thirty minutes the first time'
 	@echo 'make run           forwards connections as examples/relayd.toml says, or CONFIG=FILE'
 	@echo 'make sim           runs the script on standard input'
 	@echo 'make install       installs what make build has built under PREFIX=/usr/local, with DESTDIR in front'
-	@echo 'make dist          makes an archive of what make install installs, build/relayd.tar.gz'
+	@echo 'make dist          makes an archive of what make install installs, $(ARCHIVE)'
 	@echo 'make test          the gate: every proof and test from scratch, and the built program'
 	@echo 'make test-program  tests the built program as its users run it'
 	@echo 'make test-drill    plays the server beside the modelled machine'
@@ -74,21 +78,25 @@ bench-turn:
 $(PROGRAM):
 	@.ci/build relayd
 
-# The program, its manual pages, examples and documents, and a unit file for systemd.
+# The program, its manual pages, examples, documents and licences, and a unit file for systemd.
 install: $(PROGRAM)
 	install -D -m 755 $(PROGRAM) $(DESTDIR)$(PREFIX)/bin/relayd
 	install -D -m 644 -t $(DESTDIR)$(PREFIX)/share/man/man1 man/relayd.1
 	install -D -m 644 -t $(DESTDIR)$(PREFIX)/share/man/man5 man/relayd.toml.5
 	install -D -m 644 -t $(DESTDIR)$(PREFIX)/share/doc/relayd docs/FORMATS.md docs/GLOSSARY.md docs/OPERATIONS.md
+	install -D -m 644 -t $(DESTDIR)$(PREFIX)/share/doc/relayd README.md LICENSE-APACHE LICENSE-MIT
 	install -D -m 644 -t $(DESTDIR)$(PREFIX)/share/doc/relayd/examples examples/* packaging/*.yaml
 	install -D -m 644 -t $(DESTDIR)$(PREFIX)/lib/systemd/system packaging/relayd.service
 	sed -i 's|/usr/local/|$(PREFIX)/|g' $(DESTDIR)$(PREFIX)/lib/systemd/system/relayd.service
 
 # An archive of what `make install` installs, for machines without the toolchain: unpack it at the root, as with
-# `tar -C / -xzf build/relayd.tar.gz`. The same sources give the same archive.
+# `tar -C / -xzf`. Its file BUILD says of which commit and with which toolchain the program is, and the program's checksum.
+# The same commit gives the same archive.
 dist: $(PROGRAM)
-	rm -rf build/dist
+	rm -rf build/dist build/relayd-*.tar.gz
 	$(MAKE) --no-print-directory install DESTDIR=build/dist
+	{ echo "relayd $(VERSION)"; git describe --always --abbrev=40 --dirty --exclude '*'; rt version; \
+	  cd build/dist$(PREFIX)/bin && sha256sum relayd; } > build/dist$(PREFIX)/share/doc/relayd/BUILD
 	cd build/dist && find . -type f -print0 | sort -z \
-	  | tar --null -T - --owner=0 --group=0 --numeric-owner --mtime=@0 -cf - | gzip -n9 > ../relayd.tar.gz
-	@echo build/relayd.tar.gz
+	  | tar --null -T - --owner=0 --group=0 --numeric-owner --mtime=@0 -cf - | gzip -n9 > ../../$(ARCHIVE)
+	@echo $(ARCHIVE)

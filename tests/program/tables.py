@@ -183,7 +183,7 @@ def causes(lines):
 
 
 def settings(lines, around):
-    """The rows of a table of settings texts."""
+    """The rows of a table of settings texts. Before a fault stands a line with the file and the cause."""
     for name, text, wanted in sides(lines):
         text = around % (text if around == AROUND["addresses"] else text.rstrip(" ")).replace(" | ", "\n")
         row = Row(name, [b"check", b"--config", b"t.toml"], files={"t.toml": bytes_of(text)})
@@ -192,7 +192,7 @@ def settings(lines, around):
         else:
             told, _, cause = wanted.partition(" | ")
             row.status = 1
-            row.errors = bytes_of(f"[ERROR relayd] settings: {cause}\n") + f"relayd: {told}\n".encode()
+            row.errors = bytes_of(f"[ERROR relayd] settings: t.toml: {cause}\n") + f"relayd: {told}\n".encode()
         yield row
 
 

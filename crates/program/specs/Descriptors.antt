@@ -1,11 +1,11 @@
 -- How many connections a process has descriptors for. Part of the promises.
-use Rattle.std.specs.Prelude.{ℕ, ◌*◌, ◌-◌, ◌/◌, nat_le, if◌then◌else◌}
+use Rattle.std.specs.Prelude.{ℕ, ◌+◌, ◌*◌, ◌≤◌}
+use Rattle.settings.specs.Pollers.{pollers_for}
 
--- the smaller of two numbers, but at least 1
-abbrev pub between_one_and : ℕ → ℕ → ℕ
-between_one_and most n = if nat_le most n then most else (if nat_le 1 n then n else 1)
+-- what so many slots and workers need beside what is open: two descriptors for each connection, and two for each poller
+abbrev pub needed : ℕ → ℕ → ℕ
+needed slots workers = 2 * slots + 2 * pollers_for slots workers
 
--- Two descriptors for each connection, of those that are left beside those in use and two for each poller, which are opened before
--- the first connection; at most as many slots as are set, and at least one
-abbrev pub covered_slots : ℕ → ℕ → ℕ → ℕ → ℕ
-covered_slots slots pollers most used = between_one_and slots ((most - used - 2 * pollers) / 2)
+-- a process that may have `most` descriptors open, and has `used`, has those that so many slots need
+abbrev pub HasFor : ℕ → ℕ → ℕ → ℕ → Type 0
+HasFor most used slots workers = used + needed slots workers ≤ most

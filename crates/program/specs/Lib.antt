@@ -3,3 +3,4 @@ pub mod Files
 pub mod Arguments
 pub mod Descriptors
 pub mod Meeting
+pub mod Statuses

@@ -1,9 +1,19 @@
 -- When a relay is its own target. Part of the promises.
-use Rattle.std.specs.Prelude.{◌≡◌, ◌⊎◌, [], ◌∷◌, slice_index}
+use Rattle.std.specs.Prelude.{◌≡◌, ◌⊎◌, ℕ, Bool, true, List, [], ◌∷◌, slice_index}
 use Rattle.settings.specs.Addresses.{SocketAddress}
 
--- one port, and one address, or every address and one of loopback (127.0.0.0/8)
-abbrev pub Meets : SocketAddress → SocketAddress → Type 0
-Meets listen target =
+-- every address of the machine, and the one that a connection to this goes to
+abbrev pub every : List ℕ
+every = 0 ∷ 0 ∷ 0 ∷ 0 ∷ []
+
+abbrev pub loopback : List ℕ
+loopback = 127 ∷ 0 ∷ 0 ∷ 1 ∷ []
+
+-- One port, and one address; or the relay listens on every address, and the target's is of loopback (127.0.0.0/8) or one that
+-- the system says is of this machine; or it listens on loopback, and a connection to every address goes there
+abbrev pub Meets : SocketAddress → SocketAddress → Bool → Type 0
+Meets listen target here =
     (listen.1 ≡ target.1)
-    × ((listen.0 ≡ target.0) ⊎ ((listen.0 ≡ 0 ∷ 0 ∷ 0 ∷ 0 ∷ []) × (slice_index target.0 0 ≡ 127)))
+    × ((listen.0 ≡ target.0)
+    ⊎ (((listen.0 ≡ every) × ((slice_index target.0 0 ≡ 127) ⊎ (here ≡ true)))
+    ⊎ ((listen.0 ≡ loopback) × (target.0 ≡ every))))

@@ -1,8 +1,9 @@
 //! What the program does, from its arguments to its status.
-ghost use Rattle.std.specs.Prelude.{◌≡◌, ◌≢◌, ◌⊎◌, IfSome, Ok};
+ghost use Rattle.std.specs.Prelude.{◌≡◌, ◌≢◌, ◌⊎◌, IfSome, IfOk, IfErr, Ok};
 ghost use Rattle.clap.specs.Values.{kind_of};
 ghost use Rattle.script.specs.Each.{WritesEach, WritesEachFault};
 ghost use Rattle.script.specs.Runs.{WritesReport, WritesFault};
+ghost use Rattle.program.specs.Statuses.{IsCarriedOut, status_of};
 
 use crate::causes::LoggedCauses;
 use crate::command_line::{Command, read_command};
@@ -11,7 +12,7 @@ use crate::constants::{DONE, FAULT, USAGE};
 use crate::faults::ProgramFault;
 use crate::level::level_filter;
 use crate::process_arguments::ArgumentsFault;
-use crate::starting::prepare;
+use crate::starting::{foresee, prepare};
 use crate::streams::Stream;
 use clap::error::ErrorKind;
 use log::sink::Console;
@@ -47,13 +48,13 @@ pub fn report_arguments_fault<E: Write>(errors: &mut E, fault: ArgumentsFault) -
 /// |---|---|
 /// | `sim`, or none | runs the script that `reader` has, and writes its report or its fault's line to `writer` |
 /// | `sim --each` | the same, but writes each step to `writer`, and below it what it changes in the report |
-/// | `check --config FILE` | reads a settings file and writes each setting to `writer` |
+/// | `check --config FILE` | reads a settings file and writes each setting to `writer`; warns of what `run` would warn of |
 /// | `forward LISTEN TARGET` | does the same as `run` with the settings of the command line |
 /// | `run --config FILE` | reads a settings file, listens, writes `listening A.B.C.D:PORT` to `writer`, and serves; log lines go to the process's own standard error |
 ///
 /// Returns the exit status: 0 if the command was carried out, or help or the version printed; 1 for a fault, which is
 /// written to `errors` after `relayd: ` unless it is a fault of the script itself; 2 for a usage error, which is
-/// written to `errors`. No clause says any of this: tests of the built program show it.
+/// written to `errors`. Where the command line is refused, nothing has been read from `reader` or written to `writer`.
 ///
 /// `serve` serves on a bound socket with the process's own handle: a thread can only be started with that one.
 pub fn act<R, S, I: Read + IsTerminal, O: Write, E: Write>(
@@ -68,22 +69,20 @@ where
     R: AllocGlobal + Files + Eprint + Net + Copy + Drop,
     S: Fn(Settings, Bound) -> Result<(), ServerFault>,
     requires { S.IsAlwaysCallable serve.now }
+    ensures status { IsCarriedOut result ⊎ (result ≡ 2) }
+    ensures unread { result ≡ 2 → I.remaining reader.new ≡ I.remaining reader.old }
+    ensures unwritten { result ≡ 2 → O.contents writer.new ≡ O.contents writer.old }
 {
     let Ok(arguments) = texts(rt.alloc(), arguments) else {
         return report_fault(errors, ProgramFault::from(AllocError));
     };
-    let log = Logged::new(*rt, LevelFilter::Error, Console(*rt));
-    let mut writer = Stream {
-        name: "output",
-        inner: writer,
-        log: &log,
-    };
+    let log = Logged::new(*rt, LevelFilter::Warn, Console(*rt));
     let outcome = match read_command(rt.alloc(), arguments.as_slice()) {
         Ok(command) => {
             tell_if_typed(&command, reader, errors);
-            carry_out(rt, &log, command, reader, &mut writer, serve)
+            carry_out(rt, &log, command, reader, writer, serve)
         }
-        Err(error) => return answer_usage(&error, &mut writer, errors),
+        Err(error) => return answer_usage(&log, &error, writer, errors),
     };
     match outcome {
         Ok(status) => status,
@@ -110,8 +109,8 @@ fn texts(alloc: Global, arguments: &[String]) -> Result<Vec<&str>, AllocError> {
         .collect(alloc)
 }
 
-/// Carries out a command. The causes of faults go to `log`, whatever level a settings file sets, since what it says
-/// about `log` is not yet known where it has a fault.
+/// Carries out a command. The causes of faults, and warnings of `check`, go to `log`, whatever level a settings file sets:
+/// what it says about `log` is not yet known where it has a fault.
 fn carry_out<R, S, L: Log, I: Read, O: Write>(
     rt: &R,
     log: &L,
@@ -124,35 +123,44 @@ where
     R: AllocGlobal + Files + Eprint + Net + Copy + Drop,
     S: Fn(Settings, Bound) -> Result<(), ServerFault>,
     requires { S.IsAlwaysCallable serve.now }
+    ensures done { IfOk result (λ status. IsCarriedOut status) }
+    ensures unread { IfErr result (λ fault. status_of fault ≡ 2 → I.remaining reader.new ≡ I.remaining reader.old) }
+    ensures unwritten { IfErr result (λ fault. status_of fault ≡ 2 → O.contents writer.new ≡ O.contents writer.old) }
 {
     match command {
         Command::Simulate { each } => {
-            let name = "input";
-            let mut reader = Stream {
-                name,
-                inner: reader,
-                log,
-            };
+            let mut reader = stream("input", reader, log);
+            let mut writer = stream("output", writer, log);
             if each {
-                simulate_each(rt.alloc(), log, &mut reader, writer)
+                simulate_each(rt.alloc(), log, &mut reader, &mut writer)
             } else {
-                simulate(rt.alloc(), log, &mut reader, writer)
+                simulate(rt.alloc(), log, &mut reader, &mut writer)
             }
         }
         Command::Check(path) => {
             let settings = config::load(rt, log, path)?;
-            print(rt.alloc(), &settings, writer)
+            foresee(rt, log, &settings);
+            print(rt.alloc(), &settings, &mut stream("output", writer, log))
         }
         Command::Run(path, level) => {
             let settings = config::load(rt, log, path)?;
-            let settings = config::at_level(log, rt.alloc(), settings, level)?;
-            run(rt, settings, writer, serve)
+            let settings = config::at_level(log, rt.alloc(), settings, level).map_err(
+                ProgramFault::of_arguments,
+            )?;
+            run(rt, settings, &mut stream("output", writer, log), serve)
         }
         Command::Forward(text) => {
-            let settings = config::parse_arguments(log, rt.alloc(), text.as_bytes())?;
-            run(rt, settings, writer, serve)
+            let settings = config::parse_arguments(log, rt.alloc(), text.as_bytes()).map_err(
+                ProgramFault::of_arguments,
+            )?;
+            run(rt, settings, &mut stream("output", writer, log), serve)
         }
     }
+}
+
+/// A stream of this name whose errors are logged.
+fn stream<'a, S, L>(name: &'static str, inner: S, log: &'a L) -> Stream<'a, S, &'static str, L> {
+    Stream { name, inner, log }
 }
 
 /// Runs a script. Returns 0 if its report was written, and 1 if the line of its fault was. The cause of a fault is
@@ -164,6 +172,8 @@ fn simulate<L: Log, I: Read, O: Write>(
     writer: &mut O,
 ) -> Result<u8, ProgramFault>
     ensures report { result ≡ Ok 0 → IfSome (I.remaining reader.old) (λ text. WritesReport text (O.contents writer.old) (O.contents writer.new)) }
+    ensures done { IfOk result (λ status. IsCarriedOut status) }
+    ensures fault { IfErr result (λ fault. status_of fault ≡ 1) }
     ensures refused { result ≡ Ok 1 → IfSome (I.remaining reader.old) (λ text. WritesFault text (O.contents writer.old) (O.contents writer.new)) }
 {
     match script::run(alloc, reader, writer, &LoggedCauses { alloc, log }) {
@@ -182,6 +192,8 @@ fn simulate_each<L: Log, I: Read, O: Write>(
     writer: &mut O,
 ) -> Result<u8, ProgramFault>
     ensures report { result ≡ Ok 0 → IfSome (I.remaining reader.old) (λ text. WritesEach text (O.contents writer.old) (O.contents writer.new)) }
+    ensures done { IfOk result (λ status. IsCarriedOut status) }
+    ensures fault { IfErr result (λ fault. status_of fault ≡ 1) }
     ensures refused { result ≡ Ok 1 → IfSome (I.remaining reader.old) (λ text. WritesEachFault text (O.contents writer.old) (O.contents writer.new)) }
 {
     match script::run_each(alloc, reader, writer, &LoggedCauses { alloc, log }) {
@@ -192,7 +204,10 @@ fn simulate_each<L: Log, I: Read, O: Write>(
 }
 
 /// Prints each setting.
-fn print(alloc: Global, settings: &Settings, writer: &mut impl Write) -> Result<u8, ProgramFault> {
+fn print(alloc: Global, settings: &Settings, writer: &mut impl Write) -> Result<u8, ProgramFault>
+    ensures done { IfOk result (λ status. status ≡ 0) }
+    ensures fault { IfErr result (λ fault. status_of fault ≡ 1) }
+{
     let text = format!(in alloc; "{settings}")?;
     write(writer, text.as_str())?;
     Ok(DONE)
@@ -209,6 +224,8 @@ where
     R: AllocGlobal + Files + Eprint + Net + Copy + Drop,
     S: Fn(Settings, Bound) -> Result<(), ServerFault>,
     requires { S.IsAlwaysCallable serve.now }
+    ensures done { IfOk result (λ status. status ≡ 0) }
+    ensures fault { IfErr result (λ fault. status_of fault ≡ 1) }
 {
     let log = Logged::new(*rt, level_filter(settings.log), Console(*rt));
     let bound = bind(&log, &settings).map_err(ProgramFault::Server)?;
@@ -221,14 +238,18 @@ where
 }
 
 /// Prints the address that clients can connect to.
-fn announce(alloc: Global, bound: &Bound, writer: &mut impl Write) -> Result<(), ProgramFault> {
+fn announce(alloc: Global, bound: &Bound, writer: &mut impl Write) -> Result<(), ProgramFault>
+    ensures { IfErr result (λ fault. status_of fault ≡ 1) }
+{
     let address = bound.text();
     let line = format!(in alloc; "listening {address}\n")?;
     write(writer, line.as_str())
 }
 
 /// Writes all of a text, and flushes it.
-fn write(writer: &mut impl Write, text: &str) -> Result<(), ProgramFault> {
+fn write(writer: &mut impl Write, text: &str) -> Result<(), ProgramFault>
+    ensures { IfErr result (λ fault. status_of fault ≡ 1) }
+{
     if writer.write_all(text.as_bytes()).is_err() || writer.flush().is_err() {
         return Err(ProgramFault::Write);
     }
@@ -236,10 +257,17 @@ fn write(writer: &mut impl Write, text: &str) -> Result<(), ProgramFault> {
 }
 
 /// Prints a usage text: help and the version to `writer`, a usage error to `errors`. Returns the exit status.
-fn answer_usage<O: Write, E: Write>(error: &clap::Error, writer: &mut O, errors: &mut E) -> u8
+fn answer_usage<L: Log, O: Write, E: Write>(
+    log: &L,
+    error: &clap::Error,
+    writer: &mut O,
+    errors: &mut E,
+) -> u8
     ensures memory { kind_of error.now ≡ ErrorKind.OutOfMemory → result ≡ 1 }
     ensures help { (kind_of error.now ≡ ErrorKind.DisplayHelp) ⊎ (kind_of error.now ≡ ErrorKind.DisplayVersion) → (result ≡ 0) ⊎ (result ≡ 1) }
     ensures refused { kind_of error.now ≢ ErrorKind.OutOfMemory → kind_of error.now ≢ ErrorKind.DisplayHelp → kind_of error.now ≢ ErrorKind.DisplayVersion → result ≡ 2 }
+    ensures status { IsCarriedOut result ⊎ (result ≡ 2) }
+    ensures unwritten { result ≡ 2 → O.contents writer.new ≡ O.contents writer.old }
 {
     if error.kind() == ErrorKind::OutOfMemory {
         return report_fault(errors, ProgramFault::from(AllocError));
@@ -249,6 +277,7 @@ fn answer_usage<O: Write, E: Write>(error: &clap::Error, writer: &mut O, errors:
         let _ = write!(errors, "{error}");
         return USAGE;
     }
+    let mut writer = stream("output", writer, log);
     if write!(writer, "{error}").is_err() || writer.flush().is_err() {
         return report_fault(errors, ProgramFault::Write);
     }
@@ -257,9 +286,9 @@ fn answer_usage<O: Write, E: Write>(error: &clap::Error, writer: &mut O, errors:
 
 /// Writes a fault to `errors`, and returns its status.
 fn report_fault(errors: &mut impl Write, fault: ProgramFault) -> u8
-    ensures { result ≡ 1 }
+    ensures { result ≡ status_of fault }
 {
     // If this can't be written either, only the status is left to report it.
     let _ = writeln!(errors, "relayd: {fault}");
-    FAULT
+    fault.status()
 }

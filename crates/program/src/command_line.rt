@@ -95,7 +95,7 @@ static COMMANDS: [CommandRow; 4] = [
     CommandRow {
         name: "forward",
         about: "Forwards connections from one address to another",
-        details: "Does the same as `relayd run` with a settings file that says what the arguments say.\n\nExample:\n  relayd forward 127.0.0.1:7000 127.0.0.1:7001 --slots 100\n\nSee relayd.toml(5) for the settings and their ranges.",
+        details: "Does the same as `relayd run` with a settings file that says what the arguments say.\n\nExample:\n  relayd forward 127.0.0.1:7000 127.0.0.1:7001 --slots 100\n\nSee relayd.toml(5) for the settings.",
         takes: Takes::Settings,
     },
     CommandRow {
@@ -107,7 +107,7 @@ static COMMANDS: [CommandRow; 4] = [
     CommandRow {
         name: "check",
         about: "Reads a settings file and prints every setting, or what is wrong",
-        details: "Prints a line KEY=VALUE for each setting, defaults included. If the file has a fault, the\nfirst one is written to standard error, with its key if it has one, and the status is 1.\n\nExample:\n  relayd check --config examples/relayd.toml\n\nSee relayd.toml(5) for the settings.",
+        details: "Prints a line KEY=VALUE for each setting, defaults included. If the file has a fault, the\nfirst one is written to standard error, with its key if it has one, and the status is 1.\nWarns of what `relayd run` would warn of at its start.\n\nExample:\n  relayd check --config examples/relayd.toml\n\nSee relayd.toml(5) for the settings.",
         takes: Takes::File,
     },
     CommandRow {

@@ -9,11 +9,11 @@ use crate::faults::ConfigFault;
 use crate::forwarding::setting_text;
 use crate::streams::{Stream, log_error};
 use input::{InputFault, read_at_most};
-use log::Log;
+use log::{Log, error};
 use settings::{Key, LogLevel, OneLine, Settings, SettingsFault};
 use std::alloc::Global;
 use std::fmt;
-use std::fs::File;
+use std::fs::{self, File};
 use std::io::Read;
 use std::rt::Files;
 
@@ -34,7 +34,11 @@ pub fn load<R: AllocGlobal + Files, L: Log>(
                 inner: file,
                 log,
             };
-            read(log, rt.alloc(), &mut file)
+            let answer = read(log, rt.alloc(), path, &mut file);
+            if matches!(&answer, Err(ConfigFault::Long)) {
+                log_error(log, &name, &Length::of(rt, path));
+            }
+            answer
         }
         Err(error) => {
             log_error(log, &name, &error);
@@ -54,11 +58,40 @@ impl fmt::Display for ConfigName<'_> {
     }
 }
 
+/// How long a file is that is too long: so many bytes, or none where the system does not say.
+#[derive(Clone, Copy)]
+struct Length(Option<u64>);
+
+impl Length {
+    /// The length of the file at a path, which for a pipe or a device is not known.
+    fn of<R: Files>(rt: &R, path: &str) -> Length {
+        match fs::metadata(rt, path) {
+            Ok(found) if found.len() > MAX_CONFIG_BYTES as u64 => Length(Some(found.len())),
+            _ => Length(None),
+        }
+    }
+}
+
+impl fmt::Display for Length {
+    fn fmt<W: fmt::Write>(&self, f: &mut fmt::Formatter<W>) -> fmt::Result {
+        match self.0 {
+            Some(bytes) => write!(f, "{bytes} bytes are more than {MAX_CONFIG_BYTES}"),
+            None => write!(f, "there are more than {MAX_CONFIG_BYTES} bytes"),
+        }
+    }
+}
+
 /// The settings of a file, from all of its bytes, or its fault.
 ///
 /// Refuses with `Read` if the reader gives an error, `Long` if there are more than 65,536 bytes, whatever their text,
-/// `Settings` if the text has a fault, whose cause is logged, and `NoMemory`. The bytes that were read are then lost.
-pub fn read<F: Read, L: Log>(log: &L, alloc: Global, file: &mut F) -> Result<Settings, ConfigFault>
+/// `Settings` if the text has a fault, whose cause is logged with the path, and `NoMemory`. The bytes that were read are
+/// then lost.
+pub fn read<F: Read, L: Log>(
+    log: &L,
+    alloc: Global,
+    path: &str,
+    file: &mut F,
+) -> Result<Settings, ConfigFault>
     ensures settings { IfOk result (λ s. IfSome (F.remaining file.old) (λ bytes. FileSets bytes s)) }
     ensures fault { IfErr result (λ fault. IfSome (F.remaining file.old) (λ bytes. HasFault bytes fault)) }
 {
@@ -66,7 +99,7 @@ pub fn read<F: Read, L: Log>(log: &L, alloc: Global, file: &mut F) -> Result<Set
     match settings::parse(alloc, text.as_slice()) {
         Ok(settings) => Ok(settings),
         Err(fault) => {
-            log_cause(log, alloc, text.as_slice(), &fault);
+            log_cause(log, alloc, path, text.as_slice(), &fault);
             Err(ConfigFault::from(fault))
         }
     }
@@ -74,8 +107,7 @@ pub fn read<F: Read, L: Log>(log: &L, alloc: Global, file: &mut F) -> Result<Set
 
 /// The settings of a text that the arguments of the command line gave, or its fault.
 ///
-/// Refuses with `Settings` if the text has a fault, and `NoMemory`. The cause is logged, without a line's number, since
-/// the text is in no file.
+/// Refuses with `Settings` if the text has a fault, and `NoMemory`. The cause is logged, by the argument's own name.
 pub fn parse_arguments<L: Log>(log: &L, alloc: Global, text: &[u8]) -> Result<Settings, ConfigFault>
     ensures settings { IfOk result (λ s. IsSettingsOf text.now s) }
 {
@@ -90,16 +122,8 @@ pub fn parse_arguments<L: Log>(log: &L, alloc: Global, text: &[u8]) -> Result<Se
 
 /// Logs the cause of a fault in a text that the arguments gave.
 fn log_argument_cause(log: &impl Log, alloc: Global, text: &[u8], fault: &SettingsFault) {
-    if let Some(cause) = settings::cause(alloc, text, fault) {
-        log_error(log, &"settings", &without_line(cause.as_str()));
-    }
-}
-
-/// A cause without the number of its line.
-fn without_line(cause: &str) -> &str {
-    match cause.split_once(": ") {
-        Some((place, rest)) if place.starts_with("line ") => rest,
-        _ => cause,
+    if let Some(cause) = settings::argument_cause(alloc, text, fault) {
+        log_error(log, &"settings", &cause);
     }
 }
 
@@ -135,10 +159,11 @@ pub fn at_level<L: Log>(
     }
 }
 
-/// Logs the line of a settings fault, and what it should say.
-fn log_cause(log: &impl Log, alloc: Global, text: &[u8], fault: &SettingsFault) {
+/// Logs the file and the line of a settings fault, and what it should say.
+fn log_cause(log: &impl Log, alloc: Global, path: &str, text: &[u8], fault: &SettingsFault) {
     if let Some(cause) = settings::cause(alloc, text, fault) {
-        log_error(log, &"settings", &cause);
+        let path = OneLine(path);
+        error!(log; target: "relayd", "settings: {path}: {cause}");
     }
 }
 

@@ -1,10 +1,14 @@
 //! How many connections the descriptors of the process are enough for. A client beyond them waits in the backlog, as it
 //! does if all slots are taken, and is not accepted only to be closed.
-ghost use Rattle.std.specs.Prelude.{◌≡◌, ◌≤◌};
-ghost use Rattle.program.specs.Descriptors.{covered_slots};
+ghost use Rattle.std.specs.Prelude.{◌≡◌, ◌≤◌, ◌<◌, ◌+◌, ◌⊎◌};
+ghost use Rattle.program.specs.Descriptors.{HasFor, needed};
 
+use settings::pollers_for;
 use std::fs;
 use std::rt::Files;
+
+/// The client's socket and the target's.
+const FOR_A_CONNECTION: u64 = 2;
 
 /// What each poller opens before its first connection: an epoll instance and its waker.
 const FOR_A_POLLER: u64 = 2;
@@ -44,29 +48,30 @@ pub(crate) fn soft_limit(text: &str) -> Option<u64> {
     None
 }
 
-/// How many slots the descriptors are enough for beside so many pollers, two for each connection: at most so many as are
-/// set, and at least one.
-pub(crate) fn covered(slots: usize, pollers: usize, descriptors: Descriptors) -> usize
-    requires set { (1 ≤ slots) × (slots ≤ 4096) }
-    requires pollers { pollers ≤ 16 }
-    ensures slots { result ≡ covered_slots slots pollers descriptors.most descriptors.in_use }
+/// How many slots the descriptors are enough for, with the pollers of so many slots: as many as are set, or else the most
+/// that have descriptors, and at least one.
+pub(crate) fn covered(slots: usize, workers: usize, descriptors: Descriptors) -> usize
+    requires slots { (1 ≤ slots) × (slots ≤ 4096) }
+    requires workers { (1 ≤ workers) × (workers ≤ 16) }
     ensures range { (1 ≤ result) × (result ≤ slots) }
+    ensures enough { (result ≡ 1) ⊎ HasFor descriptors.most descriptors.in_use result workers }
+    ensures most { result < slots → ¬ (HasFor descriptors.most descriptors.in_use (result + 1) workers) }
 {
-    let left = descriptors
-        .most
-        .saturating_sub(descriptors.in_use)
-        .saturating_sub(FOR_A_POLLER * pollers as u64);
-    let pairs = left / 2;
-    if pairs >= slots as u64 {
-        return slots;
+    let left = descriptors.most.saturating_sub(descriptors.in_use);
+    let mut covered = slots;
+    while covered > 1 && needed(covered, workers) > left {
+        covered -= 1;
     }
-    if pairs == 0 { 1 } else { pairs as usize }
+    covered
 }
 
-/// How many descriptors so many slots and pollers need, with those that are open.
-pub(crate) fn needed(slots: usize, pollers: usize, in_use: u64) -> u64 {
-    (slots as u64)
-        .saturating_mul(2)
-        .saturating_add(FOR_A_POLLER.saturating_mul(pollers as u64))
-        .saturating_add(in_use)
+/// How many descriptors a relay with so many slots and workers opens, beside its listening socket: two for each connection,
+/// and two for each poller.
+pub(crate) fn needed(slots: usize, workers: usize) -> u64
+    requires slots { (1 ≤ slots) × (slots ≤ 4096) }
+    requires workers { (1 ≤ workers) × (workers ≤ 16) }
+    ensures { result ≡ needed slots workers }
+{
+    let pollers = pollers_for(slots, workers);
+    FOR_A_CONNECTION * slots as u64 + FOR_A_POLLER * pollers as u64
 }

@@ -1,9 +1,11 @@
 //! What the program reports on standard error.
 ghost use Rattle.std.specs.Prelude.{◌≡◌};
 ghost use Rattle.program.specs.Files.{settings_fault};
+ghost use Rattle.program.specs.Statuses.{argument_fault, status_of};
 ghost use Rattle.program.specs.declared.faults.ConfigFault.TheVariants.{NoMemory};
 ghost use Rattle.program.specs.declared.faults.ProgramFault.TheVariants.{Config};
 
+use crate::constants::{FAULT, USAGE};
 use relay_log::ServerFault;
 use script::ScriptFault;
 use settings::SettingsFault;
@@ -19,6 +21,9 @@ pub enum ProgramFault {
     /// The script could not be read, or its outcome could not be written.
     #[error(transparent)]
     Script(ScriptFault),
+    /// An argument of the command line has a value that its setting does not take.
+    #[error(transparent)]
+    Argument(SettingsFault),
     /// The server could not start, or failed.
     #[error(transparent)]
     Server(ServerFault),
@@ -41,6 +46,28 @@ impl From<ConfigFault> for ProgramFault {
 
     fn from(fault: ConfigFault) -> ProgramFault {
         ProgramFault::Config(fault)
+    }
+}
+
+impl ProgramFault {
+    /// The fault of settings that the arguments of the command line gave.
+    pub(crate) fn of_arguments(fault: ConfigFault) -> ProgramFault
+        ensures { result ≡ argument_fault fault }
+    {
+        match fault {
+            ConfigFault::Settings(fault) => ProgramFault::Argument(fault),
+            fault => ProgramFault::Config(fault),
+        }
+    }
+
+    /// The exit status: that of a refused command line, or of any other fault.
+    pub(crate) fn status(&self) -> u8
+        ensures { result ≡ status_of self.now }
+    {
+        match self {
+            ProgramFault::Argument(_) => USAGE,
+            _ => FAULT,
+        }
     }
 }
 

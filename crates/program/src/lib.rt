@@ -29,4 +29,4 @@ pub use acting::{act, report_arguments_fault};
 pub use faults::{ConfigFault, ProgramFault};
 pub use level::level_filter;
 pub use process_arguments::{ArgumentsFault, arguments};
-pub use starting::prepare;
+pub use starting::{foresee, prepare};

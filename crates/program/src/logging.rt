@@ -1,6 +1,7 @@
 //! The log of a relay that serves: a queue, and a thread that writes it to standard error.
 //!
 //! The thread is never waited for but at the end, and then for a second: a write to a pipe that nobody reads may not end.
+ghost use Rattle.std.specs.Prelude.{◌≡◌, ◌⊎◌, IfErr};
 
 use log::error;
 use log::sink::Console;
@@ -23,6 +24,7 @@ const LAST_WAIT: u64 = 1_000;
 pub fn start<R>(rt: R) -> Result<Arc<LogQueue>, ServerFault>
 where
     R: AllocGlobal + Threads + Eprint + Wait + Send + Copy + Drop + 'static,
+    ensures refused { IfErr result (λ fault. (fault ≡ ServerFault.NoMemory) ⊎ (fault ≡ ServerFault.Threads)) }
 {
     let queue = Arc::new(rt.alloc(), LogQueue::new(rt.alloc())?)?;
     let lines = queue.clone()?;

@@ -1,8 +1,10 @@
 -- The table of the settings: each key with its name, the kind of its value, its range and its default. Part of the promises.
-use Rattle.std.specs.Prelude.{ℕ, List, [], ◌∷◌, Bool, false, Option, Some, None, codes}
+use Rattle.std.specs.Prelude.{◌≡◌, ℕ, List, [], ◌∷◌, Bool, false, Option, Some, None, codes}
 use Rattle.settings.specs.Addresses.{SocketAddress}
 use Rattle.settings.specs.declared.table.Key.{Key}
 use Rattle.settings.specs.declared.table.Key.TheVariants.{Listen, Target, Ring, Budget, Workers, Slots, StopAfter, Log, Idle, Proxy}
+use Rattle.settings.specs.declared.table.Takes.{Takes}
+use Rattle.settings.specs.declared.table.Takes.TheVariants as takes
 use Rattle.settings.specs.declared.fields.Settings.{Settings}
 use Rattle.settings.specs.declared.levels.LogLevel.{LogLevel}
 use Rattle.settings.specs.declared.levels.LogLevel.TheVariants.{Info}
@@ -58,6 +60,14 @@ row_of StopAfter = optional StopAfter (a_number 0 4294967295) (number 0)
 row_of Log = optional Log a_level (level Info)
 row_of Idle = optional Idle (a_number 0 86400) (number 0)
 row_of Proxy = optional Proxy a_truth (truth false)
+
+-- what a person is told that a key of this kind takes, with its range
+abbrev pub Tells : ValueKind → Takes → Type 0
+Tells (an_address lowest) (takes.Address example) = Unit {0}
+Tells (a_number low high) (takes.Number least most) = (least ≡ low) × (most ≡ high)
+Tells a_level takes.Level = Unit {0}
+Tells a_truth takes.Truth = Unit {0}
+Tells _ _ = ⊥
 
 -- the keys, in the order in which they are read and printed
 abbrev pub keys : List Key

@@ -2,7 +2,8 @@
 
 use crate::addresses::address_of;
 use crate::limits::MAX_LOOKS;
-use crate::table::{KEYS, TARGET, Takes};
+use crate::mistakes::Mistake;
+use crate::table::{ARGUMENTS, KEYS, TARGET, Takes};
 use crate::{Key, OneLine, SettingsFault};
 use std::alloc::{AllocError, Global};
 use std::fmt;
@@ -69,38 +70,85 @@ fn refused(alloc: Global, text: &str, key: Key) -> Option<String> {
     let place = place_of(alloc, text, key.name()).ok()?;
     let document = toml::table_from_str(alloc, text).ok()?;
     let value = document.get(key.name())?;
-    let wanted = in_place_of(value, key);
+    let wanted = Wanted::in_place_of(value, key);
     let value = format!(in alloc; "{value}").ok()?;
     let value = OneLine(value.as_str());
     format!(in alloc; "{place}{key} = {value}: {wanted}").ok()
 }
 
-/// What is wanted in place of a value. A target that is an address, and is refused, has a port to which no connection
-/// can be made.
-fn in_place_of(value: &Value, key: Key) -> Wanted {
-    match (key, value.as_str()) {
-        (Key::Target, Some(text)) if address_of(text).is_some() => Wanted::Port(TARGET.lowest_port),
-        _ => Wanted::by(key),
+/// The cause of a fault in a text that says what the arguments of a command line say: the argument and its value, as they
+/// are typed, and what is expected there. `None` if it is no fault of a value, or there is no memory for the cause.
+pub fn argument_cause(alloc: Global, bytes: &[u8], fault: &SettingsFault) -> Option<String> {
+    let (SettingsFault::WrongKind(key)
+    | SettingsFault::OutOfRange(key)
+    | SettingsFault::BadAddress(key)) = fault
+    else {
+        return None;
+    };
+    let document = toml::table_from_str(alloc, std::str::from_utf8(bytes).ok()?).ok()?;
+    let value = document.get(key.name())?;
+    let name = ArgumentName(*key);
+    let wanted = Wanted::in_place_of(value, *key);
+    let typed = match value.as_str() {
+        Some(text) => String::from_str(alloc, text).ok()?,
+        None => format!(in alloc; "{value}").ok()?,
+    };
+    let typed = OneLine(typed.as_str());
+    format!(in alloc; "{name} {typed}: {wanted}").ok()
+}
+
+/// A key as it is typed on a command line: its option, or what stands for it in a help text.
+#[derive(Clone, Copy)]
+struct ArgumentName(Key);
+
+impl fmt::Display for ArgumentName {
+    fn fmt<W: fmt::Write>(&self, f: &mut fmt::Formatter<W>) -> fmt::Result {
+        for argument in &ARGUMENTS {
+            if argument.key == self.0 {
+                return match argument.option {
+                    Some(option) => write!(f, "--{option}"),
+                    None => f.write_str(argument.value_name),
+                };
+            }
+        }
+        Ok(())
     }
 }
 
-/// What is wanted in a settings file.
+/// What is wanted in place of a value.
 #[derive(Clone, Copy)]
-enum Wanted {
+enum Wanted<'a> {
     /// What the key takes.
     Value(Takes),
     /// A port from this one up.
     Port(u16),
+    /// An address without this mistake.
+    Without(Mistake<'a>),
 }
 
-impl Wanted {
+impl Wanted<'_> {
     /// What a key takes.
-    fn by(key: Key) -> Wanted {
+    fn by(key: Key) -> Wanted<'static> {
         Wanted::Value(Takes::of(key))
+    }
+
+    /// What is wanted in place of a value that a key refuses. A text that is an address all the same has a port to which no
+    /// connection can be made.
+    fn in_place_of(value: &Value, key: Key) -> Wanted<'_> {
+        let (Takes::Address(_), Some(text)) = (Takes::of(key), value.as_str()) else {
+            return Wanted::by(key);
+        };
+        if address_of(text).is_some() {
+            return Wanted::Port(TARGET.lowest_port);
+        }
+        match Mistake::of(text) {
+            Some(mistake) => Wanted::Without(mistake),
+            None => Wanted::by(key),
+        }
     }
 }
 
-impl fmt::Display for Wanted {
+impl fmt::Display for Wanted<'_> {
     fn fmt<W: fmt::Write>(&self, f: &mut fmt::Formatter<W>) -> fmt::Result {
         match *self {
             Wanted::Value(Takes::Address(example)) => {
@@ -109,11 +157,12 @@ impl fmt::Display for Wanted {
             Wanted::Value(Takes::Number(low, high)) => {
                 write!(f, "a whole number from {low} to {high} is wanted")
             }
-            Wanted::Value(Takes::Level) => f.write_str(
-                "\"off\", \"error\", \"warn\", \"info\", \"debug\" or \"trace\" is wanted",
-            ),
+            Wanted::Value(Takes::Level) => {
+                f.write_str("off, error, warn, info, debug or trace is wanted")
+            }
             Wanted::Value(Takes::Truth) => f.write_str("true or false is wanted"),
             Wanted::Port(lowest) => write!(f, "a port from {lowest} up is wanted"),
+            Wanted::Without(mistake) => write!(f, "{mistake}"),
         }
     }
 }

@@ -2,7 +2,8 @@
 //!
 //! `parse` reads a text. `Settings` has one field for each key and prints as `KEY=VALUE` lines, and `SettingsFault`
 //! prints as the line that a person sees. The table of the keys, with kinds, ranges and defaults, is in `src/table.rt`,
-//! and for the promises in `specs/Table.antt`. `cause` gives the details of a fault that help a person to find it.
+//! and for the promises in `specs/Table.antt`. `cause` gives the details of a fault
+//! that help a person to find it, `argument_cause` those of a fault of a command line.
 //! `pollers_for` says how many threads poll, which no key sets.
 #![tactic(auto)]
 
@@ -12,13 +13,14 @@ mod faults;
 mod fields;
 mod levels;
 mod limits;
+mod mistakes;
 mod one_line;
 mod pollers;
 mod read;
 mod table;
 
 pub use addresses::Address;
-pub use causes::cause;
+pub use causes::{argument_cause, cause};
 pub use faults::{KeyText, SettingsFault};
 pub use fields::Settings;
 pub use levels::LogLevel;

@@ -1,7 +1,7 @@
 //! The table of the keys: the name of each, what it takes, what stands for it where a text leaves it out, and its argument
 //! on a command line.
-ghost use Rattle.std.specs.Prelude.{◌≡◌, ◌≢◌, Some, IfSome, IfNone, option_map};
-ghost use Rattle.settings.specs.Table.{key_name, row_of};
+ghost use Rattle.std.specs.Prelude.{◌≡◌, ◌≢◌, ◌↔◌, IsTrue, Some, IfSome, IfNone, option_map};
+ghost use Rattle.settings.specs.Table.{key_name, row_of, a_truth, Tells};
 ghost use Rattle.settings.specs.Text.{setting_text};
 
 use crate::levels::LogLevel;
@@ -93,7 +93,9 @@ impl Key {
     }
 
     /// Whether the key takes a truth value.
-    pub fn takes_truth(self) -> bool {
+    pub fn takes_truth(self) -> bool
+        ensures { IsTrue result ↔ ((row_of self).kind ≡ a_truth) }
+    {
         matches!(Takes::of(self), Takes::Truth)
     }
 }
@@ -226,7 +228,9 @@ pub(crate) enum Takes {
 
 impl Takes {
     /// By the rows of the table.
-    pub(crate) fn of(key: Key) -> Takes {
+    pub(crate) fn of(key: Key) -> Takes
+        ensures { Tells (row_of key).kind result }
+    {
         match key {
             Key::Listen => Takes::Address(LISTEN.example),
             Key::Target => Takes::Address(TARGET.example),
@@ -271,48 +275,48 @@ pub static ARGUMENTS: [Argument; 10] = [
         key: Key::Ring,
         option: Some("ring"),
         value_name: "BYTES",
-        help: "Bytes buffered for each direction of a connection",
+        help: "Bytes buffered for each direction of a connection, 1 to 65536",
     },
     Argument {
         key: Key::Budget,
         option: Some("budget"),
         value_name: "CALLS",
-        help: "The most calls for one connection before another gets its turn",
+        help: "The most calls for one connection before another gets its turn, 1 to 1024",
     },
     Argument {
         key: Key::Workers,
         option: Some("workers"),
         value_name: "THREADS",
-        help: "Worker threads",
+        help: "Worker threads, 1 to 16",
     },
     Argument {
         key: Key::Slots,
         option: Some("slots"),
         value_name: "CONNECTIONS",
-        help: "The most connections at a time",
+        help: "The most connections at a time, 1 to 4096",
     },
     Argument {
         key: Key::StopAfter,
         option: Some("stop-after"),
         value_name: "CONNECTIONS",
-        help: "End after this many connections; 0 for no limit",
+        help: "End after this many connections, up to 4294967295; 0 for no limit",
     },
     Argument {
         key: Key::Log,
         option: Some("log"),
         value_name: "LEVEL",
-        help: "The least important messages that are logged",
+        help: "The least important messages that are logged: off, error, warn, info, debug or trace",
     },
     Argument {
         key: Key::Idle,
         option: Some("idle"),
         value_name: "SECONDS",
-        help: "Close a connection that moved nothing for so long; 0 for never",
+        help: "Close a connection that moved nothing for so long, up to 86400; 0 for never",
     },
     Argument {
         key: Key::Proxy,
         option: Some("proxy"),
         value_name: "BOOL",
-        help: "Send the target a PROXY line with the client's address first",
+        help: "Send the target a PROXY line with the client's address first: true or false",
     },
 ];
