@@ -46,11 +46,11 @@ struct Turn {
 }
 
 impl Acting {
-    /// Nothing has been done. A worker has to take this ticket.
-    pub(crate) fn new(thread: Thread, next: Option<Ticket>) -> Acting {
+    /// Nothing has been done.
+    pub(crate) fn new(thread: Thread) -> Acting {
         Acting {
             thread,
-            next,
+            next: None,
             turn: None,
         }
     }
@@ -60,7 +60,7 @@ impl Outside {
     /// A step of this thread begins. Answers what goes on behind it.
     pub fn enter(&mut self, thread: Thread) -> Acting {
         let former = self.acting;
-        self.acting = Acting::new(thread, None);
+        self.acting = Acting::new(thread);
         former
     }
 
