@@ -158,10 +158,6 @@ fn tell_numbers<R: Print>(
     number: usize,
     difference: Difference,
 ) -> io::Result<()> {
-    let Difference {
-        what,
-        server,
-        machine,
-    } = difference;
+    let (what, server, machine) = (difference.what, difference.server, difference.machine);
     println!(rt; "differs: {place} {number}: {what}: server {server}, machine {machine}")
 }

@@ -62,7 +62,7 @@ impl Outside {
             ready: VecDeque::new(alloc),
             plan: Plan::new(alloc),
             waiting: 0,
-            acting: Acting::new(Thread::Nobody),
+            acting: Acting::new(Thread::Worker),
             calling: 0,
             book: Book::new(alloc),
             faulty: false,
@@ -175,11 +175,6 @@ impl Outside {
         for station in self.stations.iter_mut() {
             station.tape.put(&Event::Spurious(Reported::Waker));
         }
-    }
-
-    /// How many connections this slot has had.
-    pub fn generation_of(&self, slot: usize) -> u64 {
-        self.tapes.get(slot).map_or(0, |tape| tape.generation())
     }
 
     /// Whether a ticket for this slot has to be in the queue.
