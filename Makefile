@@ -49,7 +49,7 @@ test:
 test-program: build
 	@tests/program/run $(PROGRAM)
 
-# Plays random scripts on the server's own calls and on the modelled machine, and compares them. Part of the gate; it
+# Plays random scripts on the server's own threads and on the modelled machine, and compares them. Part of the gate; it
 # needs Python 3.
 test-drill: build
 	@.ci/build drill

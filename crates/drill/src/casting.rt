@@ -8,7 +8,7 @@ use drill_outside::{KernelFront, Outside, Sizes, Ticks};
 use server::build;
 use settings::{Settings, parse};
 use std::alloc::{AllocError, Global};
-use std::cell::RefCell;
+use std::cell::{Cell, RefCell};
 use std::rc::Rc;
 use std::sync::{Arc, Wait};
 use threads::{Cast, Ending, Rest, Server, divide};
@@ -44,7 +44,10 @@ fn players<T: Drop>(alloc: Global, mut threads: Vec<T>) -> Result<Vec<Player<T>>
     let mut players = Vec::with_capacity(alloc, threads.len())?;
     for _thread in 0..threads.len() {
         if let Some(thread) = threads.pop() {
-            players.push(Player::new(thread))?;
+            players.push(Player {
+                thread: RefCell::new(thread),
+                ended: Cell::new(false),
+            })?;
         }
     }
     Ok(players)

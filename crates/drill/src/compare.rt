@@ -5,10 +5,11 @@ use crate::stage::Stage;
 use berths::Berth;
 use claims::Claimed;
 use drill_outside::{EndWire, KernelFront, Outside, START, Station, Tape};
+use kernel_model::Kernel;
 use std::alloc::Global;
 use std::sync::Wait;
 use threads::PollerThread;
-use token::{Name, Side};
+use token::{Name, Side, Token};
 use world::{Connection, Holder, World};
 
 /// Where the two differ.
@@ -194,8 +195,8 @@ fn names_agree(
 ) -> Result<(), Difference> {
     let open = world.connection(0).is_some();
     for side in [Side::Client, Side::Target] {
-        let queued = is_queued(station.kernel.queue(), slot, side, generation);
-        let machine = is_queued(world.kernel().queue(), 0, side, generation);
+        let queued = is_queued(&station.kernel, slot, side, generation);
+        let machine = is_queued(world.kernel(), 0, side, generation);
         same(&[
             flag("open end", station.descriptor(slot, side).is_ok(), open),
             flag("queued end", queued, machine),
@@ -204,16 +205,12 @@ fn names_agree(
     Ok(())
 }
 
-/// Whether an end is among these names.
-fn is_queued(names: &[Name], slot: usize, side: Side, generation: u64) -> bool {
-    for name in names {
-        if let Name::End(token) = name {
-            if token.slot() == slot && token.side() == side && token.generation() == generation {
-                return true;
-            }
-        }
+/// Whether a report of an end is queued.
+fn is_queued(kernel: &Kernel, slot: usize, side: Side, generation: u64) -> bool {
+    match Token::pack(slot, side, generation) {
+        Ok(token) => kernel.is_queued(&Name::End(token)),
+        Err(_) => false,
     }
-    false
 }
 
 /// The connection in a slot's place. It is looked at by a claim, which is released again: that leaves the word as it was.

@@ -35,23 +35,21 @@ pub struct Planned<'c, R> {
 impl<R: Wait + Log> Gate for Planned<'_, R> {
     fn before_turn(&self, slot: usize) {
         begin(&self.stage.outside, slot);
-        for _step in 0..MAX_POLLED {
-            let step = match self.stage.outside.try_borrow_mut() {
-                Ok(mut outside) => outside.plan.before.pop_front(),
-                Err(_) => None,
-            };
-            let Some(step) = step else {
-                return;
-            };
-            self.stage.make_inside(self.rt, self.alloc, step);
-        }
+        self.make_planned(true);
     }
 
     fn after_turn(&self, _slot: usize) {
         end(&self.stage.outside);
+        self.make_planned(false);
+    }
+}
+
+impl<R: Wait + Log> Planned<'_, R> {
+    /// Makes what is planned before a turn's first call, or after its last one.
+    fn make_planned(&self, before: bool) {
         for _step in 0..MAX_POLLED {
             let step = match self.stage.outside.try_borrow_mut() {
-                Ok(mut outside) => outside.plan.after.pop_front(),
+                Ok(mut outside) => outside.plan.next_inner(before),
                 Err(_) => None,
             };
             let Some(step) = step else {

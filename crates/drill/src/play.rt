@@ -65,14 +65,35 @@ fn play<R: Wait + Log + Print>(
 fn prepare(outside: &mut Outside, step: Step) -> Result<(), AllocError> {
     match step {
         Step::Later(later) => outside.add(later)?,
-        Step::Machine(slot, event) => outside.mislead(slot, &event),
-        Step::Listener(poller, event) => outside.mislead_listener(poller, &event),
-        Step::ForgetTicket => outside.forget_ticket(),
-        Step::ForgetSlot(poller) => outside.forget_slot(poller),
         Step::Line(line) => outside.book.expect(Level::Info, Ok(line)),
-        _ => {}
+        Step::Machine(slot, event) => {
+            if let Some(tape) = outside.tapes.get_mut(slot) {
+                tape.put(&event);
+            }
+        }
+        step => mislead(outside, step),
     }
     Ok(())
+}
+
+/// Changes the machine's side at a poller, or in the queue of tickets.
+fn mislead(outside: &mut Outside, step: Step) {
+    match step {
+        Step::ForgetTicket => {
+            let _ = outside.ready.pop_front();
+        }
+        Step::ForgetSlot(poller) => {
+            if let Some(station) = outside.stations.get_mut(poller) {
+                let _ = station.free.pop_front();
+            }
+        }
+        Step::Listener(poller, event) => {
+            if let Some(station) = outside.stations.get_mut(poller) {
+                station.tape.put(&event);
+            }
+        }
+        _ => {}
+    }
 }
 
 /// Prints for each slot the script of its world, and its report, and then the log.
@@ -137,10 +158,6 @@ fn tell_numbers<R: Print>(
     number: usize,
     difference: Difference,
 ) -> io::Result<()> {
-    let Difference {
-        what,
-        server,
-        machine,
-    } = difference;
+    let (what, server, machine) = (difference.what, difference.server, difference.machine);
     println!(rt; "differs: {place} {number}: {what}: server {server}, machine {machine}")
 }

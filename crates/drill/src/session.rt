@@ -38,13 +38,7 @@ where
         let Some(line) = header else {
             break;
         };
-        let Some(sizes) = read_sizes(line.as_str()) else {
-            let number = source.number;
-            println!(rt; "line {number}: no header")?;
-            return Ok(false);
-        };
-        totals.scripts = totals.scripts.saturating_add(1);
-        match play_script(rt, sizes, &mut source, &mut totals)? {
+        match play_next(rt, line.as_str(), &mut source, &mut totals)? {
             Ending::Header(next) => header = Some(next),
             Ending::Input => header = None,
             Ending::Fault => return Ok(false),
@@ -52,6 +46,22 @@ where
     }
     totals.print(rt)?;
     Ok(true)
+}
+
+/// Plays the script with this header.
+fn play_next<R: Wait + AllocGlobal + Print, B: BufRead>(
+    rt: &R,
+    header: &str,
+    source: &mut Source<B>,
+    totals: &mut Totals,
+) -> io::Result<Ending> {
+    let Some(sizes) = read_sizes(header) else {
+        let number = source.number;
+        println!(rt; "line {number}: no header")?;
+        return Ok(Ending::Fault);
+    };
+    totals.scripts = totals.scripts.saturating_add(1);
+    play_script(rt, sizes, source, totals)
 }
 
 /// Plays one script, whose header was read.

@@ -19,15 +19,6 @@ pub struct Player<T> {
     pub ended: Cell<bool>,
 }
 
-impl<T> Player<T> {
-    pub fn new(thread: T) -> Player<T> {
-        Player {
-            thread: RefCell::new(thread),
-            ended: Cell::new(false),
-        }
-    }
-}
-
 /// The threads of the server, and what is outside of it.
 #[derive(Drop)]
 pub struct Stage {
@@ -110,7 +101,7 @@ impl Stage {
             return;
         }
         let is_due = self.poller_is_due(poller);
-        let former = self.enter(Thread::Poller(poller));
+        let former = self.enter(Thread::Poller(poller), false);
         let crew = self.crew(rt, alloc, gate);
         if let Err(ended) = thread.step(&crew) {
             thread.finish(&crew, ended);
@@ -179,22 +170,33 @@ impl Stage {
         if player.ended.get() || queued == 0 && !is_due && made_up.is_none() {
             return;
         }
-        let former = self.enter(Thread::Worker);
-        match made_up {
-            Some(ticket) => {
-                let _ = worker.own.ready.put(rt, ticket);
-            }
-            None if !is_due => self.take_next(),
-            None => {}
+        let former = self.enter(Thread::Worker, made_up.is_none() && !is_due);
+        if let Some(ticket) = made_up {
+            let _ = worker.own.ready.put(rt, ticket);
         }
-        let crew = self.crew(rt, alloc, gate);
-        if let Err(ended) = worker.step(&crew) {
-            worker.finish(&crew, ended);
-            player.ended.set(true);
-        }
+        let ended = self.work(rt, alloc, &mut worker, gate);
         self.leave(former);
-        if player.ended.get() != is_due {
+        player.ended.set(ended);
+        if ended != is_due {
             self.blame("a worker's thread goes on or ends when it has not to");
+        }
+    }
+
+    /// One step of a worker. Answers whether its thread has ended.
+    fn work<G: Gate, R: Wait + Log>(
+        &self,
+        rt: &R,
+        alloc: Global,
+        worker: &mut Worker<KernelFront>,
+        gate: &G,
+    ) -> bool {
+        let crew = self.crew(rt, alloc, gate);
+        match worker.step(&crew) {
+            Ok(()) => false,
+            Err(ended) => {
+                worker.finish(&crew, ended);
+                true
+            }
         }
     }
 
@@ -211,27 +213,33 @@ impl Stage {
         faulty || !polling && queued == 0
     }
 
-    /// The first worker takes this ticket, which nobody made, if all queues are empty and the ticket is for no slot, for a free
+    /// The first worker takes this ticket, which nobody made, if no other is queued and the ticket is for no slot, for a free
     /// one, or for another connection than that of a slot without notes.
     pub fn take_made_up<R: Wait + Log>(&self, rt: &R, alloc: Global, ticket: Ticket) {
-        let Some(word) = self.word_of(ticket.slot) else {
-            return self.take_it(rt, alloc, ticket);
+        let is_harmless = match self.word_of(ticket.slot) {
+            Some(word) => word % 4 == 3 || word == 0 && self.is_other(ticket),
+            None => true,
         };
-        if word % 4 == 3 || word == 0 && self.generation_of(ticket.slot) != ticket.generation {
-            self.take_it(rt, alloc, ticket);
-        }
-    }
-
-    fn take_it<R: Wait + Log>(&self, rt: &R, alloc: Global, ticket: Ticket) {
-        let (is_empty, is_due) = match self.outside.try_borrow() {
-            Ok(outside) => (outside.ready.is_empty(), outside.faulty),
-            Err(_) => return,
+        let is_idle = match self.outside.try_borrow() {
+            Ok(outside) => outside.ready.is_empty(),
+            Err(_) => false,
         };
-        if is_empty && !is_due && !self.worker_is_due(0) {
+        if is_harmless && is_idle && !self.worker_is_due(0) {
             let gate = Nested {
                 outside: &self.outside,
             };
             self.turn(rt, alloc, 0, &gate, Some(ticket));
+        }
+    }
+
+    /// Whether a ticket is not for the last connection of its slot.
+    fn is_other(&self, ticket: Ticket) -> bool {
+        match self.outside.try_borrow() {
+            Ok(outside) => match outside.tapes.get(ticket.slot) {
+                Some(tape) => tape.generation() != ticket.generation,
+                None => true,
+            },
+            Err(_) => false,
         }
     }
 
@@ -242,14 +250,6 @@ impl Stage {
             Some(thread.shared.claims.peek(slot))
         } else {
             None
-        }
-    }
-
-    /// The generation of a slot's last connection.
-    fn generation_of(&self, slot: usize) -> u64 {
-        match self.outside.try_borrow() {
-            Ok(outside) => outside.generation_of(slot),
-            Err(_) => 0,
         }
     }
 
@@ -275,15 +275,9 @@ impl Stage {
         }
     }
 
-    fn take_next(&self) {
-        if let Ok(mut outside) = self.outside.try_borrow_mut() {
-            outside.take_next();
-        }
-    }
-
-    fn enter(&self, thread: Thread) -> Option<Acting> {
+    fn enter(&self, thread: Thread, takes: bool) -> Option<Acting> {
         match self.outside.try_borrow_mut() {
-            Ok(mut outside) => Some(outside.enter(thread)),
+            Ok(mut outside) => Some(outside.enter(thread, takes)),
             Err(_) => None,
         }
     }

@@ -8,7 +8,7 @@
 //!
 //! `outside.rt` has what happens outside of the server, `rounds.rt` what a poller's round gets, `calls.rt` the calls of a
 //! turn, `turn.rt` what has to be of turns, `station.rt` one poller's share, with the tickets that its thread has to run,
-//! `book.rt` what the log has to say, `addresses.rt` the line that targets may get first, and `sweeps.rt` when a sweep is due.
+//! `book.rt` what the log has to say, and `addresses.rt` the line that targets may get first.
 #![tactic(auto)]
 
 mod addresses;
@@ -22,7 +22,6 @@ mod rounds;
 mod sizes;
 mod station;
 mod step;
-mod sweeps;
 mod tape;
 mod ticks;
 mod totals;

@@ -62,7 +62,7 @@ impl Outside {
             ready: VecDeque::new(alloc),
             plan: Plan::new(alloc),
             waiting: 0,
-            acting: Acting::new(Thread::Nobody, None),
+            acting: Acting::new(Thread::Worker),
             calling: 0,
             book: Book::new(alloc),
             faulty: false,
@@ -177,11 +177,6 @@ impl Outside {
         }
     }
 
-    /// How many connections this slot has had.
-    pub fn generation_of(&self, slot: usize) -> u64 {
-        self.tapes.get(slot).map_or(0, |tape| tape.generation())
-    }
-
     /// Whether a ticket for this slot has to be in the queue.
     pub fn is_queued(&self, slot: usize) -> bool {
         for ticket in self.ready.iter() {
@@ -197,30 +192,6 @@ impl Outside {
     pub fn lose(&mut self, slot: usize, word: u64) {
         if let Some(tape) = self.tapes.get_mut(slot) {
             tape.lost = Some(word);
-        }
-    }
-
-    /// This happens in the world of a slot alone.
-    pub fn mislead(&mut self, slot: usize, event: &Event) {
-        self.record(slot, event);
-    }
-
-    /// This happens in the world of a poller's listener alone.
-    pub fn mislead_listener(&mut self, poller: usize, event: &Event) {
-        if let Some(station) = self.stations.get_mut(poller) {
-            station.tape.put(event);
-        }
-    }
-
-    /// A ticket that has to be in the queue is forgotten.
-    pub fn forget_ticket(&mut self) {
-        let _ = self.ready.pop_front();
-    }
-
-    /// A free slot of a poller is forgotten.
-    pub fn forget_slot(&mut self, poller: usize) {
-        if let Some(station) = self.stations.get_mut(poller) {
-            let _ = station.free.pop_front();
         }
     }
 

@@ -45,6 +45,15 @@ impl Plan {
         }
         Ok(())
     }
+
+    /// What is done next before a turn's first call, or after its last one.
+    pub fn next_inner(&mut self, before: bool) -> Option<Inner> {
+        if before {
+            self.before.pop_front()
+        } else {
+            self.after.pop_front()
+        }
+    }
 }
 
 impl RoundPlan {

@@ -8,7 +8,6 @@ use crate::addresses::route_of;
 use crate::plan::RoundPlan;
 use crate::sizes::Sizes;
 use crate::step::{Outcome, Polled};
-use crate::sweeps::Sweeps;
 use crate::tape::{Tape, at_first};
 use crate::ticks::START;
 use dispatch::{MAX_ACCEPTS, MAX_OWN_TURNS, Part, Route, Unopened};
@@ -17,7 +16,7 @@ use ready::Ticket;
 use std::alloc::{AllocError, Global};
 use std::collections::VecDeque;
 use token::{Name, Side, Token};
-use world::{Change, Event, Listening, Polling, Reported};
+use world::{Change, Event, Lead, Listening, Polling, Reported};
 
 /// The most descriptors that a kernel has: two for each slot.
 const MOST: usize = 128;
@@ -56,7 +55,9 @@ pub struct Station {
     heavy: [u8; 64],
     /// How many connections it may still open.
     left: u64,
-    sweeps: Sweeps,
+    /// The idle limit, 0 for none, and the second of its last sweep, at first that at which the server began.
+    limit: u64,
+    swept: u64,
     poller: usize,
     /// Whether targets get a PROXY line.
     proxy: bool,
@@ -85,17 +86,15 @@ impl Station {
             kernel: Kernel::new(alloc),
             refused: false,
             plan: RoundPlan::new(alloc),
-            tape: Tape::of_listener(alloc, sizes)?,
+            tape: Tape::new(alloc, sizes, Lead::NONE)?,
             free: slots_of(alloc, part)?,
             part,
             hand: VecDeque::new(alloc),
             kept: VecDeque::new(alloc),
             heavy: [0; 64],
             left: sizes.share_of(poller),
-            sweeps: Sweeps {
-                limit: sizes.limits.idle,
-                last: START,
-            },
+            limit: sizes.limits.idle,
+            swept: START,
             poller,
             proxy: sizes.proxy,
             tries: 0,
@@ -222,7 +221,11 @@ impl Station {
 
     /// Whether a sweep is due at this second, which is then the last one.
     pub(crate) fn falls_due(&mut self, second: u64) -> bool {
-        self.sweeps.falls_due(second)
+        let is_due = self.limit > 0 && second.saturating_sub(self.swept) >= self.limit;
+        if is_due {
+            self.swept = second;
+        }
+        is_due
     }
 
     /// Its round does this at the slot of this tape, which may make a ticket.

@@ -38,15 +38,8 @@ impl Tape {
         Tape::new(alloc, sizes, lead)
     }
 
-    /// The opening world of a listener in a server of these sizes.
-    pub(crate) fn of_listener(alloc: Global, sizes: Sizes) -> Result<Tape, AllocError>
-        requires { IsServerSize sizes }
-    {
-        Tape::new(alloc, sizes, Lead::NONE)
-    }
-
     /// The opening world of one slot, with one worker.
-    fn new(alloc: Global, sizes: Sizes, lead: Lead) -> Result<Tape, AllocError>
+    pub(crate) fn new(alloc: Global, sizes: Sizes, lead: Lead) -> Result<Tape, AllocError>
         requires { IsServerSize sizes }
     {
         let limits = Limits {

@@ -11,7 +11,6 @@ const OWN_BUDGET: usize = 8;
 /// Whose step it is.
 #[derive(Clone, Copy)]
 pub enum Thread {
-    Nobody,
     /// This poller's.
     Poller(usize),
     Worker,
@@ -46,27 +45,25 @@ struct Turn {
 }
 
 impl Acting {
-    /// Nothing has been done. A worker has to take this ticket.
-    pub(crate) fn new(thread: Thread, next: Option<Ticket>) -> Acting {
+    /// Nothing has been done.
+    pub(crate) fn new(thread: Thread) -> Acting {
         Acting {
             thread,
-            next,
+            next: None,
             turn: None,
         }
     }
 }
 
 impl Outside {
-    /// A step of this thread begins. Answers what goes on behind it.
-    pub fn enter(&mut self, thread: Thread) -> Acting {
+    /// A step of this thread begins, which has to take the oldest ticket in the queue or not. Answers what goes on behind it.
+    pub fn enter(&mut self, thread: Thread, takes: bool) -> Acting {
         let former = self.acting;
-        self.acting = Acting::new(thread, None);
+        self.acting = Acting::new(thread);
+        if takes {
+            self.acting.next = self.ready.pop_front();
+        }
         former
-    }
-
-    /// The worker whose step it is has to take the oldest ticket in the queue.
-    pub fn take_next(&mut self) {
-        self.acting.next = self.ready.pop_front();
     }
 
     /// The step is over, and what was before it goes on.
