@@ -23,10 +23,6 @@ static CALLS: [Point; 8] = [
     (Side::Client, CallKind::Shut, PlayList::Closings, 0, (3, 2)),
 ];
 
-/// What a session with one play more comes to: it is done, and this is the outcome of its first turn; or it fails at
-/// the call before which the play was put, by this kind.
-type Wanted = Result<Turn, Kind>;
-
 /// What is seen of a session in the end: its first turn and its last, what the pair tells, and on both wires how many
 /// plays are left and how many faults were counted.
 #[derive(Clone, Copy, Debug, PartialEq, Eq)]

@@ -61,13 +61,17 @@ fn a_worker_s_fault_is_told_to_all(rt: HostRuntime) -> Result<(), Fail> {
     let log = Logged::new(&rt, Level::Error, Discard);
     let server = server_without_reports(&rt, rt.alloc(), ErrorKind::Other)?;
     let (shared, mut mine, mut other) = ends_of(server)?;
-    // The first worker's fault goes before, the third worker's does not.
-    for (later, kept) in [(3, ServerFault::Worn), (1, ServerFault::NoMemory)] {
+    // The first worker's fault goes before, a later one of the same thread and the third worker's do not.
+    for (later, kept) in [
+        (3, ServerFault::Worn),
+        (2, ServerFault::Worn),
+        (1, ServerFault::NoMemory),
+    ] {
         let fault = fails_first(&log, rt.alloc(), &shared, &mut mine, later);
         assert_eq!(rt; fault, Some(kept));
     }
     assert_eq!(rt; other.take(&rt), None);
-    assert_eq!(rt; shared.waker.load(SeqCst), 2);
+    assert_eq!(rt; shared.waker.load(SeqCst), 3);
     Ok(())
 }
 
