@@ -13,5 +13,7 @@
 #![tactic(auto)]
 
 mod flow;
+#[cfg(test)]
+mod tests;
 
 pub use flow::Flow;

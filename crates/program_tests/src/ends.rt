@@ -3,10 +3,12 @@
 use std::alloc::{AllocError, Global};
 use std::io::{self, ErrorKind, IsTerminal, Read, Write};
 
-/// A reader over bytes: it hands over the first ones, so many, a byte a read; then it fails once; and then come the rest.
+/// A reader over bytes: it hands them over in pieces of at most so many. In one place it may fail, and
+/// goes on with the rest if it is read again.
 #[derive(Drop)]
 pub(crate) struct Source<'a> {
     rest: &'a [u8],
+    most: usize,
     // The bytes before the read that fails, and its error.
     fault: Option<(usize, ErrorKind)>,
     reads: usize,
@@ -15,18 +17,26 @@ pub(crate) struct Source<'a> {
 impl<'a> Source<'a> {
     /// All bytes, and then the end.
     pub(crate) fn whole(bytes: &'a [u8]) -> Source<'a> {
+        Source::in_pieces(bytes, usize::MAX)
+    }
+
+    /// All bytes, at most so many a read, and then the end.
+    pub(crate) fn in_pieces(bytes: &'a [u8], most: usize) -> Source<'a> {
         Source {
             rest: bytes,
+            most,
             fault: None,
             reads: 0,
         }
     }
 
-    /// A reader that fails behind so many bytes.
+    /// The first bytes, so many, a byte a read; then one error; and then the rest.
     pub(crate) fn failing_once(bytes: &'a [u8], length: usize, kind: ErrorKind) -> Source<'a> {
         Source {
+            rest: bytes,
+            most: 1,
             fault: Some((length, kind)),
-            ..Source::whole(bytes)
+            reads: 0,
         }
     }
 
@@ -39,19 +49,21 @@ impl<'a> Source<'a> {
 impl Read for Source<'_> {
     fn read(&mut self, buffer: &mut [u8]) -> io::Result<usize> {
         self.reads = self.reads.wrapping_add(1);
-        let mut most = buffer.len();
+        let mut most = self.most;
         if let Some((before, kind)) = self.fault {
             if before == 0 {
                 self.fault = None;
                 return Err(io::Error::from(kind));
             }
-            self.fault = Some((before - 1, kind));
-            most = most.min(1);
+            most = most.min(before);
         }
-        let count = self.rest.len().min(most);
+        let count = self.rest.len().min(most).min(buffer.len());
         let (piece, rest) = self.rest.split_at(count);
         buffer[..count].copy_from_slice(piece);
         self.rest = rest;
+        if let Some((before, kind)) = self.fault {
+            self.fault = Some((before.saturating_sub(count), kind));
+        }
         Ok(count)
     }
 }
@@ -62,19 +74,30 @@ impl IsTerminal for Source<'_> {
     }
 }
 
-/// A writer into memory, which it has from the start. It may fail at its flush.
+/// A writer into memory that fails after this many bytes, or at its flush. It has the memory for them from the start.
 #[derive(Drop)]
 pub(crate) struct Sink {
     taken: Vec<u8>,
+    left: usize,
     is_flushed: bool,
 }
 
 impl Sink {
-    /// Takes this many bytes at most.
-    pub(crate) fn new(alloc: Global, length: usize, is_flushed: bool) -> Result<Sink, AllocError> {
+    /// Takes this many bytes, and then fails.
+    pub(crate) fn failing_after(alloc: Global, length: usize) -> Result<Sink, AllocError> {
         Ok(Sink {
             taken: Vec::with_capacity(alloc, length)?,
-            is_flushed,
+            left: length,
+            is_flushed: true,
+        })
+    }
+
+    /// Takes this many bytes, and fails when they are to be flushed.
+    pub(crate) fn failing_at_its_flush(alloc: Global, length: usize) -> Result<Sink, AllocError> {
+        Ok(Sink {
+            taken: Vec::with_capacity(alloc, length)?,
+            left: length,
+            is_flushed: false,
         })
     }
 
@@ -86,8 +109,12 @@ impl Sink {
 
 impl Write for Sink {
     fn write(&mut self, bytes: &[u8]) -> io::Result<usize> {
-        let count = bytes.len().min(self.taken.capacity() - self.taken.len());
+        if self.left == 0 && !bytes.is_empty() {
+            return Err(io::Error::from(ErrorKind::BrokenPipe));
+        }
+        let count = bytes.len().min(self.left);
         self.taken.extend_from_slice(&bytes[..count])?;
+        self.left -= count;
         Ok(count)
     }
 

@@ -1,6 +1,6 @@
 // How a run ends with any reader, writer and server.
 use super::ends::{Sink, Source};
-use program::act;
+use program::{ArgumentsFault, act, report_arguments_fault};
 use relay_log::ServerFault;
 use std::alloc::{AllocError, Global};
 use std::io::ErrorKind;
@@ -31,8 +31,10 @@ impl Run {
             && self.errors.as_slice() == errors
     }
 
+    /// Whether memory ran out, however much the writer took of the line that says so.
     fn is_out_of_memory(&self) -> bool {
-        self.output.as_slice() == b"out of memory\n".as_slice()
+        let output = self.output.as_slice();
+        !output.is_empty() && b"out of memory\n".as_slice().starts_with(output)
             || self.errors.as_slice() == b"relayd: out of memory\n".as_slice()
     }
 }
@@ -82,10 +84,20 @@ fn play(rt: &HostRuntime, line: &str, source: &mut Source<'_>, sink: Sink) -> Re
     }
 }
 
+#[test]
+fn reads_in_small_pieces(rt: HostRuntime) -> Result<(), Fail> {
+    let mut source = Source::in_pieces(SCRIPT, 1);
+    let sink = Sink::failing_after(rt.alloc(), ROOM)?;
+    let run = play(&rt, "relayd", &mut source, sink)?;
+    assert!(rt; run.is(0, REPORT, b""));
+    assert_eq!(rt; source.reads(), SCRIPT.len() + 1);
+    Ok(())
+}
+
 /// A read that fails after so many bytes is reported at once: a byte a read, and none after the one that failed.
 fn reports_a_failed_read(rt: &HostRuntime, length: usize, kind: ErrorKind) -> Result<(), Fail> {
     let mut source = Source::failing_once(SCRIPT, length, kind);
-    let sink = Sink::new(rt.alloc(), ROOM, true)?;
+    let sink = Sink::failing_after(rt.alloc(), ROOM)?;
     let run = play(rt, "relayd", &mut source, sink)?;
     let is_reported = run.is(1, b"", b"relayd: input: cannot be read\n");
     if is_reported && source.reads() == length.saturating_add(1) {
@@ -95,7 +107,6 @@ fn reports_a_failed_read(rt: &HostRuntime, length: usize, kind: ErrorKind) -> Re
     }
 }
 
-// refuses error_told_as_memory: an error of the reader is told as a lack of memory
 // Any error is reported at once, also a signal's, and one that leaves the rest to be read.
 #[test]
 fn a_reader_that_fails(rt: HostRuntime) -> Result<(), Fail> {
@@ -107,19 +118,56 @@ fn a_reader_that_fails(rt: HostRuntime) -> Result<(), Fail> {
     Ok(())
 }
 
-// The flush comes behind the whole output.
-#[test]
-fn a_flush_that_fails(rt: HostRuntime) -> Result<(), Fail> {
-    for line in ["relayd", "relayd --help"] {
-        let sink = Sink::new(rt.alloc(), ROOM, false)?;
-        let run = play(&rt, line, &mut Source::whole(SCRIPT), sink)?;
-        assert_eq!(rt; run.status, 1);
-        assert_eq!(rt;
-            run.errors.as_slice(),
-            b"relayd: output: cannot be written\n".as_slice()
-        );
-        assert!(rt; line != "relayd" || run.output.as_slice() == REPORT);
+/// A failure of the writer is reported, and the output is this.
+fn reports_a_failed_write(
+    rt: &HostRuntime,
+    line: &str,
+    script: &[u8],
+    sink: Sink,
+    output: &[u8],
+) -> Result<(), Fail> {
+    let run = play(rt, line, &mut Source::whole(script), sink)?;
+    if run.is(1, output, b"relayd: output: cannot be written\n") {
+        Ok(())
+    } else {
+        Err(Fail::from("a write or flush that fails is not reported"))
     }
+}
+
+/// The whole output of a command line with a good writer.
+fn whole(rt: &HostRuntime, line: &str, script: &[u8]) -> Result<Vec<u8>, Fail> {
+    let sink = Sink::failing_after(rt.alloc(), ROOM)?;
+    let run = play(rt, line, &mut Source::whole(script), sink)?;
+    if run.status == 0 {
+        Ok(run.output)
+    } else {
+        Err(Fail::from("it fails with a good writer"))
+    }
+}
+
+/// A writer that fails after any front of the output is reported, and what it took stands. Returns the whole output.
+fn reports_failed_writes(rt: &HostRuntime, line: &str, script: &[u8]) -> Result<Vec<u8>, Fail> {
+    let output = whole(rt, line, script)?;
+    for length in 0..output.len() {
+        let sink = Sink::failing_after(rt.alloc(), length)?;
+        let front = output.get(..length).unwrap_or(b"");
+        reports_a_failed_write(rt, line, script, sink, front)?;
+    }
+    Ok(output)
+}
+
+/// The same, and of one that fails at its flush, which comes behind the whole output.
+fn reports_a_failed_writer(rt: &HostRuntime, line: &str, script: &[u8]) -> Result<(), Fail> {
+    let output = reports_failed_writes(rt, line, script)?;
+    let sink = Sink::failing_at_its_flush(rt.alloc(), ROOM)?;
+    reports_a_failed_write(rt, line, script, sink, output.as_slice())
+}
+
+#[test]
+fn a_writer_that_fails(rt: HostRuntime) -> Result<(), Fail> {
+    reports_a_failed_writer(&rt, "relayd", SCRIPT)?;
+    reports_a_failed_writer(&rt, "relayd --help", b"")?;
+    reports_failed_writes(&rt, "relayd sim --each", SCRIPT)?;
     Ok(())
 }
 
@@ -136,10 +184,19 @@ static FAULTS: [(ServerFault, &[u8]); 5] = [
 fn reports_the_fault_of_a_server(rt: HostRuntime) -> Result<(), Fail> {
     let line = "relayd forward 127.0.0.1:0 127.0.0.1:9";
     for (fault, told) in &FAULTS {
-        let sink = Sink::new(rt.alloc(), ROOM, true)?;
+        let sink = Sink::failing_after(rt.alloc(), ROOM)?;
         let run = ran(&rt, line, &mut Source::whole(b""), sink, Err(*fault))?;
         assert_eq!(rt; run.status, 1);
         assert_eq!(rt; run.errors.as_slice(), *told);
     }
+    Ok(())
+}
+
+#[test]
+fn reports_that_arguments_have_no_memory(rt: HostRuntime) -> Result<(), Fail> {
+    let mut errors = Vec::with_capacity(rt.alloc(), ROOM)?;
+    let status = report_arguments_fault(&mut errors, ArgumentsFault::NoMemory);
+    assert_eq!(rt; status, 1);
+    assert_eq!(rt; errors.as_slice(), b"relayd: out of memory\n".as_slice());
     Ok(())
 }

@@ -1,16 +1,131 @@
-// Who is woken. The helpers promise nothing, so that only its run shows what a test asserts.
+// What single calls answer. The threads are in `tests/threads.rt`. The helpers promise nothing, so that only its run shows
+// what a test asserts.
 use super::*;
 use crate::sleeper::Awake;
-use std::alloc::AllocError;
+use std::alloc::{AllocError, Global};
 use std::process::Abort;
 use std::sync::Wait;
 use std::test::Fail;
-use std::thread::{self, JoinHandle, Threads};
+
+mod threads;
 
 const FIRST: Ticket = Ticket {
     slot: 3,
     generation: 1,
 };
+
+const SECOND: Ticket = Ticket {
+    slot: 4,
+    generation: 2,
+};
+
+const THIRD: Ticket = Ticket {
+    slot: 5,
+    generation: 3,
+};
+
+/// What is asked of an end of a queue of tickets.
+#[derive(Clone, Copy)]
+enum Ask {
+    Put(Ticket),
+    TryTake,
+    Take,
+    Close,
+}
+
+/// Of a queue with room for one ticket: the number of an end, what is asked of it, and the ticket that it gives or gives
+/// back.
+static TICKETS: [(usize, Ask, Option<Ticket>); 8] = [
+    (0, Ask::TryTake, None),
+    (0, Ask::Put(FIRST), None),
+    (1, Ask::Put(SECOND), Some(SECOND)),
+    (1, Ask::TryTake, Some(FIRST)),
+    (0, Ask::Put(THIRD), None),
+    (0, Ask::Close, None),
+    (1, Ask::Take, Some(THIRD)),
+    (1, Ask::Take, None),
+];
+
+/// The ticket that an end gives, or gives back.
+fn asked(rt: &impl Wait, end: &mut ReadyQueue, ask: Ask) -> Option<Ticket> {
+    match ask {
+        Ask::Put(ticket) => match end.put(rt, ticket) {
+            Ok(()) => None,
+            Err(Full(ticket)) => Some(ticket),
+        },
+        Ask::TryTake => end.try_take(rt),
+        Ask::Take => end.take(rt),
+        Ask::Close => {
+            end.close();
+            None
+        }
+    }
+}
+
+/// The first row that the ends do not answer so.
+fn first_wrong_ticket(rt: &impl Wait, ends: &mut Vec<ReadyQueue>) -> Option<usize> {
+    for (row, (number, ask, wanted)) in TICKETS.iter().enumerate() {
+        let told = match ends.get_mut(*number) {
+            Some(end) => asked(rt, end, *ask),
+            None => return Some(row),
+        };
+        if told != *wanted {
+            return Some(row);
+        }
+    }
+    None
+}
+
+#[test]
+fn a_full_queue_gives_the_ticket_back(rt: HostRuntime) -> Result<(), Fail> {
+    let mut ends = ReadyQueue::new(rt.alloc(), 1, 2)?;
+    assert_eq!(rt; first_wrong_ticket(&rt, &mut ends), None);
+    Ok(())
+}
+
+/// Of a queue with the free slots 4 to 6: the slot that is given, or none where one is taken, and the slot that comes out
+/// or back.
+static SLOTS: [(Option<usize>, Option<usize>); 7] = [
+    (Some(7), Some(7)),
+    (None, Some(4)),
+    (None, Some(5)),
+    (None, Some(6)),
+    (None, None),
+    (Some(1), None),
+    (None, Some(1)),
+];
+
+/// The slot that an end gives, or gives back.
+fn exchanged(rt: &impl Wait, end: &mut FreeQueue, given: Option<usize>) -> Option<usize> {
+    match given {
+        Some(slot) => match end.give(rt, slot) {
+            Ok(()) => None,
+            Err(Full(slot)) => Some(slot),
+        },
+        None => end.try_take(rt),
+    }
+}
+
+/// The first row that the first of the ends does not answer so.
+fn first_wrong_slot(rt: &impl Wait, ends: &mut Vec<FreeQueue>) -> Option<usize> {
+    for (row, (given, wanted)) in SLOTS.iter().enumerate() {
+        let told = match ends.first_mut() {
+            Some(end) => exchanged(rt, end, *given),
+            None => return Some(row),
+        };
+        if told != *wanted {
+            return Some(row);
+        }
+    }
+    None
+}
+
+#[test]
+fn free_slots_come_in_order(rt: HostRuntime) -> Result<(), Fail> {
+    let mut ends = FreeQueue::new(&rt, rt.alloc(), 4, 3, 1)?;
+    assert_eq!(rt; first_wrong_slot(&rt, &mut ends), None);
+    Ok(())
+}
 
 /// Two ends of a queue.
 #[derive(Drop)]
@@ -154,64 +269,5 @@ fn a_wake_is_for_one_end_and_a_close_for_all(rt: HostRuntime) -> Result<(), Fail
     assert_eq!(rt; ends.len(), 32);
     assert_eq!(rt; first_unwoken(&rt, &ends), None);
     close(&rt, &ends);
-    Ok(())
-}
-
-/// Whether an end takes the ticket that it puts.
-fn takes_back(rt: &impl Wait, end: &mut ReadyQueue) -> bool {
-    end.put(rt, FIRST).is_ok() && end.take(rt) == Some(FIRST)
-}
-
-/// A thread that takes twice.
-fn twice<R: Threads + Wait + Copy + Send + 'static>(
-    rt: R,
-    mut end: ReadyQueue,
-) -> Result<JoinHandle<(Option<Ticket>, Option<Ticket>)>, AllocError> {
-    match thread::spawn(&rt, move || (end.take(&rt), end.take(&rt))) {
-        Ok(taker) => Ok(taker),
-        Err(_) => Err(AllocError),
-    }
-}
-
-/// Returns once an end has announced that it is idle.
-fn wait_for_idle(rt: &impl Wait, end: &ReadyQueue) {
-    for _ in rt.forever() {
-        if end.idle().count() > 0 {
-            break;
-        }
-        thread::yield_now();
-    }
-}
-
-/// Whether one end is idle all the time. An end that looks again and again in place of sleeping is not idle in between.
-fn stays_idle(end: &ReadyQueue) -> bool {
-    for _ in 0..1000 {
-        if end.idle().count() != 1 {
-            return false;
-        }
-        thread::yield_now();
-    }
-    true
-}
-
-/// Waits for an end that sleeps, puts a ticket for it, and waits until it sleeps again. Answers whether it slept until the
-/// ticket was put.
-fn wakes_once(rt: &impl Wait, end: &mut ReadyQueue) -> bool {
-    wait_for_idle(rt, end);
-    let slept = stays_idle(end);
-    let put = end.put(rt, FIRST).is_ok();
-    wait_for_idle(rt, end);
-    slept && put
-}
-
-#[test]
-fn a_parked_end_is_woken(rt: HostRuntime) -> Result<(), Fail> {
-    let Pair { mut one, mut other } = last_two(ReadyQueue::new(rt.alloc(), 1, 2)?)?;
-    // An end that has put a ticket and taken it back sleeps and is woken like any other.
-    assert!(rt; takes_back(&rt, &mut one));
-    let taking = twice(rt, one)?;
-    assert!(rt; wakes_once(&rt, &mut other));
-    other.close();
-    assert_eq!(rt; taking.join(&rt), (Some(FIRST), None));
     Ok(())
 }

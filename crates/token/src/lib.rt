@@ -12,6 +12,8 @@ mod kind;
 mod limits;
 mod name;
 mod side;
+#[cfg(test)]
+mod tests;
 mod token;
 
 pub use direction::Direction;
