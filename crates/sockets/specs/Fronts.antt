@@ -1,5 +1,8 @@
 -- Where a server listens, and what is reported. Part of the promises.
-use Rattle.std.specs.Prelude.{◌≡◌, ℕ, Bool, true, false, ◌||◌, List, map, Option, Some, None}
+use Rattle.std.specs.Prelude.{◌≡◌, ◌≢◌, ℕ, Bool, true, false, ◌||◌, List, map, Option, Some, None, Result, Ok, Err}
+use Rattle.std.specs.IoError.{error_kind}
+use Rattle.std.specs.declared.io.Error.{Error}
+use Rattle.std.specs.declared.io.ErrorKind.TheVariants.{Interrupted}
 use Rattle.std.specs.declared.net.SocketAddr.{SocketAddr}
 use Rattle.std.specs.declared.net.SocketAddr.TheVariants.{V4, V6}
 use Rattle.std.specs.declared.net.SocketAddrV4.{SocketAddrV4}
@@ -19,10 +22,16 @@ numbers events = map (λ (event : Event). (event_token event).0) events
 abbrev pub names_reading : Event → Bool
 names_reading event = is_readable event || (is_error event || (is_read_closed event || is_write_closed event))
 
--- how a front's connections are forwarded, and the numbers that its last poll was told
+-- a wait for reports failed, and not by a signal (epoll_wait(2))
+abbrev pub Fails : Result (Unit {0}) Error → Type 0
+Fails (Ok done) = ⊥
+Fails (Err error) = error_kind error ≢ Interrupted
+
+-- how a front's connections are forwarded, the numbers that its last poll was told, and whether that failed
 pub record Watched : Type 0 where
   pub forwarding : Forwarding
   pub reported : List ℕ
+  pub failed : Bool
 
 -- a socket that listens: the address that the system was asked for, and the one that it told, which has its port where
 -- any port was asked for
