@@ -1,5 +1,5 @@
 -- Connections that are opened one after the other.
-use Rattle.std.proofs.Common.{◌≡◌, ◌≢◌, ◌⊎◌, ℕ, ◌+◌, ◌-◌, ◌≤◌, List, [], ◌∷◌, ◌++◌, length, drop, slice_get, slice_set, min, cond, Bool, refl, sym, subst, ap, ◌∙◌, arith, inl, inr, append_assoc, length-append}
+use Rattle.std.proofs.Common.{◌≡◌, ◌≢◌, ◌⊎◌, ℕ, ◌+◌, ◌*◌, ◌-◌, ◌≤◌, List, [], ◌∷◌, ◌++◌, length, drop, slice_get, slice_set, min, cond, Bool, refl, sym, subst, ap, ◌∙◌, arith, inl, inr, append_assoc, length-append}
 use Rattle.std.specs.Prelude.{◌==◌, Some, None, Result, Ok, Err, OnOk, map}
 use Rattle.std.proofs.lemmas.List.{append-nil}
 use Rattle.std.proofs.lemmas.List.Sums.{sum_by-append}
@@ -85,8 +85,10 @@ slots_both a b c xs ys ls ms one two slot =
 
 module _ {p q r : PollerState} {a b c : Own} where
   -- connections, and then others
-  pub connected_both : (xs ys : List Ticket) (ls ms : List ℕ) → Connected xs ls p q a b → Connected ys ms q r b c → Connected (xs ++ ys) (ls ++ ms) p r a c
-  connected_both xs ys ls ms one two = record {
+  pub connected_both : (xs ys : List Ticket) (ls ms : List ℕ) (h k : ℕ) → Connected xs ls h p q a b → Connected ys ms k q r b c → Connected (xs ++ ys) (ls ++ ms) (h + k) p r a c
+  connected_both xs ys ls ms h k one two = record {
+    some = (let first = one.some in let second = two.some in let both = length-append ls ms in omega arith);
+    exchanges = (let first = one.exchanges in let second = two.exchanges in let both = length-append xs ys in omega arith);
     table = opened-append xs ys p.table q.table r.table one.table two.table;
     counted = subst (λ (n : ℕ). Counted p.opened n r.opened) (sym (length-append xs ys))
         (counted_both 18446744073709551615 p.opened q.opened r.opened (length xs) (length ys) one.counted two.counted);
@@ -106,7 +108,8 @@ module _ {p q r : PollerState} {a b c : Own} where
   accept_both one two = record {
     opened = one.opened ++ two.opened;
     lost = one.lost ++ two.lost;
-    connected = connected_both one.opened two.opened one.lost two.lost one.connected two.connected;
+    held = one.held + two.held;
+    connected = connected_both one.opened two.opened one.lost two.lost one.held two.held one.connected two.connected;
     slots = slots_both a b c one.opened two.opened one.lost two.lost one.slots two.slots;
   }
 
@@ -126,7 +129,10 @@ pub accept_took : (p q : PollerState) (a b : Own) → SamePoller p q → OnlyToo
 accept_took p q a b same took = record {
   opened = [];
   lost = [];
+  held = 0;
   connected = record {
+    some = omega arith;
+    exchanges = (let still : b.seat.steps ≡ a.seat.steps = ap (λ (s : SeatState). s.steps) took.seat in omega arith);
     table = same.table;
     counted = counted_same p.opened q.opened same.opened;
     unused = counted_same p.lost q.lost same.lost;
@@ -188,8 +194,10 @@ module _ (p q : PollerState) (a : Own) (hand : HandState) (taken : hand ≡ reco
   at_is_times s t slot here = ap (λ (i : ℕ). 0 + cond (i == s) 1 0) here
 
   -- that the slot was taken in hand changes nothing that a connection says
-  from_hand : (ts : List Ticket) (ls : List ℕ) (b : Own) → Connected ts ls p q (record a { hand = hand }) b → Connected ts ls p q a b
-  from_hand ts ls b one = record {
+  from_hand : (ts : List Ticket) (ls : List ℕ) (h : ℕ) (b : Own) → Connected ts ls h p q (record a { hand = hand }) b → Connected ts ls h p q a b
+  from_hand ts ls h b one = record {
+    some = one.some;
+    exchanges = one.exchanges;
     table = one.table;
     counted = one.counted;
     unused = one.unused;
@@ -208,7 +216,10 @@ module _ (p q : PollerState) (a : Own) (hand : HandState) (taken : hand ≡ reco
     opened_never lost = record {
       opened = [];
       lost = slot ∷ [];
+      held = 0;
       connected = record {
+        some = omega arith;
+        exchanges = omega arith;
         table = ap (λ (s : PollerState). s.table) lost;
         counted = counted_same p.opened q.opened (ap (λ (s : PollerState). s.opened) lost);
         unused = counted_one 18446744073709551615 p.lost q.lost (ap (λ (s : PollerState). s.lost) lost);
@@ -227,8 +238,8 @@ module _ (p q : PollerState) (a : Own) (hand : HandState) (taken : hand ≡ reco
     }
 
     -- its opening failed, and it is in hand again
-    pub opened_not : (kept : HandState) → kept ≡ record hand { slots = hand.slots ++ slot ∷ [] } → q ≡ p → AcceptDone p q a (record a { hand = kept })
-    opened_not kept again still = subst (λ (s : PollerState). AcceptDone p s a (record a { hand = kept })) (sym still) (accept_took p p a (record a { hand = kept }) (record { table = refl; opened = refl; lost = refl; batch = refl; part = refl }) (record {
+    pub opened_not : (kept : HandState) → kept ≡ record hand { slots = hand.slots ++ slot ∷ [] } → SamePoller p q → AcceptDone p q a (record a { hand = kept })
+    opened_not kept again still = accept_took p q a (record a { hand = kept }) still (record {
       seat = refl;
       ready = refl;
       tickets = ap (λ (h : HandState). h.tickets) again ∙ ap (λ (h : HandState). h.tickets) taken;
@@ -239,7 +250,7 @@ module _ (p q : PollerState) (a : Own) (hand : HandState) (taken : hand ≡ reco
           let now : times s kept.slots ≡ times s hand.slots + times s (slot ∷ []) = ap (λ (h : HandState). times s h.slots) again ∙ times-append s hand.slots (slot ∷ []) in
           let first = times_first s a.hand.slots slot is in
           omega arith);
-    }))
+    })
 
     slot_left : (s : ℕ) (b : Own) → b.free ≡ a.free → b.hand.slots ≡ hand.slots
         → times s (slots_in b) + times s a.hand.slots ≡ times s (slots_in a) + (times s b.hand.slots + times s (slot ∷ []))
@@ -250,12 +261,13 @@ module _ (p q : PollerState) (a : Own) (hand : HandState) (taken : hand ≡ reco
         omega arith
 
     there : (b : Own) (t : Ticket) → t.slot ≡ slot
-        → Connected (t ∷ []) [] p q (record a { hand = hand }) b ⊎ Connected [] (t.slot ∷ []) p q (record a { hand = hand }) b
+        → Connected (t ∷ []) [] 0 p q (record a { hand = hand }) b ⊎ Connected [] (t.slot ∷ []) 1 p q (record a { hand = hand }) b
         → b.free ≡ a.free → b.hand.slots ≡ hand.slots → AcceptDone p q a b
     there b t here (inl one) free slots = record {
       opened = t ∷ [];
       lost = [];
-      connected = from_hand (t ∷ []) [] b one;
+      held = 0;
+      connected = from_hand (t ∷ []) [] 0 b one;
       slots = λ s.
           (let counted = slot_left s b free slots in
           let same : at_slot s (t ∷ []) ≡ times s (slot ∷ []) = at_is_times s t slot here in
@@ -264,7 +276,8 @@ module _ (p q : PollerState) (a : Own) (hand : HandState) (taken : hand ≡ reco
     there b t here (inr none) free slots = record {
       opened = [];
       lost = t.slot ∷ [];
-      connected = from_hand [] (t.slot ∷ []) b none;
+      held = 1;
+      connected = from_hand [] (t.slot ∷ []) 1 b none;
       slots = λ s.
           (let counted = slot_left s b free slots in
           let same : times s (t.slot ∷ []) ≡ times s (slot ∷ []) = ap (λ (i : ℕ). times s (i ∷ [])) here in
@@ -273,10 +286,10 @@ module _ (p q : PollerState) (a : Own) (hand : HandState) (taken : hand ≡ reco
 
     -- a connection was placed in it, or it is no longer used
     pub opened_there : (s : PollerState) (b : Own) (t : Ticket) → s ≡ p → t.slot ≡ slot
-        → Connected (t ∷ []) [] s q (record a { hand = hand }) b ⊎ Connected [] (t.slot ∷ []) s q (record a { hand = hand }) b
+        → Connected (t ∷ []) [] 0 s q (record a { hand = hand }) b ⊎ Connected [] (t.slot ∷ []) 1 s q (record a { hand = hand }) b
         → b.free ≡ a.free → b.hand.slots ≡ hand.slots → AcceptDone p q a b
     opened_there s b t still here placed free slots =
-        there b t here (subst (λ (x : PollerState). Connected (t ∷ []) [] x q (record a { hand = hand }) b ⊎ Connected [] (t.slot ∷ []) x q (record a { hand = hand }) b) still placed) free slots
+        there b t here (subst (λ (x : PollerState). Connected (t ∷ []) [] 0 x q (record a { hand = hand }) b ⊎ Connected [] (t.slot ∷ []) 1 x q (record a { hand = hand }) b) still placed) free slots
 
 -- three clauses of a call that answered Ok give a fourth
 pub on_ok : {T E A B C D : Type 0} (r : Result T E) → (A → B → C → D) → OnOk r A → OnOk r B → OnOk r C → OnOk r D
@@ -286,6 +299,16 @@ on_ok (Err e) f a b c = tt
 -- nothing was opened, and nothing was taken
 pub accept_none : (p q : PollerState) (a : Own) → SamePoller p q → AcceptDone p q a a
 accept_none p q a same = accept_took p q a a same (took_none a)
+
+-- a connection was closed unopened
+pub same_dropped : (p r q : PollerState) (dropped : ℕ) → r ≡ p → q ≡ record r { dropped = dropped } → SamePoller p q
+same_dropped p r q dropped one two = record {
+  table = ap (λ (s : PollerState). s.table) two ∙ ap (λ (s : PollerState). s.table) one;
+  opened = ap (λ (s : PollerState). s.opened) two ∙ ap (λ (s : PollerState). s.opened) one;
+  lost = ap (λ (s : PollerState). s.lost) two ∙ ap (λ (s : PollerState). s.lost) one;
+  batch = ap (λ (s : PollerState). s.batch) two ∙ ap (λ (s : PollerState). s.batch) one;
+  part = ap (λ (s : PollerState). s.part) two ∙ ap (λ (s : PollerState). s.part) one;
+}
 
 -- the flags and the tries are no matter of the connections
 pub same_two : (p a q : PollerState) (tries : ℕ) (accepting starved : Bool)
@@ -321,7 +344,7 @@ room_left try a b c took one room = let same = room_same a b took in omega arith
 
 -- what trying accept(2) may change of what the poller keeps
 abbrev tried : PollerState → PollerState → PollerState
-tried p q = record p { table = q.table; accepting = q.accepting; starved = q.starved; tries = q.tries; opened = q.opened; lost = q.lost }
+tried p q = record p { table = q.table; accepting = q.accepting; starved = q.starved; tries = q.tries; opened = q.opened; dropped = q.dropped; lost = q.lost }
 
 pub accept_again : (p q r : PollerState) → q ≡ tried p q → r ≡ tried q r → r ≡ tried p r
 accept_again p q r one two = two ∙ ap (λ (s : PollerState). tried s r) one
@@ -334,7 +357,7 @@ pub accept_refused : (p a q : PollerState) (tries : ℕ) (accepting starved : Bo
 accept_refused p a q tries accepting starved one two =
     accept_again p a q (accept_still p a tries one) (subst (λ (s : PollerState). s ≡ tried a s) (sym two) refl)
 
-pub accept_opened : (p a q : PollerState) (tries : ℕ) (starved : Bool) (table : List ℕ) (opened lost : ℕ)
-    → a ≡ record p { tries = tries; starved = starved } → q ≡ record a { table = table; opened = opened; lost = lost } → q ≡ tried p q
-accept_opened p a q tries starved table opened lost one two =
+pub accept_opened : (p a q : PollerState) (tries : ℕ) (starved : Bool) (table : List ℕ) (opened dropped lost : ℕ)
+    → a ≡ record p { tries = tries; starved = starved } → q ≡ record a { table = table; opened = opened; dropped = dropped; lost = lost } → q ≡ tried p q
+accept_opened p a q tries starved table opened dropped lost one two =
     accept_again p a q (subst (λ (s : PollerState). s ≡ tried p s) (sym one) refl) (subst (λ (s : PollerState). s ≡ tried a s) (sym two) refl)

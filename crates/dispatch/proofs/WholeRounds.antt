@@ -1,6 +1,6 @@
 -- A round, of its parts: the tickets in hand were put, the reports were delivered, a sweep was made or none, and connections
 -- were opened.
-use Rattle.std.proofs.Common.{◌≡◌, ℕ, ◌+◌, List, [], ◌++◌, length, refl, sym, subst, ap, ◌∙◌, arith, append_assoc}
+use Rattle.std.proofs.Common.{◌≡◌, ℕ, ◌+◌, ◌*◌, List, [], ◌++◌, length, refl, sym, subst, ap, ◌∙◌, arith, append_assoc}
 use Rattle.std.specs.Prelude.{map}
 use Rattle.claims.specs.declared.view.Account.{Account}
 use Rattle.claims.specs.Seats.{SeatState, account_at}
@@ -48,7 +48,7 @@ begun_is same = record {
   swept = ap (λ (s : PollerState). s.swept) same;
 }
 
-pub looked_is : {p q r : PollerState} → q ≡ record p { batch = [] } → r ≡ record q { reported = r.reported; batch = r.batch } → SameTable p r
+pub looked_is : {p q r : PollerState} → q ≡ record p { batch = [] } → r ≡ record q { reported = r.reported; failed = r.failed; batch = r.batch } → SameTable p r
 looked_is begun looked = record {
   table = ap (λ (s : PollerState). s.table) looked ∙ ap (λ (s : PollerState). s.table) begun;
   opened = ap (λ (s : PollerState). s.opened) looked ∙ ap (λ (s : PollerState). s.opened) begun;
@@ -114,12 +114,25 @@ module _ (p q r v t : PollerState) (a z b c d e : Own) (begun : SameTable p q) (
       let counted = accepted.slots slot in
       omega arith
 
+  exchanges_are : e.seat.steps ≡ a.seat.steps + (length (all_reported p.table t.batch) + length (sweep_of p t) + (4 * length accepted.opened + accepted.held))
+  exchanges_are =
+      let reports = delivered.exchanges in
+      let posts = posted.exchanges in
+      let opens = accepted.connected.exchanges in
+      let before : b.seat.steps ≡ a.seat.steps = ap (λ (s : SeatState). s.steps) (took.seat ∙ put.seat) in
+      let same : length (all_reported p.table t.batch) ≡ length (all_reported q.table q.batch) = ap (λ (ts : List Ticket). length ts) reported_is in
+      let swept_same : length (sweep_of p t) ≡ length (sweep_of r v) = ap (λ (ts : List Ticket). length ts) sweep_is in
+      omega arith
+
   pub round_of : RoundDone p t a e
   round_of = record {
     woke = delivered.woke;
     roused = posted.woke;
     opened = accepted.opened;
     lost = accepted.lost;
+    held = accepted.held;
+    some = accepted.connected.some;
+    exchanges = exchanges_are;
     in_order = subst (λ (ts : List Ticket). IsSubsequence delivered.woke ts) (sym reported_is) delivered.in_order;
     roused_in_order = subst (λ (ts : List Ticket). IsSubsequence posted.woke ts) (sym sweep_is) posted.in_order;
     accounts = accounts_are;

@@ -1,12 +1,12 @@
 -- What accepting and opening connections does to what the poller's thread owns. Part of the promises.
-use Rattle.std.specs.Prelude.{◌≡◌, ℕ, ◌+◌, ◌==◌, List, [], ◌∷◌, ◌++◌, length, map, slice_index, slice_set}
+use Rattle.std.specs.Prelude.{◌≡◌, ◌⊎◌, ℕ, ◌+◌, ◌*◌, ◌≤◌, ◌==◌, List, [], ◌∷◌, ◌++◌, length, map, slice_index, slice_set}
 use Rattle.std.specs.List.{count_by}
-use Rattle.claims.specs.Seats.{SeatState, TableId, account_at, HoldsNothing}
+use Rattle.claims.specs.Seats.{SeatState, TableId, account_at, HoldsNothing, one_step_later}
 use Rattle.ready.specs.declared.ticket.Ticket.{Ticket}
 use Rattle.dispatch.specs.declared.shared.Own.{Own}
 use Rattle.dispatch.specs.Deliveries.{at_slot}
 use Rattle.dispatch.specs.Hands.{HandState}
-use Rattle.dispatch.specs.Polls.{PollerState, Counted, IsIn}
+use Rattle.dispatch.specs.Polls.{PollerState, Counted, counted_up, IsIn}
 use Rattle.dispatch.specs.declared.part.Part.{Part}
 use Rattle.dispatch.specs.Turns.{Rose}
 
@@ -55,11 +55,14 @@ pub record Started (ticket : Ticket) (old new : SeatState) (had has : HandState)
   pub hand : has ≡ record had { tickets = had.tickets ++ ticket ∷ [] }
 
 -- These connections were opened in the poller's own slots, each with the next generation of its slot, with one note and with one
--- ticket, which is in hand behind the others. And these slots are no longer used
-pub record Connected (opened : List Ticket) (lost : List ℕ) (old new : PollerState) (had has : Own) : Type 0 where
+-- ticket, which is in hand behind the others. And these slots are no longer used, so many of which were found not to be free. An opening
+-- makes four exchanges: adopt, take, post, release; a slot that is not free is found by one
+pub record Connected (opened : List Ticket) (lost : List ℕ) (held : ℕ) (old new : PollerState) (had has : Own) : Type 0 where
   pub table : AreOpened old.table opened new.table
   pub counted : Counted old.opened (length opened) new.opened
   pub unused : Counted old.lost (length lost) new.lost
+  pub some : held ≤ length lost
+  pub exchanges : has.seat.steps ≡ had.seat.steps + (4 * length opened + held)
   pub batch : new.batch ≡ old.batch
   pub part : new.part ≡ old.part
   pub own : AreIn old.part opened
@@ -68,10 +71,30 @@ pub record Connected (opened : List Ticket) (lost : List ℕ) (old new : PollerS
   pub ready : has.ready ≡ had.ready
   pub gave : has.free.history.put ≡ had.free.history.put
 
+-- What became of an accepted connection, as it counts: it was opened, or closed unopened with a line that says why, or its slot is no
+-- longer used
+abbrev pub IsOpened : PollerState → PollerState → Type 0
+IsOpened old new = (new.opened ≡ counted_up old.opened 1) × (new.dropped ≡ old.dropped) × (new.lost ≡ old.lost)
+
+abbrev pub IsDropped : PollerState → PollerState → Type 0
+IsDropped old new = (new.opened ≡ old.opened) × (new.dropped ≡ counted_up old.dropped 1) × (new.lost ≡ old.lost)
+
+abbrev pub IsLost : PollerState → PollerState → Type 0
+IsLost old new = (new.opened ≡ old.opened) × (new.dropped ≡ old.dropped) × (new.lost ≡ counted_up old.lost 1)
+
+-- no connection can be opened in this slot: it is another poller's, or the table or the names lack it, or its generation is the last
+abbrev pub IsSpent : PollerState → ℕ → Type 0
+IsSpent p slot = (IsIn p.part slot → ⊥) ⊎ ((length p.table ≤ slot) ⊎ ((32768 ≤ slot) ⊎ (slice_index p.table slot ≡ 140737488355327)))
+
+-- why a slot is lost: it is spent, or one exchange found that it is not free
+abbrev pub LostFor : PollerState → ℕ → SeatState → SeatState → Type 0
+LostFor p slot old new = IsSpent p slot ⊎ (new ≡ one_step_later old)
+
 -- What accepting did: connections were opened, and each slot that was taken was opened, or is in hand, or is no longer used. A
 -- connection whose opening failed leaves its slot in hand
 pub record AcceptDone (old new : PollerState) (had has : Own) : Type 0 where
   pub opened : List Ticket
   pub lost : List ℕ
-  pub connected : Connected opened lost old new had has
+  pub held : ℕ
+  pub connected : Connected opened lost held old new had has
   pub slots : SlotsCounted had has opened lost

@@ -10,13 +10,14 @@ pub record IsIn (part : Part) (slot : ℕ) : Type 0 where
   pub least : part.first ≤ slot
   pub most : slot < part.first + part.slots
 
--- What the front reported at the last wait, each slot's generation, the reports that this round delivers, the accept flag (whether a
+-- What the front reported at the last wait, whether that failed, each slot's generation, the reports that this round delivers, the accept flag (whether a
 -- connection may wait to be accepted), whether accept(2) was starved at its last answer, how many tries of it the last round left,
 -- what connections are opened with, the slots in which it opens them, each slot's heavy mark (how many of its next tickets are for the
--- workers), how many it may open in all and how many it has opened, how many slots it no longer uses, the second of the last round, that
--- of the last sweep (at first, that at which it began), and whether it is over
+-- workers), how many it may open in all, how many it has opened and how many it has closed unopened, how many slots it no longer uses,
+-- the second of the last round, that of the last sweep (at first, that at which it began), and whether it is over
 pub record PollerState : Type 0 where
   pub reported : List ℕ
+  pub failed : Bool
   pub table : List ℕ
   pub batch : List ℕ
   pub accepting : Bool
@@ -27,6 +28,7 @@ pub record PollerState : Type 0 where
   pub heavy : List ℕ
   pub most : ℕ
   pub opened : ℕ
+  pub dropped : ℕ
   pub lost : ℕ
   pub second : ℕ
   pub swept : ℕ

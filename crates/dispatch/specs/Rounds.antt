@@ -1,5 +1,5 @@
 -- What a round of the poller does. Part of the promises.
-use Rattle.std.specs.Prelude.{◌≡◌, ◌⊎◌, ℕ, ◌+◌, ◌<◌, ◌≤◌, true, false, List, [], ◌++◌, length}
+use Rattle.std.specs.Prelude.{◌≡◌, ◌⊎◌, ℕ, ◌+◌, ◌*◌, ◌<◌, ◌≤◌, true, false, List, [], ◌++◌, length}
 use Rattle.claims.specs.Seats.{account_at}
 use Rattle.ready.specs.declared.ticket.Ticket.{Ticket}
 use Rattle.ready.specs.Steps.{HeldOnce}
@@ -15,16 +15,19 @@ use Rattle.dispatch.specs.Turns.{Rose}
 -- The reports of the batch were delivered: each that is for a connection was posted at its slot, and those that woke made their
 -- tickets. Then came the posts of a sweep, if one was made, and those that woke made theirs. Then connections were opened, each with
 -- one post and one ticket at its slot. All tickets that were to be put before, then those of the reports, of the sweep and of the
--- openings are put or in hand, in this order. Each slot that was taken was opened, or is in hand, or is no longer used. Nothing was
--- posted or opened at a slot of another poller
+-- openings are put or in hand, in this order. Each slot that was taken was opened, or is in hand, or is no longer used. A post makes one
+-- exchange and an opening four, and one more found each slot that was held. Nothing was posted or opened at a slot of another poller
 pub record RoundDone (old new : PollerState) (had has : Own) : Type 0 where
   pub woke : List Ticket
   pub roused : List Ticket
   pub opened : List Ticket
   pub lost : List ℕ
+  pub held : ℕ
   pub in_order : IsSubsequence woke (all_reported old.table new.batch)
   pub roused_in_order : IsSubsequence roused (sweep_of old new)
   pub accounts : (slot : ℕ) → Rose (at_slot slot (all_reported old.table new.batch) + (at_slot slot (sweep_of old new) + at_slot slot opened)) (at_slot slot woke + (at_slot slot roused + at_slot slot opened)) (account_at had.seat slot) (account_at has.seat slot)
+  pub some : held ≤ length lost
+  pub exchanges : has.seat.steps ≡ had.seat.steps + (length (all_reported old.table new.batch) + length (sweep_of old new) + (4 * length opened + held))
   pub part : new.part ≡ old.part
   pub own_reports : AreIn old.part (all_reported old.table new.batch)
   pub own_sweep : AreIn old.part (sweep_of old new)

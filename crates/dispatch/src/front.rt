@@ -1,4 +1,6 @@
-ghost use Rattle.std.specs.Prelude.{◌≡◌, ◌≤◌, ℕ, List, [], IfOk, OnErr, vec_len, vec_capacity};
+ghost use Rattle.std.specs.Prelude.{◌≡◌, ◌≢◌, ◌≤◌, ℕ, Bool, true, List, [], IfOk, IfErr, OnErr, vec_len, vec_capacity};
+ghost use Rattle.std.specs.IoError.{error_kind};
+ghost use Rattle.std.specs.declared.io.ErrorKind.TheVariants.{Interrupted};
 
 use crate::limits::MAX_BATCH;
 use crate::route::Route;
@@ -60,6 +62,9 @@ pub trait Front {
     // The numbers that the last wait for reports gave.
     ghost reported: { Self → List ℕ };
 
+    // Whether the last wait for reports failed, and not by a signal, if it says so.
+    ghost failed: { Self → Bool } = { λ _. true };
+
     // Which addresses it may tell of a client's connection, if it says so.
     ghost may_tell: { Self.Client → Route → Type 0 } = { λ _ _. Unit {0} };
 
@@ -79,11 +84,13 @@ pub trait Front {
         ensures most { vec_len batch.new ≤ MAX_BATCH }
         ensures capacity { vec_capacity batch.new ≡ vec_capacity batch.old }
         ensures reported { batch.new.items ≡ reported self.new }
-        ensures failed { OnErr result (batch.new.items ≡ []) };
+        ensures failed { OnErr result (batch.new.items ≡ []) }
+        ensures fault { IfErr result (λ error. error_kind error ≢ Interrupted → failed self.new ≡ true) };
 
     /// The next connection that waits (accept(2)).
     fn accept(&mut self) -> io::Result<Self::Client>
-        ensures reported { reported self.new ≡ reported self.old };
+        ensures reported { reported self.new ≡ reported self.old }
+        ensures failed { failed self.new ≡ failed self.old };
 
     /// Starts the connection to the target (connect(2)), and has both sockets reported for reading and writing, each
     /// under its token. It tells the addresses of the client's connection, if it is to tell them. After an error no target is
@@ -98,7 +105,8 @@ pub trait Front {
     ) -> Result<Opened<Self::Target>, Unopened>
         ensures told { IfOk result (λ opened. may_tell client.old opened.route) }
         ensures same { Self.Client.told client.new ≡ Self.Client.told client.old }
-        ensures reported { reported self.new ≡ reported self.old };
+        ensures reported { reported self.new ≡ reported self.old }
+        ensures failed { failed self.new ≡ failed self.old };
 
     /// Ends the wait in progress of the thread that opens this slot, or else its next one, which then reports the waker's
     /// number, 1.

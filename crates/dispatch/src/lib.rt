@@ -22,6 +22,7 @@
 mod accepting;
 mod clock;
 mod delivering;
+mod dropping;
 mod front;
 mod gate;
 mod hand;

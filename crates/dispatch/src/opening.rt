@@ -1,15 +1,16 @@
 //! Opens an accepted connection, in the order in which it happens: a free slot, the names of the slot's next
 //! connection, the connection to the target, what the target is sent first, the pair, the place, and the one note that
 //! starts it.
-ghost use Rattle.std.specs.Prelude.{◌≡◌, ◌≢◌, ◌⊎◌, ◌+◌, ◌<◌, ◌≤◌, [], ◌∷◌, ◌++◌, length, Err, Some, None, IfOk, IfErr, OnOk, OnSome, IfSome, IsNone, slice_index};
-ghost use Rattle.claims.specs.Seats.{account_at, HoldsNothing, OnlyAt};
+ghost use Rattle.std.specs.Prelude.{◌≡◌, ◌≢◌, ◌⊎◌, ◌+◌, ◌<◌, ◌≤◌, [], ◌∷◌, ◌++◌, length, Err, Some, None, IfOk, IfErr, OnOk, OnErr, OnSome, IfSome, IsNone, slice_get, slice_index};
+ghost use Rattle.claims.specs.Seats.{account_at, HoldsNothing, OnlyAt, one_step_later};
 ghost use Rattle.relay_core.specs.Pairs.{fresh};
 ghost use Rattle.dispatch.specs.Turns.{HoldsOnly, OnlyWorn, Released as ReleasedHere};
 ghost use Rattle.dispatch.specs.Hands.{ticket_room};
 ghost use Rattle.dispatch.specs.Leads.{LeadTold};
-ghost use Rattle.dispatch.specs.Openings.{Between, Started, Connected, AcceptDone};
+ghost use Rattle.dispatch.specs.Openings.{Between, Started, Connected, AcceptDone, IsOpened, IsDropped, IsLost, LostFor};
 ghost use Rattle.dispatch.specs.Polls.{AreGenerations, IsIn};
 
+use crate::dropping::Dropped;
 use crate::front::{Front, Opened};
 use crate::hand::Hand;
 use crate::poller::Poller;
@@ -19,7 +20,7 @@ use claims::{Adopted, Posted, Released};
 use log::Log;
 use ready::Ticket;
 use relay_core::Pair;
-use relay_log::{Cause, ServerFault, log_drop, log_open, log_peer};
+use relay_log::{Cause, ServerFault, log_open, log_peer};
 use std::alloc::Global;
 use std::sync::Wait;
 use token::{Side, Token, next_gen};
@@ -48,11 +49,13 @@ pub(crate) fn open<F: Front, R: Wait + Log>(
 ) -> Result<(), ServerFault>
     requires between { Between shared.now.claims own.old poller.old }
     requires room { 1 ≤ ticket_room own.old.hand }
+    requires slot { 1 ≤ length own.old.hand.slots }
     ensures between { Between shared.now.claims own.new poller.new }
     ensures worn { IfErr result (λ fault. OnlyWorn fault own.new.seat) }
+    ensures counted { OnOk result (IfSome (slice_get own.old.hand.slots 0) (λ slot. IsOpened poller.old poller.new ⊎ (IsDropped poller.old poller.new ⊎ (IsLost poller.old poller.new × LostFor poller.old slot own.old.seat own.new.seat)))) }
     ensures done { OnOk result (AcceptDone poller.old poller.new own.old own.new) }
     ensures ready { own.new.ready ≡ own.old.ready }
-    ensures poller { poller.new ≡ record poller.old { table = poller.new.table; opened = poller.new.opened; lost = poller.new.lost } }
+    ensures poller { poller.new ≡ record poller.old { table = poller.new.table; opened = poller.new.opened; dropped = poller.new.dropped; lost = poller.new.lost } }
     ensures room { OnOk result (ticket_room own.old.hand ≤ ticket_room own.new.hand + 1) }
 {
     let Some(slot) = own.hand.take_slot() else {
@@ -67,13 +70,16 @@ pub(crate) fn open<F: Front, R: Wait + Log>(
         return Ok(());
     };
     match prepare(rt, alloc, &mut own.hand, poller, client, names) {
-        Some(berth) => place(rt, shared, own, poller, berth),
-        None => Ok(()),
+        Ok(berth) => place(rt, shared, own, poller, berth),
+        Err(dropped) => {
+            poller.count_dropped(dropped);
+            Ok(())
+        }
     }
 }
 
-/// Starts the connection to the target, and makes the pair. None if that fails: it is closed and logged, and its slot is
-/// in hand again.
+/// Starts the connection to the target, and makes the pair. If that fails, it is closed and logged, and its slot is in hand
+/// again.
 fn prepare<F: Front, N: Log>(
     rt: &N,
     alloc: Global,
@@ -81,21 +87,21 @@ fn prepare<F: Front, N: Log>(
     poller: &mut Poller<F>,
     client: F::Client,
     names: Names,
-) -> Option<Berth<F::Client, F::Target>>
+) -> Result<Berth<F::Client, F::Target>, Dropped>
     requires { length hand.old.slots < hand.old.capacity }
-    ensures slot { IfSome result (λ berth. berth.pair.slot ≡ names.client.slot) }
-    ensures generation { IfSome result (λ berth. berth.pair.generation ≡ names.client.generation) }
-    ensures prepared { OnSome result (hand.new ≡ hand.old) }
-    ensures failed { IsNone result → hand.new ≡ record hand.old { slots = hand.old.slots ++ names.client.slot ∷ [] } }
+    ensures slot { IfOk result (λ berth. berth.pair.slot ≡ names.client.slot) }
+    ensures generation { IfOk result (λ berth. berth.pair.generation ≡ names.client.generation) }
+    ensures prepared { OnOk result (hand.new ≡ hand.old) }
+    ensures address { IfErr result (λ dropped. dropped.cause ≡ Cause.Address → LeadTold (F.may_tell client) poller.old.opening.proxy None) }
+    ensures failed { OnErr result (hand.new ≡ record hand.old { slots = hand.old.slots ++ names.client.slot ∷ [] }) }
     ensures same { poller.new ≡ poller.old }
 {
     let slot = names.client.slot();
     match connect(rt, alloc, poller, client, names) {
-        Ok(berth) => Some(berth),
+        Ok(berth) => Ok(berth),
         Err(cause) => {
             hand.keep_slot(slot);
-            log_drop(rt, cause);
-            None
+            Err(Dropped::log(rt, cause))
         }
     }
 }
@@ -170,9 +176,10 @@ fn place<F: Front, R: Wait + Log>(
     requires room { 1 ≤ ticket_room own.old.hand }
     ensures between { Between shared.now.claims own.new poller.new }
     ensures worn { IfErr result (λ fault. OnlyWorn fault own.new.seat) }
-    ensures done { OnOk result (Connected (record { slot = berth.pair.slot; generation = berth.pair.generation } ∷ []) [] poller.old poller.new own.old own.new ⊎ Connected [] (berth.pair.slot ∷ []) poller.old poller.new own.old own.new) }
+    ensures done { OnOk result (Connected (record { slot = berth.pair.slot; generation = berth.pair.generation } ∷ []) [] 0 poller.old poller.new own.old own.new ⊎ Connected [] (berth.pair.slot ∷ []) 1 poller.old poller.new own.old own.new) }
     ensures poller { poller.new ≡ record poller.old { table = poller.new.table; opened = poller.new.opened; lost = poller.new.lost } }
     ensures ready { own.new.ready ≡ own.old.ready }
+    ensures counted { OnOk result (IsOpened poller.old poller.new ⊎ (IsLost poller.old poller.new × (own.new.seat ≡ one_step_later own.old.seat))) }
     ensures free { OnOk result (own.new.free ≡ own.old.free) }
     ensures slots { OnOk result (own.new.hand.slots ≡ own.old.hand.slots) }
     ensures room { OnOk result (ticket_room own.old.hand ≤ ticket_room own.new.hand + 1) }

@@ -2,6 +2,7 @@
 ghost use Rattle.std.specs.Prelude.{◌≡◌, ◌+◌, ◌-◌, ◌<◌, ◌≤◌, ◌↔◌, [], length, IfOk, OnOk, OnErr, IsTrue, OnSome, IfSome, replicate, slice_index, slice_set, true, false};
 ghost use Rattle.dispatch.specs.Polls.{AreGenerations, IsIn, IsOwnTable, HasOpenedAll, counted_up, looked_at};
 
+use crate::dropping::Dropped;
 use crate::front::Front;
 use crate::lead::Opening;
 use crate::limits::{HEAVY_TICKETS, MAX_ACCEPTS, MAX_BATCH};
@@ -31,6 +32,8 @@ pub struct Poller<F: Front> {
     // How many connections it may open in all.
     most: u64,
     opened: u64,
+    // How many connections it has closed unopened.
+    dropped: u64,
     // How many slots are no longer used.
     lost: u64,
     // The second of the last round, and that of the last sweep.
@@ -45,7 +48,7 @@ impl<F: Front> Model for Poller<F> {
 
     ghost Value = { PollerState };
 
-    ghost view = { λ p. record { reported = F.reported p.front; table = p.table.items; batch = p.batch.items; accepting = p.accepting; starved = p.starved; tries = p.tries; opening = p.opening; part = p.part; heavy = p.heavy.items; most = p.most; opened = p.opened; lost = p.lost; second = p.second; swept = p.swept; over = p.over } };
+    ghost view = { λ p. record { reported = F.reported p.front; failed = F.failed p.front; table = p.table.items; batch = p.batch.items; accepting = p.accepting; starved = p.starved; tries = p.tries; opening = p.opening; part = p.part; heavy = p.heavy.items; most = p.most; opened = p.opened; dropped = p.dropped; lost = p.lost; second = p.second; swept = p.swept; over = p.over } };
 
     ghost invariant = { λ p. AreGenerations p.table.items × IsOwnTable p.part p.table.items × (256 ≤ vec_capacity p.batch) × (length p.batch.items ≤ 256) × (1 ≤ p.opening.ring) × (p.opening.ring ≤ 65536) };
 }
@@ -67,7 +70,7 @@ impl<F: Front> Poller<F> {
     where
         F: Drop,
         requires ring { (1 ≤ opening.ring) × (opening.ring ≤ 65536) }
-        ensures { IfOk result (λ poller. poller ≡ record { reported = F.reported front; table = replicate table 0; batch = []; accepting = true; starved = false; tries = 0; opening = opening; part = part; heavy = replicate table 0; most = most; opened = 0; lost = 0; second = 0; swept = 0; over = false }) }
+        ensures { IfOk result (λ poller. poller ≡ record { reported = F.reported front; failed = F.failed front; table = replicate table 0; batch = []; accepting = true; starved = false; tries = 0; opening = opening; part = part; heavy = replicate table 0; most = most; opened = 0; dropped = 0; lost = 0; second = 0; swept = 0; over = false }) }
     {
         Ok(Poller {
             front,
@@ -81,6 +84,7 @@ impl<F: Front> Poller<F> {
             heavy: vec![in alloc; 0; table]?,
             most,
             opened: 0,
+            dropped: 0,
             lost: 0,
             second: 0,
             swept: 0,
@@ -144,6 +148,13 @@ impl<F: Front> Poller<F> {
         ensures { result ≡ self.now.opened }
     {
         self.opened
+    }
+
+    /// How many connections it has accepted and closed unopened, each with a line in the log that says why.
+    pub fn dropped(&self) -> u64
+        ensures { result ≡ self.now.dropped }
+    {
+        self.dropped
     }
 
     /// What connections are opened with.
@@ -232,6 +243,14 @@ impl<F: Front> Poller<F> {
     {
         self.table[ticket.slot] = ticket.generation;
         self.opened = self.opened.saturating_add(1);
+    }
+
+    /// A connection was closed unopened, and the log says why.
+    pub(crate) fn count_dropped(&mut self, dropped: Dropped)
+        ensures { self.new ≡ record self.old { dropped = counted_up self.old.dropped 1 } }
+    {
+        self.dropped = self.dropped.saturating_add(1);
+        dropped.spend();
     }
 
     /// A slot is no longer used.

@@ -69,7 +69,7 @@ pub fn poller_round<F: Front, C: Clock, R: Wait + Log>(
     ensures opening { poller.new.opening ≡ poller.old.opening }
     ensures heavy { poller.new.heavy ≡ poller.old.heavy }
     ensures took { own.new.ready.history.taken ≡ own.old.ready.history.taken }
-    ensures refused { IfErr result (λ fault. (fault ≡ ServerFault.Poll) ⊎ OnlyWorn fault own.new.seat) }
+    ensures refused { IfErr result (λ fault. ((fault ≡ ServerFault.Poll) × (poller.new.failed ≡ true)) ⊎ OnlyWorn fault own.new.seat) }
 {
     if !begin(rt, own, poller, shared.claims.slots()) {
         return Ok(());
@@ -105,9 +105,9 @@ fn look<F: Front, R: Wait + Log>(
     requires put { PutAll own.old.ready own.old.hand.tickets }
     requires room { 1 ≤ ticket_room own.old.hand }
     ensures took { OnlyTook own.old own.new }
-    ensures poller { poller.new ≡ record poller.old { reported = poller.new.reported; batch = poller.new.batch } }
+    ensures poller { poller.new ≡ record poller.old { reported = poller.new.reported; failed = poller.new.failed; batch = poller.new.batch } }
     ensures batch { poller.new.batch ≡ poller.new.reported }
-    ensures failed { IfErr result (λ fault. (fault ≡ ServerFault.Poll) × (poller.new.batch ≡ [])) }
+    ensures failed { IfErr result (λ fault. (fault ≡ ServerFault.Poll) × (poller.new.failed ≡ true) × (poller.new.batch ≡ [])) }
     ensures few { length poller.new.batch ≤ 256 }
 {
     let wait = may_wait(rt, own, poller);
@@ -133,9 +133,9 @@ fn poll<F: Front, R: Log>(
 ) -> Result<(), ServerFault>
     requires put { PutAll _own.now.ready _own.now.hand.tickets }
     requires wait { wait ≡ true → MayWait poller.old _own.now }
-    ensures same { poller.new ≡ record poller.old { reported = poller.new.reported; batch = poller.new.batch } }
+    ensures same { poller.new ≡ record poller.old { reported = poller.new.reported; failed = poller.new.failed; batch = poller.new.batch } }
     ensures batch { poller.new.batch ≡ poller.new.reported }
-    ensures failed { OnErr result (poller.new.batch ≡ []) }
+    ensures failed { OnErr result ((poller.new.failed ≡ true) × (poller.new.batch ≡ [])) }
     ensures fault { IfErr result (λ fault. fault ≡ ServerFault.Poll) }
     ensures few { length poller.new.batch ≤ 256 }
 {
@@ -204,7 +204,7 @@ fn accept_all<F: Front, R: Wait + Log>(
     ensures done { OnOk result (AcceptDone poller.old poller.new own.old own.new) }
     ensures ended { OnOk result (AcceptEnded poller.new own.new) }
     ensures ready { own.new.ready ≡ own.old.ready }
-    ensures poller { poller.new ≡ record poller.old { table = poller.new.table; accepting = poller.new.accepting; starved = poller.new.starved; tries = poller.new.tries; opened = poller.new.opened; lost = poller.new.lost } }
+    ensures poller { poller.new ≡ record poller.old { table = poller.new.table; accepting = poller.new.accepting; starved = poller.new.starved; tries = poller.new.tries; opened = poller.new.opened; dropped = poller.new.dropped; lost = poller.new.lost } }
 {
     poller.reset_tries();
     for _try in 0..MAX_ACCEPTS {
@@ -223,6 +223,7 @@ fn may_accept<F: Front, R: Wait>(rt: &R, own: &mut Own, poller: &Poller<F>) -> b
     requires room { 1 ≤ ticket_room own.old.hand }
     ensures took { OnlyTook own.old own.new }
     ensures ended { result ≡ false → NoneToAccept poller.now own.new }
+    ensures slot { result ≡ true → 1 ≤ length own.new.hand.slots }
 {
     poller.is_accepting() && !poller.has_opened_all() && has_slot(rt, own)
 }
@@ -239,6 +240,7 @@ fn accept_next<F: Front, R: Wait + Log>(
     requires between { Between shared.now.claims own.old poller.old }
     requires room { 1 ≤ ticket_room own.old.hand }
     requires left { 1 ≤ poller.old.tries }
+    requires slot { 1 ≤ length own.old.hand.slots }
     ensures between { Between shared.now.claims own.new poller.new }
     ensures worn { IfErr result (λ fault. OnlyWorn fault own.new.seat) }
     ensures done { OnOk result (AcceptDone poller.old poller.new own.old own.new) }
@@ -246,7 +248,7 @@ fn accept_next<F: Front, R: Wait + Log>(
     ensures ready { own.new.ready ≡ own.old.ready }
     ensures tries { poller.new.tries + 1 ≡ poller.old.tries }
     ensures starved { IfOk result (λ more. more ≡ false → poller.new.starved ≡ true) }
-    ensures poller { poller.new ≡ record poller.old { table = poller.new.table; accepting = poller.new.accepting; starved = poller.new.starved; tries = poller.new.tries; opened = poller.new.opened; lost = poller.new.lost } }
+    ensures poller { poller.new ≡ record poller.old { table = poller.new.table; accepting = poller.new.accepting; starved = poller.new.starved; tries = poller.new.tries; opened = poller.new.opened; dropped = poller.new.dropped; lost = poller.new.lost } }
 {
     match accept(poller) {
         Ok(client) => {

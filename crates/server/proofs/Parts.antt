@@ -1,5 +1,5 @@
 -- Lists with one item for each part of the slots.
-use Rattle.std.proofs.Common.{◌≡◌, ℕ, ◌+◌, List, [], ◌∷◌, ◌++◌, map, replicate, All, true, false, ap, ◌∙◌, sym, subst, arith}
+use Rattle.std.proofs.Common.{◌≡◌, ℕ, ◌+◌, List, [], ◌∷◌, ◌++◌, map, replicate, All, Bool, true, false, ap, ◌∙◌, sym, subst, arith}
 use Rattle.std.specs.List.{range_with_len}
 use Rattle.std.proofs.lemmas.List.FromFn.{map-range_with_len_more}
 use Rattle.std.proofs.lemmas.List.{map-append}
@@ -26,8 +26,8 @@ pub mapped_all : {A B : Type 0} (of : A → B) (f : ℕ → B) (xs : List A) (n 
 mapped_all of f xs n m all each = subst (λ (k : ℕ). map of xs ≡ map f (range_with_len 0 k)) all each
 
 -- one poller more that has opened nothing yet
-pub begun_one : (slots : ℕ) (opening : Opening) (ps qs : List PollerState) {p : PollerState} {reported : List ℕ} {part : Part} {most : ℕ} → qs ≡ ps ++ p ∷ []
-    → p ≡ record { reported = reported; table = replicate slots 0; batch = []; accepting = true; starved = false; tries = 0; opening = opening; part = part; heavy = replicate slots 0; most = most; opened = 0; lost = 0; second = 0; swept = 0; over = false }
+pub begun_one : (slots : ℕ) (opening : Opening) (ps qs : List PollerState) {p : PollerState} {reported : List ℕ} {failed : Bool} {part : Part} {most : ℕ} → qs ≡ ps ++ p ∷ []
+    → p ≡ record { reported = reported; failed = failed; table = replicate slots 0; batch = []; accepting = true; starved = false; tries = 0; opening = opening; part = part; heavy = replicate slots 0; most = most; opened = 0; dropped = 0; lost = 0; second = 0; swept = 0; over = false }
     → All (λ (q : PollerState). HasBegun slots opening q) ps → All (λ (q : PollerState). HasBegun slots opening q) qs
 begun_one slots opening ps qs {p} more is all =
     let one : HasBegun slots opening p = record {
@@ -38,6 +38,7 @@ begun_one slots opening ps qs {p} more is all =
       opening = ap (λ (q : PollerState). q.opening) is;
       heavy = ap (λ (q : PollerState). q.heavy) is;
       opened = ap (λ (q : PollerState). q.opened) is;
+      dropped = ap (λ (q : PollerState). q.dropped) is;
       lost = ap (λ (q : PollerState). q.lost) is;
       over = ap (λ (q : PollerState). q.over) is;
     } in

@@ -136,7 +136,7 @@ fn poller_of<F: Front + Drop>(
     front: F,
 ) -> Result<Poller<F>, AllocError>
     requires number { number < parts_of split.slots split.size }
-    ensures { IfOk result (λ poller. poller ≡ record { reported = F.reported front; table = replicate settings.now.slots 0; batch = []; accepting = true; starved = false; tries = 0; opening = record { ring = settings.now.ring; proxy = settings.now.proxy }; part = part_of split.slots split.size number; heavy = replicate settings.now.slots 0; most = share_of settings.now.stop_after (parts_of split.slots split.size) number; opened = 0; lost = 0; second = 0; swept = 0; over = false }) }
+    ensures { IfOk result (λ poller. poller ≡ record { reported = F.reported front; failed = F.failed front; table = replicate settings.now.slots 0; batch = []; accepting = true; starved = false; tries = 0; opening = record { ring = settings.now.ring; proxy = settings.now.proxy }; part = part_of split.slots split.size number; heavy = replicate settings.now.slots 0; most = share_of settings.now.stop_after (parts_of split.slots split.size) number; opened = 0; dropped = 0; lost = 0; second = 0; swept = 0; over = false }) }
 {
     let most = share_of(settings.stop_after, split.pollers(), number);
     let part = split.part(number);

@@ -1,5 +1,6 @@
 // A server over real sockets on loopback, with its clients and its target in the same process. How clients are served is
 // shown by `tests/relay`, with the built program.
+ghost use Rattle.std.specs.Prelude.{◌≡◌};
 
 use crate::holding::Holding;
 use dispatch::{Clock, Timing};
@@ -17,6 +18,8 @@ use std::{io, thread};
 pub(crate) struct Still;
 
 impl Clock for Still {
+    ghost tells = { λ _ second. second ≡ 0 };
+
     fn second(&self) -> u64 {
         0
     }

@@ -1,5 +1,8 @@
 -- Where a server listens, and what is reported. Part of the promises.
-use Rattle.std.specs.Prelude.{◌≡◌, ℕ, Bool, true, false, ◌||◌, if◌then◌else◌, List, map, Option, Some, None}
+use Rattle.std.specs.Prelude.{◌≡◌, ◌≢◌, ℕ, Bool, true, false, ◌||◌, if◌then◌else◌, List, map, Option, Some, None, Result, Ok, Err}
+use Rattle.std.specs.IoError.{error_kind}
+use Rattle.std.specs.declared.io.Error.{Error}
+use Rattle.std.specs.declared.io.ErrorKind.TheVariants.{Interrupted}
 use Rattle.std.specs.declared.net.SocketAddr.{SocketAddr}
 use Rattle.std.specs.declared.net.SocketAddr.TheVariants.{V4, V6}
 use Rattle.std.specs.declared.net.SocketAddrV4.{SocketAddrV4}
@@ -40,10 +43,16 @@ word_at slots None = None
 abbrev pub heard_of : ℕ → Event → Option WordName
 heard_of slots event = if names_reading event then word_at slots (end_in (name_of (event_token event).0)) else None
 
--- how a front's connections are forwarded, and the numbers that its last poll was told
+-- a wait for reports failed, and not by a signal (epoll_wait(2))
+abbrev pub Fails : Result (Unit {0}) Error → Type 0
+Fails (Ok done) = ⊥
+Fails (Err error) = error_kind error ≢ Interrupted
+
+-- how a front's connections are forwarded, the numbers that its last poll was told, and whether that failed
 pub record Watched : Type 0 where
   pub forwarding : Forwarding
   pub reported : List ℕ
+  pub failed : Bool
 
 -- a socket that listens: the address that the system was asked for, and the one that it told, which has its port where
 -- any port was asked for

@@ -1,8 +1,8 @@
-ghost use Rattle.std.specs.Prelude.{◌≡◌, ◌⊎◌, ◌+◌, ◌≤◌, ◌++◌, [], length, replicate, true, false, Some, None, IfOk, OnOk, IfErr, OnErr, vec_len, vec_capacity};
+ghost use Rattle.std.specs.Prelude.{◌≡◌, ◌↔◌, ◌⊎◌, IsTrue, ◌+◌, ◌≤◌, ◌++◌, [], length, replicate, true, false, Some, None, IfOk, OnOk, IfErr, OnErr, vec_len, vec_capacity};
 ghost use Rattle.mio.specs.Event.{event_token};
 ghost use Rattle.mio.specs.Events.{items};
 ghost use Rattle.token.specs.Numbers.{name_of};
-ghost use Rattle.sockets.specs.Fronts.{end_in, heard_of, names_reading, numbers, v4_of, IsRoute, MayTell};
+ghost use Rattle.sockets.specs.Fronts.{Fails, end_in, heard_of, names_reading, numbers, v4_of, IsRoute, MayTell};
 ghost use Rattle.dispatch.specs.Splits.{parts_of};
 ghost use Rattle.sockets.specs.Wires.{SameButWatched, fresh_wire, under};
 
@@ -40,6 +40,8 @@ pub struct Sockets<'r, R> {
     told: Arc<Reports>,
     poll: Poll,
     events: Events,
+    // Whether the last wait failed, and not by a signal.
+    failed: bool,
 }
 
 impl<'r, R> Model for Sockets<'r, R> {
@@ -49,7 +51,7 @@ impl<'r, R> Model for Sockets<'r, R> {
 
     ghost Value = { Watched };
 
-    ghost view = { λ s. record { forwarding = s.forwarding; reported = numbers (items s.events) } };
+    ghost view = { λ s. record { forwarding = s.forwarding; reported = numbers (items s.events); failed = s.failed } };
 
     // The most reports that one wait gives, MAX_BATCH.
     ghost invariant = { λ s. events_capacity s.events ≡ 256 };
@@ -75,7 +77,7 @@ pub fn open_all<'r, R: Net + Log>(
     forwarding: Forwarding,
     split: Split,
 ) -> Result<(Vec<Sockets<'r, R>>, Wakers), ServerFault>
-    ensures opened { IfOk result (λ made. made.0.items ≡ replicate (parts_of split.slots split.size) (record { forwarding = forwarding; reported = [] })) }
+    ensures opened { IfOk result (λ made. made.0.items ≡ replicate (parts_of split.slots split.size) (record { forwarding = forwarding; reported = []; failed = false })) }
     ensures wakers { IfOk result (λ made. made.1.split ≡ split) }
     ensures refused { IfErr result (λ fault. (fault ≡ ServerFault.Poll) ⊎ (fault ≡ ServerFault.NoMemory)) }
 {
@@ -115,7 +117,7 @@ fn fronts_of<'r, R>(
     mut polls: Vec<Poll>,
     forwarding: Forwarding,
 ) -> Result<Vec<Sockets<'r, R>>, AllocError>
-    ensures { IfOk result (λ fronts. fronts.items ≡ replicate (vec_len polls) (record { forwarding = forwarding; reported = [] })) }
+    ensures { IfOk result (λ fronts. fronts.items ≡ replicate (vec_len polls) (record { forwarding = forwarding; reported = []; failed = false })) }
 {
     let listener = Arc::new(alloc, listener)?;
     let count = polls.len();
@@ -130,6 +132,7 @@ fn fronts_of<'r, R>(
                 told: Arc::try_clone(told)?,
                 poll,
                 events: Events::with_capacity(alloc, MAX_BATCH)?,
+                failed: false,
             }),
             None => unreachable!(),
         }
@@ -247,6 +250,16 @@ fn tell(told: &Reports, event: &Event) -> Reported
     Reported { number, heard }
 }
 
+/// Whether a wait failed. A signal ends one, and is no failure.
+fn has_failed(answer: &io::Result<()>) -> bool
+    ensures { IsTrue result ↔ Fails answer.now }
+{
+    match answer {
+        Ok(()) => false,
+        Err(error) => error.kind() != io::ErrorKind::Interrupted,
+    }
+}
+
 /// The end of a connection that a number names, if it names one.
 fn end_of(number: u64) -> Option<Token>
     ensures { result ≡ end_in (name_of number) }
@@ -268,6 +281,8 @@ fn names_reading(event: &Event) -> bool
 impl<R: Dial> Front for Sockets<'_, R> {
     ghost reported = { λ s. s.reported };
 
+    ghost failed = { λ s. s.failed };
+
     ghost may_tell = { λ client route. MayTell client.socket.peer route };
 
     type Client = SocketWire;
@@ -282,12 +297,16 @@ impl<R: Dial> Front for Sockets<'_, R> {
         ensures capacity { vec_capacity batch.new ≡ vec_capacity batch.old }
         ensures failed { OnErr result (batch.new.items ≡ []) }
         ensures reported { batch.new.items ≡ self.new.reported }
+        ensures fault { IsTrue self.new.failed ↔ Fails result }
         ensures same { self.new.forwarding ≡ self.old.forwarding }
     {
         batch.clear();
         let most = if wait { MAX_WAIT_MILLIS } else { 0 };
-        self.poll
-            .poll(&mut self.events, Some(Duration::from_millis(most)))?;
+        let answer = self
+            .poll
+            .poll(&mut self.events, Some(Duration::from_millis(most)));
+        self.failed = has_failed(&answer);
+        answer?;
         put_numbers(batch, &self.events, &self.told);
         Ok(())
     }

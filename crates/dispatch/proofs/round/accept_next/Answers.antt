@@ -19,7 +19,7 @@ pub returns-in-Err-clause-poller : goal.returns-in-Err-clause-poller
 returns-in-Err-clause-poller g c = accept_refused c.args.poller.now c.accept.new.poller c.not_accepted.new.poller _ _ _ c.in-Err.ensures.refused c.not_accepted.ensures.flag
 
 pub returns-in_err-open-in-Ok-clause-poller : goal.returns-in_err-open-in-Ok-clause-poller
-returns-in_err-open-in-Ok-clause-poller g c = accept_opened c.args.poller.now c.accept.new.poller c.open.new.poller _ _ _ _ _ c.in-Ok.ensures.accepted c.open.ensures.poller
+returns-in_err-open-in-Ok-clause-poller g c = accept_opened c.args.poller.now c.accept.new.poller c.open.new.poller _ _ _ _ _ _ c.in-Ok.ensures.accepted c.open.ensures.poller
 
 pub returns-in_ok-open-in-Ok-clause-poller : goal.returns-in_ok-open-in-Ok-clause-poller
-returns-in_ok-open-in-Ok-clause-poller g c = accept_opened c.args.poller.now c.accept.new.poller c.open.new.poller _ _ _ _ _ c.in-Ok.ensures.accepted c.open.ensures.poller
+returns-in_ok-open-in-Ok-clause-poller g c = accept_opened c.args.poller.now c.accept.new.poller c.open.new.poller _ _ _ _ _ _ c.in-Ok.ensures.accepted c.open.ensures.poller

@@ -16,7 +16,7 @@ returns-then-not-begin-clause-round g c = λ _. round_ended c.args.poller.now c.
 pub returns-in_err-look-clause-round : goal.returns-in_err-look-clause-round
 returns-in_err-look-clause-round g c = λ _. round_ended c.args.poller.now c.look.new.poller c.args.own.now c.begin.new.own c.look.new.own
     (looked_is c.begin.ensures.poller c.look.ensures.poller)
-    c.in_err-look.ensures.failed.1
+    c.in_err-look.ensures.failed.2
     c.begin.ensures.put
     c.look.ensures.took
 
