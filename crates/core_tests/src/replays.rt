@@ -1,3 +1,5 @@
+ghost use Rattle.world.specs.States.{IsWithinLimits};
+
 use kernel_model::{Accepting, Refusal, Reply};
 use std::alloc::{AllocError, Global};
 use std::test::Fail;
@@ -28,10 +30,10 @@ static PLAYS: [Play; 20] = [
     Play::Work(Act::Claim),
     Play::Work(Act::Take),
     Play::Arrive,
-    Play::Work(Act::Call(Reply::Bytes(3))),
-    Play::Work(Act::Call(Reply::Blocked)),
     Play::Room,
     Play::Work(Act::Call(Reply::Wrote(2, false))),
+    Play::Work(Act::Call(Reply::Blocked)),
+    Play::Work(Act::Call(Reply::Bytes(3))),
     Play::Work(Act::Call(Reply::Wrote(3, false))),
     Play::Work(Act::Call(Reply::Blocked)),
     Play::Work(Act::Post),
@@ -57,19 +59,27 @@ fn event(alloc: Global, play: Play, slot: usize) -> Result<Event, AllocError> {
     })
 }
 
-/// Five connections, one after the other, in two slots by turns: a hundred events.
-fn session(alloc: Global) -> Result<Vec<Event>, AllocError> {
+/// Five connections, one after the other, in two slots by turns: a hundred events. The one at `wrong`, if there is one, is such
+/// that it cannot happen.
+fn session(alloc: Global, wrong: usize) -> Result<Vec<Event>, AllocError> {
     let mut events = Vec::new(alloc);
     for slot in [0, 1, 0, 1, 0] {
         for play in &PLAYS {
-            events.push(event(alloc, *play, slot)?)?;
+            let play = if events.len() == wrong {
+                Play::Work(Act::Retire)
+            } else {
+                *play
+            };
+            events.push(event(alloc, play, slot)?)?;
         }
     }
     Ok(events)
 }
 
 /// Two slots and one worker, an idle limit, and a lead.
-fn limits() -> Limits {
+fn limits() -> Limits
+    ensures { IsWithinLimits result }
+{
     Limits {
         slots: 2,
         workers: 1,
@@ -85,12 +95,12 @@ fn limits() -> Limits {
 // the growth that is refused.
 #[test]
 fn a_replay_leads_to_its_world(rt: HostRuntime) -> Result<(), Fail> {
-    let events = session(rt.alloc())?;
+    let events = session(rt.alloc(), 100)?;
     let world = replay(rt.alloc(), limits(), events.as_slice())?;
     assert_eq!(rt; world.second(), 150);
     assert_eq!(rt; world.past().len(), 5);
     for past in world.past() {
-        assert_eq!(rt; past.ends.target.taken(), b"PPabc");
+        assert_eq!(rt; past.ends.target.taken(), b"PPabc".as_slice());
     }
     Ok(())
 }
@@ -99,8 +109,7 @@ fn a_replay_leads_to_its_world(rt: HostRuntime) -> Result<(), Fail> {
 #[test]
 fn the_event_that_fails_is_told(rt: HostRuntime) -> Result<(), Fail> {
     for index in [0, 49, 99] {
-        let mut events = session(rt.alloc())?;
-        events[index] = Event::Work(0, Act::Retire);
+        let events = session(rt.alloc(), index)?;
         match replay(rt.alloc(), limits(), events.as_slice()) {
             Err((at, Refusal::NotAllowed)) => assert_eq!(rt; at, index),
             Err((_, refusal)) => return Err(Fail::from(refusal)),
