@@ -153,12 +153,24 @@ def many_names():
     return script, report + [f"slot {slot} live gen=1 fds={2 * slot},{2 * slot + 1} {live}" for slot in range(8)]
 
 
+def session():
+    """Five connections in two slots by turns, the hundred events that `core_tests` replays, and what the report tells."""
+    script = ["world slots=2 workers=1 ring=4 budget=64 idle=30 lead=5050"]
+    for slot in (0, 1, 0, 1, 0):
+        script += [*OPENING, "put poller", "pop 0", "claim 0", "take 0", f"arrive {slot} client 616263", f"room {slot} target"]
+        script += [f"call 0 {answer}" for answer in ("wrote 2", "blocked", "read 3", "wrote 3", "blocked")]
+        script += ["post 0", "tick 30", *(f"{act} 0" for act in ("idle", "close", "retire", "free"))]
+    past = [f"past {name} failed idle up=5050616263 down=-" for name in ("0.1", "1.1", "0.2", "1.2", "0.3")]
+    return script, ["free 1 0", "slot 0 free gen=3 notes=1", "slot 1 free gen=2 notes=1", *past]
+
+
 def settings_of_lengths():
     """Settings files of every length round the sizes of a read, each of whose last bytes says something."""
+    words, output = [b"check", b"--config", b"t.toml"], printed("ring=7")
     begin, end = b'listen = "127.0.0.1:7000"\ntarget = "127.0.0.1:7001"\n#', b"\nring = 7"
     for length in [*range(4090, 4104), *range(8188, 8197), 65535, 65536]:
         text = begin + b"x" * (length - len(begin) - len(end)) + end
-        yield Row(f"settings of {length} bytes", [b"check", b"--config", b"t.toml"], files={"t.toml": text}, output=printed("ring=7"))
+        yield Row(f"settings of {length} bytes", words, files={"t.toml": text}, output=output)
 
 
 def reuses():
@@ -204,6 +216,7 @@ def largest():
         "pieces of every even length": every_length(range(2, 1025, 2)),
         "pieces of every length both ways": arrivals_both_ways(),
         "over nine names": many_names(),
+        "a session of a hundred events": session(),
         "the last pair of the largest world": last_pair(),
         "the fullest world": fullest_world(),
     }
@@ -218,10 +231,12 @@ def largest():
         " pop, post, put, release, reset, retire, room, spurious, sweep, take, tick and vanish is wanted"
     )
     waiting = "no more connections can wait at the listener"
+    unclosed = "the worker has closed no connection"
     for name, script, why, cause in [
         ("a poll of 256 names", [world, "poll" + " waker" * 256], "not allowed: poll", "poll: a name is not in the queue"),
         ("a poll of 257 names", [world, "poll" + " waker" * 257], "malformed", 'poll: "waker": a poll has at most 256 names'),
         ("a connection too many", [world, *["connect"] * 4097], "not allowed: connect", f"connect: {waiting}"),
+        ("a session's 50th event", [*session()[0][:50], "retire 0"], "not allowed: retire", f"retire: {unclosed}"),
         ("a step past 10,000", [flow, "room", *byte * 3333, "room"], "not allowed: room", "room: the socket has room"),
         ("a malformed step past 10,000", [flow, "room", *byte * 3333, "rom"], "malformed", f'"rom": {step}'),
         ("a malformed event past 10,000", [world, *["poll"] * 10000, "pol"], "malformed", f'"pol": {event}'),

@@ -24,8 +24,8 @@ causes/TOPIC has scripts with a fault in their last line, `STEPS => WHY: CAUSE` 
 `no world` or `script too long`, and CAUSE is what the log tells, without the number of the line. `begins: STEPS` is as above.
 
 settings/TOPIC has settings texts, `TEXT => WANTED` for each, on which `relayd check` is run. WANTED is the fault that is
-told, and behind ` | ` the cause that the log tells, or the settings that differ from their defaults, as `ring=1 log=off`. In the table `addresses` TEXT is the value of
-`target`, and in `more` it follows the two addresses.
+told, and behind ` | ` the cause that the log tells, or the settings that differ from their defaults, as `ring=1 log=off`. In
+the table `addresses` TEXT is the value of `target`, and in `more` it follows the two addresses.
 
 In all of them `\xHH` is a byte, and `\xHH*N` that byte N times. Lines that begin with `#` are comments.
 """
