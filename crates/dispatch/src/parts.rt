@@ -33,6 +33,7 @@ impl Parts {
         ensures left { AreFresh shared.now.claims self.new.seats.items }
         ensures next { IfOk result (λ next. IfSome next (λ own. own.seat ≡ fresh_seat shared.now.claims)) }
         ensures hand { IfOk result (λ next. IfSome next (λ own. own.hand ≡ empty_hand capacity)) }
+        ensures free { IfOk result (λ next. IfSome next (λ own. own.free ≡ free)) }
     {
         let hand = Hand::new(alloc, capacity)?;
         let buffer = Box::new(alloc, [0; MAX_READ])?;

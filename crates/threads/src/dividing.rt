@@ -1,15 +1,17 @@
 //! What a server is made of, divided among its threads.
-ghost use Rattle.std.specs.Prelude.{◌≡◌, length, IfOk};
+ghost use Rattle.std.specs.Prelude.{◌≡◌, ◌-◌, ◌∷◌, All, length, map, IfOk, IfSome};
 ghost use Rattle.std.specs.Arc.{arc_value};
+ghost use Rattle.std.specs.List.{range_with_len};
 ghost use Rattle.claims.specs.Seats.{fresh_seat};
 ghost use Rattle.dispatch.specs.Parts.{AreFresh};
+ghost use Rattle.threads.specs.Casts.{numbered, IsEndOf, AreEndsFrom, AreLeft, HasOneOfEach};
 
 use crate::limits::WORKER_HAND;
 use crate::polling::PollerThread;
 use crate::working::Worker;
 use dispatch::{Front, MAX_BATCH, Own, Parts, Poller, ServerFault, Shared};
 use ready::FreeQueue;
-use std::alloc::{AllocError, Global};
+use std::alloc::Global;
 use std::sync::Arc;
 
 /// The threads of a server that have not begun.
@@ -27,8 +29,8 @@ pub struct Rest {
     pub free: Vec<Vec<FreeQueue>>,
 }
 
-/// The threads of these pollers, and so many workers. A thread has the number of its poller, and the workers have those
-/// behind.
+/// The threads of these pollers, each with an end of its own queue of free slots, and so many workers, each with an end of
+/// every poller's queue, the first poller's first. A thread has the number of its poller, and the workers have those behind.
 ///
 /// Refuses with `NoMemory` if there is none for what they own, or if the parts are used up.
 pub fn divide<F: Front + Drop>(
@@ -41,6 +43,10 @@ pub fn divide<F: Front + Drop>(
 where
     F::Waker: Drop,
     requires { AreFresh (arc_value shared.now).claims rest.parts.seats.items }
+    ensures pollers { IfOk result (λ cast. map (λ thread. (thread.number, thread.poller)) cast.pollers.items ≡ numbered pollers.items) }
+    ensures own_slots { IfOk result (λ cast. All (λ thread. IsEndOf (map (λ ends. ends.items) rest.free.items) thread.number thread.own.free) cast.pollers.items) }
+    ensures workers { IfOk result (λ cast. map (λ worker. worker.number) cast.workers.items ≡ range_with_len (length pollers.items) workers) }
+    ensures all_slots { IfOk result (λ cast. All (λ worker. HasOneOfEach (map (λ ends. ends.items) rest.free.items) (worker.own.free ∷ worker.others.items)) cast.workers.items) }
 {
     let first = pollers.len();
     let pollers = pollers_of(alloc, shared, &mut rest, pollers)?;
@@ -58,15 +64,20 @@ fn pollers_of<F: Front + Drop>(
 where
     F::Waker: Drop,
     requires { AreFresh (arc_value shared.now).claims rest.old.parts.seats.items }
-    ensures { AreFresh (arc_value shared.now).claims rest.new.parts.seats.items }
+    ensures fresh { AreFresh (arc_value shared.now).claims rest.new.parts.seats.items }
+    ensures pollers { IfOk result (λ threads. map (λ thread. (thread.number, thread.poller)) threads.items ≡ numbered pollers.items) }
+    ensures slots { IfOk result (λ threads. All (λ thread. IsEndOf (map (λ ends. ends.items) rest.old.free.items) thread.number thread.own.free) threads.items) }
+    ensures left { AreLeft (map (λ ends. ends.items) rest.old.free.items) (map (λ ends. ends.items) rest.new.free.items) }
 {
     let count = pollers.len();
     let mut threads = Vec::with_capacity(alloc, count)?;
     for _thread in 0..count {
-        let Some(poller) = pollers.pop() else {
-            return Ok(threads);
-        };
-        threads.push_reserved(next_poller(alloc, shared, rest, pollers.len(), poller)?);
+        match pollers.pop() {
+            Some(poller) => {
+                threads.push_reserved(next_poller(alloc, shared, rest, pollers.len(), poller)?);
+            }
+            None => unreachable!(),
+        }
     }
     Ok(threads)
 }
@@ -83,7 +94,10 @@ fn next_poller<F: Front + Drop>(
 where
     F::Waker: Drop,
     requires { AreFresh (arc_value shared.now).claims rest.old.parts.seats.items }
-    ensures { AreFresh (arc_value shared.now).claims rest.new.parts.seats.items }
+    ensures fresh { AreFresh (arc_value shared.now).claims rest.new.parts.seats.items }
+    ensures poller { IfOk result (λ thread. (thread.number ≡ number) × (thread.poller ≡ poller)) }
+    ensures slots { IfOk result (λ thread. IsEndOf (map (λ ends. ends.items) rest.old.free.items) number thread.own.free) }
+    ensures left { AreLeft (map (λ ends. ends.items) rest.old.free.items) (map (λ ends. ends.items) rest.new.free.items) }
 {
     let slots = shared.claims.slots();
     if poller.table().len() != slots {
@@ -104,6 +118,7 @@ fn poller_hand(slots: usize) -> usize {
 }
 
 /// The threads of so many workers, numbered from `first` on.
+#[tactic(auto, using(crate::proofs::Casts::all_left))]
 fn workers_of<F: Front + Drop>(
     alloc: Global,
     shared: &Arc<Shared<F>>,
@@ -114,18 +129,22 @@ fn workers_of<F: Front + Drop>(
 where
     F::Waker: Drop,
     requires { AreFresh (arc_value shared.now).claims rest.old.parts.seats.items }
-    ensures { AreFresh (arc_value shared.now).claims rest.new.parts.seats.items }
+    ensures numbers { IfOk result (λ made. map (λ worker. worker.number) made.items ≡ range_with_len first workers) }
+    ensures slots { IfOk result (λ made. All (λ worker. HasOneOfEach (map (λ ends. ends.items) rest.old.free.items) (worker.own.free ∷ worker.others.items)) made.items) }
 {
     let mut made = Vec::with_capacity(alloc, workers)?;
     for index in 0..workers {
-        let number = first.saturating_add(index);
-        made.push_reserved(next_worker(alloc, shared, rest, number)?);
+        // The parts are used up long before.
+        if usize::MAX - first < index {
+            return Err(ServerFault::NoMemory);
+        }
+        made.push_reserved(next_worker(alloc, shared, rest, first + index)?);
     }
     Ok(made)
 }
 
 /// The thread of a worker, with an end of each poller's queue of free slots.
-#[tactic(auto, using(claims::proofs::Seats::fresh_holds_nothing))]
+#[tactic(auto, using(claims::proofs::Seats::fresh_holds_nothing, crate::proofs::Casts::left_of_left))]
 fn next_worker<F: Front + Drop>(
     alloc: Global,
     shared: &Arc<Shared<F>>,
@@ -135,7 +154,10 @@ fn next_worker<F: Front + Drop>(
 where
     F::Waker: Drop,
     requires { AreFresh (arc_value shared.now).claims rest.old.parts.seats.items }
-    ensures { AreFresh (arc_value shared.now).claims rest.new.parts.seats.items }
+    ensures fresh { AreFresh (arc_value shared.now).claims rest.new.parts.seats.items }
+    ensures number { IfOk result (λ worker. worker.number ≡ number) }
+    ensures slots { IfOk result (λ worker. HasOneOfEach (map (λ ends. ends.items) rest.old.free.items) (worker.own.free ∷ worker.others.items)) }
+    ensures left { AreLeft (map (λ ends. ends.items) rest.old.free.items) (map (λ ends. ends.items) rest.new.free.items) }
 {
     let others = rest.other_ends(alloc)?;
     let (shared, own) = owned(alloc, shared, rest, 0, WORKER_HAND)?;
@@ -158,7 +180,9 @@ fn owned<F: Front + Drop>(
 where
     F::Waker: Drop,
     requires { AreFresh (arc_value shared.now).claims rest.old.parts.seats.items }
-    ensures left { AreFresh (arc_value shared.now).claims rest.new.parts.seats.items }
+    ensures fresh { AreFresh (arc_value shared.now).claims rest.new.parts.seats.items }
+    ensures slots { IfOk result (λ made. IsEndOf (map (λ ends. ends.items) rest.old.free.items) poller made.1.free) }
+    ensures left { AreLeft (map (λ ends. ends.items) rest.old.free.items) (map (λ ends. ends.items) rest.new.free.items) }
     ensures shared { IfOk result (λ made. arc_value made.0 ≡ arc_value shared.now) }
     ensures own { IfOk result (λ made. made.1.seat ≡ fresh_seat (arc_value shared.now).claims) }
 {
@@ -179,8 +203,10 @@ impl Rest {
         capacity: usize,
     ) -> Result<Own, ServerFault>
         requires { AreFresh shared.now.claims self.old.parts.seats.items }
-        ensures left { AreFresh shared.now.claims self.new.parts.seats.items }
+        ensures fresh { AreFresh shared.now.claims self.new.parts.seats.items }
         ensures next { IfOk result (λ own. own.seat ≡ fresh_seat shared.now.claims) }
+        ensures slots { IfOk result (λ own. IsEndOf (map (λ ends. ends.items) self.old.free.items) poller own.free) }
+        ensures left { AreLeft (map (λ ends. ends.items) self.old.free.items) (map (λ ends. ends.items) self.new.free.items) }
     {
         let Some(free) = self.next_end(poller) else {
             return Err(ServerFault::NoMemory);
@@ -192,13 +218,20 @@ impl Rest {
     }
 
     /// An end of each queue of free slots but the first poller's, in order.
-    fn other_ends(&mut self, alloc: Global) -> Result<Vec<FreeQueue>, AllocError>
-        ensures { self.new.parts ≡ self.old.parts }
+    ///
+    /// Refuses with `NoMemory` if there is none for them, or if the parts are used up.
+    fn other_ends(&mut self, alloc: Global) -> Result<Vec<FreeQueue>, ServerFault>
+        ensures parts { self.new.parts ≡ self.old.parts }
+        ensures ends { IfOk result (λ ends. AreEndsFrom (map (λ all. all.items) self.old.free.items) 1 ends.items) }
+        ensures all { IfOk result (λ ends. length ends.items ≡ length self.old.free.items - 1) }
+        ensures left { AreLeft (map (λ ends. ends.items) self.old.free.items) (map (λ ends. ends.items) self.new.free.items) }
     {
-        let mut ends = Vec::with_capacity(alloc, self.free.len())?;
-        for poller in 1..self.free.len() {
-            if let Some(free) = self.next_end(poller) {
-                ends.push(free)?;
+        let pollers = self.free.len();
+        let mut ends = Vec::with_capacity(alloc, pollers)?;
+        for poller in 1..pollers {
+            match self.next_end(poller) {
+                Some(free) => ends.push_reserved(free),
+                None => return Err(ServerFault::NoMemory),
             }
         }
         Ok(ends)
@@ -206,7 +239,9 @@ impl Rest {
 
     /// The next end of this poller's queue of free slots.
     fn next_end(&mut self, poller: usize) -> Option<FreeQueue>
-        ensures { self.new.parts ≡ self.old.parts }
+        ensures parts { self.new.parts ≡ self.old.parts }
+        ensures end { IfSome result (λ free. IsEndOf (map (λ ends. ends.items) self.old.free.items) poller free) }
+        ensures left { AreLeft (map (λ ends. ends.items) self.old.free.items) (map (λ ends. ends.items) self.new.free.items) }
     {
         self.free.get_mut(poller)?.pop()
     }

@@ -1,11 +1,17 @@
-use Rattle.std.specs.Prelude.{◌≡◌, ◌≤◌, vec_len, vec_capacity}
+use Rattle.std.proofs.Common.{◌≡◌, ◌+◌, ◌≤◌, ◌++◌, map, length, All}
+use Rattle.std.specs.Prelude.{vec_len, vec_capacity}
 use Rattle.std.specs.Arc.{arc_value}
 use Rattle.dispatch.specs.Parts.{AreFresh}
+use Rattle.threads.specs.Casts.{numbered, IsEndOf, AreLeft}
 use Rattle.threads.proofs.dividing.pollers_of.Given as goal
 
 abbrev pub invariant-loop-thread : goal.invariant-loop-thread
 invariant-loop-thread g l = record {
   fresh : AreFresh (arc_value l.shared).claims l.rest.parts.seats.items;
+  left : length l.pollers.items + l._thread ≡ l.count;
+  numbered : map (λ thread. (thread.number, thread.poller)) l.threads.items ++ numbered l.pollers.items ≡ numbered l.fn.pollers.items;
+  slots : All (λ thread. IsEndOf (map (λ ends. ends.items) l.fn.rest.free.items) thread.number thread.own.free) l.threads.items;
+  ends : AreLeft (map (λ ends. ends.items) l.fn.rest.free.items) (map (λ ends. ends.items) l.rest.free.items);
   len : vec_len l.threads ≡ l._thread;
   room : l.count ≤ vec_capacity l.threads;
 }

@@ -1,11 +1,17 @@
-use Rattle.std.specs.Prelude.{◌≡◌, ◌≤◌, vec_len, vec_capacity}
+use Rattle.std.proofs.Common.{◌≡◌, ◌≤◌, ◌∷◌, map, All}
+use Rattle.std.specs.Prelude.{vec_len, vec_capacity}
 use Rattle.std.specs.Arc.{arc_value}
+use Rattle.std.specs.List.{range_with_len}
 use Rattle.dispatch.specs.Parts.{AreFresh}
+use Rattle.threads.specs.Casts.{AreLeft, HasOneOfEach}
 use Rattle.threads.proofs.dividing.workers_of.Given as goal
 
 abbrev pub invariant-loop-index : goal.invariant-loop-index
 invariant-loop-index g l = record {
   fresh : AreFresh (arc_value l.shared).claims l.rest.parts.seats.items;
+  numbers : map (λ worker. worker.number) l.made.items ≡ range_with_len l.first l.index;
+  slots : All (λ worker. HasOneOfEach (map (λ ends. ends.items) l.fn.rest.free.items) (worker.own.free ∷ worker.others.items)) l.made.items;
+  ends : AreLeft (map (λ ends. ends.items) l.fn.rest.free.items) (map (λ ends. ends.items) l.rest.free.items);
   len : vec_len l.made ≡ l.index;
   room : l.workers ≤ vec_capacity l.made;
 }

@@ -1,6 +1,15 @@
-use Rattle.std.specs.Prelude.{◌≡◌}
+use Rattle.std.proofs.Common.{◌≡◌, ◌≤◌, ◌+◌, map, length}
+use Rattle.std.specs.Prelude.{vec_len, vec_capacity}
+use Rattle.threads.specs.Casts.{AreEndsFrom, AreLeft}
 use Rattle.threads.proofs.dividing.Rest.other_ends.Given as goal
 
 -- the seats and the ends of the queue of tickets stay
 abbrev pub invariant-loop-poller : goal.invariant-loop-poller
-invariant-loop-poller l = l.self.parts ≡ l.fn.self.parts
+invariant-loop-poller l = record {
+  parts : l.self.parts ≡ l.fn.self.parts;
+  ends : AreEndsFrom (map (λ all. all.items) l.fn.self.free.items) 1 l.ends.items;
+  left : AreLeft (map (λ all. all.items) l.fn.self.free.items) (map (λ all. all.items) l.self.free.items);
+  len : length l.ends.items + 1 ≡ l.poller;
+  as_many : vec_len l.ends ≡ length l.ends.items;
+  room : l.pollers ≤ vec_capacity l.ends;
+}
