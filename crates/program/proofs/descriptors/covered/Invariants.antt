@@ -1,4 +1,4 @@
-use Rattle.std.proofs.Common.{ℕ, ◌+◌, ◌<◌, ◌≤◌}
+use Rattle.std.proofs.Common.{◌+◌, ◌<◌, ◌≤◌}
 use Rattle.program.specs.Descriptors.{HasFor}
 use Rattle.program.proofs.descriptors.covered.Given as goal
 
