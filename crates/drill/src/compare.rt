@@ -6,6 +6,7 @@ use berths::Berth;
 use claims::Claimed;
 use drill_outside::{EndWire, KernelFront, Outside, START, Station, Tape};
 use kernel_model::Kernel;
+use ready::Ticket;
 use std::alloc::Global;
 use std::sync::Wait;
 use threads::PollerThread;
@@ -97,11 +98,11 @@ fn free_agrees<R: Wait>(
 ) -> Result<(), Difference> {
     let own = &mut thread.own;
     let free = slots_of(rt, alloc, &mut own.hand, &mut own.free)?;
-    same(&[("free slots", free.len() as u64, station.free.len() as u64)])?;
+    let mut agree = same(&[("free slots", free.len() as u64, station.free.len() as u64)]);
     for (slot, wanted) in free.iter().zip(station.free.iter()) {
-        same(&[("free slot", *slot as u64, *wanted as u64)])?;
+        agree = agree.and(same(&[("free slot", *slot as u64, *wanted as u64)]));
     }
-    Ok(())
+    agree
 }
 
 /// The tickets in the queue.
@@ -112,18 +113,19 @@ fn tickets_agree<R: Wait>(
     thread: &mut PollerThread<KernelFront>,
 ) -> Result<(), Difference> {
     let queued = tickets_of(rt, alloc, &mut thread.own.ready)?;
-    same(&[("tickets", queued.len() as u64, outside.ready.len() as u64)])?;
+    let (count, wanted) = (queued.len() as u64, outside.ready.len() as u64);
+    let mut agree = same(&[("tickets", count, wanted)]);
     for (ticket, wanted) in queued.iter().zip(outside.ready.iter()) {
-        same(&[
-            ("slot of a ticket", ticket.slot as u64, wanted.slot as u64),
-            (
-                "generation of a ticket",
-                ticket.generation,
-                wanted.generation,
-            ),
-        ])?;
+        agree = agree.and(ticket_agrees(ticket, wanted));
     }
-    Ok(())
+    agree
+}
+
+fn ticket_agrees(ticket: &Ticket, wanted: &Ticket) -> Result<(), Difference> {
+    same(&[
+        ("slot of a ticket", ticket.slot as u64, wanted.slot as u64),
+        ("ticket generation", ticket.generation, wanted.generation),
+    ])
 }
 
 /// The slots of a poller.
@@ -158,9 +160,6 @@ fn slot_agrees<R: Wait>(
     slot: usize,
 ) -> Result<(), Difference> {
     let (world, claims) = (&tape.world, &thread.shared.claims);
-    let Some(machine) = world.slots().first() else {
-        return same(&[("slot", 1, 0)]);
-    };
     let word = if slot < claims.slots() {
         claims.peek(slot)
     } else {
@@ -171,6 +170,19 @@ fn slot_agrees<R: Wait>(
         return same(&[("word of a lost slot", word, wanted)]);
     }
     let generation = thread.poller.table().get(slot).copied().unwrap_or(0);
+    word_agrees(tape, word, generation)?;
+    names_agree(station, world, slot, generation)?;
+    match world.connection(0) {
+        Some(machine) => place_agrees(rt, station, world, machine, thread, slot),
+        None => Ok(()),
+    }
+}
+
+/// The claim word and the generation of a slot.
+fn word_agrees(tape: &Tape, word: u64, generation: u64) -> Result<(), Difference> {
+    let Some(machine) = tape.world.slots().first() else {
+        return same(&[("slot", 1, 0)]);
+    };
     let is_free = matches!(machine.holder(), Holder::Free);
     same(&[
         flag("refusal of its world", tape.refused.is_some(), false),
@@ -178,12 +190,7 @@ fn slot_agrees<R: Wait>(
         ("notes", word / 4, machine.notes().len() as u64),
         flag("free word", word % 4 == 3, is_free),
         flag("held word", word % 2 == 1, is_free),
-    ])?;
-    names_agree(station, world, slot, generation)?;
-    match world.connection(0) {
-        Some(machine) => place_agrees(rt, station, world, machine, thread, slot),
-        None => Ok(()),
-    }
+    ])
 }
 
 /// The queued reports of a slot's ends, and whether they are open.

@@ -48,8 +48,11 @@ pub fn same(lines: &[Line]) -> Result<(), Difference> {
 pub fn pairs_agree(server: &Pair, machine: &Pair, since: Option<u64>) -> Result<(), Difference> {
     facts_agree(server, machine, since)?;
     flags_agree(server, machine)?;
-    ways_agree(server, machine, Direction::Up)?;
-    ways_agree(server, machine, Direction::Down)
+    for way in [Direction::Up, Direction::Down] {
+        ways_agree(server, machine, way)?;
+        bytes_agree(server, machine, way)?;
+    }
+    Ok(())
 }
 
 fn facts_agree(server: &Pair, machine: &Pair, since: Option<u64>) -> Result<(), Difference> {
@@ -96,16 +99,20 @@ fn ways_agree(server: &Pair, machine: &Pair, way: Direction) -> Result<(), Diffe
         ("length of a ring", ring as u64, machine_ring as u64),
         flag("end seen", server.end_seen(way), machine.end_seen(way)),
         flag("end passed on", server.is_shut(way), machine.is_shut(way)),
-    ])?;
+    ])
+}
+
+fn bytes_agree(server: &Pair, machine: &Pair, way: Direction) -> Result<(), Difference> {
+    let mut agree = Ok(());
     for index in 0..server.ring_len(way).min(machine.ring_len(way)) {
         let (byte, wanted) = (server.ring_byte(way, index), machine.ring_byte(way, index));
-        same(&[("byte in a ring", u64::from(byte), u64::from(wanted))])?;
+        agree = agree.and(same(&[("byte in a ring", u64::from(byte), u64::from(wanted))]));
     }
     for index in 0..server.lead_len(way).min(machine.lead_len(way)) {
         let (byte, wanted) = (server.lead_byte(way, index), machine.lead_byte(way, index));
-        same(&[("byte of the lead", u64::from(byte), u64::from(wanted))])?;
+        agree = agree.and(same(&[("byte of the lead", u64::from(byte), u64::from(wanted))]));
     }
-    Ok(())
+    agree
 }
 
 /// An end of the server's kernel is the machine's.

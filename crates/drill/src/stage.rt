@@ -216,30 +216,22 @@ impl Stage {
     /// The first worker takes this ticket, which nobody made, if no other is queued and the ticket is for no slot, for a free
     /// one, or for another connection than that of a slot without notes.
     pub fn take_made_up<R: Wait + Log>(&self, rt: &R, alloc: Global, ticket: Ticket) {
-        let is_harmless = match self.word_of(ticket.slot) {
-            Some(word) => word % 4 == 3 || word == 0 && self.is_other(ticket),
-            None => true,
+        let Ok(outside) = self.outside.try_borrow() else {
+            return;
         };
-        let is_idle = match self.outside.try_borrow() {
-            Ok(outside) => outside.ready.is_empty(),
-            Err(_) => false,
+        let tape = outside.tapes.get(ticket.slot);
+        let generation = tape.map_or(0, |tape| tape.generation());
+        let is_idle = outside.ready.is_empty();
+        drop(outside);
+        let is_harmless = match self.word_of(ticket.slot) {
+            Some(word) => word % 4 == 3 || word == 0 && generation != ticket.generation,
+            None => true,
         };
         if is_harmless && is_idle && !self.worker_is_due(0) {
             let gate = Nested {
                 outside: &self.outside,
             };
             self.turn(rt, alloc, 0, &gate, Some(ticket));
-        }
-    }
-
-    /// Whether a ticket is not for the last connection of its slot.
-    fn is_other(&self, ticket: Ticket) -> bool {
-        match self.outside.try_borrow() {
-            Ok(outside) => match outside.tapes.get(ticket.slot) {
-                Some(tape) => tape.generation() != ticket.generation,
-                None => true,
-            },
-            Err(_) => false,
         }
     }
 
