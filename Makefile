@@ -1,6 +1,6 @@
 # Thin targets over the toolchain's command `rt`. See README.md.
 
-.PHONY: help build run sim test test-program test-drill soak growths bench bench-turn install dist
+.PHONY: help build run sim test test-program test-drill soak growths bench install dist
 
 # The settings file of `make run`.
 CONFIG ?= examples/relayd.toml
@@ -26,7 +26,6 @@ help:
 	@echo 'make soak          keeps a thousand connections of every kind going for ten minutes'
 	@echo 'make growths       makes each memory allocation of the built tests and program fail in turn'
 	@echo 'make bench         compares the relay with other forwarders'
-	@echo 'make bench-turn    measures how fast a turn moves bytes in memory'
 
 # Proves and builds the program if it is not up to date.
 build:
@@ -68,11 +67,6 @@ growths: build
 # Compares the relay with other forwarders. Not part of the gate; docs/BENCHMARKS.md says what it needs.
 bench: build
 	@bench/run --relayd $(PROGRAM)
-
-# How fast a turn moves bytes through memory, compared with a plain loop. Not part of the gate.
-bench-turn:
-	@.ci/build bench_turn
-	@crates/bench_turn/out/bench_turn run
 
 # Builds the program if there is none yet, so that root can install what another user has built.
 $(PROGRAM):
