@@ -1,4 +1,6 @@
-ghost use Rattle.std.specs.Prelude.{◌≡◌, ◌↔◌, ◌⊎◌, IsTrue, ◌+◌, ◌≤◌, ◌++◌, [], length, replicate, true, false, Some, None, IfOk, OnOk, IfErr, OnErr, vec_len, vec_capacity};
+ghost use Rattle.std.specs.Prelude.{◌≡◌, ◌≢◌, ◌↔◌, ◌⊎◌, IsTrue, ◌+◌, ◌≤◌, ◌++◌, [], length, replicate, true, false, Some, None, IfOk, OnOk, IfErr, OnErr, vec_len, vec_capacity};
+ghost use Rattle.std.specs.IoError.{error_kind};
+ghost use Rattle.std.specs.declared.io.ErrorKind.TheVariants.{Interrupted};
 ghost use Rattle.mio.specs.Event.{event_token};
 ghost use Rattle.mio.specs.Events.{items};
 ghost use Rattle.token.specs.Numbers.{name_of};
@@ -297,7 +299,8 @@ impl<R: Dial> Front for Sockets<'_, R> {
         ensures capacity { vec_capacity batch.new ≡ vec_capacity batch.old }
         ensures failed { OnErr result (batch.new.items ≡ []) }
         ensures reported { batch.new.items ≡ self.new.reported }
-        ensures fault { IsTrue self.new.failed ↔ Fails result }
+        ensures fault { IfErr result (λ error. error_kind error ≢ Interrupted → self.new.failed ≡ true) }
+        ensures fails { IsTrue self.new.failed ↔ Fails result }
         ensures same { self.new.forwarding ≡ self.old.forwarding }
     {
         batch.clear();
