@@ -94,6 +94,7 @@ fn hear(
     reports(alloc, front, &[0, 1])
 }
 
+// refuses listener_watched_by_one_poller: only one front watches the listening socket
 // The listening socket is reported to each front, and a slot's waker to the front of its part alone: there are 65 slots each.
 #[test]
 fn fronts_share_the_listener(rt: HostRuntime) -> Result<(), Fail> {
