@@ -7,7 +7,6 @@ use Rattle.world.specs.declared.limits.Limits.{Limits}
 use Rattle.world.specs.declared.event.Event.{Event}
 use Rattle.script.specs.declared.fault.Fault.{Fault}
 use Rattle.script.specs.declared.fault.Fault.TheVariants.{TooLong, NoWorld, Malformed, NotAllowed, NoMemory}
-use Rattle.script_text.specs.declared.header.Header.{Header}
 use Rattle.script_text.specs.declared.header.Header.TheVariants as header
 use Rattle.script.specs.declared.script.Script.{Script}
 use Rattle.script.specs.Plans.{FlowPlan, WorldPlan}

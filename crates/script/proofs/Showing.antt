@@ -23,7 +23,7 @@ use Rattle.script_text.specs.declared.event.NumberedEvent.{NumberedEvent}
 use Rattle.script.specs.declared.transfer.Transfer.{Transfer}
 use Rattle.script.specs.Plans.{FlowPlan, WorldPlan}
 use Rattle.script_text.specs.Texts.{NumberedLine, lines_of, telling_lines}
-use Rattle.script.specs.Faults.{Gives, GivesBy, StopsAt, always, and_then, played}
+use Rattle.script.specs.Faults.{Gives, GivesBy, always, and_then, played}
 use Rattle.script.specs.Faults as faults
 use Rattle.script.specs.Transfers.{line_stepped}
 use Rattle.script.specs.Transfers as flow

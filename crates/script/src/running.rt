@@ -37,8 +37,8 @@ pub enum ScriptFault {
 /// state after it or the one line of its fault.
 ///
 /// It makes at most 1,048,577 reads. Any error of the reader, even one that a signal causes, is [`ScriptFault::Read`]
-/// at once. If memory runs out, the line is `out of memory`: so never for an input without a byte, nor, once it was read, for
-/// one that is too long, or whose header or first line behind it is malformed.
+/// at once. If memory runs out, the line is `out of memory`: so never for an input without a byte, nor, once it was read,
+/// for one that is too long, or whose header or first line behind it is malformed.
 ///
 /// If the script that was read has a fault, `explain` is called once, before anything is written. Otherwise it is not
 /// called; nor is it if memory runs out before the script was read, or for what is to be written.

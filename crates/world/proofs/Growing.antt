@@ -1,5 +1,5 @@
 -- When a list gets longer by an event.
-use Rattle.std.proofs.Common.{◌≡◌, ℕ, ◌<◌, true, [], ◌∷◌, ◌++◌, length, slice_get, Some, refl, arith, lt-ltb, length-append}
+use Rattle.std.proofs.Common.{◌≡◌, ℕ, ◌<◌, true, [], ◌∷◌, ◌++◌, length, slice_get, Some, arith, lt-ltb, length-append}
 use Rattle.std.proofs.lemmas.Bool.{lt-leb}
 use Rattle.world.specs.declared.actors.Doing.TheVariants.{Retired}
 use Rattle.world.specs.Slots.{SlotState, WorkerState}

@@ -1,6 +1,6 @@
 -- The events for which memory may run out: those that make a list longer, if they are allowed. Part of the promises. Any
 -- other event happens if it is allowed.
-use Rattle.std.specs.Prelude.{ℕ, Bool, true, false, ◌||◌, nat_lt, List, length, Option, Some, None, slice_get}
+use Rattle.std.specs.Prelude.{ℕ, Bool, true, false, ◌||◌, nat_lt, length, Option, Some, None, slice_get}
 use Rattle.token.specs.declared.side.Side.{Side}
 use Rattle.token.specs.declared.name.Name.{Name}
 use Rattle.token.specs.declared.name.Name.TheVariants as name
@@ -9,7 +9,6 @@ use Rattle.world.specs.declared.event.Event.{Event}
 use Rattle.world.specs.declared.event.Event.TheVariants as event
 use Rattle.world.specs.declared.event.Change.{Change}
 use Rattle.world.specs.declared.event.Change.TheVariants.{Arrive}
-use Rattle.world.specs.declared.event.Listening.{Listening}
 use Rattle.world.specs.declared.event.Polling.{Polling}
 use Rattle.world.specs.declared.event.Polling.TheVariants as polling
 use Rattle.world.specs.declared.event.Act.{Act}
