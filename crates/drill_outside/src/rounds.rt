@@ -12,15 +12,15 @@ use token::{Name, Token};
 use world::{Event, Listening, Polling};
 
 impl Outside {
-    /// A poller's poll: the names that it gives, or the error by which it fails. It may wait just where the poller could not
-    /// accept at once.
+    /// A poller's poll: the names that it gives, or the error by which it fails. It is the only one of a round, and
+    /// may wait just where the poller could not accept at once.
     pub(crate) fn poll(&mut self, poller: usize, wait: bool) -> io::Result<Vec<Name>> {
         let Some(station) = self.stations.get_mut(poller) else {
             return Err(io::Error::from(ErrorKind::Other));
         };
-        if wait == (station.could_accept() && !station.starved) {
-            self.book
-                .blame("a poll waits while it may not, or does not while it may");
+        let may_wait = !station.could_accept() || station.starved;
+        if station.in_round || wait != may_wait {
+            self.book.blame("a second poll, or one that waits wrongly");
         }
         let polled = station.plan.polls.pop_front();
         if polled == Some(Polled::Failed) {
