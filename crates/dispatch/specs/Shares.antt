@@ -2,7 +2,6 @@
 use Rattle.std.specs.Prelude.{◌≡◌, ◌⊎◌, ℕ, suc, ◌<◌, List, [], ◌∷◌, ◌++◌, slice_index}
 use Rattle.ready.specs.declared.ticket.Ticket.{Ticket}
 use Rattle.ready.specs.Steps.{EndState, PutOne, HeldOnce}
-use Rattle.dispatch.specs.Hands.{HandState}
 use Rattle.dispatch.specs.Polls.{looked_at}
 use Rattle.dispatch.specs.declared.shared.Own.{Own}
 
