@@ -127,9 +127,7 @@ impl World {
         if !self.batch.is_empty() || !self.kernel.may_poll(names) {
             return Err(Refusal::NotAllowed);
         }
-        if !names.is_empty() {
-            self.batch.extend_from_slice(names)?;
-        }
+        self.batch.extend_from_slice(names)?;
         self.kernel.poll(names)
     }
 
