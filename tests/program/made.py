@@ -7,6 +7,8 @@ from tables import Row, printed, report_of
 
 WHOLE = b"flow ring=4\narrive 616263\nroom\nread 3\nfin\nwrote 3\nend\nshut\n"
 OPENING = ["connect", "accept ok", "open"]
+# The first worker rests a pair for which it has no bytes and no room.
+REST = ["pop 0", "claim 0", "take 0", "call 0 blocked", "call 0 blocked", "release 0"]
 KILOBYTES = [f"{number:02x}" * 1024 for number in range(65)]
 
 
@@ -78,10 +80,7 @@ def over_a_socket():
 def last_pair():
     """The last slot's pair in its last generation, with the largest of everything, and what the report tells."""
     script = [f"world slots=64 workers=16 ring=65536 budget=1024 gen={2**47 - 2}", *OPENING * 64, *["put poller"] * 64]
-    # The first worker rests each pair but the last, for which it has no bytes and no room.
-    for slot in range(63):
-        script += ["pop 0", "claim 0", "take 0", "call 0 blocked", "call 0 blocked", "release 0"]
-    script += [f"arrive 63 client {text}" for text in KILOBYTES]
+    script += REST * 63 + [f"arrive 63 client {text}" for text in KILOBYTES]
     script += ["fin 63 client", "room 63 target", "pop 15", "claim 15", "take 15"]
     script += ["call 15 read 16384", "call 15 blocked", "call 15 wrote 16384"]
     script += ["call 15 read 16384", "call 15 wrote 16384"] * 3
@@ -97,10 +96,8 @@ def fullest_world():
     """A world whose lists get long, and whose slots are used five times, and what the report tells."""
     slots, workers = 64, 16
     opening = OPENING * slots + ["put poller"] * slots
-    script = [f"world slots={slots} workers={workers} ring=65536 budget=1024 idle=1", *opening]
-    # The first worker rests each pair but the last, which fills its ring and writes it at once.
-    for slot in range(slots - 1):
-        script += ["pop 0", "claim 0", "take 0", "call 0 blocked", "call 0 blocked", "release 0"]
+    # The last pair fills its ring and writes it at once.
+    script = [f"world slots={slots} workers={workers} ring=65536 budget=1024 idle=1", *opening, *REST * (slots - 1)]
     script += [f"arrive 63 client {text}" for text in KILOBYTES[:64]] + ["pop 0", "claim 0", "take 0"]
     script += ["call 0 read 16384", "call 0 blocked", "call 0 blocked"] + ["call 0 read 16384"] * 3
     script += ["room 63 target", *["post 0"] * 300, "take 0"]
@@ -204,13 +201,10 @@ def largest():
     """Scripts at the largest of everything."""
     world, flow = "world slots=1 workers=1 ring=1 budget=1", "flow ring=1"
     byte = ["arrive 61", "read 1", "wrote 1"]
-    nothing = ["slot 0 free gen=0 notes=0"]
     well = {
         "over 64 KiB through a socket": over_a_socket(),
-        "10,000 steps": ([flow, "room", *byte * 3333], [f"up sent={'61' * 3333} ring=- unread=- end=no shut=no"]),
-        "10,000 events": ([world, *["spurious waker", "vanish waker"] * 5000], ["free 0", *nothing]),
         "the most steps": ([flow, "room", *byte * 41942], [f"up sent={'61' * 41942} ring=- unread=- end=no shut=no"]),
-        "the most events": ([world, *["poll"] * 209707], ["free 0", *nothing]),
+        "the most events": ([world, *["poll"] * 209707], ["free 0", "slot 0 free gen=0 notes=0"]),
         "four hundred uses of a slot": reuses(),
         "pieces of every odd length": every_length(range(1, 1025, 2)),
         "pieces of every even length": every_length(range(2, 1025, 2)),
@@ -225,11 +219,6 @@ def largest():
         yield Row(name, [b"sim"], text_of(script).encode(), output=text_of(report).encode())
     script, report = last_pair()
     yield with_each_step("each step to the last pair of the largest world", script, report_of(script[0], report))
-    step = "not a step of a flow; one of arrive, end, fin, read, room, shut and wrote is wanted"
-    event = (
-        "not a step of a world; one of accept, arrive, call, claim, close, connect, deliver, drop, fin, free, idle, open, poll,"
-        " pop, post, put, release, reset, retire, room, spurious, sweep, take, tick and vanish is wanted"
-    )
     waiting = "no more connections can wait at the listener"
     unclosed = "the worker has closed no connection"
     for name, script, why, cause in [
@@ -237,9 +226,7 @@ def largest():
         ("a poll of 257 names", [world, "poll" + " waker" * 257], "malformed", 'poll: "waker": a poll has at most 256 names'),
         ("a connection too many", [world, *["connect"] * 4097], "not allowed: connect", f"connect: {waiting}"),
         ("a session's 50th event", [*session()[0][:50], "retire 0"], "not allowed: retire", f"retire: {unclosed}"),
-        ("a step past 10,000", [flow, "room", *byte * 3333, "room"], "not allowed: room", "room: the socket has room"),
-        ("a malformed step past 10,000", [flow, "room", *byte * 3333, "rom"], "malformed", f'"rom": {step}'),
-        ("a malformed event past 10,000", [world, *["poll"] * 10000, "pol"], "malformed", f'"pol": {event}'),
+        ("a line past 10,000", [flow, "room", *byte * 3333, "room"], "not allowed: room", "room: the socket has room"),
     ]:
         output, errors = (f"{before}line {len(script)}: {told}\n" for before, told in [("", why), ("[ERROR relayd] ", cause)])
         text = text_of(script).encode()

@@ -25,7 +25,8 @@ causes/TOPIC has scripts with a fault in their last line, `STEPS => WHY: CAUSE` 
 
 settings/TOPIC has settings texts, `TEXT => WANTED` for each, on which `relayd check` is run. WANTED is the fault that is
 told, and behind ` | ` the cause that the log tells, or the settings that differ from their defaults, as `ring=1 log=off`. In
-the table `addresses` TEXT is the value of `target`, and in `more` it follows the two addresses.
+the table `addresses` TEXT is the value of `target`, and in `more` it follows the two addresses. In `forward` TEXT is the words
+behind that command, as a shell reads them, and all of them are refused with status 2.
 
 In all of them `\xHH` is a byte, and `\xHH*N` that byte N times. Lines that begin with `#` are comments.
 """
@@ -182,9 +183,15 @@ def causes(lines):
         yield Row(name, [b"sim"], bytes_of(script), status=1, output=output, errors=errors)
 
 
-def settings(lines, around):
-    """The rows of a table of settings texts. Before a fault stands a line with the file and the cause."""
+def settings(lines, topic):
+    """The rows of a table of settings texts. Before a fault stands a line with the file, if there is one, and the cause."""
     for name, text, wanted in sides(lines):
+        if topic == "forward":
+            told, _, cause = wanted.partition(" | ")
+            errors = bytes_of(f"[ERROR relayd] settings: {cause}\nrelayd: {told}\n")
+            yield Row(name, [b"forward", *map(bytes_of, shlex.split(text))], status=2, errors=errors)
+            continue
+        around = AROUND[topic]
         text = around % (text if around == AROUND["addresses"] else text.rstrip(" ")).replace(" | ", "\n")
         row = Row(name, [b"check", b"--config", b"t.toml"], files={"t.toml": bytes_of(text)})
         if re.match("[a-z_]+=", wanted):
@@ -201,7 +208,7 @@ def read(kind, topic):
     with open(os.path.join(HERE, kind, topic), encoding="utf-8") as file:
         lines = [(number, line) for number, line in enumerate(file.read().split("\n"), 1) if line and line[0] != "#"]
     if kind == "settings":
-        rows = list(settings(lines, AROUND[topic]))
+        rows = list(settings(lines, topic))
     else:
         rows = list({"transcripts": transcript, "reports": reports, "causes": causes}[kind](lines))
     if not rows:
