@@ -107,7 +107,6 @@ fn reports_a_failed_read(rt: &HostRuntime, length: usize, kind: ErrorKind) -> Re
     }
 }
 
-// refuses error_told_as_memory: an error of the reader is told as want of memory
 // Any error is reported at once, also a signal's, and one that leaves the rest to be read.
 #[test]
 fn a_reader_that_fails(rt: HostRuntime) -> Result<(), Fail> {
