@@ -1,4 +1,4 @@
--- The texts of lines. Part of the promises.
+-- The texts of lines, and how many are left out. Part of the promises.
 use Rattle.std.specs.Prelude.{◌≡◌, ℕ, ◌+◌, ◌-◌, ◌<◌, ◌≤◌, Bool, true, false, List, [], ◌++◌, length, take, codes}
 use Rattle.std.specs.Fmt.{decimal}
 use Rattle.std.specs.Str.{IsCharBoundary}
@@ -41,3 +41,8 @@ pub record IsAdded (old : LineState) (text : List ℕ) (new : LineState) : Type 
 -- how many lines were left out
 abbrev pub left_out_text : ℕ → List ℕ
 left_out_text count = codes "log: " ++ (decimal count ++ codes " lines left out")
+
+-- one step on a count that threads share: 1 was added, or all that was there was taken
+pub data CountStep : Type 0 where
+  Added : CountStep
+  Taken : ℕ → CountStep

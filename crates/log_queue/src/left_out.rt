@@ -1,6 +1,6 @@
 // How many lines were left out and not told yet.
 ghost use Rattle.std.specs.Prelude.{◌≡◌};
-ghost use Rattle.log_queue.specs.Counts.{CountStep, Added, Taken};
+ghost use Rattle.log_queue.specs.Lines.{CountStep, Added, Taken};
 
 use std::sync::atomic::{AtomicU64, Ordering};
 

@@ -1,6 +1,6 @@
 -- What a call tells the end that made it. Part of the promises. The state is some state that meets the rule, since no
 -- clause can name what other threads do, but the end's own history stands in it.
-use Rattle.std.specs.Prelude.{◌≡◌, ℕ, zero, suc, ◌+◌, true, false, List, [], ◌∷◌, ◌++◌, length, slice_set}
+use Rattle.std.specs.Prelude.{◌≡◌, ℕ, zero, suc, ◌+◌, ◌^◌, ◌==◌, Bool, not, bit_and, true, false, List, [], ◌∷◌, ◌++◌, length, slice_set}
 use mathlib.Core.Option.{some}
 use lib.ListN.{get_elem?}
 use Rattle.ready.specs.declared.history.History.{History}
@@ -78,3 +78,17 @@ in_order first (suc n) = in_order first n ++ (n, first + n) ∷ []
 -- the first end of a queue of free slots, which has put all of them
 abbrev pub opened : ℕ → ℕ → EndState ℕ
 opened first slots = record { capacity = slots; history = record blank { put = in_order first slots } }
+
+-- One step on the bits of the idle ends, with its answer: the bits; or bits that were set or cleared, and what was there before
+pub data BitStep : Type 0 where
+  ReadBits : ℕ → BitStep
+  SetBits : ℕ → ℕ → BitStep
+  ClearedBits : ℕ → ℕ → BitStep
+
+-- the bit of an end
+abbrev pub bit_of : ℕ → ℕ
+bit_of end = 2 ^ end
+
+-- whether it is set
+abbrev pub has_bit : ℕ → ℕ → Bool
+has_bit end bits = not (bit_and bits (bit_of end) == 0)

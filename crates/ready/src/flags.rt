@@ -2,7 +2,7 @@
 // consistent, as are those of the queue: all threads see them in one order. A comment at each step names the step that
 // it pairs with.
 ghost use Rattle.std.specs.Prelude.{◌≡◌, ◌≢◌, ◌<◌, ℕ, true, not};
-ghost use Rattle.ready.specs.Bits.{BitStep, ReadBits, SetBits, ClearedBits, bit_of, has_bit};
+ghost use Rattle.ready.specs.Steps.{BitStep, ReadBits, SetBits, ClearedBits, bit_of, has_bit};
 
 use std::sync::atomic::Ordering::SeqCst;
 use std::sync::atomic::{AtomicBool, AtomicU64};

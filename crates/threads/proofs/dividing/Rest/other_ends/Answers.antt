@@ -1,4 +1,4 @@
-use Rattle.std.proofs.Common.{◌∙◌, ◌+◌, arith}
+use Rattle.std.proofs.Common.{◌∙◌, arith}
 use Rattle.threads.proofs.Casts.{ends_pushed, left_of_left, length_pushed}
 use Rattle.threads.proofs.dividing.Rest.other_ends.Goals as goal
 
