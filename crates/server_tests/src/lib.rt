@@ -7,8 +7,6 @@
 #[cfg(test)]
 mod acts;
 #[cfg(test)]
-mod failing;
-#[cfg(test)]
 mod faults;
 #[cfg(test)]
 mod holding;

@@ -1,5 +1,5 @@
 // What a scripted wire answers where a play does not fit its call, where none is left, and where it is not connected.
-use super::session::plays;
+use crate::session::plays;
 use engine::{Play, ScriptWire, Wire};
 use relay_core::Kind;
 use std::alloc::{AllocError, Global};
