@@ -2,7 +2,7 @@
 ghost use Rattle.std.specs.Prelude.{◌≡◌, ◌≤◌, [], OnErr, length, vec_len, vec_capacity};
 
 use crate::outside::Outside;
-use crate::wire::{EndState, EndWire};
+use crate::wire::EndWire;
 use dispatch::{Front, MAX_BATCH, Opened, Unopened};
 use kernel_model::Accepting;
 use log::Log;
@@ -115,9 +115,7 @@ impl Front for KernelFront {
             return Err(io::Error::from(ErrorKind::Other));
         };
         match outside.accept(self.poller) {
-            Accepting::Accepted => {
-                Ok(EndWire::new(shared, self.poller, EndState::Accepted, true))
-            }
+            Accepting::Accepted => Ok(EndWire::new(shared, self.poller, None, true)),
             Accepting::Blocked => Err(io::Error::from(ErrorKind::WouldBlock)),
             Accepting::Again => Err(io::Error::from(ErrorKind::ConnectionAborted)),
             Accepting::Starved => Err(io::Error::from(ErrorKind::Other)),
@@ -137,17 +135,14 @@ impl Front for KernelFront {
         let Ok(mut outside) = self.outside.try_borrow_mut() else {
             return Err(Unopened::Connect);
         };
-        let started = outside.open(self.poller, client_token, target_token)?;
-        let state = match started.ends {
-            Some(ends) => {
-                client.open(client_token, ends.client);
-                EndState::Open(target_token, ends.target)
-            }
-            None => EndState::Never,
-        };
+        let (ends, route) = outside.open(self.poller, client_token, target_token)?;
+        if let Some(ends) = ends {
+            client.open(client_token, ends.client);
+        }
+        let end = ends.map(|ends| (target_token, ends.target));
         Ok(Opened {
-            target: EndWire::new(shared, self.poller, state, false),
-            route: started.route,
+            target: EndWire::new(shared, self.poller, end, false),
+            route,
         })
     }
 

@@ -1,19 +1,17 @@
 // What is outside of the server: for each poller a station, for each slot a tape, the clients that no poller has accepted
-// yet, the tickets that are queued, what the next calls get, and the log.
+// yet, what the next calls get, and the log.
 ghost use Rattle.drill_outside.specs.Sizes.{IsServerSize};
 
 use crate::book::Book;
-use crate::plan::Plan;
 use crate::sizes::Sizes;
 use crate::station::Station;
-use crate::step::{Later, Outer};
+use crate::step::{Inner, Later, Outer};
 use crate::tape::Tape;
 use crate::ticks::Ticks;
 use crate::totals::Totals;
-use crate::turn::{Acting, Thread};
+use crate::turn::Acting;
 use kernel_model::MAX_BACKLOG;
 use log::Level;
-use ready::Ticket;
 use std::alloc::{AllocError, Global};
 use std::collections::VecDeque;
 use std::rc::Rc;
@@ -30,9 +28,11 @@ pub struct Outside {
     pub stations: Vec<Station>,
     /// What is each slot's.
     pub tapes: Vec<Tape>,
-    /// The tickets that have to be in the queue, in order.
-    pub ready: VecDeque<Ticket>,
-    pub plan: Plan,
+    /// What the next turns' calls get, and what happens before a call: `Call` and `Meanwhile`, first in, first out.
+    pub(crate) calls: VecDeque<Later>,
+    /// What is done before a turn's first call, and after its last one.
+    before: VecDeque<Inner>,
+    after: VecDeque<Inner>,
     /// How many clients wait outside of all kernels.
     pub(crate) waiting: usize,
     pub(crate) acting: Acting,
@@ -59,10 +59,11 @@ impl Outside {
             clock,
             stations: stations_of(alloc, sizes)?,
             tapes: tapes_of(alloc, sizes)?,
-            ready: VecDeque::new(alloc),
-            plan: Plan::new(alloc),
+            calls: VecDeque::new(alloc),
+            before: VecDeque::new(alloc),
+            after: VecDeque::new(alloc),
             waiting: 0,
-            acting: Acting::new(Thread::Worker),
+            acting: Acting::NONE,
             calling: 0,
             book: Book::new(alloc),
             faulty: false,
@@ -73,11 +74,24 @@ impl Outside {
     /// Adds what a later call gets.
     pub fn add(&mut self, later: Later) -> Result<(), AllocError> {
         match later {
-            Later::Turn(turned) => self.plan.add(turned),
-            Later::Round(poller, fronted) => match self.stations.get_mut(poller) {
-                Some(station) => station.plan.add(fronted),
-                None => Ok(()),
-            },
+            Later::Before(inner) => self.before.push_back(inner)?,
+            Later::After(inner) => self.after.push_back(inner)?,
+            Later::Round(poller, fronted) => {
+                if let Some(station) = self.stations.get_mut(poller) {
+                    station.add(fronted)?;
+                }
+            }
+            called => self.calls.push_back(called)?,
+        }
+        Ok(())
+    }
+
+    /// What is done next before a turn's first call, or after its last one.
+    pub fn next_inner(&mut self, before: bool) -> Option<Inner> {
+        if before {
+            self.before.pop_front()
+        } else {
+            self.after.pop_front()
         }
     }
 
@@ -175,16 +189,6 @@ impl Outside {
         for station in self.stations.iter_mut() {
             station.tape.put(&Event::Spurious(Reported::Waker));
         }
-    }
-
-    /// Whether a ticket for this slot has to be in the queue.
-    pub fn is_queued(&self, slot: usize) -> bool {
-        for ticket in self.ready.iter() {
-            if ticket.slot == slot {
-                return true;
-            }
-        }
-        false
     }
 
     /// The connection in this slot, which has this claim word, is taken away from its place. From now on there is nothing

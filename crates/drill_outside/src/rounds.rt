@@ -22,7 +22,7 @@ impl Outside {
         if station.in_round || wait != may_wait {
             self.book.blame("a second poll, or one that waits wrongly");
         }
-        let polled = station.plan.polls.pop_front();
+        let polled = station.polls.pop_front();
         if polled == Some(Polled::Failed) {
             station.failed = true;
             self.faulty = true;
@@ -52,7 +52,7 @@ impl Outside {
     }
 
     fn next_polled(&mut self, poller: usize) -> Option<Outer> {
-        self.stations.get_mut(poller)?.plan.polled.pop_front()
+        self.stations.get_mut(poller)?.polled.pop_front()
     }
 
     /// The worlds of the slots take their names from their queues.
@@ -76,7 +76,7 @@ impl Outside {
         let event = Event::Poll(Polling::Deliver);
         for name in names {
             match name {
-                Name::End(token) => self.note(poller, token.slot(), &event),
+                Name::End(token) => self.record(token.slot(), &event),
                 Name::Listener | Name::Waker => {
                     if let Some(station) = self.stations.get_mut(poller) {
                         station.tape.put(&event);
@@ -90,27 +90,17 @@ impl Outside {
         };
         if station.falls_due(second) {
             let part = station.part;
-            self.sweep(poller, part.first, part.slots);
-        }
-    }
-
-    /// A poller's round does this at a slot, which may make a ticket.
-    fn note(&mut self, poller: usize, slot: usize, event: &Event) {
-        if let (Some(station), Some(tape)) = (
-            self.stations.get_mut(poller),
-            self.tapes.get_mut(slot),
-        ) {
-            station.note(slot, tape, event);
+            self.sweep(part.first, part.slots);
         }
     }
 
     /// A note for each of these slots in which a connection was ever opened.
-    fn sweep(&mut self, poller: usize, first: usize, slots: usize) {
+    fn sweep(&mut self, first: usize, slots: usize) {
         let event = Event::Poll(Polling::Sweep(0));
         for index in 0..slots {
             let slot = first.saturating_add(index);
             if matches!(self.tapes.get(slot), Some(tape) if tape.generation() > 0) {
-                self.note(poller, slot, &event);
+                self.record(slot, &event);
             }
         }
     }
@@ -155,7 +145,7 @@ impl Outside {
         match &started {
             Err(Unopened::Connect) => self.expect_drop("connect"),
             Err(Unopened::Register) => self.expect_drop("register"),
-            Ok(started) if started.ends.is_none() => self.expect_drop("address"),
+            Ok((None, _)) => self.expect_drop("address"),
             Ok(_) => self.opened(poller, client.slot(), client.generation()),
         }
         started
@@ -178,7 +168,7 @@ impl Outside {
         }
         self.record(slot, &Event::Listen(Listening::Connect));
         self.record(slot, &Event::Listen(Listening::Accept(Accepting::Accepted)));
-        self.note(poller, slot, &Event::Poll(Polling::Open));
+        self.record(slot, &Event::Poll(Polling::Open));
         self.expect_open(slot, generation);
     }
 

@@ -5,14 +5,12 @@ ghost use Rattle.dispatch.specs.Splits.{parts_of};
 ghost use Rattle.drill_outside.specs.Sizes.{IsServerSize};
 
 use crate::addresses::route_of;
-use crate::plan::RoundPlan;
 use crate::sizes::Sizes;
-use crate::step::{Outcome, Polled};
+use crate::step::{Fronted, Outer, Polled, Untold};
 use crate::tape::{Tape, at_first};
 use crate::ticks::START;
-use dispatch::{MAX_ACCEPTS, MAX_OWN_TURNS, Part, Route, Unopened};
+use dispatch::{MAX_ACCEPTS, Part, Route, Unopened};
 use kernel_model::{Accepting, Descriptors, Kernel, MAX_POLLED, Refusal, Watched};
-use ready::Ticket;
 use std::alloc::{AllocError, Global};
 use std::collections::VecDeque;
 use token::{Name, Side, Token};
@@ -21,17 +19,9 @@ use world::{Change, Event, Lead, Listening, Polling, Reported};
 /// The most descriptors that a kernel has: two for each slot.
 const MOST: usize = 128;
 
-/// So many tickets of a connection that spent the budget of its poller's thread are for the workers.
-const HEAVY: u8 = 16;
-
-/// A connection that a poller started to open.
-#[derive(Clone, Copy)]
-pub struct Started {
-    /// Its ends. None where it has to be given up for want of an address.
-    pub ends: Option<Descriptors>,
-    /// Its addresses.
-    pub route: Route,
-}
+/// A connection that a poller started to open: its ends, or none where it has to be given up for want of an address, and its
+/// addresses.
+pub type Started = (Option<Descriptors>, Route);
 
 /// One poller's share of what is outside of the server.
 #[derive(Drop)]
@@ -41,18 +31,18 @@ pub struct Station {
     pub kernel: Kernel,
     /// Whether the kernel, or the memory for a list, refused what has to be possible.
     pub refused: bool,
-    pub plan: RoundPlan,
+    /// What the calls of its next rounds get, if not what the kernel has, of each kind of call; and what happens between a
+    /// poll and its delivery. First in, first out.
+    accepts: VecDeque<Accepting>,
+    opens: VecDeque<Result<Option<Untold>, Unopened>>,
+    pub(crate) polls: VecDeque<Polled>,
+    pub(crate) polled: VecDeque<Outer>,
     /// The world of its listener and its waker, in which nothing is ever opened.
     pub tape: Tape,
     /// The slots of this poller.
     pub(crate) part: Part,
     /// Its free slots, in the order in which they are to be used.
     pub free: VecDeque<usize>,
-    /// The tickets that its round has made so far, and those that its thread has to run then.
-    hand: VecDeque<Ticket>,
-    kept: VecDeque<Ticket>,
-    /// Of each slot's next tickets, how many are for the workers.
-    heavy: [u8; 64],
     /// How many connections it may still open.
     left: u64,
     /// The idle limit, 0 for none, and the second of its last sweep, at first that at which the server began.
@@ -85,13 +75,13 @@ impl Station {
             alloc,
             kernel: Kernel::new(alloc),
             refused: false,
-            plan: RoundPlan::new(alloc),
+            accepts: VecDeque::new(alloc),
+            opens: VecDeque::new(alloc),
+            polls: VecDeque::new(alloc),
+            polled: VecDeque::new(alloc),
             tape: Tape::new(alloc, sizes, Lead::NONE)?,
             free: slots_of(alloc, part)?,
             part,
-            hand: VecDeque::new(alloc),
-            kept: VecDeque::new(alloc),
-            heavy: [0; 64],
             left: sizes.share_of(poller),
             limit: sizes.limits.idle,
             swept: START,
@@ -104,6 +94,17 @@ impl Station {
             failed: false,
             half: None,
         })
+    }
+
+    /// Adds what a later call gets.
+    pub(crate) fn add(&mut self, fronted: Fronted) -> Result<(), AllocError> {
+        match fronted {
+            Fronted::Accept(accepting) => self.accepts.push_back(accepting)?,
+            Fronted::Open(untold) => self.opens.push_back(untold)?,
+            Fronted::Poll(polled) => self.polls.push_back(polled)?,
+            Fronted::Polled(outer) => self.polled.push_back(outer)?,
+        }
+        Ok(())
     }
 
     /// The kernel has to make this.
@@ -228,59 +229,11 @@ impl Station {
         is_due
     }
 
-    /// Its round does this at the slot of this tape, which may make a ticket.
-    pub(crate) fn note(&mut self, slot: usize, tape: &mut Tape, event: &Event) {
-        let had = tape.poller_ticket().is_some();
-        tape.put(event);
-        if let (false, Some(ticket)) = (had, tape.poller_ticket()) {
-            let kept = self.hand.push_back(Ticket {
-                slot,
-                generation: ticket.generation,
-            });
-            self.must(kept);
-        }
-    }
-
-    /// Its round has ended: the tickets of heavy connections, and all behind the first 16 others, are for the workers.
-    pub(crate) fn end_round(&mut self, ready: &mut VecDeque<Ticket>) {
+    /// Its round has ended.
+    pub(crate) fn end_round(&mut self) {
         self.in_round = false;
         // A slot that has had its last connection never comes back: a server that is to end has opened too few for that.
         self.over = self.has_opened_all() && self.free.len() >= self.part.slots;
-        for _ticket in 0..self.hand.len() {
-            let Some(ticket) = self.hand.pop_front() else {
-                return;
-            };
-            let stays = self.is_light(ticket.slot) && self.kept.len() < MAX_OWN_TURNS;
-            let put = if stays {
-                self.kept.push_back(ticket)
-            } else {
-                ready.push_back(ticket)
-            };
-            self.must(put);
-        }
-    }
-
-    /// Whether the slot's next ticket is for its own thread.
-    fn is_light(&mut self, slot: usize) -> bool {
-        match self.heavy.get_mut(slot) {
-            Some(left) if *left > 0 => {
-                *left -= 1;
-                false
-            }
-            _ => true,
-        }
-    }
-
-    /// Its own thread has run a turn at this slot that left the connection due.
-    pub(crate) fn mark_heavy(&mut self, slot: usize) {
-        if let Some(left) = self.heavy.get_mut(slot) {
-            *left = HEAVY;
-        }
-    }
-
-    /// The ticket that its thread has to run next.
-    pub(crate) fn next_kept(&mut self) -> Option<Ticket> {
-        self.kept.pop_front()
     }
 
     /// Whether it has opened all that it may open.
@@ -302,7 +255,7 @@ impl Station {
 
     /// What accept(2) is answered, where a client waits or not.
     pub(crate) fn accept(&mut self, waits: bool) -> Accepting {
-        match self.plan.accepts.pop_front() {
+        match self.accepts.pop_front() {
             Some(Accepting::Again) => Accepting::Again,
             Some(Accepting::Starved) => Accepting::Starved,
             _ if waits => Accepting::Accepted,
@@ -348,20 +301,18 @@ impl Station {
     /// no ends where a PROXY line lacks one of these: then the server has to close both at once, and to the world the
     /// connection was never open.
     pub(crate) fn open(&mut self, client: Token, target: Token) -> Result<Started, Unopened> {
-        let untold = match self.plan.opens.pop_front() {
-            Some(Outcome::Fails(unopened)) => return Err(unopened),
-            Some(Outcome::Lacks(untold)) => Some(untold),
-            Some(Outcome::Plain) | None => None,
-        };
-        let route = route_of(self.poller, untold);
+        let untold = self.opens.pop_front().unwrap_or(Ok(None))?;
+        let mut route = route_of(self.poller);
+        match untold {
+            Some(Untold::Client) => route.client = None,
+            Some(Untold::Accepted) => route.accepted = None,
+            None => {}
+        }
         if self.proxy && untold.is_some() {
-            return Ok(Started { ends: None, route });
+            return Ok((None, route));
         }
         match self.kernel.open_both(client, target) {
-            Ok(ends) => Ok(Started {
-                ends: Some(ends),
-                route,
-            }),
+            Ok(ends) => Ok((Some(ends), route)),
             Err(_) => {
                 self.refused = true;
                 Err(Unopened::Connect)

@@ -1,27 +1,16 @@
 // Whose step it is, and what has to be of its turns.
 use crate::outside::Outside;
-use dispatch::MAX_OWN_TURNS;
-use ready::Ticket;
 use token::{MAX_GENERATION, Token};
 use world::{Act, Event, Reported};
 
 /// The most calls of a turn of a poller's own thread.
 const OWN_BUDGET: usize = 8;
 
-/// Whose step it is.
-#[derive(Clone, Copy)]
-pub enum Thread {
-    /// This poller's.
-    Poller(usize),
-    Worker,
-}
-
 /// A step of a thread.
 #[derive(Clone, Copy)]
 pub struct Acting {
-    thread: Thread,
-    /// The ticket that a worker has to take.
-    next: Option<Ticket>,
+    /// The poller whose step it is. None for a worker's.
+    poller: Option<usize>,
     /// The turn in progress.
     turn: Option<Turn>,
 }
@@ -46,23 +35,17 @@ struct Turn {
 
 impl Acting {
     /// Nothing has been done.
-    pub(crate) fn new(thread: Thread) -> Acting {
-        Acting {
-            thread,
-            next: None,
-            turn: None,
-        }
-    }
+    pub(crate) const NONE: Acting = Acting {
+        poller: None,
+        turn: None,
+    };
 }
 
 impl Outside {
-    /// A step of this thread begins, which has to take the oldest ticket in the queue or not. Answers what goes on behind it.
-    pub fn enter(&mut self, thread: Thread, takes: bool) -> Acting {
+    /// A step of this poller's thread begins, or of a worker. Answers what goes on behind it.
+    pub fn enter(&mut self, poller: Option<usize>) -> Acting {
         let former = self.acting;
-        self.acting = Acting::new(thread);
-        if takes {
-            self.acting.next = self.ready.pop_front();
-        }
+        self.acting = Acting { poller, turn: None };
         former
     }
 
@@ -70,37 +53,14 @@ impl Outside {
     pub fn leave(&mut self, former: Acting) {
         self.settle();
         self.end_round();
-        if self.next_ticket().is_some() {
-            self.book
-                .blame("a ticket is taken or kept, and has no turn");
-        }
         self.acting = former;
     }
 
-    /// The ticket of which the thread has to run a turn next. A connection that was taken away has none.
-    fn next_ticket(&mut self) -> Option<Ticket> {
-        for _ticket in 0..MAX_OWN_TURNS + 1 {
-            let ticket = match self.acting.thread {
-                Thread::Poller(poller) => self.stations.get_mut(poller)?.next_kept()?,
-                _ => self.acting.next.take()?,
-            };
-            if self.tapes.get(ticket.slot)?.lost.is_none() {
-                return Some(ticket);
-            }
-        }
-        None
-    }
-
-    /// The slot of a turn was claimed, and its notes were taken.
+    /// The slot of a turn was claimed, and its notes were taken. Its world refuses that where no ticket was made.
     pub fn begin_turn(&mut self, slot: usize) {
         self.settle();
         self.end_round();
         self.calling = self.calling.saturating_add(1);
-        let is_next = matches!(self.next_ticket(), Some(ticket) if ticket.slot == slot);
-        if !is_next {
-            self.book
-                .blame("a turn of another ticket than the next one");
-        }
         if let Some(tape) = self.tapes.get_mut(slot) {
             tape.begin();
         }
@@ -148,11 +108,8 @@ impl Outside {
     /// A turn that left its connection due has spent its whole budget, and none has spent more.
     fn check_calls(&mut self, turn: Turn) {
         let mut most = self.sizes.limits.budget;
-        if let Thread::Poller(poller) = self.acting.thread {
+        if self.acting.poller.is_some() {
             most = most.min(OWN_BUDGET);
-            if let (true, Some(station)) = (turn.again, self.stations.get_mut(poller)) {
-                station.mark_heavy(turn.slot);
-            }
         }
         if turn.calls > most || turn.again && turn.calls != most {
             self.book.blame("a turn with too few or too many calls");
@@ -227,19 +184,6 @@ impl Outside {
                 .blame("a turn without a call has not settled both ends");
         }
         self.act(Act::Release);
-        let made = match self.tapes.get(turn.slot) {
-            Some(tape) => tape.worker_ticket(),
-            None => None,
-        };
-        if let Some(ticket) = made {
-            let put = self.ready.push_back(Ticket {
-                slot: turn.slot,
-                generation: ticket.generation,
-            });
-            if put.is_err() {
-                self.book.blame("");
-            }
-        }
     }
 
     /// The slot of a turn whose connection was closed is given back, and its poller is woken: by a worker, and by its own
@@ -249,7 +193,7 @@ impl Outside {
         self.act(Act::Free);
         let is_worn =
             matches!(self.tapes.get(slot), Some(tape) if tape.generation() == MAX_GENERATION);
-        let alone = matches!(self.acting.thread, Thread::Poller(_));
+        let alone = self.acting.poller.is_some();
         if let Some(station) = self.stations.get_mut(self.sizes.split.poller_of(slot)) {
             if !is_worn {
                 station.give(slot);
@@ -262,19 +206,18 @@ impl Outside {
 
     /// A poller's round has ended, which its step began with.
     fn end_round(&mut self) {
-        let Thread::Poller(poller) = self.acting.thread else {
+        let Some(poller) = self.acting.poller else {
             return;
         };
-        let Some(station) = self.stations.get_mut(poller) else {
-            return;
-        };
-        if !station.in_round {
-            return;
-        }
-        station.end_round(&mut self.ready);
-        if !station.may_rest() {
-            self.book
-                .blame("a poller ends a round while it could accept");
+        match self.stations.get_mut(poller) {
+            Some(station) if station.in_round => {
+                station.end_round();
+                if !station.may_rest() {
+                    self.book
+                        .blame("a poller ends a round while it could accept");
+                }
+            }
+            _ => {}
         }
     }
 }
