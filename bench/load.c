@@ -14,6 +14,7 @@
 //         ask      requests and answers of 64 bytes, one at a time on each connection
 //         connect  a connection for each request, CONNECTIONS at a time
 //         idle     connections that carry nothing until the line comes, and then 256 KiB each way
+//         burst    a byte on each connection at once, by one thread, and each one's answer; after a pause, again
 //
 // A connection begins with a hello of 64 bytes each way. Then each direction is a stream: the pattern, from
 // the place that the connection's seed names. A byte that is lost, doubled or another connection's differs
@@ -45,10 +46,11 @@ enum {
     BATCH = 256, // events at a time
     MOST_THREADS = 64,
     PATIENCE = 30, // seconds that a client waits beyond its run before it gives up
+    PAUSE = 2000,  // µs between two bursts
 };
 
-enum kind { UP, BOTH, ASK, CONNECT, IDLE, KINDS };
-static const char *const kind_names[KINDS] = {"up", "both", "ask", "connect", "idle"};
+enum kind { UP, BOTH, ASK, CONNECT, IDLE, BURST, KINDS };
+static const char *const kind_names[KINDS] = {"up", "both", "ask", "connect", "idle", "burst"};
 
 struct hello {
     char word[8];
@@ -66,7 +68,7 @@ struct stream {
 struct connection {
     int fd, epoll;
     uint32_t events;    // what epoll watches for
-    enum kind kind;     // never IDLE, which is ASK on the way
+    enum kind kind;     // never IDLE or BURST, which are ASK on the way
     uint32_t size;      // of a request
     struct hello hello; // the peer's
     size_t greeted;     // bytes of it that came
@@ -87,9 +89,9 @@ struct thread {
     int count;                      // client: of them
     int live;                       // client: those that the phase waits for
     uint32_t opened;                // client: connections so far, for their seeds
-    uint64_t units;                 // client: bytes, answers or connections done
+    uint64_t units;                 // client: bytes, answers, connections or bursts done
     uint64_t done;                  // client: when its run was over, in ns
-    uint32_t *times;                // client: how long each answer or connection took, in ns
+    uint32_t *times;                // client: how long each answer, connection or burst took, in ns
     size_t timed, room;             // client: of them, and for how many there is memory
     size_t timely;                  // client: of them, those that came before the deadline
 };
@@ -389,8 +391,8 @@ static void open_connection(struct thread *t, struct connection *c)
 {
     struct sockaddr_in address = loopback(port);
     uint32_t seed = (t->opened++ * thread_count + t->number) * 1009;
-    *c = (struct connection){.epoll = t->epoll, .kind = t->kind == IDLE ? ASK : t->kind};
-    c->size = t->kind == IDLE ? IDLE_REQUEST : REQUEST;
+    *c = (struct connection){.epoll = t->epoll, .kind = t->kind >= IDLE ? ASK : t->kind};
+    c->size = t->kind == IDLE ? IDLE_REQUEST : t->kind == BURST ? 1 : REQUEST;
     c->out.seed = seed;
     c->in.seed = seed + PERIOD / 2;
     c->fd = socket(AF_INET, SOCK_STREAM | SOCK_CLOEXEC, 0);
@@ -440,8 +442,9 @@ static void complete(struct thread *t, struct connection *c)
     uint64_t time = now();
     if (c->kind != ASK)
         close(c->fd);
-    if (c->kind == UP || c->kind == BOTH) {
+    if (c->kind == UP || c->kind == BOTH)
         t->units += c->out.at + (c->kind == BOTH ? c->in.at : 0);
+    if (c->kind == UP || c->kind == BOTH || t->kind == BURST) {
         t->live--;
         return;
     }
@@ -503,6 +506,21 @@ static void greet(struct thread *t)
     run_phase(t);
 }
 
+// Begins on all connections, and runs until they are done. The time of a burst is that of its last answer.
+static void run_all(struct thread *t)
+{
+    uint64_t start = now();
+    t->live = t->count;
+    for (int i = 0; i < t->count; i++)
+        begin(t, &t->connections[i]);
+    run_phase(t);
+    t->done = now();
+    if (t->kind == BURST) {
+        t->units++;
+        record(t, t->done - start);
+    }
+}
+
 static void *client_thread(void *argument)
 {
     struct thread *t = argument;
@@ -516,11 +534,9 @@ static void *client_thread(void *argument)
     pthread_barrier_wait(&phase);
     if (t->kind == IDLE)
         greet(t);
-    t->live = t->count;
-    for (int i = 0; i < t->count; i++)
-        begin(t, &t->connections[i]);
-    run_phase(t);
-    t->done = now();
+    do
+        run_all(t);
+    while (t->kind == BURST && t->done < deadline && usleep(PAUSE) == 0);
     return NULL;
 }
 
@@ -554,7 +570,7 @@ static void print_results(int load, const char *prefix)
     printf("%sunits=%llu %srate=%.6g ", prefix, (unsigned long long)units, prefix, rate);
     if (timed > 0) {
         qsort(times, timed, sizeof *times, by_value);
-        printf("%sp99=%.1f ", prefix, times[timed - 1 - timed / 100] / 1e3);
+        printf("%sp50=%.1f %sp99=%.1f ", prefix, times[timed / 2] / 1e3, prefix, times[timed - 1 - timed / 100] / 1e3);
     }
     free(times);
 }
@@ -586,13 +602,13 @@ static int client(void)
     return 0;
 }
 
-// Adds a load with threads of its own, which share its connections.
+// Adds a load with threads of its own, which share its connections. Bursts have one, so that each begins at once.
 static bool add_load(const char *name, int connections, int most_threads)
 {
     enum kind kind = UP;
     while (kind < KINDS && strcmp(name, kind_names[kind]) != 0)
         kind++;
-    int count = most_threads < connections ? most_threads : connections;
+    int count = kind == BURST ? 1 : most_threads < connections ? most_threads : connections;
     if (kind == KINDS || count < 1 || count > MOST_THREADS - thread_count)
         return false;
     for (int i = 0; i < count; i++)
@@ -627,7 +643,7 @@ int main(int count, char **arguments)
     if ((!serves && !asks) || thread_count < 1 || thread_count > MOST_THREADS) {
         fprintf(stderr, "usage: load serve THREADS\n"
                         "       load client PORT SECONDS THREADS KIND CONNECTIONS [KIND CONNECTIONS]\n"
-                        "KIND is up, both, ask, connect or idle.\n");
+                        "KIND is up, both, ask, connect, idle or burst.\n");
         return 2;
     }
     return serves ? serve() : client();

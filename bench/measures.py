@@ -2,7 +2,8 @@
 
 import statistics
 
-BUILDS = ["relayd", "before"]  # of relayd; `before` is an older one
+BUILDS = ["relayd", "recorded", "before"]  # of relayd; `recorded` records what it does, and `before` is an older one
+RECORDED = ["ask-64"]  # the cases of `recorded`
 FORWARDERS = ["direct", *BUILDS, "haproxy", "nginx", "socat"]
 
 # Name, kind of load, connections, what a reader is told; of how many units the processor's time is told.
@@ -24,15 +25,26 @@ BESIDE = {
     "ask-8-bulk": ("up", 8, "bulk one way, 8 connections beside requests", 1e9),
     "ask-64-connect": ("connect", 64, "new connections, 64 clients beside requests", 1e4),
 }
+# What a case's forwarders are run with: threads, bytes of a buffer, and relayd's budget.
+USUAL = (4, 16384, 64)
+FORMS = {}
+for end, words, form in (("", "", USUAL), ("-large", ", 64 KiB", (4, 65536, 1024)), ("-one", ", one thread", (1, 16384, 64)),
+                         ("-one-large", ", one thread, 64 KiB", (1, 65536, 1024))):
+    for count in (16, 48):
+        name = f"burst-{count}{end}"
+        FORMS[name] = form
+        CASES.append((name, "burst", count, f"bursts over {count} beside bulk{words}", None))
+        BESIDE[name] = ("up", 4, f"bulk beside bursts over {count}{words}", 1e9)
 IDLE = ("idle", "idle", 1000, "memory of an idle connection", None)
 
 # Case, measure, what a reader is told. Of rates more is better, of all else less. The processor's time is not told
 # where two loads share it.
 RATES = ("rate", "beside")
 MEASURES = (
-    [(case, "rate", f"{label}: {'GB/s' if unit == 1e9 else 'a second'}") for case, _, _, label, unit in CASES]
+    [(case, "rate", f"{label}: {'GB/s' if unit == 1e9 else 'a second'}") for case, _, _, label, unit in CASES if unit]
     + [(case, "beside", f"{label}: {'GB/s' if unit == 1e9 else 'a second'}")
        for case, (_, _, label, unit) in BESIDE.items()]
+    + [(case, "p50", f"{label}: last answer, ms") for case, kind, _, label, _ in CASES if kind == "burst"]
     + [(case, "p99", f"{label}: 99th percentile, µs") for case, kind, _, label, _ in CASES if kind == "ask"]
     + [(case, "cpu", f"{label}: CPU s {'a GB' if unit == 1e9 else 'per 10,000'}")
        for case, _, _, label, unit in CASES if case not in BESIDE]

@@ -28,6 +28,8 @@ class Maker:
         ends = random.Random(f"ends {seed}")
         self.stop = ends.randint(1, 8) if ends.random() < 1 / 3 else None
         self.faults = 0.02 if ends.random() < 0.2 else 0.0
+        # In one script of five no more connections are to be opened from some step on.
+        self.last = ends.randrange(self.steps) if ends.random() < 0.2 else None
         # Now and then something happens at many slots at once, so that a round has many tickets.
         self.crowd = random.Random(f"crowd {seed}")
         self.bursts = self.crowd.choice([0.0, 0.1]) if self.slots > 2 else 0.0
@@ -43,7 +45,9 @@ class Maker:
         lines = [self.header()]
         if self.slots > 16 and self.bursts:
             lines += ["connect"] * self.slots + [f"round {poller}" for poller in range(self.pollers)] * 7
-        for _ in range(self.steps):
+        for step in range(self.steps):
+            if step == self.last:
+                lines.append("stop")
             if self.crowd.random() < self.bursts:
                 lines += self.burst()
             while self.random.random() < self.oddity:

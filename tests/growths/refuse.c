@@ -1,17 +1,28 @@
-/* An allocator to preload that refuses one growth of the program: its call number GROWTHS_REFUSE of malloc(3) or
- * realloc(3), counted from 1, answers NULL. Calls that the C library makes for itself are neither counted nor refused.
- * The count stands in the 8 bytes of the file GROWTHS_COUNT, also where the program ends by a signal. */
+/* What a test preloads, and tells by environment variables.
+ *
+ * An allocator that refuses one growth of the program: its call number GROWTHS_REFUSE of malloc(3), calloc(3) or
+ * realloc(3), counted from 1, answers NULL. Calls that the C library makes for itself are neither counted nor refused,
+ * but with GROWTHS_OF_ALL. The count stands in the 8 bytes of the file GROWTHS_COUNT, also where the program ends by a
+ * signal.
+ *
+ * With MOST_THREADS so many threads can be started, and no more. With ONE_BYTE a socket takes one byte at a time. With
+ * TIMES_FASTER clocks go so many times as fast. */
 #define _GNU_SOURCE
+#include <dlfcn.h>
 #include <errno.h>
 #include <fcntl.h>
 #include <link.h>
+#include <pthread.h>
 #include <stdatomic.h>
 #include <stdint.h>
 #include <stdlib.h>
 #include <sys/mman.h>
+#include <sys/syscall.h>
+#include <time.h>
 #include <unistd.h>
 
 extern void *__libc_malloc(size_t size);
+extern void *__libc_calloc(size_t number, size_t size);
 extern void *__libc_realloc(void *old, size_t size);
 
 static uintptr_t program_start, program_end;
@@ -43,7 +54,8 @@ __attribute__((constructor)) static void begin(void) {
     if (shared == MAP_FAILED) _exit(125);
     count = shared;
   }
-  dl_iterate_phdr(program_range, NULL);
+  if (getenv("GROWTHS_OF_ALL")) program_end = UINTPTR_MAX;
+  else dl_iterate_phdr(program_range, NULL);
 }
 
 static int is_refused(const void *caller) {
@@ -58,6 +70,32 @@ void *malloc(size_t size) {
   return is_refused(__builtin_return_address(0)) ? NULL : __libc_malloc(size);
 }
 
+void *calloc(size_t number, size_t size) {
+  return is_refused(__builtin_return_address(0)) ? NULL : __libc_calloc(number, size);
+}
+
 void *realloc(void *old, size_t size) {
   return is_refused(__builtin_return_address(0)) ? NULL : __libc_realloc(old, size);
+}
+
+int pthread_create(pthread_t *thread, const pthread_attr_t *attributes, void *(*run)(void *), void *argument) {
+  static atomic_int started;
+  int (*create)(pthread_t *, const pthread_attr_t *, void *(*)(void *), void *) = dlsym(RTLD_NEXT, "pthread_create");
+  const char *most = getenv("MOST_THREADS");
+  if (!most || started++ < atoi(most)) return create(thread, attributes, run, argument);
+  usleep(100000); /* the others sleep by the time that this is told */
+  return EAGAIN;
+}
+
+ssize_t send(int socket, const void *bytes, size_t size, int flags) {
+  return syscall(SYS_sendto, socket, bytes, size > 1 && getenv("ONE_BYTE") ? 1 : size, flags, NULL, 0);
+}
+
+int clock_gettime(clockid_t clock, struct timespec *time) {
+  const char *faster = getenv("TIMES_FASTER");
+  int answer = syscall(SYS_clock_gettime, clock, time);
+  if (!faster) return answer;
+  long milliseconds = (time->tv_sec * 1000 + time->tv_nsec / 1000000) * atol(faster);
+  time->tv_sec = milliseconds / 1000, time->tv_nsec = milliseconds % 1000 * 1000000;
+  return answer;
 }

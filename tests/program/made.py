@@ -161,6 +161,8 @@ def session():
     return script, ["free 1 0", "slot 0 free gen=3 notes=1", "slot 1 free gen=2 notes=1", *past]
 
 
+# refuses front_of_a_file_parsed_alone: only the first 4,096 bytes of a file are parsed
+# refuses longest_file_refused: a file of the largest size is told as too long
 def settings_of_lengths():
     """Settings files of every length round the sizes of a read, each of whose last bytes says something."""
     words, output = [b"check", b"--config", b"t.toml"], printed("ring=7")

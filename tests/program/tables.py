@@ -23,6 +23,10 @@ the scripts below it begin, and `begins:` that they are whole.
 causes/TOPIC has scripts with a fault in their last line, `STEPS => WHY: CAUSE` for each. WHY is `malformed`, `not allowed`,
 `no world` or `script too long`, and CAUSE is what the log tells, without the number of the line. `begins: STEPS` is as above.
 
+recordings/TOPIC has recordings, `ACTS => WANTED` for each. The acts get the counts from 0 up, but for one with counts before it,
+which has those; reports get those of their poll. In the table `rests` all has come to rest when the relay is stopped. WANTED is
+`N connections; LINES`, lines of the output, or `WHOSE: ACT: WHY` of the act that can stand nowhere. `begins: ACTS` is as above.
+
 settings/TOPIC has settings texts, `TEXT => WANTED` for each, on which `relayd check` is run. WANTED is the fault that is
 told, and behind ` | ` the cause that the log tells, or the settings that differ from their defaults, as `ring=1 log=off`. In
 the table `addresses` TEXT is the value of `target`, and in `more` it follows the two addresses. In `forward` TEXT is the words
@@ -31,6 +35,7 @@ behind that command, as a shell reads them, and all of them are refused with sta
 In all of them `\xHH` is a byte, and `\xHH*N` that byte N times. Lines that begin with `#` are comments.
 """
 
+import functools
 import os
 import re
 import shlex
@@ -183,6 +188,42 @@ def causes(lines):
         yield Row(name, [b"sim"], bytes_of(script), status=1, output=output, errors=errors)
 
 
+def numbered(acts):
+    """The text of a recording of these acts, with their counts."""
+    count, poll = 0, ""
+    lines = acts[:1]
+    for act in acts[1:]:
+        if re.match(r"p\d+ report ", act):
+            lines.append(f"{poll} {act}")
+            continue
+        own = re.match(r"(\d+ \d+) ", act)
+        lines.append(act if own else f"{count} {count + 1} {act}")
+        poll = re.match(r"\d+ \d+", lines[-1])[0]
+        count = max(count + 2 if not own else count, *(int(number) + 1 for number in poll.split(" ")))
+    return "".join(f"{line}\n" for line in lines)
+
+
+def is_told(wanted, status, output, errors):
+    """Whether this is told of a recording."""
+    first, *lines = output.decode().split("\n")
+    connections, _, more = wanted.partition("; ")
+    if connections.endswith(" connections"):
+        told = first.startswith(connections + ", ") and first.endswith(" events: each is a run of the machine")
+        return not status and not errors and told and all(line in lines for line in more.split("; "))
+    whose, record = wanted.split(": ", 1)
+    found = re.fullmatch(r"# (\S+): line \d+: \d+ \d+ (.*)", first)
+    return status == 1 and not errors and bool(found) and found.groups() == (whose, record)
+
+
+def recordings(lines, topic):
+    """The rows of a table of recordings."""
+    words = [b"replay", *([b"--rest"] if topic == "rests" else []), b"t.record"]
+    for name, script, wanted in scripts(lines):
+        text = numbered([act for act in script.split("\n") if act])
+        will_do = functools.partial(is_told, wanted)
+        yield Row(name, words, files={"t.record": bytes_of(text)}, will_do=will_do)
+
+
 def settings(lines, topic):
     """The rows of a table of settings texts. Before a fault stands a line with the file, if there is one, and the cause."""
     for name, text, wanted in sides(lines):
@@ -207,8 +248,8 @@ def read(kind, topic):
     """The rows of a file. One that has none, or a line that is no row, is an error."""
     with open(os.path.join(HERE, kind, topic), encoding="utf-8") as file:
         lines = [(number, line) for number, line in enumerate(file.read().split("\n"), 1) if line and line[0] != "#"]
-    if kind == "settings":
-        rows = list(settings(lines, topic))
+    if kind in ("settings", "recordings"):
+        rows = list({"settings": settings, "recordings": recordings}[kind](lines, topic))
     else:
         rows = list({"transcripts": transcript, "reports": reports, "causes": causes}[kind](lines))
     if not rows:
@@ -220,5 +261,5 @@ def read(kind, topic):
 
 def files():
     """Each file with rows: its kind and topic."""
-    for kind in ("transcripts", "reports", "causes", "settings"):
+    for kind in ("transcripts", "reports", "causes", "recordings", "settings"):
         yield from ((kind, topic) for topic in sorted(os.listdir(os.path.join(HERE, kind))))

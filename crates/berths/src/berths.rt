@@ -12,6 +12,8 @@ use std::sync::{Mutex, MutexGuard, Wait};
 #[derive(Drop)]
 pub struct Berth<C, T> {
     pub pair: Pair,
+    /// The second in which it was opened.
+    pub second: u64,
     pub client: C,
     pub target: T,
 }

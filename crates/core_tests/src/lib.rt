@@ -1,15 +1,25 @@
-//! Tests of `claims`, `relay_core`, `engine`, `relay_log` and `world`: what threads do, what a log is handed, what a wire in
-//! memory plays, of which nothing is promised, and calls that the programs do not make.
+//! Tests of the crates below `dispatch`, and of `world` and its kernel: what threads do, what a log is handed, what a wire in
+//! memory plays, of which nothing is promised, calls that the programs do not make, and mutants that no row shows.
 //!
 //! They are a crate of their own since the tests of a crate are proved together with all of its functions once more.
 #![tactic(auto)]
 
 #[cfg(test)]
+mod arms;
+#[cfg(test)]
+mod lines;
+#[cfg(test)]
 mod messages;
+#[cfg(test)]
+mod numbers;
 #[cfg(test)]
 mod proxy;
 #[cfg(test)]
 mod replays;
+#[cfg(test)]
+mod reports;
+#[cfg(test)]
+mod rings;
 #[cfg(test)]
 mod session;
 #[cfg(test)]

@@ -3,8 +3,8 @@ use log::sink::Memory;
 use log::{Level, Log, Logged};
 use relay_core::{CallKind, Fault, Kind, Side};
 use relay_log::{
-    Cause, done_text, drop_text, fail_text, log_done, log_drop, log_fail, log_open, log_peer,
-    open_text,
+    Cause, done_text, drop_text, fail_text, log_all_taken, log_done, log_drop, log_drops, log_fail,
+    log_open, log_peer, open_text,
 };
 use std::alloc::{AllocError, Global};
 use std::cell::Cell;
@@ -27,12 +27,14 @@ const FAULT: Fault = Fault::Broken {
 };
 
 /// Each message, after its level.
-static LINES: [&str; 5] = [
+static LINES: [&str; 7] = [
     "[DEBUG relayd] peer s=32767 g=140737488355327 from=192.0.2.7:50000",
     "[INFO  relayd] open s=32767 g=140737488355327",
     "[INFO  relayd] done s=32767 g=140737488355327 up=4294967296 down=18446744073709551615",
     "[WARN  relayd] fail s=32767 g=140737488355327 side=target call=write kind=pipe",
     "[WARN  relayd] drop kind=register",
+    "[WARN  relayd] drops kind=connect more=18446744073709551615",
+    "[WARN  relayd] slots: all 4096 are taken; further clients wait",
 ];
 
 fn log_each(log: &impl Log) {
@@ -41,8 +43,12 @@ fn log_each(log: &impl Log) {
     log_done(log, SLOT, GENERATION, UP, DOWN);
     log_fail(log, SLOT, GENERATION, FAULT);
     log_drop(log, Cause::Register);
+    log_drops(log, Cause::Connect, u64::MAX);
+    log_all_taken(log, 4_096);
 }
 
+// refuses done_swaps_the_counts: the counts of the two directions are exchanged
+// refuses fail_names_the_other_side: a failure names the other side
 // refuses peer_without_generation: a message names the slot in place of the generation
 // refuses drop_by_another_word: a cause is told by another word
 // A message is handed over whole, or left out where a growth is refused. At most one growth is, under
@@ -55,7 +61,7 @@ fn levels(rt: HostRuntime) {
         (Level::Debug, 0),
         (Level::Info, 1),
         (Level::Warn, 3),
-        (Level::Error, 5),
+        (Level::Error, 7),
     ] {
         let sink = Memory::new(rt.alloc());
         log_each(&Logged::new(&rt, level, &sink));
@@ -101,7 +107,7 @@ impl fmt::Display for Noting {
     }
 }
 
-// No text is made at a level that is off.
+// No text is made at a level that is off. Where one is made and a growth is refused, the next one is made.
 #[test]
 fn prints_no_address_at_a_level_that_is_off(rt: HostRuntime) {
     let from = Noting(Cell::new(false));
@@ -109,6 +115,8 @@ fn prints_no_address_at_a_level_that_is_off(rt: HostRuntime) {
     let logged = Logged::new(&rt, Level::Info, &sink);
     log_peer(&logged, 3, 1, &from);
     assert!(rt; !from.0.get());
-    log_peer(&Logged::new(&rt, Level::Debug, &sink), 3, 1, &from);
+    for _ in 0..2 {
+        log_peer(&Logged::new(&rt, Level::Debug, &sink), 3, 1, &from);
+    }
     assert!(rt; from.0.get());
 }

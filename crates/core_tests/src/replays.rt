@@ -105,6 +105,7 @@ fn a_replay_leads_to_its_world(rt: HostRuntime) -> Result<(), Fail> {
     Ok(())
 }
 
+// refuses replay_blames_index_0: the first event is blamed for any event that fails
 // The event that cannot happen is told, be it the first or the last.
 #[test]
 fn the_event_that_fails_is_told(rt: HostRuntime) -> Result<(), Fail> {

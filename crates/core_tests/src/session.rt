@@ -156,6 +156,7 @@ fn check(
     Ok(())
 }
 
+// refuses offers_less: a write offers one byte of what waits
 #[test]
 fn is_done_after_eight_calls(rt: HostRuntime) -> Result<(), Fail> {
     let mut session = session_of(rt.alloc(), b"abc", b"xy")?;
@@ -167,6 +168,8 @@ fn is_done_after_eight_calls(rt: HostRuntime) -> Result<(), Fail> {
 
 // A shutdown never has to wait: an answer that it would is a failure. A write may take one byte at first, or none, which is
 // one, too. Before the target gave its first byte its connect may not have ended yet; after that it can't be so.
+// refuses interruption_counts: an interruption is counted as a fault
+// refuses none_taken_is_blocked: a write that took nothing is counted as one that would block
 #[test]
 fn goes_on_waits_or_fails_at_each_call(rt: HostRuntime) -> Result<(), Fail> {
     let alloc = rt.alloc();

@@ -87,6 +87,8 @@ fn opened(alloc: Global) -> Result<(Claims, Vec<ClaimSeat>), OpenFault>
     }
 }
 
+// refuses retire_sets_nothing: a retired slot is not marked as free
+// refuses words_opened_otherwise: an unused word says held and not free
 // refuses slots_counts_values: the number of slots is told as the number of values of the table
 #[test]
 fn one_word_goes_through_its_row(rt: HostRuntime) -> Result<(), Fail> {

@@ -1,10 +1,4 @@
-pub mod Connections
 pub mod Outgoing
 pub mod Polls
-pub mod Reports
-pub mod Shares
 pub mod Splits
-pub mod Sweeps
-pub mod Turns
 pub mod Worn
-pub mod WholeRounds

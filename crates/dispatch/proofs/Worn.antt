@@ -7,7 +7,7 @@ use Rattle.std.proofs.lemmas.List.Sums.{sum_by-cons}
 use Rattle.claims.specs.declared.view.Account.{Account}
 use Rattle.claims.specs.Views.{blank, posted_of}
 use Rattle.claims.specs.Seats.{SeatState, account_at, OnlyAt}
-use Rattle.dispatch.specs.Turns.{IsWorn}
+use Rattle.dispatch.specs.Posts.{IsWorn}
 
 -- two lists of accounts with as many posts at each place have as many in all
 posts_alike : (xs ys : List Account) → ((i : ℕ) → (slice_index_or xs i blank).posted ≡ (slice_index_or ys i blank).posted) → sum_by posted_of xs ≡ sum_by posted_of ys

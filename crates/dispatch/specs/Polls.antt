@@ -1,23 +1,24 @@
 -- What the poller keeps between its rounds. Part of the promises.
-use Rattle.std.specs.Prelude.{◌≡◌, ◌⊎◌, ℕ, ◌+◌, ◌-◌, ◌<◌, ◌≤◌, min, Bool, false, List, All, slice_index, slice_set}
-use Rattle.dispatch.specs.declared.accepting.Accepted.{Accepted}
-use Rattle.dispatch.specs.declared.lead.Opening.{Opening}
+use Rattle.std.specs.Prelude.{◌≡◌, ◌⊎◌, ℕ, ◌+◌, ◌-◌, ◌<◌, ◌≤◌, min, Bool, List, All, slice_index, slice_set}
+use Rattle.dispatch.specs.declared.episodes.Episodes.{Episodes}
+use Rattle.dispatch.specs.declared.opening.Opening.{Opening}
 use Rattle.dispatch.specs.declared.part.Part.{Part}
-use Rattle.dispatch.specs.declared.accepting.Accepted.TheVariants.{Again, Blocked, Starved}
 
 -- this slot is one of a poller's
 pub record IsIn (part : Part) (slot : ℕ) : Type 0 where
   pub least : part.first ≤ slot
   pub most : slot < part.first + part.slots
 
--- What the front reported at the last wait, whether that failed, each slot's generation, the reports that this round delivers, the accept flag (whether a
+-- What the front reported at the last wait, whether that failed, whether the front listens, each slot's generation, the reports that this round delivers, the accept flag (whether a
 -- connection may wait to be accepted), whether accept(2) was starved at its last answer, how many tries of it the last round left,
 -- what connections are opened with, the slots in which it opens them, each slot's heavy mark (how many of its next tickets are for the
 -- workers), how many it may open in all, how many it has opened and how many it has closed unopened, how many slots it no longer uses,
--- the second of the last round, that of the last sweep (at first, that at which it began), and whether it is over
+-- the second of the last round, that of the last sweep (at first, that at which it began), whether it is over, and what the log is
+-- told once for as long as it lasts
 pub record PollerState : Type 0 where
   pub reported : List ℕ
   pub failed : Bool
+  pub listening : Bool
   pub table : List ℕ
   pub batch : List ℕ
   pub accepting : Bool
@@ -33,6 +34,7 @@ pub record PollerState : Type 0 where
   pub second : ℕ
   pub swept : ℕ
   pub over : Bool
+  pub episodes : Episodes
 
 -- every entry is a generation
 abbrev pub AreGenerations : List ℕ → Type 0
@@ -45,12 +47,6 @@ IsOwnTable part table = (slot : ℕ) → (IsIn part slot → ⊥) → slice_inde
 -- the heavy marks, once a ticket of this slot was looked at: one less of its next is for the workers
 abbrev pub looked_at : ℕ → List ℕ → List ℕ
 looked_at slot heavy = slice_set heavy slot (slice_index heavy slot - 1)
-
--- only the answer that none waits takes the accept flag down
-abbrev pub flag_after : Accepted → Bool → Bool
-flag_after Again flag = flag
-flag_after Blocked flag = false
-flag_after Starved flag = flag
 
 -- all connections that it may open have been
 abbrev pub HasOpenedAll : PollerState → Type 0

@@ -1,21 +1,57 @@
 //! An accepted connection that is closed unopened.
 ghost use Rattle.std.specs.Prelude.{◌≡◌};
+ghost use Rattle.dispatch.specs.Drops.{dropped_for};
 
+use crate::drops::Drops;
 use log::Log;
-use relay_log::{Cause, log_drop};
+use relay_log::{Cause, log_drop, log_drops};
+use std::marker::Model;
 
-/// An accepted connection is closed unopened, and the log says why. Nothing but [`Dropped::log`] makes one, and it cannot be
+/// The log is owed a line of a cause: of one drop, or of so many more. It cannot be dropped, and only [`Owed::log`] takes it.
+pub(crate) struct Owed {
+    pub(crate) cause: Cause,
+    /// How many more drops the line tells. 0 for a line of one drop.
+    pub(crate) more: u64,
+}
+
+impl Owed {
+    /// The log gets the line.
+    pub(crate) fn log(self, rt: &impl Log) {
+        let Owed { cause, more } = self;
+        if more == 0 {
+            log_drop(rt, cause);
+        } else {
+            log_drops(rt, cause, more);
+        }
+    }
+}
+
+/// An accepted connection is closed unopened, and the log says why, or it is counted among those of which the log is still to be told.
+/// Nothing but [`Dropped::tell`] makes one, and only [`Poller::count_dropped`](crate::Poller::count_dropped) takes it. It cannot be
 /// dropped, so each is counted.
-pub(crate) struct Dropped {
+///
+/// In a clause it is the cause.
+pub struct Dropped {
     cause: Cause,
 }
 
+impl Model for Dropped {
+    ghost use Rattle.relay_log.specs.declared.cause.Cause.{Cause};
+
+    ghost Value = { Cause };
+
+    ghost view = { λ d. d.cause };
+}
+
 impl Dropped {
-    /// Logs why a connection is closed unopened.
-    pub(crate) fn log(rt: &impl Log, cause: Cause) -> Dropped
-        ensures { result.cause ≡ cause }
+    /// Logs why a connection is closed unopened at this second, or counts it among these drops.
+    pub(crate) fn tell(rt: &impl Log, drops: &mut Drops, cause: Cause, second: u64) -> Dropped
+        ensures cause { result ≡ cause }
+        ensures drops { drops.new ≡ dropped_for cause second drops.old }
     {
-        log_drop(rt, cause);
+        if let Some(owed) = drops.add(cause, second) {
+            owed.log(rt);
+        }
         Dropped { cause }
     }
 

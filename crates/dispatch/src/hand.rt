@@ -6,7 +6,7 @@ use ready::Ticket;
 use std::alloc::{AllocError, Global};
 use std::marker::Model;
 
-/// What a thread still has to put into a queue: tickets and free slots that a queue refused, oldest first.
+/// What a thread has put into no queue yet, oldest first: tickets that it keeps or that a queue refused, and free slots.
 #[derive(Drop)]
 pub struct Hand {
     tickets: HeapCircularBuffer<Ticket>,

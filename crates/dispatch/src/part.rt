@@ -4,7 +4,7 @@ ghost use Rattle.dispatch.specs.Polls.{IsIn};
 
 /// The slots of one poller, which alone opens connections there and delivers their reports: so many of them, one after
 /// the other from the first on.
-#[derive(Clone, Copy, Debug, PartialEq, Eq)]
+#[derive(Clone, Copy)]
 pub struct Part {
     pub first: usize,
     pub slots: usize,

@@ -1,29 +1,38 @@
 //! What the poller keeps between its rounds.
-ghost use Rattle.std.specs.Prelude.{◌≡◌, ◌+◌, ◌-◌, ◌<◌, ◌≤◌, ◌↔◌, [], length, IfOk, OnOk, OnErr, IsTrue, OnSome, IfSome, replicate, slice_index, slice_set, true, false};
+ghost use Rattle.std.specs.Prelude.{◌≡◌, ◌≢◌, ◌-◌, ◌<◌, ◌≤◌, ◌↔◌, [], length, not, IfOk, IfErr, OnOk, OnErr, IsTrue, replicate, slice_index, slice_set, true, false};
+ghost use Rattle.std.specs.IoError.{error_kind};
+ghost use Rattle.std.specs.declared.io.ErrorKind.TheVariants.{Interrupted};
+ghost use Rattle.dispatch.specs.Drops.{all_told_at, dropped_for, AreTold};
+ghost use Rattle.dispatch.specs.Episodes.{no_episodes, opened_after};
 ghost use Rattle.dispatch.specs.Polls.{AreGenerations, IsIn, IsOwnTable, HasOpenedAll, counted_up, looked_at};
 
 use crate::dropping::Dropped;
-use crate::front::Front;
-use crate::lead::Opening;
+use crate::episodes::Episodes;
+use crate::front::{Front, Opened, Unopened};
 use crate::limits::{HEAVY_TICKETS, MAX_ACCEPTS, MAX_BATCH};
+use crate::opening::Opening;
 use crate::part::Part;
+use log::Log;
 use ready::Ticket;
+use relay_log::Cause;
 use std::alloc::{AllocError, Global};
+use std::io;
 use std::marker::Model;
+use token::Token;
 
 /// What the poller keeps between its rounds: where connections and reports come from, and what it knows of them.
 #[derive(Drop)]
 pub struct Poller<F: Front> {
     /// Where connections and reports come from.
-    pub front: F,
+    front: F,
     // Each slot's generation.
-    pub(crate) table: Vec<u64>,
-    pub(crate) batch: Vec<u64>,
-    pub(crate) accepting: bool,
-    // Whether accept(2) was starved at its last answer, which is logged once for as long as it lasts.
-    pub(crate) starved: bool,
+    table: Vec<u64>,
+    batch: Vec<u64>,
+    accepting: bool,
+    // Whether accept(2) was starved at its last answer.
+    starved: bool,
     // How many tries of accept(2) the last round left.
-    pub(crate) tries: usize,
+    tries: usize,
     opening: Opening,
     // The slots in which it opens connections.
     part: Part,
@@ -37,9 +46,11 @@ pub struct Poller<F: Front> {
     // How many slots are no longer used.
     lost: u64,
     // The second of the last round, and that of the last sweep.
-    pub(crate) second: u64,
-    pub(crate) swept: u64,
-    pub(crate) over: bool,
+    second: u64,
+    swept: u64,
+    over: bool,
+    // What the log is told once for as long as it lasts.
+    episodes: Episodes,
 }
 
 impl<F: Front> Model for Poller<F> {
@@ -48,7 +59,7 @@ impl<F: Front> Model for Poller<F> {
 
     ghost Value = { PollerState };
 
-    ghost view = { λ p. record { reported = F.reported p.front; failed = F.failed p.front; table = p.table.items; batch = p.batch.items; accepting = p.accepting; starved = p.starved; tries = p.tries; opening = p.opening; part = p.part; heavy = p.heavy.items; most = p.most; opened = p.opened; dropped = p.dropped; lost = p.lost; second = p.second; swept = p.swept; over = p.over } };
+    ghost view = { λ p. record { reported = F.reported p.front; failed = F.failed p.front; listening = F.listens p.front; table = p.table.items; batch = p.batch.items; accepting = p.accepting; starved = p.starved; tries = p.tries; opening = p.opening; part = p.part; heavy = p.heavy.items; most = p.most; opened = p.opened; dropped = p.dropped; lost = p.lost; second = p.second; swept = p.swept; over = p.over; episodes = p.episodes } };
 
     ghost invariant = { λ p. AreGenerations p.table.items × IsOwnTable p.part p.table.items × (256 ≤ vec_capacity p.batch) × (length p.batch.items ≤ 256) × (1 ≤ p.opening.ring) × (p.opening.ring ≤ 65536) };
 }
@@ -70,7 +81,7 @@ impl<F: Front> Poller<F> {
     where
         F: Drop,
         requires ring { (1 ≤ opening.ring) × (opening.ring ≤ 65536) }
-        ensures { IfOk result (λ poller. poller ≡ record { reported = F.reported front; failed = F.failed front; table = replicate table 0; batch = []; accepting = true; starved = false; tries = 0; opening = opening; part = part; heavy = replicate table 0; most = most; opened = 0; dropped = 0; lost = 0; second = 0; swept = 0; over = false }) }
+        ensures { IfOk result (λ poller. poller ≡ record { reported = F.reported front; failed = F.failed front; listening = F.listens front; table = replicate table 0; batch = []; accepting = true; starved = false; tries = 0; opening = opening; part = part; heavy = replicate table 0; most = most; opened = 0; dropped = 0; lost = 0; second = 0; swept = 0; over = false; episodes = no_episodes }) }
     {
         Ok(Poller {
             front,
@@ -89,6 +100,7 @@ impl<F: Front> Poller<F> {
             second: 0,
             swept: 0,
             over: false,
+            episodes: Episodes::none(),
         })
     }
 
@@ -127,13 +139,6 @@ impl<F: Front> Poller<F> {
         self.accepting
     }
 
-    /// Whether the system lacked what accept(2) needs when it was last tried.
-    pub(crate) fn is_starved(&self) -> bool
-        ensures { result ≡ self.now.starved }
-    {
-        self.starved
-    }
-
     /// Each slot's generation: how many connections it has had, or counts as having had.
     pub fn table(&self) -> &[u64]
         ensures table { result.now ≡ self.now.table }
@@ -150,7 +155,7 @@ impl<F: Front> Poller<F> {
         self.opened
     }
 
-    /// How many connections it has accepted and closed unopened, each with a line in the log that says why.
+    /// How many connections it has accepted and closed unopened. A line in the log tells of each, or how many more there were.
     pub fn dropped(&self) -> u64
         ensures { result ≡ self.now.dropped }
     {
@@ -166,20 +171,6 @@ impl<F: Front> Poller<F> {
         self.opening
     }
 
-    /// The second of the last round.
-    pub(crate) fn second(&self) -> u64
-        ensures { result ≡ self.now.second }
-    {
-        self.second
-    }
-
-    /// How many slots are no longer used.
-    pub(crate) fn lost(&self) -> u64
-        ensures { result ≡ self.now.lost }
-    {
-        self.lost
-    }
-
     /// The slots in which it opens connections.
     pub fn part(&self) -> Part
         ensures { result ≡ self.now.part }
@@ -187,10 +178,27 @@ impl<F: Front> Poller<F> {
         self.part
     }
 
-    /// Whether its thread runs the slot's next ticket itself. If not, one ticket less of the slot's is for the workers
+    /// From now on it opens no more connections: it counts as having opened all that it may.
+    pub fn stop_opening(&mut self)
+        ensures { self.new ≡ record self.old { most = 0 } }
+    {
+        self.most = 0;
+    }
+
+    /// Whether it has opened all connections that it may open.
+    pub fn has_opened_all(&self) -> bool
+        ensures { IsTrue result ↔ HasOpenedAll self.now }
+    {
+        self.opened >= self.most
+    }
+}
+
+/// What the turns in its thread tell it and ask it.
+impl<F: Front> Poller<F> {
+    /// Whether its thread runs the slot's next ticket itself: what is asked when a round's tickets are shared. If not, one ticket less of the slot's is for the workers
     /// from now on.
     #[tactic(auto, using(crate::proofs::Polls::looked_at_light))]
-    pub(crate) fn is_light(&mut self, slot: usize) -> bool
+    pub fn is_light(&mut self, slot: usize) -> bool
         ensures light { IsTrue result ↔ slice_index self.old.heavy slot ≡ 0 }
         ensures marks { self.new ≡ record self.old { heavy = looked_at slot self.old.heavy } }
     {
@@ -203,39 +211,172 @@ impl<F: Front> Poller<F> {
         }
     }
 
-    /// The slot's connection spent its thread's budget: its next tickets are for the workers.
-    pub(crate) fn mark_heavy(&mut self, slot: usize)
+    /// The slot's connection spent the budget of a turn in its thread: its next tickets are for the workers.
+    pub fn mark_heavy(&mut self, slot: usize)
         ensures { self.new ≡ record self.old { heavy = slice_set self.old.heavy slot 16 } }
     {
         if let Some(left) = self.heavy.get_mut(slot) {
             *left = HEAVY_TICKETS;
         }
     }
+}
 
-    /// Whether it has opened all connections that it may open.
-    pub(crate) fn has_opened_all(&self) -> bool
-        ensures { IsTrue result ↔ HasOpenedAll self.now }
+/// What its rounds tell it and ask it.
+impl<F: Front> Poller<F> {
+    /// No client can come to it from now on.
+    pub fn stop_listening(&mut self)
+        ensures { self.new ≡ record self.old { listening = false } }
     {
-        self.opened >= self.most
+        self.front.stop_listening();
     }
 
-    /// No reports are left from the last wait.
-    pub(crate) fn forget_reports(&mut self)
+    /// A round begins: no reports are left from the last wait.
+    pub fn forget_reports(&mut self)
         ensures { self.new ≡ record self.old { batch = [] } }
     {
         self.batch.clear();
     }
 
+    /// Waits for reports, for a time that ends by itself, or not at all, and keeps them as those that the round delivers
+    /// ([`Front::poll`]).
+    pub fn poll(&mut self, wait: bool) -> io::Result<()>
+        ensures same { self.new ≡ record self.old { reported = self.new.reported; failed = self.new.failed; batch = self.new.batch } }
+        ensures batch { self.new.batch ≡ self.new.reported }
+        ensures few { length self.new.batch ≤ 256 }
+        ensures empty { OnErr result (self.new.batch ≡ []) }
+        ensures failed { IfErr result (λ error. error_kind error ≢ Interrupted → self.new.failed ≡ true) }
+    {
+        self.front.poll(&mut self.batch, wait)
+    }
+
+    /// The reports of the last wait, which the round delivers: numbers of tokens.
+    pub fn batch(&self) -> &[u64]
+        ensures batch { result.now ≡ self.now.batch }
+        ensures few { length result.now ≤ 256 }
+    {
+        self.batch.as_slice()
+    }
+
+    /// Whether the system lacked what accept(2) needs when it was last tried. A round waits for reports then.
+    pub fn is_starved(&self) -> bool
+        ensures { result ≡ self.now.starved }
+    {
+        self.starved
+    }
+
+    /// The listener was reported: a connection may be waiting to be accepted.
+    pub fn raise_accept_flag(&mut self)
+        ensures { self.new ≡ record self.old { accepting = true } }
+    {
+        self.accepting = true;
+    }
+
+    /// accept(2) answered that no connection waits.
+    pub fn lower_accept_flag(&mut self)
+        ensures { self.new ≡ record self.old { accepting = false; starved = false } }
+    {
+        self.accepting = false;
+        self.starved = false;
+    }
+
+    /// accept(2) answered that the system lacks what it needs. Answers whether the log is to be told: it was not since a connection
+    /// was opened.
+    pub fn mark_starved(&mut self) -> bool
+        ensures first { result ≡ not self.old.episodes.starved }
+        ensures marked { self.new ≡ record self.old { starved = true; episodes = record self.old.episodes { starved = true } } }
+    {
+        let is_first = !self.episodes.starved;
+        self.starved = true;
+        self.episodes.starved = true;
+        is_first
+    }
+
+    /// Whether all its slots were found taken while a client waited, and accept(2) was not answered since that nobody waits.
+    pub fn is_full(&self) -> bool
+        ensures { result ≡ self.now.episodes.full }
+    {
+        self.episodes.full
+    }
+
+    /// All its slots were found taken while a client waited, or accept(2) was answered that nobody waits.
+    pub fn set_full(&mut self, full: bool)
+        ensures { self.new ≡ record self.old { episodes = record self.old.episodes { full = full } } }
+    {
+        self.episodes.full = full;
+    }
+
     /// A round may try accept(2) so many times again.
-    pub(crate) fn reset_tries(&mut self)
+    pub fn reset_tries(&mut self)
         ensures { self.new ≡ record self.old { tries = 4 } }
     {
         self.tries = MAX_ACCEPTS;
     }
 
-    /// A connection was opened: its slot has the ticket's generation from now on.
+    /// Tries accept(2) once ([`Front::accept`]), which counts as one of the round's tries if any is left.
+    pub fn accept(&mut self) -> io::Result<F::Client>
+        ensures accepted { OnOk result (self.new ≡ record self.old { tries = self.old.tries - 1; starved = false }) }
+        ensures refused { OnErr result (self.new ≡ record self.old { tries = self.old.tries - 1 }) }
+    {
+        self.tries = self.tries.saturating_sub(1);
+        let client = self.front.accept()?;
+        self.starved = false;
+        Ok(client)
+    }
+
+    /// Starts the connection to the target for a client ([`Front::open`]).
+    pub fn open<N: Log>(
+        &mut self,
+        rt: &N,
+        client: &mut F::Client,
+        client_token: Token,
+        target_token: Token,
+    ) -> Result<Opened<F::Target>, Unopened>
+        ensures told { IfOk result (λ opened. F.may_tell client.old opened.route) }
+        ensures refused { IfErr result (λ why. F.may_refuse client.old why) }
+        ensures client { F.Client.told client.new ≡ F.Client.told client.old }
+        ensures same { self.new ≡ self.old }
+    {
+        self.front.open(rt, client, client_token, target_token)
+    }
+
+    /// The second of the last round, at which it opens connections.
+    pub fn second(&self) -> u64
+        ensures { result ≡ self.now.second }
+    {
+        self.second
+    }
+
+    /// How many slots are no longer used. A round that looks for the end counts them as free.
+    pub fn lost(&self) -> u64
+        ensures { result ≡ self.now.lost }
+    {
+        self.lost
+    }
+
+    /// The round is made at this second.
+    pub fn set_second(&mut self, second: u64)
+        ensures { self.new ≡ record self.old { second = second } }
+    {
+        self.second = second;
+    }
+
+    /// The second of the last sweep, or that at which it began.
+    pub fn swept(&self) -> u64
+        ensures { result ≡ self.now.swept }
+    {
+        self.swept
+    }
+
+    /// A round made a sweep at its second.
+    pub fn count_sweep(&mut self)
+        ensures { self.new ≡ record self.old { swept = self.old.second } }
+    {
+        self.swept = self.second;
+    }
+
+    /// A round opened a connection: its slot has the ticket's generation from now on.
     #[tactic(auto, using(crate::proofs::Polls::own_set))]
-    pub(crate) fn count_opened(&mut self, ticket: Ticket)
+    pub fn count_opened(&mut self, ticket: Ticket)
         requires inside { ticket.slot < length self.old.table }
         requires own { IsIn self.old.part ticket.slot }
         requires generation { ticket.generation ≤ 140737488355327 }
@@ -245,18 +386,50 @@ impl<F: Front> Poller<F> {
         self.opened = self.opened.saturating_add(1);
     }
 
-    /// A connection was closed unopened, and the log says why.
-    pub(crate) fn count_dropped(&mut self, dropped: Dropped)
+    /// A round closes a connection unopened. The log says why, or it is counted among those of which the log is still to be told.
+    pub fn tell_dropped<N: Log>(&mut self, rt: &N, cause: Cause) -> Dropped
+        ensures cause { result ≡ cause }
+        ensures drops { self.new ≡ record self.old { episodes = record self.old.episodes { drops = dropped_for cause self.old.second self.old.episodes.drops } } }
+    {
+        Dropped::tell(rt, &mut self.episodes.drops, cause, self.second)
+    }
+
+    /// A round tells the log at its second what is counted, of each cause of which that second has had no line.
+    pub fn tell_counted<N: Log>(&mut self, rt: &N)
+        ensures told { self.new ≡ record self.old { episodes = record self.old.episodes { drops = all_told_at self.old.second self.old.episodes.drops } } }
+        ensures all { AreTold self.new.second self.new.episodes.drops }
+    {
+        self.episodes.drops.tell(rt, self.second);
+    }
+
+    /// A connection was opened, or the thread ends: the log is told all that is counted. A lack is told again from now on, and the next
+    /// drop of each cause by a line of its own.
+    pub fn end_episodes<N: Log>(&mut self, rt: &N)
+        ensures { self.new ≡ record self.old { episodes = opened_after self.old.episodes } }
+    {
+        self.episodes.drops.end(rt);
+        self.episodes.starved = false;
+    }
+
+    /// A round closed a connection unopened, and the log was told, or is to be.
+    pub fn count_dropped(&mut self, dropped: Dropped)
         ensures { self.new ≡ record self.old { dropped = counted_up self.old.dropped 1 } }
     {
         self.dropped = self.dropped.saturating_add(1);
         dropped.spend();
     }
 
-    /// A slot is no longer used.
-    pub(crate) fn count_lost(&mut self)
+    /// A round found a slot that is no longer used.
+    pub fn count_lost(&mut self)
         ensures { self.new ≡ record self.old { lost = counted_up self.old.lost 1 } }
     {
         self.lost = self.lost.saturating_add(1);
+    }
+
+    /// A round looked whether all slots are back, so that the poller is over.
+    pub fn set_over(&mut self, over: bool)
+        ensures { self.new ≡ record self.old { over = over } }
+    {
+        self.over = over;
     }
 }

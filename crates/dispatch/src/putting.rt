@@ -1,18 +1,11 @@
-//! Putting tickets and free slots into the queues, and keeping in hand what a queue refuses.
-ghost use Rattle.std.specs.Prelude.{◌≡◌, ◌<◌, ◌⊎◌, [], ◌∷◌, ◌++◌, length};
-ghost use Rattle.claims.specs.Seats.{HoldsNot};
-ghost use Rattle.ready.specs.Steps.{HeldOnce};
+//! Putting what is in hand into the queues, until a queue refuses it.
+ghost use Rattle.std.specs.Prelude.{◌≡◌};
 ghost use Rattle.dispatch.specs.Hands.{Shrank};
-ghost use Rattle.dispatch.specs.Shares.{Passed};
-ghost use Rattle.dispatch.specs.Turns.{SlotGiven};
-ghost use Rattle.dispatch.specs.Outgoing.{outgoing, tickets_out, slots_out, PutAll, Inserted, KeepsTicket, KeepsSlot};
+ghost use Rattle.dispatch.specs.Outgoing.{outgoing, PutAll};
 
 use crate::hand::Hand;
-use crate::shared::Own;
-use crate::visit::Closed;
-use ready::{FreeQueue, Full, ReadyQueue, Ticket};
+use ready::{FreeQueue, Full, ReadyQueue};
 use std::sync::Wait;
-use token::MAX_GENERATION;
 
 /// Puts the tickets in hand, oldest first, until one is refused. That one remains the oldest.
 pub fn put_tickets<R: Wait>(rt: &R, ready: &mut ReadyQueue, hand: &mut Hand)
@@ -49,58 +42,5 @@ pub fn give_slots<R: Wait>(rt: &R, free: &mut FreeQueue, hand: &mut Hand)
             hand.return_slot(slot);
             return;
         }
-    }
-}
-
-/// Puts the ticket of a slot that was released. If the queue is full, it stays in hand. A ticket that is put before the
-/// release could be taken at once, find its slot held, and be lost.
-pub(crate) fn put_ticket<R: Wait>(rt: &R, own: &mut Own, ticket: Ticket)
-    requires released { HoldsNot own.old.seat ticket.slot }
-    requires room { length own.old.hand.tickets < own.old.hand.capacity }
-    ensures seat { own.new.seat ≡ own.old.seat }
-    ensures passed { Passed ticket own.old own.new }
-    ensures kept { KeepsTicket ticket own.new.ready.history own.new.hand }
-    ensures tickets { Inserted ticket (tickets_out own.old) (tickets_out own.new) }
-    ensures took { own.new.ready.history.taken ≡ own.old.ready.history.taken }
-    ensures free { own.new.free ≡ own.old.free }
-    ensures slots { own.new.hand.slots ≡ own.old.hand.slots }
-{
-    if let Err(Full(ticket)) = own.ready.put(rt, ticket) {
-        own.hand.keep_ticket(ticket);
-    }
-}
-
-/// Gives back the slot of a ticket whose connection has ended, unless its generation is the last: no connection can be
-/// opened there any more.
-pub(crate) fn give_back<R: Wait>(rt: &R, own: &mut Own, ticket: Ticket, closed: Closed)
-    requires retired { HoldsNot own.old.seat ticket.slot }
-    requires closed { closed ≡ ticket.slot }
-    requires room { length own.old.hand.slots < own.old.hand.capacity }
-    ensures seat { own.new.seat ≡ own.old.seat }
-    ensures given { SlotGiven ticket own.old own.new }
-    ensures took { own.new.free.history.taken ≡ own.old.free.history.taken }
-    ensures ready { own.new.ready ≡ own.old.ready }
-    ensures tickets { own.new.hand.tickets ≡ own.old.hand.tickets }
-{
-    if ticket.generation < MAX_GENERATION {
-        give_slot(rt, own, ticket.slot);
-    }
-    closed.spend();
-}
-
-/// Gives back a slot that was retired. If the queue is full, it stays in hand. If a
-/// slot were given back before it is free, the poller could find it not free, and it would no longer be used.
-fn give_slot<R: Wait>(rt: &R, own: &mut Own, slot: usize)
-    requires retired { HoldsNot own.old.seat slot }
-    requires room { length own.old.hand.slots < own.old.hand.capacity }
-    ensures seat { own.new.seat ≡ own.old.seat }
-    ensures kept { KeepsSlot slot own.new.free.history own.new.hand }
-    ensures slots { Inserted slot (slots_out own.old) (slots_out own.new) }
-    ensures took { own.new.free.history.taken ≡ own.old.free.history.taken }
-    ensures ready { own.new.ready ≡ own.old.ready }
-    ensures tickets { own.new.hand.tickets ≡ own.old.hand.tickets }
-{
-    if let Err(Full(slot)) = own.free.give(rt, slot) {
-        own.hand.keep_slot(slot);
     }
 }

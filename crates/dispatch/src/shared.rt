@@ -1,11 +1,14 @@
 ghost use Rattle.std.specs.Prelude.{◌≡◌, ◌≤◌};
 
+use crate::episodes::Fullness;
 use crate::front::Front;
 use crate::hand::Hand;
 use berths::Berths;
 use claims::{ClaimSeat, Claims};
 use ready::{FreeQueue, ReadyQueue};
-use relay_core::MAX_READ;
+use relay_core::{MAX_READ, Pair};
+use statistics::{Event, Statistics};
+use std::sync::Arc;
 
 /// What all threads of a server share.
 #[derive(Drop)]
@@ -18,9 +21,39 @@ pub struct Shared<F: Front> {
     pub waker: F::Waker,
     /// The most calls that one turn makes, 1 to 1,024.
     pub budget: usize,
+    /// Where connections are counted, if they are. Each slot has a place there of its own.
+    pub statistics: Option<Arc<Statistics>>,
+    /// How many pollers found all their slots taken.
+    pub full: Fullness,
     pub ghost sized: { berths ≡ claims.words },
     pub ghost least_budget: { 1 ≤ budget },
     pub ghost most_budget: { budget ≤ 1024 },
+}
+
+impl<F: Front> Shared<F> {
+    /// Counts an event at a slot, if anything is counted. Only the thread that holds the slot may do so, or the poller that has
+    /// it in hand while it is free.
+    pub fn count(&self, slot: usize, event: Event) {
+        if let Some(statistics) = &self.statistics {
+            statistics.count(slot, event);
+        }
+    }
+
+    /// Counts the bytes of a connection that a turn has left open.
+    pub fn count_moved(&self, slot: usize, pair: &Pair) {
+        if let Some(statistics) = &self.statistics {
+            let (up, down) = pair.counts();
+            statistics.count(slot, Event::Moved { up, down });
+        }
+    }
+
+    /// Counts a connection that has ended.
+    pub fn count_ended(&self, slot: usize, pair: &Pair) {
+        if let Some(statistics) = &self.statistics {
+            let ((up, down), verdict) = (pair.counts(), pair.verdict());
+            statistics.count(slot, Event::Ended { verdict, up, down });
+        }
+    }
 }
 
 /// What one thread owns.
@@ -32,7 +65,7 @@ pub struct Own {
     pub ready: ReadyQueue,
     /// Its end of the queue of free slots.
     pub free: FreeQueue,
-    /// What a queue refused.
+    /// What it has put into no queue yet.
     pub hand: Hand,
     /// What its turns read into.
     pub buffer: Box<[u8; MAX_READ]>,

@@ -10,6 +10,7 @@ use settings::{Settings, parse};
 use std::alloc::{AllocError, Global};
 use std::cell::{Cell, RefCell};
 use std::rc::Rc;
+use std::sync::atomic::AtomicBool;
 use std::sync::{Arc, Wait};
 use threads::{Cast, Ending, Rest, Server, divide};
 
@@ -34,6 +35,7 @@ pub fn stage_of<R: Wait>(
         outside,
         clock,
         ending: Ending::new(pollers.len()),
+        is_stopped: AtomicBool::new(false),
         pollers: players(alloc, pollers)?,
         workers: players(alloc, workers)?,
     })

@@ -1,13 +1,13 @@
 // The comparison of the server with the machines.
-use crate::likeness::{Difference, ends_agree, flag, pairs_agree, same};
-use crate::looking::{slots_of, tickets_of};
+use crate::likeness::{Difference, Fact, alike, ends_agree, flag, pairs_agree, same};
+use crate::looking::{in_hand, slots_of, tickets_of};
 use crate::stage::Stage;
 use berths::Berth;
 use claims::Claimed;
 use drill_outside::{EndWire, KernelFront, Outside, START, Station, Tape};
 use kernel_model::Kernel;
 use ready::Ticket;
-use std::alloc::Global;
+use std::alloc::{AllocError, Global};
 use std::sync::Wait;
 use threads::PollerThread;
 use token::{Name, Side, Token};
@@ -40,12 +40,28 @@ pub fn compare<R: Wait>(rt: &R, alloc: Global, stage: &Stage) -> Result<(), Diff
         if let Err(difference) = poller_agrees(rt, alloc, &outside, &mut thread, poller) {
             return Err(Differs::Poller(poller, difference));
         }
-        slots_agree(rt, &outside, &mut thread, poller)?;
+        let Ok(tickets) = tickets_with(rt, alloc, &mut thread) else {
+            return Err(Differs::Server);
+        };
+        slots_agree(rt, &outside, &mut thread, poller, tickets.as_slice())?;
     }
     Ok(())
 }
 
-/// A poller, and the queue of tickets.
+/// The tickets in the ready queue, and those in a poller's hand.
+fn tickets_with<R: Wait>(
+    rt: &R,
+    alloc: Global,
+    thread: &mut PollerThread<KernelFront>,
+) -> Result<Vec<Ticket>, AllocError> {
+    let mut tickets = tickets_of(rt, alloc, &mut thread.own.ready)?;
+    for ticket in in_hand(alloc, &mut thread.own.hand)? {
+        tickets.push(ticket)?;
+    }
+    Ok(tickets)
+}
+
+/// A poller, but for its slots.
 fn poller_agrees<R: Wait>(
     rt: &R,
     alloc: Global,
@@ -54,39 +70,63 @@ fn poller_agrees<R: Wait>(
     poller: usize,
 ) -> Result<(), Difference> {
     let Some(station) = outside.stations.get(poller) else {
-        return same(&[("poller", 1, 0)]);
+        return alike("poller", 1, 0);
     };
     let hears = thread.poller.is_accepting() || outside.hears(poller);
-    same(&[flag("client heard of", hears, true)])?;
+    alike("client heard of", u64::from(hears), 1)?;
     listener_agrees(station, thread)?;
-    free_agrees(rt, alloc, station, thread)?;
-    tickets_agree(rt, alloc, outside, thread)
+    hand_agrees(alloc, station, thread)?;
+    free_agrees(rt, alloc, station, thread)
 }
 
-/// The listener and the waker of a poller, and that it has no ticket in hand.
+/// The listener and the waker of a poller.
 fn listener_agrees(
     station: &Station,
     thread: &PollerThread<KernelFront>,
 ) -> Result<(), Difference> {
     let world = &station.tape.world;
-    let (kernel, machine) = (&station.kernel, world.kernel());
-    let (listener, waker) = (Name::Listener, Name::Waker);
-    let (heard, told) = (kernel.is_queued(&listener), machine.is_queued(&listener));
-    let (woken, awake) = (kernel.is_queued(&waker), machine.is_queued(&waker));
-    let accepting = thread.poller.is_accepting();
-    same(&[
-        flag(
-            "refusal of its world",
-            station.tape.refused.is_some(),
-            false,
-        ),
-        flag("refusal of its kernel", station.refused, false),
-        flag("accept flag", accepting, world.accept_flag()),
-        flag("armed listener", kernel.is_armed(), machine.is_armed()),
-        flag("queued listener", heard, told),
-        flag("queued waker", woken, awake),
-        ("tickets in hand", thread.own.hand.tickets() as u64, 0),
-    ])
+    let refused = station.tape.refused.is_some();
+    alike("refusal of its world", u64::from(refused), 0)?;
+    alike("refusal of its kernel", u64::from(station.refused), 0)?;
+    let accepting = u64::from(thread.poller.is_accepting());
+    alike("accept flag", accepting, u64::from(world.accept_flag()))?;
+    same(&reports_of(&station.kernel), &reports_of(world.kernel()))?;
+    alike(
+        "listening front",
+        u64::from(station.listens),
+        u64::from(station.may_listen),
+    )
+}
+
+/// The tickets in a poller's hand, in order.
+fn hand_agrees(
+    alloc: Global,
+    station: &Station,
+    thread: &mut PollerThread<KernelFront>,
+) -> Result<(), Difference> {
+    let hand = in_hand(alloc, &mut thread.own.hand)?;
+    alike(
+        "tickets in hand",
+        hand.len() as u64,
+        station.hand.len() as u64,
+    )?;
+    for (ticket, wanted) in hand.iter().zip(station.hand.iter()) {
+        alike(
+            "slot of a ticket in hand",
+            ticket.slot as u64,
+            *wanted as u64,
+        )?;
+    }
+    Ok(())
+}
+
+/// What a kernel reports of a poller itself.
+fn reports_of(kernel: &Kernel) -> [Fact; 3] {
+    [
+        flag("armed listener", kernel.is_armed()),
+        flag("queued listener", kernel.is_queued(&Name::Listener)),
+        flag("queued waker", kernel.is_queued(&Name::Waker)),
+    ]
 }
 
 /// The free slots of a poller.
@@ -98,34 +138,11 @@ fn free_agrees<R: Wait>(
 ) -> Result<(), Difference> {
     let own = &mut thread.own;
     let free = slots_of(rt, alloc, &mut own.hand, &mut own.free)?;
-    let mut agree = same(&[("free slots", free.len() as u64, station.free.len() as u64)]);
+    alike("free slots", free.len() as u64, station.free.len() as u64)?;
     for (slot, wanted) in free.iter().zip(station.free.iter()) {
-        agree = agree.and(same(&[("free slot", *slot as u64, *wanted as u64)]));
+        alike("free slot", *slot as u64, *wanted as u64)?;
     }
-    agree
-}
-
-/// The tickets in the queue.
-fn tickets_agree<R: Wait>(
-    rt: &R,
-    alloc: Global,
-    outside: &Outside,
-    thread: &mut PollerThread<KernelFront>,
-) -> Result<(), Difference> {
-    let queued = tickets_of(rt, alloc, &mut thread.own.ready)?;
-    let (count, wanted) = (queued.len() as u64, outside.ready.len() as u64);
-    let mut agree = same(&[("tickets", count, wanted)]);
-    for (ticket, wanted) in queued.iter().zip(outside.ready.iter()) {
-        agree = agree.and(ticket_agrees(ticket, wanted));
-    }
-    agree
-}
-
-fn ticket_agrees(ticket: &Ticket, wanted: &Ticket) -> Result<(), Difference> {
-    same(&[
-        ("slot of a ticket", ticket.slot as u64, wanted.slot as u64),
-        ("ticket generation", ticket.generation, wanted.generation),
-    ])
+    Ok(())
 }
 
 /// The slots of a poller.
@@ -134,15 +151,16 @@ fn slots_agree<R: Wait>(
     outside: &Outside,
     thread: &mut PollerThread<KernelFront>,
     poller: usize,
+    tickets: &[Ticket],
 ) -> Result<(), Differs> {
     let part = thread.poller.part();
     for index in 0..part.slots {
         let slot = part.first.saturating_add(index);
         let agrees = match (outside.stations.get(poller), outside.tapes.get(slot)) {
             (Some(station), Some(tape)) => {
-                slot_agrees(rt, outside, (station, tape), thread, slot)
+                slot_agrees(rt, (station, tape), thread, slot, tickets)
             }
-            _ => same(&[("slot", 1, 0)]),
+            _ => alike("slot", 1, 0),
         };
         if let Err(difference) = agrees {
             return Err(Differs::Slot(slot, difference));
@@ -151,13 +169,13 @@ fn slots_agree<R: Wait>(
     Ok(())
 }
 
-/// A slot and its machine.
+/// A slot and its machine. The tickets in the queue are of all slots.
 fn slot_agrees<R: Wait>(
     rt: &R,
-    outside: &Outside,
     (station, tape): (&Station, &Tape),
     thread: &mut PollerThread<KernelFront>,
     slot: usize,
+    tickets: &[Ticket],
 ) -> Result<(), Difference> {
     let (world, claims) = (&tape.world, &thread.shared.claims);
     let word = if slot < claims.slots() {
@@ -166,11 +184,13 @@ fn slot_agrees<R: Wait>(
         2
     };
     if let Some(before) = tape.lost {
-        let wanted = if outside.is_queued(slot) { before } else { 0 };
-        return same(&[("word of a lost slot", word, wanted)]);
+        let queued = tickets.iter().any(|ticket| ticket.slot == slot);
+        let wanted = if queued { before } else { 0 };
+        return alike("word of a lost slot", word, wanted);
     }
     let generation = thread.poller.table().get(slot).copied().unwrap_or(0);
     word_agrees(tape, word, generation)?;
+    tickets_agree(tape, slot, tickets)?;
     names_agree(station, world, slot, generation)?;
     match world.connection(0) {
         Some(machine) => place_agrees(rt, station, world, machine, thread, slot),
@@ -178,19 +198,30 @@ fn slot_agrees<R: Wait>(
     }
 }
 
+/// The tickets of a slot, each of its last connection. Which of a round's tickets its thread runs by itself, and the order of the
+/// queue, are shown by clauses.
+fn tickets_agree(tape: &Tape, slot: usize, tickets: &[Ticket]) -> Result<(), Difference> {
+    let mut count: u64 = 0;
+    for ticket in tickets {
+        if ticket.slot == slot {
+            alike("ticket generation", ticket.generation, tape.generation())?;
+            count = count.saturating_add(1);
+        }
+    }
+    alike("tickets", count, tape.tickets() as u64)
+}
+
 /// The claim word and the generation of a slot.
 fn word_agrees(tape: &Tape, word: u64, generation: u64) -> Result<(), Difference> {
     let Some(machine) = tape.world.slots().first() else {
-        return same(&[("slot", 1, 0)]);
+        return alike("slot", 1, 0);
     };
-    let is_free = matches!(machine.holder(), Holder::Free);
-    same(&[
-        flag("refusal of its world", tape.refused.is_some(), false),
-        ("generation of the table", generation, tape.generation()),
-        ("notes", word / 4, machine.notes().len() as u64),
-        flag("free word", word % 4 == 3, is_free),
-        flag("held word", word % 2 == 1, is_free),
-    ])
+    let is_free = u64::from(matches!(machine.holder(), Holder::Free));
+    alike("refusal of its world", u64::from(tape.refused.is_some()), 0)?;
+    alike("generation of the table", generation, tape.generation())?;
+    alike("notes", word / 4, machine.notes().len() as u64)?;
+    alike("free word", u64::from(word % 4 == 3), is_free)?;
+    alike("held word", word % 2, is_free)
 }
 
 /// The queued reports of a slot's ends, and whether they are open.
@@ -200,14 +231,13 @@ fn names_agree(
     slot: usize,
     generation: u64,
 ) -> Result<(), Difference> {
-    let open = world.connection(0).is_some();
+    let open = u64::from(world.connection(0).is_some());
     for side in [Side::Client, Side::Target] {
         let queued = is_queued(&station.kernel, slot, side, generation);
-        let machine = is_queued(world.kernel(), 0, side, generation);
-        same(&[
-            flag("open end", station.descriptor(slot, side).is_ok(), open),
-            flag("queued end", queued, machine),
-        ])?;
+        let wanted = is_queued(world.kernel(), 0, side, generation);
+        let is_open = station.descriptor(slot, side).is_ok();
+        alike("open end", u64::from(is_open), open)?;
+        alike("queued end", u64::from(queued), u64::from(wanted))?;
     }
     Ok(())
 }
@@ -234,7 +264,7 @@ fn place_agrees<R: Wait>(
         return Ok(());
     }
     match shared.claims.claim(seat, slot) {
-        Claimed::Busy => same(&[("held word", 1, 0)]),
+        Claimed::Busy => alike("held word", 1, 0),
         Claimed::Held => {
             let agrees = match shared.berths.take_out(rt, seat, slot) {
                 Some(berth) => {
@@ -242,7 +272,7 @@ fn place_agrees<R: Wait>(
                     let _ = shared.berths.put_in(rt, seat, slot, berth);
                     agrees
                 }
-                None => same(&[("connection in its place", 0, 1)]),
+                None => alike("connection in its place", 0, 1),
             };
             shared.claims.release(seat, slot);
             agrees
@@ -277,6 +307,6 @@ fn one_end_agrees(
     let server = here.and_then(|descriptor| station.kernel.end(descriptor));
     match (server, world.kernel().end(there)) {
         (Some(server), Some(machine)) => ends_agree(&server.socket, &machine.socket),
-        _ => same(&[("open ends", 0, 1)]),
+        _ => alike("open ends", 0, 1),
     }
 }

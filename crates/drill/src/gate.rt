@@ -49,13 +49,15 @@ impl<R: Wait + Log> Planned<'_, R> {
     fn make_planned(&self, before: bool) {
         for _step in 0..MAX_POLLED {
             let step = match self.stage.outside.try_borrow_mut() {
-                Ok(mut outside) => outside.plan.next_inner(before),
+                Ok(mut outside) => outside.next_inner(before),
                 Err(_) => None,
             };
             let Some(step) = step else {
                 return;
             };
-            self.stage.make_inside(self.rt, self.alloc, step);
+            let outside = &self.stage.outside;
+            self.stage
+                .make(self.rt, self.alloc, step, &Nested { outside });
         }
     }
 }

@@ -26,6 +26,18 @@ pub fn tickets_of(
     Ok(tickets)
 }
 
+/// The tickets in a hand, in order.
+pub fn in_hand(alloc: Global, hand: &mut Hand) -> Result<Vec<Ticket>, AllocError> {
+    let mut tickets = Vec::with_capacity(alloc, hand.tickets())?;
+    for _ticket in 0..hand.tickets() {
+        if let Some(ticket) = hand.take_ticket() {
+            hand.keep_ticket(ticket);
+            tickets.push(ticket)?;
+        }
+    }
+    Ok(tickets)
+}
+
 /// The free slots of a poller, in order: those in hand, and those in its queue.
 pub fn slots_of(
     rt: &impl Wait,

@@ -6,7 +6,7 @@
 //! step what the server has at each slot and at each poller has to be what its world has.
 //!
 //! `session.rt` plays the scripts, `reading.rt` reads their steps, `casting.rt` makes the server, `stage.rt` makes its threads'
-//! steps, and `compare.rt` and `likeness.rt` compare. What the threads get, the worlds, and what has to be of tickets and the
+//! steps, and `compare.rt` and `likeness.rt` compare. What the threads get, the worlds, and what has to be of turns and the
 //! log are those of `drill_outside`. `tests/drill` has scripts, and makes random ones.
 #![tactic(auto)]
 

@@ -1,5 +1,6 @@
 // One script: the server's steps, and the comparison after each of them.
 use crate::compare::{Differs, compare};
+use crate::gate::Planned;
 use crate::likeness::Difference;
 use crate::reading::{Step, read_step};
 use crate::stage::Stage;
@@ -9,27 +10,16 @@ use std::alloc::{AllocError, Global};
 use std::io::{self, ErrorKind};
 use std::sync::Wait;
 
-/// What became of a line.
-#[derive(Clone, Copy)]
-pub enum Played {
-    /// The server and the machines agree after it.
-    Agreed,
-    /// They differ.
-    Differs,
-    /// It is no step.
-    Malformed,
-}
-
-/// Plays one line of a script.
+/// Plays one line of a script. Answers what is wrong with it, if the server and the machines differ after it, or if it is no step.
 pub fn play_line<R: Wait + Log + Print>(
     rt: &R,
     alloc: Global,
     stage: &Stage,
     line: &str,
-) -> io::Result<Played> {
+) -> io::Result<Option<&'static str>> {
     match read_step(alloc, line) {
         Some(step) => play(rt, alloc, stage, step),
-        None => Ok(Played::Malformed),
+        None => Ok(Some("malformed")),
     }
 }
 
@@ -38,27 +28,29 @@ fn play<R: Wait + Log + Print>(
     alloc: Global,
     stage: &Stage,
     step: Step,
-) -> io::Result<Played> {
+) -> io::Result<Option<&'static str>> {
     match step {
-        Step::Now(step) => stage.make(rt, alloc, step),
+        Step::Now(step) => stage.make(rt, alloc, step, &Planned { rt, alloc, stage }),
         Step::Ticket(ticket) => stage.take_made_up(rt, alloc, ticket),
         Step::Lose(slot) => stage.lose(rt, slot),
+        Step::Stop => stage.stop(),
         Step::Show => {
             show(rt, alloc, stage)?;
-            return Ok(Played::Agreed);
+            return Ok(None);
         }
         step => {
             if let Ok(mut outside) = stage.outside.try_borrow_mut() {
                 prepare(&mut outside, step)?;
             }
-            return Ok(Played::Agreed);
+            return Ok(None);
         }
     }
-    if agrees(rt, alloc, stage)? {
-        Ok(Played::Agreed)
+    let agree = agrees(rt, alloc, stage)?;
+    Ok(if agree {
+        None
     } else {
-        Ok(Played::Differs)
-    }
+        Some("they differ after")
+    })
 }
 
 /// Makes a step after which nothing is compared yet.
@@ -76,12 +68,9 @@ fn prepare(outside: &mut Outside, step: Step) -> Result<(), AllocError> {
     Ok(())
 }
 
-/// Changes the machine's side at a poller, or in the queue of tickets.
+/// Changes the machine's side at a poller.
 fn mislead(outside: &mut Outside, step: Step) {
     match step {
-        Step::ForgetTicket => {
-            let _ = outside.ready.pop_front();
-        }
         Step::ForgetSlot(poller) => {
             if let Some(station) = outside.stations.get_mut(poller) {
                 let _ = station.free.pop_front();

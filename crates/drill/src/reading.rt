@@ -1,6 +1,6 @@
 // The steps of a script, from its lines.
 use dispatch::Unopened;
-use drill_outside::{Fronted, Inner, Later, Outcome, Outer, Polled, Turned, Untold, Wanted};
+use drill_outside::{Fronted, Inner, Later, Outer, Polled, Untold, Wanted};
 use kernel_model::Accepting;
 use ready::Ticket;
 use script_text::read_event;
@@ -25,10 +25,10 @@ pub enum Step {
     Listener(usize, Event),
     /// The log has to get this line.
     Line(String),
-    /// What is reckoned forgets a ticket.
-    ForgetTicket,
     /// What is reckoned forgets a free slot of this poller.
     ForgetSlot(usize),
+    /// From now on no more connections are to be opened.
+    Stop,
     /// The world's script and the report are printed.
     Show,
 }
@@ -58,16 +58,19 @@ pub fn read_step(alloc: Global, line: &str) -> Option<Step> {
     let (word, rest) = cut(line);
     match word {
         "show" => Some(Step::Show),
-        "log" | "forget" | "machine" | "listener" => wrong(alloc, word, rest),
+        "stop" => Some(Step::Stop),
+        "log" => Some(Step::Line(String::from_str(alloc, rest).ok()?)),
+        "machine" | "listener" | "forget" => wrong(alloc, word, rest),
         "ticket" => Some(Step::Ticket(ticket(rest)?)),
         "lose" => Some(Step::Lose(number(rest)?)),
         "accept" | "open" | "poll" | "polled" => {
             let (poller, rest) = cut_poller(rest);
             Some(Step::Later(Later::Round(poller, fronted(alloc, word, rest)?)))
         }
-        "call" | "meanwhile" | "before" | "after" => {
-            Some(Step::Later(Later::Turn(turned(alloc, word, rest)?)))
-        }
+        "call" => Some(Step::Later(Later::Call(wanted(rest)?))),
+        "meanwhile" => Some(Step::Later(Later::Meanwhile(outside(alloc, rest)?))),
+        "before" => Some(Step::Later(Later::Before(inner(alloc, rest)?))),
+        "after" => Some(Step::Later(Later::After(inner(alloc, rest)?))),
         _ => Some(Step::Now(inner(alloc, line)?)),
     }
 }
@@ -76,21 +79,10 @@ pub fn read_step(alloc: Global, line: &str) -> Option<Step> {
 fn wrong(alloc: Global, word: &str, rest: &str) -> Option<Step> {
     let (first, last) = cut(rest);
     match word {
-        "log" => Some(Step::Line(String::from_str(alloc, rest).ok()?)),
         "machine" => Some(Step::Machine(number(first)?, event(alloc, last)?)),
         "listener" => Some(Step::Listener(number(first)?, event(alloc, last)?)),
-        _ if first == "ticket" => Some(Step::ForgetTicket),
-        _ => Some(Step::ForgetSlot(number(last)?)),
-    }
-}
-
-/// What a call of a turn gets, or what happens around it.
-fn turned(alloc: Global, word: &str, rest: &str) -> Option<Turned> {
-    match word {
-        "call" => Some(Turned::Call(wanted(rest)?)),
-        "meanwhile" => Some(Turned::Meanwhile(outside(alloc, rest)?)),
-        "before" => Some(Turned::Before(inner(alloc, rest)?)),
-        _ => Some(Turned::After(inner(alloc, rest)?)),
+        _ if first == "slot" => Some(Step::ForgetSlot(number(last)?)),
+        _ => None,
     }
 }
 
@@ -170,13 +162,13 @@ fn accepting(word: &str) -> Option<Accepting> {
     }
 }
 
-fn outcome(text: &str) -> Option<Outcome> {
+fn outcome(text: &str) -> Option<Result<Option<Untold>, Unopened>> {
     match text {
-        "plain" => Some(Outcome::Plain),
-        "connect" => Some(Outcome::Fails(Unopened::Connect)),
-        "register" => Some(Outcome::Fails(Unopened::Register)),
-        "address client" => Some(Outcome::Lacks(Untold::Client)),
-        "address accepted" => Some(Outcome::Lacks(Untold::Accepted)),
+        "plain" => Some(Ok(None)),
+        "connect" => Some(Err(Unopened::Connect)),
+        "register" => Some(Err(Unopened::Register)),
+        "address client" => Some(Ok(Some(Untold::Client))),
+        "address accepted" => Some(Ok(Some(Untold::Accepted))),
         _ => None,
     }
 }

@@ -7,6 +7,8 @@ use std::io::{self, BufRead};
 pub struct Source<B> {
     alloc: Global,
     reader: B,
+    /// A line that was given back.
+    pub kept: Option<String>,
     /// The number of the last line, from 1.
     pub number: u64,
 }
@@ -16,12 +18,16 @@ impl<B: BufRead> Source<B> {
         Source {
             alloc,
             reader,
+            kept: None,
             number: 0,
         }
     }
 
     /// The next line, without its end.
     pub fn next(&mut self) -> io::Result<Option<String>> {
+        if let Some(line) = self.kept.take() {
+            return Ok(Some(line));
+        }
         for _line in 0..u64::MAX {
             let mut line = String::new(self.alloc);
             if self.reader.read_line(&mut line)? == 0 {

@@ -1,15 +1,17 @@
 // The threads of the server together, and the steps that they make.
-use crate::gate::{Nested, Planned};
+use crate::gate::Nested;
 use crate::looking::tickets_of;
 use claims::Claimed;
 use dispatch::{Gate, Timing};
-use drill_outside::{Acting, Inner, KernelFront, Outside, Sizes, Thread, Ticks};
+use drill_outside::{Acting, Inner, KernelFront, MAX_OWN_TURNS, Outside, Sizes, Ticks};
 use log::Log;
 use ready::Ticket;
 use std::alloc::Global;
 use std::cell::{Cell, RefCell};
 use std::rc::Rc;
 use std::sync::Wait;
+use std::sync::atomic::AtomicBool;
+use std::sync::atomic::Ordering::SeqCst;
 use threads::{Crew, Ending, PollerThread, Worker};
 
 /// A thread of the server. It is in a cell, so that one can make a step inside a step of another.
@@ -26,6 +28,7 @@ pub struct Stage {
     pub outside: Rc<RefCell<Outside>>,
     pub clock: Rc<Ticks>,
     pub ending: Ending,
+    pub is_stopped: AtomicBool,
     pub pollers: Vec<Player<PollerThread<KernelFront>>>,
     pub workers: Vec<Player<Worker<KernelFront>>>,
 }
@@ -44,25 +47,8 @@ impl Stage {
         }
     }
 
-    /// A step that may also be made inside a turn is made there.
-    pub fn make_inside<R: Wait + Log>(&self, rt: &R, alloc: Global, step: Inner) {
-        let gate = Nested {
-            outside: &self.outside,
-        };
-        self.make_by(rt, alloc, step, &gate);
-    }
-
-    /// The same step is made on its own.
-    pub fn make<R: Wait + Log>(&self, rt: &R, alloc: Global, step: Inner) {
-        let gate = Planned {
-            rt,
-            alloc,
-            stage: self,
-        };
-        self.make_by(rt, alloc, step, &gate);
-    }
-
-    fn make_by<G: Gate, R: Wait + Log>(&self, rt: &R, alloc: Global, step: Inner, gate: &G) {
+    /// A step is made, on its own or inside a turn.
+    pub fn make<G: Gate, R: Wait + Log>(&self, rt: &R, alloc: Global, step: Inner, gate: &G) {
         match step {
             Inner::Outside(outer) => {
                 if let Ok(mut outside) = self.outside.try_borrow_mut() {
@@ -85,6 +71,7 @@ impl Stage {
                 limit: self.sizes.limits.idle,
             },
             ending: &self.ending,
+            is_stopped: &self.is_stopped,
             split: self.sizes.split,
         }
     }
@@ -101,7 +88,14 @@ impl Stage {
             return;
         }
         let is_due = self.poller_is_due(poller);
-        let former = self.enter(Thread::Poller(poller), false);
+        if let Ok(mut outside) = self.outside.try_borrow_mut() {
+            if is_due {
+                outside.expect_rest(poller);
+            } else {
+                outside.stop_opening(poller);
+            }
+        }
+        let former = self.enter(Some(poller));
         let crew = self.crew(rt, alloc, gate);
         if let Err(ended) = thread.step(&crew) {
             thread.finish(&crew, ended);
@@ -122,16 +116,18 @@ impl Stage {
         }
     }
 
-    /// Whether a poller's thread ended as it has to, and knows whether the poller is over.
+    /// Whether a poller's thread ended as it has to, and knows whether the poller is over. It ends in a step inside of which a
+    /// fault was recorded, if it may run another turn then.
     fn check_poller(&self, poller: usize, is_due: bool, ended: bool, over: bool) {
         let Ok(mut outside) = self.outside.try_borrow_mut() else {
             return;
         };
-        let (failed, is_over) = match outside.stations.get(poller) {
-            Some(station) => (station.failed, station.over),
+        let (failed, is_over, may_run) = match outside.stations.get(poller) {
+            Some(station) => (station.failed, station.over, station.turns < MAX_OWN_TURNS),
             None => return,
         };
-        if ended != (is_due || failed) {
+        let is_cut = outside.faulty && may_run;
+        if ended != (is_due || failed || is_cut) {
             outside
                 .book
                 .blame("a poller's thread goes on or ends when it has not to");
@@ -146,8 +142,8 @@ impl Stage {
         }
     }
 
-    /// One step of a worker's thread, unless it would wait, is in a turn or has ended. It takes the oldest ticket, or this
-    /// one, which nobody made and which is no more than taken.
+    /// One step of a worker's thread, unless it would wait, is in a turn or has ended. Where it would wait, it takes this ticket,
+    /// which nobody made and which is no more than taken.
     fn turn<G: Gate, R: Wait + Log>(
         &self,
         rt: &R,
@@ -167,36 +163,23 @@ impl Stage {
             Err(_) => return self.blame(""),
         };
         let is_due = self.worker_is_due(queued);
-        if player.ended.get() || queued == 0 && !is_due && made_up.is_none() {
+        if player.ended.get() || (queued > 0 || is_due) == made_up.is_some() {
             return;
         }
-        let former = self.enter(Thread::Worker, made_up.is_none() && !is_due);
+        let former = self.enter(None);
         if let Some(ticket) = made_up {
             let _ = worker.own.ready.put(rt, ticket);
         }
-        let ended = self.work(rt, alloc, &mut worker, gate);
+        let crew = self.crew(rt, alloc, gate);
+        let stepped = worker.step(&crew);
+        let ended = stepped.is_err();
+        if let Err(fault) = stepped {
+            worker.finish(&crew, fault);
+        }
         self.leave(former);
         player.ended.set(ended);
         if ended != is_due {
             self.blame("a worker's thread goes on or ends when it has not to");
-        }
-    }
-
-    /// One step of a worker. Answers whether its thread has ended.
-    fn work<G: Gate, R: Wait + Log>(
-        &self,
-        rt: &R,
-        alloc: Global,
-        worker: &mut Worker<KernelFront>,
-        gate: &G,
-    ) -> bool {
-        let crew = self.crew(rt, alloc, gate);
-        match worker.step(&crew) {
-            Ok(()) => false,
-            Err(ended) => {
-                worker.finish(&crew, ended);
-                true
-            }
         }
     }
 
@@ -221,13 +204,12 @@ impl Stage {
         };
         let tape = outside.tapes.get(ticket.slot);
         let generation = tape.map_or(0, |tape| tape.generation());
-        let is_idle = outside.ready.is_empty();
         drop(outside);
         let is_harmless = match self.word_of(ticket.slot) {
             Some(word) => word % 4 == 3 || word == 0 && generation != ticket.generation,
             None => true,
         };
-        if is_harmless && is_idle && !self.worker_is_due(0) {
+        if is_harmless {
             let gate = Nested {
                 outside: &self.outside,
             };
@@ -242,6 +224,14 @@ impl Stage {
             Some(thread.shared.claims.peek(slot))
         } else {
             None
+        }
+    }
+
+    /// From now on no more connections are to be opened.
+    pub fn stop(&self) {
+        self.is_stopped.store(true, SeqCst);
+        if let Ok(mut outside) = self.outside.try_borrow_mut() {
+            outside.stopped = true;
         }
     }
 
@@ -267,9 +257,9 @@ impl Stage {
         }
     }
 
-    fn enter(&self, thread: Thread, takes: bool) -> Option<Acting> {
+    fn enter(&self, poller: Option<usize>) -> Option<Acting> {
         match self.outside.try_borrow_mut() {
-            Ok(mut outside) => Some(outside.enter(thread, takes)),
+            Ok(mut outside) => Some(outside.enter(poller)),
             Err(_) => None,
         }
     }

@@ -1,12 +1,11 @@
 // The addresses of a poller's connections, and the line by which their targets get to know them.
-use crate::step::Untold;
 use dispatch::Route;
 use std::net::{Ipv4Addr, SocketAddr, SocketAddrV4};
 use world::Lead;
 
-/// What a poller's front tells of a connection, of which one address may be untold. It is the same for all of its
-/// connections, since a world has one lead. Another poller has other addresses, and a line of another length.
-pub fn route_of(poller: usize, untold: Option<Untold>) -> Route {
+/// What a poller's front tells of a connection. It is the same for all of its connections, since a world has one lead.
+/// Another poller has other addresses, and a line of another length.
+pub fn route_of(poller: usize) -> Route {
     let (client, accepted) = if poller == 0 {
         (
             SocketAddrV4::new(Ipv4Addr::new(10, 0, 0, 1), 40_000),
@@ -18,17 +17,9 @@ pub fn route_of(poller: usize, untold: Option<Untold>) -> Route {
             SocketAddrV4::new(Ipv4Addr::new(198, 51, 100, 0), 9),
         )
     };
-    let (client, accepted) = (Some(client), Some(accepted));
-    match untold {
-        None => Route { client, accepted },
-        Some(Untold::Client) => Route {
-            client: None,
-            accepted,
-        },
-        Some(Untold::Accepted) => Route {
-            client,
-            accepted: None,
-        },
+    Route {
+        client: Some(client),
+        accepted: Some(accepted),
     }
 }
 

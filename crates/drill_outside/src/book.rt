@@ -4,19 +4,12 @@ use relay_core::{Fault, Verdict};
 use std::alloc::{AllocError, Global};
 use std::collections::VecDeque;
 
-/// A line that the log has to get.
-#[derive(Drop)]
-struct Due {
-    level: Level,
-    text: String,
-}
-
 /// The log of the server beside what it has to be.
 #[derive(Drop)]
 pub struct Book {
     alloc: Global,
     /// The lines that the log has to get next, in order.
-    due: VecDeque<Due>,
+    due: VecDeque<(Level, String)>,
     /// All lines that it got.
     pub text: String,
     /// The first thing that was not as it has to be.
@@ -44,7 +37,7 @@ impl Book {
     /// The log has to get this line next, behind those that it has to get already.
     pub fn expect(&mut self, level: Level, text: Result<String, AllocError>) {
         let added = match text {
-            Ok(text) => self.due.push_back(Due { level, text }).is_ok(),
+            Ok(text) => self.due.push_back((level, text)).is_ok(),
             Err(_) => false,
         };
         if !added {
@@ -96,19 +89,19 @@ impl Book {
         let added = self.text.push_str(text).and(self.text.push_str("\n"));
         let due = self.due.pop_front();
         let is_due = match &due {
-            Some(line) => line.level == level && line.text.as_str() == text,
+            Some((wanted, line)) => *wanted == level && line.as_str() == text,
             None => false,
         };
         if !is_due || added.is_err() {
-            let due = due.as_ref().map_or("no line", |line| line.text.as_str());
+            let due = due.as_ref().map_or("no line", |line| line.1.as_str());
             self.blame_for(format!(in self.alloc; "the log gets `{text}` in place of `{due}`"));
         }
     }
 
     /// What the log lacks is wrong.
     pub fn check(&mut self) {
-        if let Some(line) = self.due.pop_front() {
-            let text = line.text.as_str();
+        if let Some((_, line)) = self.due.pop_front() {
+            let text = line.as_str();
             self.blame_for(format!(in self.alloc; "the log lacks `{text}`"));
         }
     }

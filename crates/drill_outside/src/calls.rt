@@ -1,6 +1,6 @@
 // The calls of a turn on the modelled kernel.
 use crate::outside::Outside;
-use crate::step::{Turned, Wanted};
+use crate::step::{Later, Wanted};
 use engine::error_of;
 use kernel_model::{End, Kernel, MAX_POLLED, Refusal, Reply};
 use std::io::ErrorKind;
@@ -51,9 +51,9 @@ impl Outside {
     /// What happens before the next call of a turn, and then what that call gets.
     fn next_wanted(&mut self) -> Wanted {
         for event in 0..MAX_POLLED + 1 {
-            match self.plan.calls.pop_front() {
-                Some(Turned::Meanwhile(outer)) if event < MAX_POLLED => self.happen(outer),
-                Some(Turned::Call(wanted)) => return wanted,
+            match self.calls.pop_front() {
+                Some(Later::Meanwhile(outer)) if event < MAX_POLLED => self.happen(outer),
+                Some(Later::Call(wanted)) => return wanted,
                 _ => return Wanted::Plain,
             }
         }

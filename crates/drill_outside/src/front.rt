@@ -2,7 +2,7 @@
 ghost use Rattle.std.specs.Prelude.{◌≡◌, ◌≤◌, [], OnErr, length, vec_len, vec_capacity};
 
 use crate::outside::Outside;
-use crate::wire::{EndState, EndWire};
+use crate::wire::EndWire;
 use dispatch::{Front, MAX_BATCH, Opened, Unopened};
 use kernel_model::Accepting;
 use log::Log;
@@ -20,6 +20,7 @@ pub struct KernelFront {
     poller: usize,
     /// The numbers that the last poll gave.
     reported: Vec<u64>,
+    listening: bool,
     pub ghost few: { vec_len reported ≤ 256 },
     pub ghost room: { 256 ≤ vec_capacity reported },
 }
@@ -35,6 +36,7 @@ impl KernelFront {
             outside,
             poller,
             reported: Vec::with_capacity(alloc, MAX_BATCH)?,
+            listening: true,
         })
     }
 }
@@ -94,6 +96,8 @@ fn copy(batch: &mut Vec<u64>, numbers: &[u64])
 impl Front for KernelFront {
     ghost reported = { λ f. f.reported.items };
 
+    ghost listens = { λ f. f.listening };
+
     type Client = EndWire;
 
     type Target = EndWire;
@@ -115,12 +119,17 @@ impl Front for KernelFront {
             return Err(io::Error::from(ErrorKind::Other));
         };
         match outside.accept(self.poller) {
-            Accepting::Accepted => {
-                Ok(EndWire::new(shared, self.poller, EndState::Accepted, true))
-            }
+            Accepting::Accepted => Ok(EndWire::new(shared, self.poller, None, true)),
             Accepting::Blocked => Err(io::Error::from(ErrorKind::WouldBlock)),
             Accepting::Again => Err(io::Error::from(ErrorKind::ConnectionAborted)),
             Accepting::Starved => Err(io::Error::from(ErrorKind::Other)),
+        }
+    }
+
+    fn stop_listening(&mut self) {
+        self.listening = false;
+        if let Ok(mut outside) = self.outside.try_borrow_mut() {
+            outside.stop_listening(self.poller);
         }
     }
 
@@ -137,17 +146,14 @@ impl Front for KernelFront {
         let Ok(mut outside) = self.outside.try_borrow_mut() else {
             return Err(Unopened::Connect);
         };
-        let started = outside.open(self.poller, client_token, target_token)?;
-        let state = match started.ends {
-            Some(ends) => {
-                client.open(client_token, ends.client);
-                EndState::Open(target_token, ends.target)
-            }
-            None => EndState::Never,
-        };
+        let (ends, route) = outside.open(self.poller, client_token, target_token)?;
+        if let Some(ends) = ends {
+            client.open(client_token, ends.client);
+        }
+        let end = ends.map(|ends| (target_token, ends.target));
         Ok(Opened {
-            target: EndWire::new(shared, self.poller, state, false),
-            route: started.route,
+            target: EndWire::new(shared, self.poller, end, false),
+            route,
         })
     }
 

@@ -1,19 +1,17 @@
 // What is outside of the server: for each poller a station, for each slot a tape, the clients that no poller has accepted
-// yet, the tickets that are queued, what the next calls get, and the log.
+// yet, what the next calls get, and the log.
 ghost use Rattle.drill_outside.specs.Sizes.{IsServerSize};
 
 use crate::book::Book;
-use crate::plan::Plan;
 use crate::sizes::Sizes;
 use crate::station::Station;
-use crate::step::{Later, Outer};
+use crate::step::{Inner, Later, Outer};
 use crate::tape::Tape;
 use crate::ticks::Ticks;
 use crate::totals::Totals;
-use crate::turn::{Acting, Thread};
+use crate::turn::Acting;
 use kernel_model::MAX_BACKLOG;
 use log::Level;
-use ready::Ticket;
 use std::alloc::{AllocError, Global};
 use std::collections::VecDeque;
 use std::rc::Rc;
@@ -30,9 +28,11 @@ pub struct Outside {
     pub stations: Vec<Station>,
     /// What is each slot's.
     pub tapes: Vec<Tape>,
-    /// The tickets that have to be in the queue, in order.
-    pub ready: VecDeque<Ticket>,
-    pub plan: Plan,
+    /// What the next turns' calls get, and what happens before a call: `Call` and `Meanwhile`, first in, first out.
+    pub(crate) calls: VecDeque<Later>,
+    /// What is done before a turn's first call, and after its last one.
+    before: VecDeque<Inner>,
+    after: VecDeque<Inner>,
     /// How many clients wait outside of all kernels.
     pub(crate) waiting: usize,
     pub(crate) acting: Acting,
@@ -41,6 +41,8 @@ pub struct Outside {
     pub book: Book,
     /// Whether a thread has met a fault.
     pub faulty: bool,
+    /// Whether no more connections are to be opened.
+    pub stopped: bool,
     pub totals: Totals,
 }
 
@@ -59,13 +61,15 @@ impl Outside {
             clock,
             stations: stations_of(alloc, sizes)?,
             tapes: tapes_of(alloc, sizes)?,
-            ready: VecDeque::new(alloc),
-            plan: Plan::new(alloc),
+            calls: VecDeque::new(alloc),
+            before: VecDeque::new(alloc),
+            after: VecDeque::new(alloc),
             waiting: 0,
-            acting: Acting::new(Thread::Worker),
+            acting: Acting::NONE,
             calling: 0,
             book: Book::new(alloc),
             faulty: false,
+            stopped: false,
             totals,
         })
     }
@@ -73,11 +77,24 @@ impl Outside {
     /// Adds what a later call gets.
     pub fn add(&mut self, later: Later) -> Result<(), AllocError> {
         match later {
-            Later::Turn(turned) => self.plan.add(turned),
-            Later::Round(poller, fronted) => match self.stations.get_mut(poller) {
-                Some(station) => station.plan.add(fronted),
-                None => Ok(()),
-            },
+            Later::Before(inner) => self.before.push_back(inner)?,
+            Later::After(inner) => self.after.push_back(inner)?,
+            Later::Round(poller, fronted) => {
+                if let Some(station) = self.stations.get_mut(poller) {
+                    station.add(fronted)?;
+                }
+            }
+            called => self.calls.push_back(called)?,
+        }
+        Ok(())
+    }
+
+    /// What is done next before a turn's first call, or after its last one.
+    pub fn next_inner(&mut self, before: bool) -> Option<Inner> {
+        if before {
+            self.before.pop_front()
+        } else {
+            self.after.pop_front()
         }
     }
 
@@ -88,10 +105,15 @@ impl Outside {
         }
     }
 
-    /// The log gets this line.
+    /// The log gets this line. Whose connection it was that did not end well, and why, is compared by `tests/relay` alone: here no
+    /// error has a number.
     pub fn log(&mut self, level: Level, text: &str) {
+        if text.starts_with("gone ") {
+            return;
+        }
         if self.book.is_complete() {
             self.expect_ended();
+            self.expect_told();
         }
         self.book.write(level, text);
     }
@@ -112,7 +134,9 @@ impl Outside {
             }
             _ => {
                 if let Some(station) = self.stations.get_mut(poller) {
-                    station.happen(&event);
+                    if station.listens || !matches!(&event, Event::Spurious(Reported::Listener)) {
+                        station.happen(&event);
+                    }
                 }
             }
         }
@@ -141,24 +165,36 @@ impl Outside {
         }
     }
 
-    /// A client connects. It waits outside of the kernels, and is reported to each poller that was told at its last try
-    /// that nobody waits. The others are going to try again in any case.
+    /// Whether a poller listens.
+    pub(crate) fn is_listening(&self) -> bool {
+        for station in self.stations.iter() {
+            if station.listens {
+                return true;
+            }
+        }
+        false
+    }
+
+    /// A client connects. It waits outside of the kernels, and is reported to each poller that listens and was told at its last
+    /// try that nobody waits. The others are going to try again in any case. It is refused where none listens.
     fn connect(&mut self) {
-        if self.waiting >= MAX_BACKLOG {
+        if self.waiting >= MAX_BACKLOG || !self.is_listening() {
             return;
         }
         self.waiting += 1;
         for station in self.stations.iter_mut() {
-            if station.kernel.is_armed() {
+            if station.listens && station.kernel.is_armed() {
                 station.happen(&Event::Spurious(Reported::Listener));
             }
         }
     }
 
-    /// Whether no client waits, or else this poller's next poll tells of the listener.
+    /// Whether no client waits that this poller could accept, or else its next poll tells of the listener.
     pub fn hears(&self, poller: usize) -> bool {
         match self.stations.get(poller) {
-            Some(station) => self.waiting == 0 || station.kernel.is_queued(&Name::Listener),
+            Some(station) => {
+                self.waiting == 0 || !station.listens || station.kernel.is_queued(&Name::Listener)
+            }
             None => false,
         }
     }
@@ -170,21 +206,21 @@ impl Outside {
         }
     }
 
+    /// A step of this poller's thread begins, which has not come to its end. Where no more connections are to be opened, it
+    /// comes to know that with it, and wakes all pollers.
+    pub fn stop_opening(&mut self, poller: usize) {
+        match self.stations.get_mut(poller) {
+            Some(station) if self.stopped && !station.has_opened_all() => station.stop_opening(),
+            _ => return,
+        }
+        self.expect_wakes();
+    }
+
     /// All pollers have been woken.
     pub fn expect_wakes(&mut self) {
         for station in self.stations.iter_mut() {
             station.tape.put(&Event::Spurious(Reported::Waker));
         }
-    }
-
-    /// Whether a ticket for this slot has to be in the queue.
-    pub fn is_queued(&self, slot: usize) -> bool {
-        for ticket in self.ready.iter() {
-            if ticket.slot == slot {
-                return true;
-            }
-        }
-        false
     }
 
     /// The connection in this slot, which has this claim word, is taken away from its place. From now on there is nothing

@@ -5,14 +5,13 @@ ghost use Rattle.dispatch.specs.Splits.{parts_of};
 ghost use Rattle.drill_outside.specs.Sizes.{IsServerSize};
 
 use crate::addresses::route_of;
-use crate::plan::RoundPlan;
 use crate::sizes::Sizes;
-use crate::step::{Outcome, Polled};
+use crate::step::{Fronted, Outer, Polled, Untold};
 use crate::tape::{Tape, at_first};
 use crate::ticks::START;
-use dispatch::{MAX_ACCEPTS, MAX_OWN_TURNS, Part, Route, Unopened};
+use crate::told::Told;
+use dispatch::{MAX_ACCEPTS, Part, Route, Unopened};
 use kernel_model::{Accepting, Descriptors, Kernel, MAX_POLLED, Refusal, Watched};
-use ready::Ticket;
 use std::alloc::{AllocError, Global};
 use std::collections::VecDeque;
 use token::{Name, Side, Token};
@@ -21,17 +20,15 @@ use world::{Change, Event, Lead, Listening, Polling, Reported};
 /// The most descriptors that a kernel has: two for each slot.
 const MOST: usize = 128;
 
-/// So many tickets of a connection that spent the budget of its poller's thread are for the workers.
-const HEAVY: u8 = 16;
+/// So many tickets of a connection go to the workers behind a turn of a poller's own thread that left it due.
+const MARKS: usize = 16;
 
-/// A connection that a poller started to open.
-#[derive(Clone, Copy)]
-pub struct Started {
-    /// Its ends. None where it has to be given up for want of an address.
-    pub ends: Option<Descriptors>,
-    /// Its addresses.
-    pub route: Route,
-}
+/// The most tickets that a poller's thread takes out of its hand in a step.
+pub const MAX_OWN_TURNS: usize = 16;
+
+/// A connection that a poller started to open: its ends, or none where it has to be given up for want of an address, and its
+/// addresses.
+pub type Started = (Option<Descriptors>, Route);
 
 /// One poller's share of what is outside of the server.
 #[derive(Drop)]
@@ -41,18 +38,24 @@ pub struct Station {
     pub kernel: Kernel,
     /// Whether the kernel, or the memory for a list, refused what has to be possible.
     pub refused: bool,
-    pub plan: RoundPlan,
+    /// What the calls of its next rounds get, if not what the kernel has, of each kind of call; and what happens between a
+    /// poll and its delivery. First in, first out.
+    accepts: VecDeque<Accepting>,
+    opens: VecDeque<Result<Option<Untold>, Unopened>>,
+    pub(crate) polls: VecDeque<Polled>,
+    pub(crate) polled: VecDeque<Outer>,
     /// The world of its listener and its waker, in which nothing is ever opened.
     pub tape: Tape,
     /// The slots of this poller.
     pub(crate) part: Part,
     /// Its free slots, in the order in which they are to be used.
     pub free: VecDeque<usize>,
-    /// The tickets that its round has made so far, and those that its thread has to run then.
-    hand: VecDeque<Ticket>,
-    kept: VecDeque<Ticket>,
-    /// Of each slot's next tickets, how many are for the workers.
-    heavy: [u8; 64],
+    /// The slots of the tickets in its hand, oldest first.
+    pub hand: VecDeque<usize>,
+    /// How many of each slot's next tickets are for the workers.
+    marks: Vec<usize>,
+    /// How many of its tickets its thread has taken out of its hand since its step began.
+    pub turns: usize,
     /// How many connections it may still open.
     left: u64,
     /// The idle limit, 0 for none, and the second of its last sweep, at first that at which the server began.
@@ -63,12 +66,17 @@ pub struct Station {
     proxy: bool,
     /// How often accept(2) was called since the last poll.
     tries: usize,
+    /// Whether its front listens, and whether it may: not once a round has ended behind all that it may open.
+    pub listens: bool,
+    pub may_listen: bool,
     /// Whether accept(2) was starved when it was last called.
     pub(crate) starved: bool,
     /// Whether a round has begun, and not ended.
     pub(crate) in_round: bool,
     /// Whether it is over: all that it may open was opened, and all its slots were free at the end of its last round.
     pub over: bool,
+    /// What the log has been told.
+    pub(crate) told: Told,
     /// Whether its poll has failed.
     pub failed: bool,
     /// The client's end of this slot was closed, and the target's was not.
@@ -85,25 +93,42 @@ impl Station {
             alloc,
             kernel: Kernel::new(alloc),
             refused: false,
-            plan: RoundPlan::new(alloc),
+            accepts: VecDeque::new(alloc),
+            opens: VecDeque::new(alloc),
+            polls: VecDeque::new(alloc),
+            polled: VecDeque::new(alloc),
             tape: Tape::new(alloc, sizes, Lead::NONE)?,
             free: slots_of(alloc, part)?,
-            part,
             hand: VecDeque::new(alloc),
-            kept: VecDeque::new(alloc),
-            heavy: [0; 64],
+            marks: vec![in alloc; 0; sizes.limits.slots]?,
+            turns: 0,
+            part,
             left: sizes.share_of(poller),
             limit: sizes.limits.idle,
             swept: START,
             poller,
             proxy: sizes.proxy,
             tries: 0,
+            listens: true,
+            may_listen: true,
             starved: false,
             in_round: false,
             over: false,
+            told: Told::nothing(),
             failed: false,
             half: None,
         })
+    }
+
+    /// Adds what a later call gets.
+    pub(crate) fn add(&mut self, fronted: Fronted) -> Result<(), AllocError> {
+        match fronted {
+            Fronted::Accept(accepting) => self.accepts.push_back(accepting)?,
+            Fronted::Open(untold) => self.opens.push_back(untold)?,
+            Fronted::Poll(polled) => self.polls.push_back(polled)?,
+            Fronted::Polled(outer) => self.polled.push_back(outer)?,
+        }
+        Ok(())
     }
 
     /// The kernel has to make this.
@@ -192,6 +217,7 @@ impl Station {
         let names = self.chosen(polled)?;
         self.tries = 0;
         self.in_round = true;
+        self.told.round = false;
         let taken = self.kernel.poll(names.as_slice());
         self.must(taken);
         let mut own = Vec::new(self.alloc);
@@ -228,64 +254,76 @@ impl Station {
         is_due
     }
 
-    /// Its round does this at the slot of this tape, which may make a ticket.
-    pub(crate) fn note(&mut self, slot: usize, tape: &mut Tape, event: &Event) {
-        let had = tape.poller_ticket().is_some();
-        tape.put(event);
-        if let (false, Some(ticket)) = (had, tape.poller_ticket()) {
-            let kept = self.hand.push_back(Ticket {
-                slot,
-                generation: ticket.generation,
-            });
-            self.must(kept);
-        }
+    /// A ticket came up in its round.
+    pub(crate) fn hold(&mut self, slot: usize) {
+        let held = self.hand.push_back(slot);
+        self.must(held);
     }
 
-    /// Its round has ended: the tickets of heavy connections, and all behind the first 16 others, are for the workers.
-    pub(crate) fn end_round(&mut self, ready: &mut VecDeque<Ticket>) {
-        self.in_round = false;
-        // A slot that has had its last connection never comes back: a server that is to end has opened too few for that.
-        self.over = self.has_opened_all() && self.free.len() >= self.part.slots;
+    /// Its thread shares the tickets in hand: those of slots with a mark are put, each of which takes one away. No thread sleeps
+    /// here, so all others stay.
+    fn share(&mut self) {
         for _ticket in 0..self.hand.len() {
-            let Some(ticket) = self.hand.pop_front() else {
-                return;
-            };
-            let stays = self.is_light(ticket.slot) && self.kept.len() < MAX_OWN_TURNS;
-            let put = if stays {
-                self.kept.push_back(ticket)
-            } else {
-                ready.push_back(ticket)
-            };
-            self.must(put);
-        }
-    }
-
-    /// Whether the slot's next ticket is for its own thread.
-    fn is_light(&mut self, slot: usize) -> bool {
-        match self.heavy.get_mut(slot) {
-            Some(left) if *left > 0 => {
-                *left -= 1;
-                false
+            if let Some(slot) = self.hand.pop_front() {
+                if !self.takes_mark(slot) {
+                    self.hold(slot);
+                }
             }
-            _ => true,
         }
     }
 
-    /// Its own thread has run a turn at this slot that left the connection due.
-    pub(crate) fn mark_heavy(&mut self, slot: usize) {
-        if let Some(left) = self.heavy.get_mut(slot) {
-            *left = HEAVY;
+    /// Whether this slot has a mark, which is then taken away.
+    fn takes_mark(&mut self, slot: usize) -> bool {
+        match self.marks.get_mut(slot) {
+            Some(marks) if *marks > 0 => {
+                *marks -= 1;
+                true
+            }
+            _ => false,
         }
     }
 
-    /// The ticket that its thread has to run next.
-    pub(crate) fn next_kept(&mut self) -> Option<Ticket> {
-        self.kept.pop_front()
+    /// A turn of its own thread left the connection in this slot due.
+    pub(crate) fn mark(&mut self, slot: usize) {
+        if let Some(marks) = self.marks.get_mut(slot) {
+            *marks = MARKS;
+        }
+    }
+
+    /// Its thread takes its oldest ticket. None if there is none, or if it has taken as many since its step began as it may.
+    pub(crate) fn next_turn(&mut self) -> Option<usize> {
+        if self.turns >= MAX_OWN_TURNS {
+            return None;
+        }
+        let slot = self.hand.pop_front()?;
+        self.turns += 1;
+        Some(slot)
+    }
+
+    /// Its round has ended.
+    pub(crate) fn end_round(&mut self) {
+        self.in_round = false;
+        self.share();
+        self.may_listen = !self.has_opened_all();
+        self.over = self.has_opened_all() && self.free.len() >= self.part.slots;
     }
 
     /// Whether it has opened all that it may open.
     pub(crate) fn has_opened_all(&self) -> bool {
         self.left == 0
+    }
+
+    /// It opens no more connections.
+    pub(crate) fn stop_opening(&mut self) {
+        self.left = 0;
+    }
+
+    /// Its front no longer listens. A report of the listener goes with it.
+    pub(crate) fn stop_listening(&mut self) {
+        self.listens = false;
+        if self.kernel.is_queued(&Name::Listener) {
+            self.happen(&Event::Vanish(Reported::Listener));
+        }
     }
 
     /// It opens a connection in its first free slot.
@@ -302,7 +340,7 @@ impl Station {
 
     /// What accept(2) is answered, where a client waits or not.
     pub(crate) fn accept(&mut self, waits: bool) -> Accepting {
-        match self.plan.accepts.pop_front() {
+        match self.accepts.pop_front() {
             Some(Accepting::Again) => Accepting::Again,
             Some(Accepting::Starved) => Accepting::Starved,
             _ if waits => Accepting::Accepted,
@@ -333,6 +371,11 @@ impl Station {
         }
     }
 
+    /// Whether its poll may wait: no ticket is in hand, and it could not accept, or the system lacked what that needs.
+    pub(crate) fn may_wait(&self) -> bool {
+        self.hand.is_empty() && (!self.could_accept() || self.starved)
+    }
+
     /// Whether accept(2) is to be tried.
     pub(crate) fn could_accept(&self) -> bool {
         self.tape.world.accept_flag() && !self.free.is_empty() && !self.has_opened_all()
@@ -348,20 +391,18 @@ impl Station {
     /// no ends where a PROXY line lacks one of these: then the server has to close both at once, and to the world the
     /// connection was never open.
     pub(crate) fn open(&mut self, client: Token, target: Token) -> Result<Started, Unopened> {
-        let untold = match self.plan.opens.pop_front() {
-            Some(Outcome::Fails(unopened)) => return Err(unopened),
-            Some(Outcome::Lacks(untold)) => Some(untold),
-            Some(Outcome::Plain) | None => None,
-        };
-        let route = route_of(self.poller, untold);
+        let untold = self.opens.pop_front().unwrap_or(Ok(None))?;
+        let mut route = route_of(self.poller);
+        match untold {
+            Some(Untold::Client) => route.client = None,
+            Some(Untold::Accepted) => route.accepted = None,
+            None => {}
+        }
         if self.proxy && untold.is_some() {
-            return Ok(Started { ends: None, route });
+            return Ok((None, route));
         }
         match self.kernel.open_both(client, target) {
-            Ok(ends) => Ok(Started {
-                ends: Some(ends),
-                route,
-            }),
+            Ok(ends) => Ok((Some(ends), route)),
             Err(_) => {
                 self.refused = true;
                 Err(Unopened::Connect)

@@ -27,23 +27,16 @@ pub struct Outer {
 /// the kernel has for it.
 #[derive(Drop)]
 pub enum Later {
-    /// In a turn.
-    Turn(Turned),
-    /// In this poller's round.
-    Round(usize, Fronted),
-}
-
-/// What the calls of a turn get, and what happens around them.
-#[derive(Drop)]
-pub enum Turned {
-    /// A call gets this.
+    /// A call of a turn gets this.
     Call(Wanted),
-    /// This happens just before the next call.
+    /// This happens just before the next call of a turn.
     Meanwhile(Outer),
-    /// This is done before the first call.
+    /// This is done before the first call of a turn.
     Before(Inner),
-    /// This is done after the last call.
+    /// This is done after the last call of a turn.
     After(Inner),
+    /// This poller's round gets this.
+    Round(usize, Fronted),
 }
 
 /// What the calls of a round get.
@@ -51,23 +44,12 @@ pub enum Turned {
 pub enum Fronted {
     /// accept(2) gets this; `Accepted` and `Blocked` stand for what the kernel has.
     Accept(Accepting),
-    /// An opening goes so.
-    Open(Outcome),
+    /// An opening fails so, or cannot tell this address of the connection.
+    Open(Result<Option<Untold>, Unopened>),
     /// A poll gives its names so.
     Poll(Polled),
     /// This happens between a poll and the delivery of its names.
     Polled(Outer),
-}
-
-/// How an opening goes.
-#[derive(Clone, Copy)]
-pub enum Outcome {
-    /// As the kernel has it.
-    Plain,
-    /// It fails so.
-    Fails(Unopened),
-    /// This address of the connection cannot be told.
-    Lacks(Untold),
 }
 
 /// An address of a connection that cannot be told.

@@ -9,7 +9,7 @@ use kernel_model::Refusal;
 use relay_core::Verdict;
 use script_text::{Page, Piece, put_event};
 use std::alloc::{AllocError, Global};
-use world::{Act, Event, Lead, Limits, Polling, Reported, Ticket, World};
+use world::{Act, Event, Lead, Limits, Polling, Reported, World};
 
 /// A world of one slot that makes each event at once, and the script of these events.
 #[derive(Drop)]
@@ -115,14 +115,16 @@ impl Tape {
         }
     }
 
-    /// The ticket that the poller has in hand.
-    pub(crate) fn poller_ticket(&self) -> Option<Ticket> {
-        self.world.poller_hand().first().copied()
-    }
-
-    /// The ticket that the worker has in hand.
-    pub(crate) fn worker_ticket(&self) -> Option<Ticket> {
-        self.world.workers().first()?.hand().first().copied()
+    /// How many tickets of the slot were made and not taken, wherever they are.
+    pub fn tickets(&self) -> usize {
+        let made = self.world.poller_hand().len();
+        let hand = self
+            .world
+            .workers()
+            .first()
+            .map_or(0, |worker| worker.hand().len());
+        made.saturating_add(self.world.ready().len())
+            .saturating_add(hand)
     }
 
     /// How many connections the slot has had.

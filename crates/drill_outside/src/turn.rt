@@ -1,27 +1,17 @@
 // Whose step it is, and what has to be of its turns.
 use crate::outside::Outside;
-use dispatch::MAX_OWN_TURNS;
-use ready::Ticket;
+use crate::station::{MAX_OWN_TURNS, Station};
 use token::{MAX_GENERATION, Token};
 use world::{Act, Event, Reported};
 
 /// The most calls of a turn of a poller's own thread.
 const OWN_BUDGET: usize = 8;
 
-/// Whose step it is.
-#[derive(Clone, Copy)]
-pub enum Thread {
-    /// This poller's.
-    Poller(usize),
-    Worker,
-}
-
 /// A step of a thread.
 #[derive(Clone, Copy)]
 pub struct Acting {
-    thread: Thread,
-    /// The ticket that a worker has to take.
-    next: Option<Ticket>,
+    /// The poller whose step it is. None for a worker's.
+    poller: Option<usize>,
     /// The turn in progress.
     turn: Option<Turn>,
 }
@@ -46,22 +36,19 @@ struct Turn {
 
 impl Acting {
     /// Nothing has been done.
-    pub(crate) fn new(thread: Thread) -> Acting {
-        Acting {
-            thread,
-            next: None,
-            turn: None,
-        }
-    }
+    pub(crate) const NONE: Acting = Acting {
+        poller: None,
+        turn: None,
+    };
 }
 
 impl Outside {
-    /// A step of this thread begins, which has to take the oldest ticket in the queue or not. Answers what goes on behind it.
-    pub fn enter(&mut self, thread: Thread, takes: bool) -> Acting {
+    /// A step of this poller's thread begins, or of a worker. Answers what goes on behind it.
+    pub fn enter(&mut self, poller: Option<usize>) -> Acting {
         let former = self.acting;
-        self.acting = Acting::new(thread);
-        if takes {
-            self.acting.next = self.ready.pop_front();
+        self.acting = Acting { poller, turn: None };
+        if let Some(station) = self.acting_station() {
+            station.turns = 0;
         }
         former
     }
@@ -70,37 +57,16 @@ impl Outside {
     pub fn leave(&mut self, former: Acting) {
         self.settle();
         self.end_round();
-        if self.next_ticket().is_some() {
-            self.book
-                .blame("a ticket is taken or kept, and has no turn");
-        }
+        self.end_turns();
         self.acting = former;
     }
 
-    /// The ticket of which the thread has to run a turn next. A connection that was taken away has none.
-    fn next_ticket(&mut self) -> Option<Ticket> {
-        for _ticket in 0..MAX_OWN_TURNS + 1 {
-            let ticket = match self.acting.thread {
-                Thread::Poller(poller) => self.stations.get_mut(poller)?.next_kept()?,
-                _ => self.acting.next.take()?,
-            };
-            if self.tapes.get(ticket.slot)?.lost.is_none() {
-                return Some(ticket);
-            }
-        }
-        None
-    }
-
-    /// The slot of a turn was claimed, and its notes were taken.
+    /// The slot of a turn was claimed, and its notes were taken. Its world refuses that where no ticket was made.
     pub fn begin_turn(&mut self, slot: usize) {
         self.settle();
         self.end_round();
+        self.take_turn(slot);
         self.calling = self.calling.saturating_add(1);
-        let is_next = matches!(self.next_ticket(), Some(ticket) if ticket.slot == slot);
-        if !is_next {
-            self.book
-                .blame("a turn of another ticket than the next one");
-        }
         if let Some(tape) = self.tapes.get_mut(slot) {
             tape.begin();
         }
@@ -113,6 +79,60 @@ impl Outside {
             settled: 0,
             closed: false,
         });
+    }
+
+    /// A thread begins a turn at this slot, which it does only while no fault is recorded. A poller's own thread does it with its
+    /// oldest ticket.
+    fn take_turn(&mut self, slot: usize) {
+        if self.faulty {
+            self.book.blame("a turn behind a fault");
+        }
+        self.pass_over_lost();
+        let Some(station) = self.acting_station() else {
+            return;
+        };
+        if station.next_turn() != Some(slot) {
+            self.book.blame("a poller runs another ticket than its oldest, or one too many");
+        }
+    }
+
+    /// The station of the poller whose step it is. None for a worker's.
+    fn acting_station(&mut self) -> Option<&mut Station> {
+        self.stations.get_mut(self.acting.poller?)
+    }
+
+    /// A poller's thread uses up its oldest tickets without a turn where their connections were taken away.
+    fn pass_over_lost(&mut self) {
+        for _ticket in 0..MAX_OWN_TURNS {
+            let oldest = match self.acting_station() {
+                Some(station) => station.hand.front().copied(),
+                None => None,
+            };
+            let is_lost = match oldest {
+                Some(slot) => matches!(self.tapes.get(slot), Some(tape) if tape.lost.is_some()),
+                None => false,
+            };
+            if is_lost {
+                if let Some(station) = self.acting_station() {
+                    station.next_turn();
+                }
+            }
+        }
+    }
+
+    /// A poller's step ends. Unless a fault was recorded, it has run all its tickets, or as many as it may.
+    fn end_turns(&mut self) {
+        if self.faulty {
+            return;
+        }
+        self.pass_over_lost();
+        match self.acting_station() {
+            Some(station) if station.turns < MAX_OWN_TURNS && !station.hand.is_empty() => {
+                self.book
+                    .blame("a poller leaves a ticket that it could run");
+            }
+            _ => {}
+        }
     }
 
     /// The thread of the turn in progress has done this.
@@ -148,11 +168,8 @@ impl Outside {
     /// A turn that left its connection due has spent its whole budget, and none has spent more.
     fn check_calls(&mut self, turn: Turn) {
         let mut most = self.sizes.limits.budget;
-        if let Thread::Poller(poller) = self.acting.thread {
+        if self.acting.poller.is_some() {
             most = most.min(OWN_BUDGET);
-            if let (true, Some(station)) = (turn.again, self.stations.get_mut(poller)) {
-                station.mark_heavy(turn.slot);
-            }
         }
         if turn.calls > most || turn.again && turn.calls != most {
             self.book.blame("a turn with too few or too many calls");
@@ -221,25 +238,15 @@ impl Outside {
     fn release(&mut self, turn: Turn) {
         if turn.again {
             self.act(Act::Post);
+            if let Some(station) = self.acting_station() {
+                station.mark(turn.slot);
+            }
         }
         if turn.settled != if turn.again { 0 } else { 2 } {
             self.book
                 .blame("a turn without a call has not settled both ends");
         }
         self.act(Act::Release);
-        let made = match self.tapes.get(turn.slot) {
-            Some(tape) => tape.worker_ticket(),
-            None => None,
-        };
-        if let Some(ticket) = made {
-            let put = self.ready.push_back(Ticket {
-                slot: turn.slot,
-                generation: ticket.generation,
-            });
-            if put.is_err() {
-                self.book.blame("");
-            }
-        }
     }
 
     /// The slot of a turn whose connection was closed is given back, and its poller is woken: by a worker, and by its own
@@ -249,7 +256,7 @@ impl Outside {
         self.act(Act::Free);
         let is_worn =
             matches!(self.tapes.get(slot), Some(tape) if tape.generation() == MAX_GENERATION);
-        let alone = matches!(self.acting.thread, Thread::Poller(_));
+        let alone = self.acting.poller.is_some();
         if let Some(station) = self.stations.get_mut(self.sizes.split.poller_of(slot)) {
             if !is_worn {
                 station.give(slot);
@@ -260,21 +267,33 @@ impl Outside {
         }
     }
 
+    /// The round in progress, if there is one, has accepted its last client: the log has to tell once of those that it closed unopened.
+    pub(crate) fn expect_told(&mut self) {
+        let Some(poller) = self.acting.poller else {
+            return;
+        };
+        match self.stations.get_mut(poller) {
+            Some(station) if station.in_round && !station.told.round => station.told.round = true,
+            _ => return,
+        }
+        self.expect_counted(poller);
+    }
+
     /// A poller's round has ended, which its step began with.
     fn end_round(&mut self) {
-        let Thread::Poller(poller) = self.acting.thread else {
+        self.expect_told();
+        let Some(poller) = self.acting.poller else {
             return;
         };
-        let Some(station) = self.stations.get_mut(poller) else {
-            return;
-        };
-        if !station.in_round {
-            return;
-        }
-        station.end_round(&mut self.ready);
-        if !station.may_rest() {
-            self.book
-                .blame("a poller ends a round while it could accept");
+        match self.stations.get_mut(poller) {
+            Some(station) if station.in_round => {
+                station.end_round();
+                if !station.may_rest() {
+                    self.book
+                        .blame("a poller ends a round while it could accept");
+                }
+            }
+            _ => {}
         }
     }
 }

@@ -21,33 +21,24 @@ pub struct EndWire {
     outside: Rc<RefCell<Outside>>,
     /// The poller that accepted or opened it.
     poller: usize,
-    state: EndState,
+    /// The name under which it is reported, and its descriptor in the poller's kernel. None for a connection that was accepted
+    /// and is not open yet, and for a target whose connection has to be given up at once: closing these changes nothing.
+    end: Option<(Token, usize)>,
     tally: Tally,
 }
 
-/// What a wire is over.
-#[derive(Clone, Copy)]
-pub enum EndState {
-    /// A connection that was accepted and is not open yet.
-    Accepted,
-    /// An open end: the name under which it is reported, and its descriptor in the poller's kernel.
-    Open(Token, usize),
-    /// A target whose connection has to be given up at once. Closing it changes nothing.
-    Never,
-}
-
 impl EndWire {
-    /// A poller's wire over this. A client's is joined, a target's is connecting.
+    /// A poller's wire over this end. A client's is joined, a target's is connecting.
     pub(crate) fn new(
         outside: Rc<RefCell<Outside>>,
         poller: usize,
-        state: EndState,
+        end: Option<(Token, usize)>,
         joined: bool,
     ) -> EndWire {
         EndWire {
             outside,
             poller,
-            state,
+            end,
             tally: Tally::new(joined),
         }
     }
@@ -56,23 +47,19 @@ impl EndWire {
     pub(crate) fn open(&mut self, token: Token, descriptor: usize)
         ensures { self.new.tally ≡ self.old.tally }
     {
-        self.state = EndState::Open(token, descriptor);
+        self.end = Some((token, descriptor));
     }
 
     /// Its descriptor. None if it is not open.
     pub fn descriptor(&self) -> Option<usize> {
-        match self.state {
-            EndState::Open(_, descriptor) => Some(descriptor),
-            EndState::Accepted | EndState::Never => None,
-        }
+        let (_, descriptor) = self.end?;
+        Some(descriptor)
     }
 
     /// The address of its client. None if it is not open.
     pub(crate) fn peer(&self) -> Option<SocketAddr> {
-        match self.state {
-            EndState::Open(token, _) => Some(peer_of(token.slot(), token.generation())),
-            EndState::Accepted | EndState::Never => None,
-        }
+        let (token, _) = self.end?;
+        Some(peer_of(token.slot(), token.generation()))
     }
 
     /// Makes a call. A read fills the front of the buffer.
@@ -102,17 +89,14 @@ impl EndWire {
 
 impl Drop for EndWire {
     fn drop(self) {
-        let (poller, state) = (self.poller, self.state);
-        if let Ok(mut outside) = self.outside.try_borrow_mut() {
-            match state {
-                EndState::Open(token, descriptor) => outside.close(poller, descriptor, token),
-                EndState::Accepted | EndState::Never => {}
-            }
+        let (poller, end) = (self.poller, self.end);
+        if let (Some((token, descriptor)), Ok(mut outside)) = (end, self.outside.try_borrow_mut()) {
+            outside.close(poller, descriptor, token);
         }
         let EndWire {
             outside: _,
             poller: _,
-            state: _,
+            end: _,
             tally: _,
         } = self;
     }

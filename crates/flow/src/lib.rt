@@ -13,7 +13,5 @@
 #![tactic(auto)]
 
 mod flow;
-#[cfg(test)]
-mod tests;
 
 pub use flow::Flow;

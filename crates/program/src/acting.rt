@@ -6,17 +6,20 @@ ghost use Rattle.script.specs.Runs.{WritesReport, WritesFault};
 ghost use Rattle.program.specs.Statuses.{IsCarriedOut, status_of};
 
 use crate::causes::LoggedCauses;
-use crate::command_line::{Command, read_command};
+use crate::command_line::{Command, Extras, read_command};
 use crate::config;
 use crate::constants::{DONE, FAULT, USAGE};
 use crate::faults::ProgramFault;
 use crate::level::level_filter;
 use crate::process_arguments::ArgumentsFault;
+use crate::recording_file::create;
+use crate::replaying_file::replay_file;
 use crate::starting::{foresee, prepare};
 use crate::streams::Stream;
 use clap::error::ErrorKind;
 use log::sink::Console;
 use log::{LevelFilter, Log, Logged};
+use records::Replay;
 use relay_log::ServerFault;
 use script::Outcome;
 use settings::Settings;
@@ -50,24 +53,27 @@ pub fn report_arguments_fault<E: Write>(errors: &mut E, fault: ArgumentsFault) -
 /// | `sim --each` | the same, but writes each step to `writer`, and below it what it changes in the report |
 /// | `check --config FILE` | reads a settings file and writes each setting to `writer`; warns of what `run` would warn of |
 /// | `forward LISTEN TARGET` | does the same as `run` with the settings of the command line |
+/// | `replay FILE` | plays a recording on the machine, and writes to `writer` that each connection is a run of it, or which is not |
 /// | `run --config FILE` | reads a settings file, listens, writes `listening A.B.C.D:PORT` to `writer`, and serves; log lines go to the process's own standard error |
 ///
 /// Returns the exit status: 0 if the command was carried out, or help or the version printed; 1 for a fault, which is
 /// written to `errors` after `relayd: ` unless it is a fault of the script itself; 2 for a usage error, which is
 /// written to `errors`. Where the command line is refused, nothing has been read from `reader` or written to `writer`.
 ///
-/// `serve` serves on a bound socket with the process's own handle: a thread can only be started with that one.
-pub fn act<R, S, I: Read + IsTerminal, O: Write, E: Write>(
+/// `serve` serves on a bound socket with the process's own handle: a thread can only be started with that one. It is told what
+/// the options ask for beside the settings, and records into the file, if there is one. `player` plays a recording.
+pub fn act<R, S, P: Replay, I: Read + IsTerminal, O: Write, E: Write>(
     rt: &R,
     arguments: &[String],
     reader: &mut I,
     writer: &mut O,
     errors: &mut E,
     serve: &S,
+    player: &P,
 ) -> u8
 where
     R: AllocGlobal + Files + Eprint + Net + Copy + Drop,
-    S: Fn(Settings, Bound) -> Result<(), ServerFault>,
+    S: Fn(Settings, Bound, Extras, Option<R::File>) -> Result<(), ServerFault>,
     requires { S.IsAlwaysCallable serve.now }
     ensures status { IsCarriedOut result ⊎ (result ≡ 2) }
     ensures unread { result ≡ 2 → I.remaining reader.new ≡ I.remaining reader.old }
@@ -80,7 +86,7 @@ where
     let outcome = match read_command(rt.alloc(), arguments.as_slice()) {
         Ok(command) => {
             tell_if_typed(&command, reader, errors);
-            carry_out(rt, &log, command, reader, writer, serve)
+            carry_out(rt, &log, command, reader, writer, serve, player)
         }
         Err(error) => return answer_usage(&log, &error, writer, errors),
     };
@@ -111,17 +117,18 @@ fn texts(alloc: Global, arguments: &[String]) -> Result<Vec<&str>, AllocError> {
 
 /// Carries out a command. The causes of faults, and warnings of `check`, go to `log`, whatever level a settings file sets:
 /// what it says about `log` is not yet known where it has a fault.
-fn carry_out<R, S, L: Log, I: Read, O: Write>(
+fn carry_out<R, S, P: Replay, L: Log, I: Read, O: Write>(
     rt: &R,
     log: &L,
     command: Command<'_>,
     reader: &mut I,
     writer: &mut O,
     serve: &S,
+    player: &P,
 ) -> Result<u8, ProgramFault>
 where
     R: AllocGlobal + Files + Eprint + Net + Copy + Drop,
-    S: Fn(Settings, Bound) -> Result<(), ServerFault>,
+    S: Fn(Settings, Bound, Extras, Option<R::File>) -> Result<(), ServerFault>,
     requires { S.IsAlwaysCallable serve.now }
     ensures done { IfOk result (λ status. IsCarriedOut status) }
     ensures unread { IfErr result (λ fault. status_of fault ≡ 2 → I.remaining reader.new ≡ I.remaining reader.old) }
@@ -142,18 +149,36 @@ where
             foresee(rt, log, &settings);
             print(rt.alloc(), &settings, &mut stream("output", writer, log))
         }
-        Command::Run(path, level) => {
+        Command::Run(path, level, record, extras) => {
             let settings = config::load(rt, log, path)?;
             let settings = config::at_level(log, rt.alloc(), settings, level).map_err(
                 ProgramFault::of_arguments,
             )?;
-            run(rt, settings, &mut stream("output", writer, log), serve)
+            run(
+                rt,
+                settings,
+                record,
+                extras,
+                &mut stream("output", writer, log),
+                serve,
+            )
         }
-        Command::Forward(text) => {
+        Command::Forward(text, record, extras) => {
             let settings = config::parse_arguments(log, rt.alloc(), text.as_bytes()).map_err(
                 ProgramFault::of_arguments,
             )?;
-            run(rt, settings, &mut stream("output", writer, log), serve)
+            run(
+                rt,
+                settings,
+                record,
+                extras,
+                &mut stream("output", writer, log),
+                serve,
+            )
+        }
+        Command::Replay(replayed) => {
+            let mut writer = stream("output", writer, log);
+            replay_file(rt, log, replayed, &mut writer, player)
         }
     }
 }
@@ -213,16 +238,19 @@ fn print(alloc: Global, settings: &Settings, writer: &mut impl Write) -> Result<
     Ok(DONE)
 }
 
-/// Listens as the settings say, looks at what they need, prints the address, and serves.
+/// Listens as the settings say, looks at what they need, makes the file to record into at a path, prints the address, and
+/// serves.
 fn run<R, S, O: Write>(
     rt: &R,
     settings: Settings,
+    record: Option<&str>,
+    extras: Extras,
     writer: &mut O,
     serve: &S,
 ) -> Result<u8, ProgramFault>
 where
     R: AllocGlobal + Files + Eprint + Net + Copy + Drop,
-    S: Fn(Settings, Bound) -> Result<(), ServerFault>,
+    S: Fn(Settings, Bound, Extras, Option<R::File>) -> Result<(), ServerFault>,
     requires { S.IsAlwaysCallable serve.now }
     ensures done { IfOk result (λ status. status ≡ 0) }
     ensures fault { IfErr result (λ fault. status_of fault ≡ 1) }
@@ -230,8 +258,9 @@ where
     let log = Logged::new(*rt, level_filter(settings.log), Console(*rt));
     let bound = bind(&log, &settings).map_err(ProgramFault::Server)?;
     let settings = prepare(rt, &log, settings);
+    let file = create(rt, &log, record)?;
     announce(rt.alloc(), &bound, writer)?;
-    match serve(settings, bound) {
+    match serve(settings, bound, extras, file) {
         Ok(()) => Ok(DONE),
         Err(fault) => Err(ProgramFault::Server(fault)),
     }

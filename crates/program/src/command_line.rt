@@ -2,7 +2,7 @@
 
 use crate::constants::VERSION;
 use crate::forwarding::{add_settings, settings_text};
-use clap::{Arg, ArgAction, ArgMatches, Error};
+use clap::{Arg, ArgAction, ArgMatches, Error, value_parser};
 use std::alloc::{AllocError, Global};
 
 /// A command of the program.
@@ -12,10 +12,45 @@ pub enum Command<'a> {
     Simulate { each: bool },
     /// Read this settings file and print what it sets.
     Check(&'a str),
-    /// Read this settings file and serve as it says, with the messages of another level if one is named.
-    Run(&'a str, Option<&'a str>),
-    /// Serve as this text of settings says.
-    Forward(String),
+    /// Read this settings file and serve as it says, with the messages of another level if one is named, and record into a
+    /// file if one is named.
+    Run(&'a str, Option<&'a str>, Option<&'a str>, Extras),
+    /// Serve as this text of settings says, and record into a file if one is named.
+    Forward(String, Option<&'a str>, Extras),
+    /// Replay the recording in a file.
+    Replay(Replayed<'a>),
+}
+
+/// What a relay does beside what its settings say.
+#[derive(Clone, Copy)]
+pub struct Extras {
+    /// After how many seconds a line of statistics is logged each time, 1 to 86,400; none if nothing is counted.
+    pub stats: Option<u64>,
+    /// It opens no more connections once standard input has ended.
+    pub until_eof: bool,
+}
+
+impl Extras {
+    /// As the arguments of a command say.
+    fn of(matches: &ArgMatches<'_>) -> Extras {
+        Extras {
+            stats: matches.get_one("stats"),
+            until_eof: matches.get_flag("until-eof"),
+        }
+    }
+}
+
+/// What is replayed, and what is told of it.
+#[derive(Clone, Copy)]
+pub struct Replayed<'a> {
+    /// The file.
+    pub path: &'a str,
+    /// The slot and generation of the connection whose script is wanted.
+    pub script: Option<&'a str>,
+    /// Whether the end of each connection is wanted.
+    pub ends: bool,
+    /// Whether nothing may be left to do.
+    pub rests: bool,
 }
 
 /// The command that the arguments name; the first argument is the program's own name.
@@ -25,7 +60,8 @@ pub enum Command<'a> {
 pub fn read_command<'a>(alloc: Global, arguments: &'a [&'a str]) -> Result<Command<'a>, Error> {
     let matches = relayd(alloc)?.try_get_matches_from(arguments)?;
     if let Some(forward) = matches.subcommand_matches("forward") {
-        return Ok(Command::Forward(settings_text(alloc, forward)?));
+        let text = settings_text(alloc, forward)?;
+        return Ok(Command::Forward(text, forward.get_str("record"), Extras::of(forward)));
     }
     Ok(chosen(&matches))
 }
@@ -34,7 +70,18 @@ pub fn read_command<'a>(alloc: Global, arguments: &'a [&'a str]) -> Result<Comma
 fn chosen<'a>(matches: &ArgMatches<'a>) -> Command<'a> {
     if let Some(run) = matches.subcommand_matches("run") {
         if let Some(path) = run.get_str("config") {
-            return Command::Run(path, run.get_str("log"));
+            let (level, record) = (run.get_str("log"), run.get_str("record"));
+            return Command::Run(path, level, record, Extras::of(run));
+        }
+    }
+    if let Some(replay) = matches.subcommand_matches("replay") {
+        if let Some(path) = replay.get_str("file") {
+            return Command::Replay(Replayed {
+                path,
+                script: replay.get_str("script"),
+                ends: replay.get_flag("ends"),
+                rests: replay.get_flag("rest"),
+            });
         }
     }
     let check = matches.subcommand_matches("check");
@@ -74,84 +121,162 @@ struct CommandRow {
     name: &'static str,
     about: &'static str,
     details: &'static str,
-    takes: Takes,
+    /// Whether it takes each setting.
+    settings: bool,
+    arguments: &'static [ArgumentRow],
 }
 
-/// What a command takes as arguments.
-#[derive(Clone, Copy, PartialEq, Eq)]
-enum Takes {
-    /// Whether each step is shown.
-    Each,
-    /// The settings file.
-    File,
-    /// The settings file, and a level in place of the file's.
-    FileAndLevel,
-    /// Each setting.
-    Settings,
+/// An argument of a command, behind the settings.
+#[derive(Clone, Copy)]
+struct ArgumentRow {
+    name: &'static str,
+    form: Form,
+    help: &'static str,
 }
+
+/// How an argument is given.
+#[derive(Clone, Copy)]
+enum Form {
+    /// `--NAME`.
+    Flag,
+    /// `--NAME` and a value, which help calls so.
+    Value(&'static str),
+    /// `--NAME` and a number of seconds, up to a day.
+    Seconds,
+    /// `-c` or `--NAME` and a file, which is required.
+    NeededFile,
+    /// A file alone, which is required.
+    File,
+}
+
+/// The file to record into.
+const RECORD: ArgumentRow = ArgumentRow {
+    name: "record",
+    form: Form::Value("FILE"),
+    help: "Record into this file what each thread does, but no bytes",
+};
+/// How often statistics are logged.
+const STATS: ArgumentRow = ArgumentRow {
+    name: "stats",
+    form: Form::Seconds,
+    help: "Log a line of statistics every so many seconds, 1 to 86400, and one at the end",
+};
+/// That the relay ends after standard input.
+const UNTIL_EOF: ArgumentRow = ArgumentRow {
+    name: "until-eof",
+    form: Form::Flag,
+    help: "Accept no more clients once standard input has ended, and end after the last",
+};
+/// The settings file.
+const CONFIG: ArgumentRow = ArgumentRow {
+    name: "config",
+    form: Form::NeededFile,
+    help: "The settings file, at most 65,536 bytes of TOML",
+};
+/// A level in place of the file's.
+const LEVEL: ArgumentRow = ArgumentRow {
+    name: "log",
+    form: Form::Value("LEVEL"),
+    help: "The least important messages that are logged, in place of the file's `log`",
+};
+/// Whether each step is shown.
+const EACH: ArgumentRow = ArgumentRow {
+    name: "each",
+    form: Form::Flag,
+    help: "Print each step, and what it changes in the report",
+};
+/// A recording, and what is told of it.
+const RECORDING: [ArgumentRow; 4] = [
+    ArgumentRow {
+        name: "script",
+        form: Form::Value("SLOT.GEN"),
+        help: "Print the script of this connection",
+    },
+    ArgumentRow {
+        name: "ends",
+        form: Form::Flag,
+        help: "Print what became of each connection, as the log does",
+    },
+    ArgumentRow {
+        name: "rest",
+        form: Form::Flag,
+        help: "Nothing may be left to do: all had come to rest when the relay was stopped",
+    },
+    ArgumentRow {
+        name: "file",
+        form: Form::File,
+        help: "The recording, as `--record` wrote it",
+    },
+];
 
 /// The commands, in the order of the help.
-static COMMANDS: [CommandRow; 4] = [
+static COMMANDS: [CommandRow; 5] = [
     CommandRow {
         name: "forward",
         about: "Forwards connections from one address to another",
         details: "Does the same as `relayd run` with a settings file that says what the arguments say.\n\nExample:\n  relayd forward 127.0.0.1:7000 127.0.0.1:7001 --slots 100\n\nSee relayd.toml(5) for the settings.",
-        takes: Takes::Settings,
+        settings: true,
+        arguments: &[RECORD, STATS, UNTIL_EOF],
     },
     CommandRow {
         name: "run",
         about: "Forwards connections as a settings file says",
         details: "Listens on the file's `listen` address and forwards each connection to `target`. Prints\n`listening A.B.C.D:PORT` once clients can connect, and writes log lines to standard error.\nIt ends once `stop_after` connections were opened and are all closed, if that is not 0, or\non a fault, with status 1.\n\nExample:\n  relayd run --config examples/relayd.toml\n\nSee relayd(1) for details and relayd.toml(5) for the settings.",
-        takes: Takes::FileAndLevel,
+        settings: false,
+        arguments: &[CONFIG, LEVEL, RECORD, STATS, UNTIL_EOF],
     },
     CommandRow {
         name: "check",
         about: "Reads a settings file and prints every setting, or what is wrong",
         details: "Prints a line KEY=VALUE for each setting, defaults included. If the file has a fault, the\nfirst one is written to standard error, with its key if it has one, and the status is 1.\nWarns of what `relayd run` would warn of at its start.\n\nExample:\n  relayd check --config examples/relayd.toml\n\nSee relayd.toml(5) for the settings.",
-        takes: Takes::File,
+        settings: false,
+        arguments: &[CONFIG],
     },
     CommandRow {
         name: "sim",
         about: "Runs the script on standard input and prints its report",
         details: "A script is a header and steps, one per line: what comes from the network, and what the\nsockets reply to the relay. The report says where every byte is after the last step. For\na script with a fault, one line that names the fault is printed, and the status is 1.\n\nExamples:\n  relayd sim < examples/one-direction.flow\n  relayd sim --each < examples/half-close.world\n\nrelayd(1) lists the steps.",
-        takes: Takes::Each,
+        settings: false,
+        arguments: &[EACH],
+    },
+    CommandRow {
+        name: "replay",
+        about: "Checks a recording of a relay against the modelled machine",
+        details: "Plays what each connection did on the machine of `relayd sim`. If each is a run of it, prints\nhow many events of each kind that were, and how many bytes the relay read and wrote. If not,\nprints the first record that can stand nowhere, and the script that leads there, and the\nstatus is 1.\n\nExamples:\n  relayd replay relay.record\n  relayd replay --script 0.1 relay.record | relayd sim --each\n\nSee relayd(1) for recordings.",
+        settings: false,
+        arguments: &RECORDING,
     },
 ];
 
 /// A row's command.
 fn subcommand<'a>(alloc: Global, row: CommandRow) -> Result<clap::Command<'a>, AllocError> {
-    let command = clap::Command::new(alloc, row.name)
+    let mut command = clap::Command::new(alloc, row.name)
         .about(row.about)
         .after_help(row.details);
-    match row.takes {
-        Takes::Each => command.arg(each(alloc)),
-        Takes::File => command.arg(config(alloc)),
-        Takes::FileAndLevel => command.arg(config(alloc))?.arg(level(alloc)),
-        Takes::Settings => add_settings(alloc, command),
+    if row.settings {
+        command = add_settings(alloc, command)?;
     }
+    for argument in row.arguments {
+        command = command.arg(argument_of(alloc, *argument))?;
+    }
+    Ok(command)
 }
 
-/// The argument that has each step shown.
-fn each<'a>(alloc: Global) -> Arg<'a> {
-    Arg::new(alloc, "each")
-        .long("each")
-        .action(ArgAction::SetTrue)
-        .help("Print each step, and what it changes in the report")
-}
-
-/// The argument that names the settings file.
-fn config<'a>(alloc: Global) -> Arg<'a> {
-    Arg::new(alloc, "config")
-        .short('c')
-        .long("config")
-        .value_name("FILE")
-        .required(true)
-        .help("The settings file, at most 65,536 bytes of TOML")
-}
-
-/// The argument that names a level in place of the file's.
-fn level<'a>(alloc: Global) -> Arg<'a> {
-    Arg::new(alloc, "log").long("log").value_name("LEVEL").help(
-        "The least important messages that are logged, in place of the file's `log`",
-    )
+/// A row's argument.
+fn argument_of<'a>(alloc: Global, row: ArgumentRow) -> Arg<'a> {
+    let argument = Arg::new(alloc, row.name).help(row.help);
+    match row.form {
+        Form::Flag => argument.long(row.name).action(ArgAction::SetTrue),
+        Form::Value(value) => argument.long(row.name).value_name(value),
+        Form::Seconds => argument
+            .long(row.name)
+            .value_name("SECONDS")
+            .value_parser(value_parser!(u64).range(1..=86_400)),
+        Form::NeededFile => argument
+            .short('c')
+            .long(row.name)
+            .value_name("FILE")
+            .required(true),
+        Form::File => argument.value_name("FILE").required(true),
+    }
 }

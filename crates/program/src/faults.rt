@@ -6,6 +6,7 @@ ghost use Rattle.program.specs.declared.faults.ConfigFault.TheVariants.{NoMemory
 ghost use Rattle.program.specs.declared.faults.ProgramFault.TheVariants.{Config};
 
 use crate::constants::{FAULT, USAGE};
+use records::ReplayFault;
 use relay_log::ServerFault;
 use script::ScriptFault;
 use settings::SettingsFault;
@@ -27,6 +28,12 @@ pub enum ProgramFault {
     /// The server could not start, or failed.
     #[error(transparent)]
     Server(ServerFault),
+    /// A recording could not be replayed.
+    #[error(transparent)]
+    Replay(ReplayFault),
+    /// The file to record into could not be created.
+    #[error("record: cannot be created")]
+    Record,
     /// The requested output could not be written.
     #[error("output: cannot be written")]
     Write,

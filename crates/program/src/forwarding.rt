@@ -23,7 +23,8 @@ fn argument<'a>(alloc: Global, row: Argument) -> Arg<'a> {
         .value_name(row.value_name)
         .help(row.help);
     let argument = match row.option {
-        Some(option) => argument.long(option),
+        // A negative number is a value that is out of range, and no option that is unknown.
+        Some(option) => argument.long(option).allow_negative_numbers(true),
         None => argument.required(true),
     };
     match row.key.default() {

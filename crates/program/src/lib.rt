@@ -4,9 +4,12 @@
 //! [`act`] does all of that: from its arguments, a reader, two writers and a closure that serves, to a status.
 //! [`arguments`] are those of the process, and [`report_arguments_fault`] reports that they cannot be read.
 //!
+//! - `replaying_file` replays a recording.
 //! - `command_line` finds the command in them; `forwarding` has the settings that they may give.
 //! - [`config`] reads the settings, and `starting` looks at what they need before a relay serves by them.
-//! - [`logging`] is the log of a relay that serves, and [`level_filter`] its level; `streams` logs what is wrong with an
+//! - [`until_eof`] waits for the end of standard input.
+//! - [`logging`] is the log of a relay that serves, and [`level_filter`] its level; [`telling`] its statistics; `streams` logs
+//!   what is wrong with an
 //!   input or an output.
 #![tactic(auto)]
 
@@ -22,10 +25,15 @@ mod level;
 pub mod logging;
 mod meeting;
 mod process_arguments;
+mod recording_file;
+mod replaying_file;
 mod starting;
 mod streams;
+pub mod telling;
+pub mod until_eof;
 
 pub use acting::{act, report_arguments_fault};
+pub use command_line::Extras;
 pub use faults::{ConfigFault, ProgramFault};
 pub use level::level_filter;
 pub use process_arguments::{ArgumentsFault, arguments};

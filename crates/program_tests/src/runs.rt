@@ -1,9 +1,10 @@
 // How a run ends with any reader, writer and server.
 use super::ends::{Sink, Source};
 use program::{ArgumentsFault, act, report_arguments_fault};
+use records::{Outcome, Replay, ReplayFault, Wanted};
 use relay_log::ServerFault;
 use std::alloc::{AllocError, Global};
-use std::io::ErrorKind;
+use std::io::{ErrorKind, Read, Write};
 use std::test::Fail;
 
 /// The room for what a run writes, which a test takes before the run.
@@ -48,6 +49,22 @@ fn arguments(alloc: Global, line: &str) -> Result<Vec<String>, AllocError> {
     Ok(arguments)
 }
 
+/// What plays no recording: no run here has one.
+struct NoPlayer;
+
+impl Replay for NoPlayer {
+    fn replay<R: Read, W: Write>(
+        &self,
+        _alloc: Global,
+        _input: &mut R,
+        _wanted: Wanted,
+        _rests: bool,
+        _output: &mut W,
+    ) -> Result<Outcome, ReplayFault> {
+        Err(ReplayFault::Unknown)
+    }
+}
+
 /// Runs a command line on a reader and a writer, with a server that ends like this.
 fn ran(
     rt: &HostRuntime,
@@ -64,7 +81,8 @@ fn ran(
         source,
         &mut sink,
         &mut errors,
-        &|_settings, _bound| served,
+        &|_settings, _bound, _extras, _file| served,
+        &NoPlayer,
     );
     Ok(Run {
         status,

@@ -13,8 +13,6 @@
 mod attention;
 pub mod laws;
 mod reports;
-#[cfg(test)]
-mod tests;
 mod word;
 
 pub use attention::Attention;

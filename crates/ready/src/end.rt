@@ -4,6 +4,7 @@ ghost use Rattle.std.specs.Arc.{arc_value};
 ghost use Rattle.crossbeam_queue.specs.Passes.{view, IsPassOf, ruled_capacity};
 ghost use Rattle.ready.specs.Steps.{HeldOnce, PutLast, PutOne, TookOne};
 
+use crate::flags::AllBusy;
 use crate::idle::IdleEnds;
 use crate::rule::{Line, LinePass, pop, push};
 use crate::sleeper::{Awake, FoundEmpty, LookedInVain, Sleeper, look, look_again};
@@ -129,6 +130,10 @@ impl End {
         requires mine { looked.0.end ≡ self.now.sleeper.number }
     {
         self.sleeper.park(rt, looked)
+    }
+
+    pub(crate) fn all_busy(&self) -> Option<AllBusy> {
+        self.shared.ends.all_busy()
     }
 
     pub(crate) fn close(&self) {

@@ -1,7 +1,7 @@
 // The words that the ends of a queue of tickets share, and all the atomic steps on them. Each step is sequentially
 // consistent, as are those of the queue: all threads see them in one order. A comment at each step names the step that
 // it pairs with.
-ghost use Rattle.std.specs.Prelude.{◌≡◌, ◌≢◌, ◌<◌, ℕ, true, not};
+ghost use Rattle.std.specs.Prelude.{◌≡◌, ◌≢◌, ◌<◌, ◌↔◌, ℕ, IsSome, true, not};
 ghost use Rattle.ready.specs.Steps.{BitStep, ReadBits, SetBits, ClearedBits, bit_of, has_bit};
 
 use std::sync::atomic::Ordering::SeqCst;
@@ -48,6 +48,14 @@ impl Bits for AtomicU64 {
 /// One bit for each end that has parked or is about to, and that nobody has woken yet.
 #[derive(Drop)]
 pub(crate) struct IdleBits<W = AtomicU64>(W);
+
+/// One look at the bits of the idle ends found none set. Only [`IdleBits::all_busy`] makes one, and it cannot be copied: who
+/// asks for one asks for a look of its own.
+#[derive(Drop)]
+pub struct AllBusy {
+    bits: u64,
+    ghost none: { bits ≡ 0 },
+}
 
 /// An end that has announced that it is idle. It has to look at the queue before it parks.
 ///
@@ -108,6 +116,19 @@ impl<W: Bits> IdleBits<W> {
         // Pairs with `announce`. An end whose bit is set after this load looks at the queue after it, and so finds what
         // was pushed before.
         self.0.read()
+    }
+
+    /// Whether no bit is set, by one look.
+    pub(crate) fn all_busy(&self) -> Option<AllBusy>
+        ensures looked { (bits : ℕ) × W.did (ReadBits bits) self.now.0 × (IsSome result ↔ bits ≡ 0) }
+    {
+        // Pairs with nothing: an end may announce itself right behind it. Who keeps a ticket for that has to come back to it.
+        let bits = self.0.read();
+        if bits == 0 {
+            Some(AllBusy { bits })
+        } else {
+            None
+        }
     }
 }
 

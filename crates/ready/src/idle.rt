@@ -1,7 +1,7 @@
 // Which ends sleep, and how they are woken.
 ghost use Rattle.std.specs.Prelude.{◌≡◌, ◌≢◌, ◌<◌, ◌≤◌, true, vec_len};
 
-use crate::flags::{Announced, ClosedMark, IdleBits, MarkSeen};
+use crate::flags::{AllBusy, Announced, ClosedMark, IdleBits, MarkSeen};
 use crate::sleeper::{Awake, FoundEmpty, Sleeper};
 use crate::ticket::Ticket;
 use crossbeam_utils::sync::Unparker;
@@ -50,6 +50,11 @@ impl IdleEnds {
             self.wake_one();
         }
         found
+    }
+
+    /// Whether no end is idle, by one look.
+    pub(crate) fn all_busy(&self) -> Option<AllBusy> {
+        self.idle.all_busy()
     }
 
     /// Wakes the idle end with the lowest number, if any is idle.

@@ -30,6 +30,9 @@
 //! first put counts on the end itself coming back: it is awake, and takes one ticket when it is done. Its second put,
 //! and each later one, wakes an end. An end that never calls `take` wakes one with each put.
 //!
+//! An end that has tickets to put may first look whether any end sleeps ([`ReadyQueue::all_busy`]): it may have better use
+//! for a ticket that would only wait in the queue.
+//!
 //! No thread spins. The order of these steps is kept by values: each step gives one that the next step asks for, and
 //! nothing else makes it. `src/flags.rt` has the atomic steps, with the step that each pairs with, `src/sleeper.rt` how
 //! an end goes to sleep, and `src/idle.rt` how it is woken.
@@ -47,6 +50,7 @@ mod sleeper;
 mod tests;
 mod ticket;
 
+pub use flags::AllBusy;
 pub use free::FreeQueue;
 pub use queue::ReadyQueue;
 pub use ticket::{Full, Ticket};

@@ -5,6 +5,7 @@ ghost use Rattle.crossbeam_queue.specs.Passes.{ruled_capacity};
 ghost use Rattle.ready.specs.Steps.{unused, HeldOnce, PutOne, TookOne};
 
 use crate::end::{End, Shared};
+use crate::flags::AllBusy;
 use crate::idle::IdleEnds;
 use crate::rule::{Line, another};
 use crate::sleeper::Sleeper;
@@ -98,6 +99,11 @@ impl ReadyQueue {
         ensures capacity { self.new.capacity ≡ self.old.capacity }
     {
         self.end.take(rt).ok()
+    }
+
+    /// Whether no end sleeps in [`ReadyQueue::take`] or is about to, by one look. None: one does.
+    pub fn all_busy(&self) -> Option<AllBusy> {
+        self.end.all_busy()
     }
 
     #[cfg(test)]

@@ -19,111 +19,39 @@ const SECOND: Ticket = Ticket {
     generation: 2,
 };
 
-const THIRD: Ticket = Ticket {
-    slot: 5,
-    generation: 3,
-};
-
-/// What is asked of an end of a queue of tickets.
-#[derive(Clone, Copy)]
-enum Ask {
-    Put(Ticket),
-    TryTake,
-    Take,
-    Close,
+/// Whether an end of an empty queue with room for one ticket puts one, and gives the next one back.
+fn gives_the_second_back(rt: &impl Wait, end: &mut ReadyQueue) -> bool {
+    end.put(rt, FIRST).is_ok() && end.put(rt, SECOND) == Err(Full(SECOND))
 }
 
-/// Of a queue with room for one ticket: the number of an end, what is asked of it, and the ticket that it gives or gives
-/// back.
-static TICKETS: [(usize, Ask, Option<Ticket>); 8] = [
-    (0, Ask::TryTake, None),
-    (0, Ask::Put(FIRST), None),
-    (1, Ask::Put(SECOND), Some(SECOND)),
-    (1, Ask::TryTake, Some(FIRST)),
-    (0, Ask::Put(THIRD), None),
-    (0, Ask::Close, None),
-    (1, Ask::Take, Some(THIRD)),
-    (1, Ask::Take, None),
-];
-
-/// The ticket that an end gives, or gives back.
-fn asked(rt: &impl Wait, end: &mut ReadyQueue, ask: Ask) -> Option<Ticket> {
-    match ask {
-        Ask::Put(ticket) => match end.put(rt, ticket) {
-            Ok(()) => None,
-            Err(Full(ticket)) => Some(ticket),
-        },
-        Ask::TryTake => end.try_take(rt),
-        Ask::Take => end.take(rt),
-        Ask::Close => {
-            end.close();
-            None
-        }
-    }
-}
-
-/// The first row that the ends do not answer so.
-fn first_wrong_ticket(rt: &impl Wait, ends: &mut Vec<ReadyQueue>) -> Option<usize> {
-    for (row, (number, ask, wanted)) in TICKETS.iter().enumerate() {
-        let told = match ends.get_mut(*number) {
-            Some(end) => asked(rt, end, *ask),
-            None => return Some(row),
-        };
-        if told != *wanted {
-            return Some(row);
-        }
-    }
-    None
-}
-
+// refuses new_makes_room_for_one_more: a queue has room for one ticket more than was asked for
 #[test]
 fn a_full_queue_gives_the_ticket_back(rt: HostRuntime) -> Result<(), Fail> {
-    let mut ends = ReadyQueue::new(rt.alloc(), 1, 2)?;
-    assert_eq!(rt; first_wrong_ticket(&rt, &mut ends), None);
+    let mut pair = last_two(ReadyQueue::new(rt.alloc(), 1, 2)?)?;
+    assert!(rt; gives_the_second_back(&rt, &mut pair.one));
     Ok(())
 }
 
-/// Of a queue with the free slots 4 to 6: the slot that is given, or none where one is taken, and the slot that comes out
-/// or back.
-static SLOTS: [(Option<usize>, Option<usize>); 7] = [
-    (Some(7), Some(7)),
-    (None, Some(4)),
-    (None, Some(5)),
-    (None, Some(6)),
-    (None, None),
-    (Some(1), None),
-    (None, Some(1)),
-];
-
-/// The slot that an end gives, or gives back.
-fn exchanged(rt: &impl Wait, end: &mut FreeQueue, given: Option<usize>) -> Option<usize> {
-    match given {
-        Some(slot) => match end.give(rt, slot) {
-            Ok(()) => None,
-            Err(Full(slot)) => Some(slot),
-        },
-        None => end.try_take(rt),
-    }
+/// Whether an end of a queue with the free slots 4 to 6 gives them in order, and then the one that is given to it.
+fn gives_slots_in_order(rt: &impl Wait, end: &mut FreeQueue) -> bool {
+    end.give(rt, 7) == Err(Full(7))
+        && end.try_take(rt) == Some(4)
+        && end.try_take(rt) == Some(5)
+        && end.try_take(rt) == Some(6)
+        && end.try_take(rt).is_none()
+        && end.give(rt, 1).is_ok()
+        && end.try_take(rt) == Some(1)
 }
 
-/// The first row that the first of the ends does not answer so.
-fn first_wrong_slot(rt: &impl Wait, ends: &mut Vec<FreeQueue>) -> Option<usize> {
-    for (row, (given, wanted)) in SLOTS.iter().enumerate() {
-        let told = match ends.first_mut() {
-            Some(end) => exchanged(rt, end, *given),
-            None => return Some(row),
-        };
-        if told != *wanted {
-            return Some(row);
-        }
-    }
-    None
-}
-
+// refuses free_new_puts_the_slots_in_reverse: the queue of free slots begins with the last slot
+// refuses give_puts_another_slot: another slot is given back
 #[test]
 fn free_slots_come_in_order(rt: HostRuntime) -> Result<(), Fail> {
     let mut ends = FreeQueue::new(&rt, rt.alloc(), 4, 3, 1)?;
-    assert_eq!(rt; first_wrong_slot(&rt, &mut ends), None);
+    let Some(end) = ends.first_mut() else {
+        return Err(Fail::from(AllocError));
+    };
+    assert!(rt; gives_slots_in_order(&rt, end));
     Ok(())
 }
 

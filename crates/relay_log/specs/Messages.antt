@@ -1,5 +1,5 @@
 -- The exact bytes of the log messages. Part of the promises.
-use Rattle.std.specs.Prelude.{ℕ, List, ◌++◌, codes}
+use Rattle.std.specs.Prelude.{ℕ, Bool, true, false, List, ◌++◌, codes, Option, Some, None}
 use Rattle.std.specs.Fmt.{decimal}
 use Rattle.token.specs.Sides.{side_name}
 use Rattle.token.specs.Kinds.{kind_name}
@@ -40,3 +40,30 @@ cause_name Address = codes "address"
 
 abbrev pub drop_message : Cause → List ℕ
 drop_message cause = codes "drop kind=" ++ cause_name cause
+
+-- so many more of that cause
+abbrev pub drops_message : Cause → ℕ → List ℕ
+drops_message cause more = codes "drops kind=" ++ (cause_name cause ++ (codes " more=" ++ decimal more))
+
+-- so many slots, which are all
+abbrev pub full_message : ℕ → List ℕ
+full_message slots = codes "slots: all " ++ (decimal slots ++ codes " are taken; further clients wait")
+
+-- whose connection did not end well: its slot and generation, if it was opened, and then its client's address, as it is written
+abbrev pub gone_begins : Option (ℕ × ℕ) → List ℕ
+gone_begins (Some name) = codes "gone s=" ++ (decimal name.0 ++ (codes " g=" ++ (decimal name.1 ++ codes " from=")))
+gone_begins None = codes "gone from="
+
+abbrev pub yes_or_no : Bool → List ℕ
+yes_or_no true = codes "yes"
+yes_or_no false = codes "no"
+
+-- what stands between that address and the cause: whether its target was ever connected, in such a word, bytes each way, and how
+-- long it was open
+abbrev pub gone_counts : List ℕ → ℕ → ℕ → ℕ → List ℕ
+gone_counts connected up down seconds =
+    codes " connected=" ++ (connected ++ (codes " up=" ++ (decimal up ++ (codes " down=" ++ (decimal down
+    ++ (codes " seconds=" ++ (decimal seconds ++ codes " cause=")))))))
+
+abbrev pub gone_between : Bool → ℕ → ℕ → ℕ → List ℕ
+gone_between connected up down seconds = gone_counts (yes_or_no connected) up down seconds

@@ -1,6 +1,6 @@
 // Each call asks the log first: a message that is off is never printed, and none takes memory.
-use crate::{Cause, Done, Dropped, Failed, Opened, Peer};
-use log::{Log, debug, info, warn};
+use crate::{AllTaken, Cause, Done, Dropped, Failed, Gone, MoreDropped, Opened, Peer};
+use log::{Level, Log, debug, info, log_enabled, warn};
 use relay_core::Fault;
 use std::fmt::Display;
 
@@ -27,4 +27,24 @@ pub fn log_fail(rt: &impl Log, slot: usize, generation: u64, fault: Fault) {
 /// Passes the `drop` message to the log, at level warn.
 pub fn log_drop(rt: &impl Log, cause: Cause) {
     warn!(rt; target: "relayd", "{}", Dropped { cause });
+}
+
+/// Passes the `drops` message to the log, at level warn.
+pub fn log_drops(rt: &impl Log, cause: Cause, more: u64) {
+    warn!(rt; target: "relayd", "{}", MoreDropped { cause, more });
+}
+
+/// Passes the message that all slots are taken to the log, at level warn.
+pub fn log_all_taken(rt: &impl Log, slots: usize) {
+    warn!(rt; target: "relayd", "{}", AllTaken { slots });
+}
+
+/// Passes the `gone` message to the log, at level debug.
+pub fn log_gone<D: Display, E: Display>(rt: &impl Log, gone: Gone<'_, D, E>) {
+    debug!(rt; target: "relayd", "{}", gone);
+}
+
+/// Whether the log takes messages at level debug.
+pub fn logs_gone(rt: &impl Log) -> bool {
+    log_enabled!(rt; target: "relayd", Level::Debug)
 }

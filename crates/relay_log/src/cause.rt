@@ -1,6 +1,8 @@
 ghost use Rattle.std.specs.Prelude.{◌≡◌};
 ghost use Rattle.relay_log.specs.Messages.{cause_name};
 
+use std::alloc::AllocError;
+
 /// Why an accepted connection was closed before it was opened.
 #[derive(Clone, Copy, Debug, PartialEq, Eq)]
 pub enum Cause {
@@ -13,6 +15,16 @@ pub enum Cause {
     /// The client's address, or the one on which it was accepted, could not be told, or is no IPv4 address, and the target
     /// is to be told of it (accept(2), getsockname(2)).
     Address,
+}
+
+impl From<AllocError> for Cause {
+    ghost use Rattle.relay_log.specs.declared.cause.Cause.TheVariants.{Memory};
+
+    ghost from_gives = { λ _ cause. cause ≡ Memory };
+
+    fn from(_error: AllocError) -> Cause {
+        Cause::Memory
+    }
 }
 
 impl Cause {

@@ -8,8 +8,11 @@
 //! | `done s=3 g=1 up=120 down=400` | info | both its ends were passed on; bytes sent each way |
 //! | `fail s=3 g=1 side=target call=write kind=pipe` | warn | a call on one of its sockets failed |
 //! | `fail s=3 g=1 idle` | warn | it moved nothing for the idle limit |
+//! | `gone s=3 g=1 from=192.0.2.7:50000 connected=yes up=120 down=0 seconds=9 cause=Broken pipe (os error 32)` | debug | just before its `fail`, or `drop` without `s=` and `g=`: whose connection that was, how far it got, and the system's cause |
 //! | `drop kind=memory` | warn | an accepted connection was closed at once: memory ran out, or `connect` or `register` failed |
 //! | `drop kind=address` | warn | an accepted connection was closed at once: its addresses, which the target is to be told, are not known or not of IPv4 |
+//! | `drops kind=memory more=12` | warn | so many more were closed so, which have no line of their own |
+//! | `slots: all 1024 are taken; further clients wait` | warn | a client waits for a slot |
 //!
 //! A message is a value that prints itself, so passing one to a log takes no memory.
 #![tactic(auto)]
@@ -17,11 +20,15 @@
 mod calls;
 mod cause;
 mod faults;
+mod gone;
 mod messages;
 mod texts;
 
-pub use calls::{log_done, log_drop, log_fail, log_open, log_peer};
+pub use calls::{
+    log_all_taken, log_done, log_drop, log_drops, log_fail, log_gone, log_open, log_peer, logs_gone,
+};
 pub use cause::Cause;
 pub use faults::ServerFault;
-pub use messages::{Done, Dropped, Failed, Opened, Peer};
+pub use gone::{Gone, Known, Why};
+pub use messages::{AllTaken, Done, Dropped, Failed, MoreDropped, Opened, Peer};
 pub use texts::{done_text, drop_text, fail_text, open_text};

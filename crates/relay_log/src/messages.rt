@@ -1,7 +1,7 @@
 // A message is a value that prints itself: whoever writes a line prints it there, and nothing is made before that.
 ghost use Rattle.std.specs.Prelude.{Some, []};
 ghost use Rattle.std.specs.Fmt.{◌++?◌};
-ghost use Rattle.relay_log.specs.Messages.{open_message, peer_message, done_message, fail_message, drop_message};
+ghost use Rattle.relay_log.specs.Messages.{open_message, peer_message, done_message, fail_message, drop_message, drops_message, full_message};
 
 use crate::Cause;
 use relay_core::Fault;
@@ -103,5 +103,36 @@ impl Display for Dropped {
     fn fmt<W: fmt::Write>(&self, f: &mut fmt::Formatter<W>) -> fmt::Result {
         let name = self.cause.name();
         write!(f, "drop kind={name}")
+    }
+}
+
+/// So many more accepted connections were closed before they were opened than those of which the log has lines.
+#[derive(Clone, Copy, Debug, PartialEq, Eq)]
+pub struct MoreDropped {
+    pub cause: Cause,
+    pub more: u64,
+}
+
+impl Display for MoreDropped {
+    ghost output = { λ dropped. Some (drops_message dropped.cause dropped.more) };
+
+    fn fmt<W: fmt::Write>(&self, f: &mut fmt::Formatter<W>) -> fmt::Result {
+        let (name, more) = (self.cause.name(), self.more);
+        write!(f, "drops kind={name} more={more}")
+    }
+}
+
+/// All slots of a server, so many, are taken, and a client waits.
+#[derive(Clone, Copy, Debug, PartialEq, Eq)]
+pub struct AllTaken {
+    pub slots: usize,
+}
+
+impl Display for AllTaken {
+    ghost output = { λ all. Some (full_message all.slots) };
+
+    fn fmt<W: fmt::Write>(&self, f: &mut fmt::Formatter<W>) -> fmt::Result {
+        let slots = self.slots;
+        write!(f, "slots: all {slots} are taken; further clients wait")
     }
 }

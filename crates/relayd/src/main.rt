@@ -1,5 +1,5 @@
-//! The program: `program` says what it does, and `server` serves. `main` passes to [`program::act`] the process's own
-//! arguments, streams and handle, with a closure that serves.
+//! The program: `program` says what it does, `server` serves, and `replaying` plays recordings. `main` passes to
+//! [`program::act`] the process's own arguments, streams and handle, with a closure that serves and the machine.
 #![tactic(auto)]
 
 mod clock;
@@ -8,9 +8,12 @@ use clock::MonotonicClock;
 use log::Logged;
 use log_queue::Queued;
 use program::logging::{self, Errors};
-use server::{Bound, OpenGate, ServerFault};
+use program::{Extras, telling, until_eof};
+use replaying::OnMachine;
+use server::{Bound, Lent, OpenGate, ServerFault};
 use settings::Settings;
 use std::cell::Cell;
+use std::fs::File;
 use std::process::ExitCode;
 
 fn main(rt: HostRuntime) -> ExitCode {
@@ -21,12 +24,29 @@ fn main(rt: HostRuntime) -> ExitCode {
         inner: rt.stderr(),
         is_stuck: &is_stuck,
     };
-    let serve = |settings: Settings, bound: Bound| -> Result<(), ServerFault> {
+    let serve = |settings: Settings, bound: Bound, extras: Extras, file: Option<File>| -> Result<
+        (),
+        ServerFault,
+    > {
         let queue = logging::start(rt)?;
-        let sink = Queued { rt, queue: &queue };
-        let logged = Logged::new(rt, program::level_filter(settings.log), sink);
-        let clock = MonotonicClock(rt);
-        let served = server::serve(&logged, rt.alloc(), &settings, &OpenGate, &clock, bound);
+        let level = program::level_filter(settings.log);
+        let is_stopped = until_eof::watch(rt, rt.stdin(), level, extras, &queue)?;
+        let statistics = telling::start(rt, &settings, extras, &queue)?;
+        let logged = Logged::new(rt, level, Queued { rt, queue: &queue });
+        let counted = statistics.as_ref();
+        let lent = Lent {
+            gate: &OpenGate,
+            clock: &MonotonicClock(rt),
+            is_stopped: &is_stopped,
+            statistics: counted,
+        };
+        let served = match file {
+            None => server::serve(&logged, rt.alloc(), &settings, bound, lent),
+            Some(file) => server::serve_recorded(&logged, rt.alloc(), &settings, bound, lent, file),
+        };
+        if let Some(statistics) = &statistics {
+            telling::tell(rt, statistics, &queue);
+        }
         is_stuck.set(!logging::finish(&rt, &queue));
         served
     };
@@ -38,6 +58,7 @@ fn main(rt: HostRuntime) -> ExitCode {
             &mut output,
             &mut errors,
             &serve,
+            &OnMachine,
         ),
         Err(fault) => program::report_arguments_fault(&mut errors, fault),
     };

@@ -1,10 +1,11 @@
 -- Lists with one item for each part of the slots.
-use Rattle.std.proofs.Common.{◌≡◌, ℕ, ◌+◌, List, [], ◌∷◌, ◌++◌, map, replicate, All, Bool, true, false, ap, ◌∙◌, sym, subst, arith}
+use Rattle.std.proofs.Common.{◌≡◌, ℕ, ◌+◌, List, [], ◌∷◌, ◌++◌, map, length, reverse, replicate, All, append_assoc, append-nil, Bool, true, false, ap, ◌∙◌, sym, subst, arith}
 use Rattle.std.specs.List.{range_with_len}
 use Rattle.std.proofs.lemmas.List.FromFn.{map-range_with_len_more}
-use Rattle.std.proofs.lemmas.List.{map-append}
-use Rattle.dispatch.specs.declared.lead.Opening.{Opening}
+use Rattle.std.proofs.lemmas.List.{map-append, nil_from_length, reverse-append, reverse-reverse}
+use Rattle.dispatch.specs.declared.opening.Opening.{Opening}
 use Rattle.dispatch.specs.declared.part.Part.{Part}
+use Rattle.dispatch.specs.Episodes.{no_episodes}
 use Rattle.dispatch.specs.Polls.{PollerState}
 use Rattle.server.specs.Begins.{HasBegun}
 use Rattle.std.proofs.lemmas.List.Elements.{All-push}
@@ -26,8 +27,8 @@ pub mapped_all : {A B : Type 0} (of : A → B) (f : ℕ → B) (xs : List A) (n 
 mapped_all of f xs n m all each = subst (λ (k : ℕ). map of xs ≡ map f (range_with_len 0 k)) all each
 
 -- one poller more that has opened nothing yet
-pub begun_one : (slots : ℕ) (opening : Opening) (ps qs : List PollerState) {p : PollerState} {reported : List ℕ} {failed : Bool} {part : Part} {most : ℕ} → qs ≡ ps ++ p ∷ []
-    → p ≡ record { reported = reported; failed = failed; table = replicate slots 0; batch = []; accepting = true; starved = false; tries = 0; opening = opening; part = part; heavy = replicate slots 0; most = most; opened = 0; dropped = 0; lost = 0; second = 0; swept = 0; over = false }
+pub begun_one : (slots : ℕ) (opening : Opening) (ps qs : List PollerState) {p : PollerState} {reported : List ℕ} {failed listening : Bool} {part : Part} {most : ℕ} → qs ≡ ps ++ p ∷ []
+    → p ≡ record { reported = reported; failed = failed; listening = listening; table = replicate slots 0; batch = []; accepting = true; starved = false; tries = 0; opening = opening; part = part; heavy = replicate slots 0; most = most; opened = 0; dropped = 0; lost = 0; second = 0; swept = 0; over = false; episodes = no_episodes }
     → All (λ (q : PollerState). HasBegun slots opening q) ps → All (λ (q : PollerState). HasBegun slots opening q) qs
 begun_one slots opening ps qs {p} more is all =
     let one : HasBegun slots opening p = record {
@@ -41,6 +42,32 @@ begun_one slots opening ps qs {p} more is all =
       dropped = ap (λ (q : PollerState). q.dropped) is;
       lost = ap (λ (q : PollerState). q.lost) is;
       over = ap (λ (q : PollerState). q.over) is;
+      episodes = ap (λ (q : PollerState). q.episodes) is;
     } in
     subst (λ (rs : List PollerState). All (λ (q : PollerState). HasBegun slots opening q) rs) (sym more)
     (All-push (λ (q : PollerState). HasBegun slots opening q) ps p all one)
+
+-- none made yet, of a list that was turned round
+pub none_taken : {P X A : Type 0} (of : P → A) (f : X → A) (ps : List P) (xs ys : List X) → ps ≡ [] → ys ≡ reverse xs
+    → map of ps ++ map f (reverse ys) ≡ map f xs
+none_taken {P = P} {X = X} {A = A} of f ps xs ys none turned =
+    ap (λ (qs : List P). map of qs ++ map f (reverse ys)) none
+    ∙ ap (λ (zs : List X). map f (reverse zs)) turned ∙ ap (λ (zs : List X). map f zs) (reverse-reverse xs)
+
+-- one more was made of the last of those that are left
+pub one_taken : {P X A : Type 0} (of : P → A) (f : X → A) (ps qs : List P) (xs ys : List X) (all : List A) {p : P} {x : X} → qs ≡ ps ++ p ∷ []
+    → xs ≡ ys ++ x ∷ [] → of p ≡ f x → map of ps ++ map f (reverse xs) ≡ all → map of qs ++ map f (reverse ys) ≡ all
+one_taken {P = P} {X = X} {A = A} of f ps qs xs ys all {p} {x} more left item before =
+    ap (λ (rs : List P). map of rs ++ map f (reverse ys)) more
+    ∙ ap (λ (bs : List A). bs ++ map f (reverse ys)) (map-append of ps (p ∷ []))
+    ∙ append_assoc (map of ps) (of p ∷ []) (map f (reverse ys))
+    ∙ ap (λ (a : A). map of ps ++ a ∷ map f (reverse ys)) item
+    ∙ ap (λ (zs : List X). map of ps ++ map f zs) (sym (reverse-append ys (x ∷ [])))
+    ∙ ap (λ (zs : List X). map of ps ++ map f (reverse zs)) (sym left)
+    ∙ before
+
+-- one of each was made where none is left
+pub all_taken : {P X A : Type 0} (of : P → A) (f : X → A) (ps : List P) (xs : List X) (all : List A) → length xs ≡ 0
+    → map of ps ++ map f (reverse xs) ≡ all → map of ps ≡ all
+all_taken {P = P} {X = X} {A = A} of f ps xs all none before =
+    sym (append-nil (map of ps)) ∙ ap (λ (zs : List X). map of ps ++ map f (reverse zs)) (sym (nil_from_length xs none)) ∙ before

@@ -1,6 +1,7 @@
 -- How a server's pollers begin. Part of the promises.
 use Rattle.std.specs.Prelude.{◌≡◌, ℕ, true, false, [], replicate}
-use Rattle.dispatch.specs.declared.lead.Opening.{Opening}
+use Rattle.dispatch.specs.declared.opening.Opening.{Opening}
+use Rattle.dispatch.specs.Episodes.{no_episodes}
 use Rattle.dispatch.specs.Polls.{PollerState}
 
 -- a poller that has opened nothing yet, with a table for so many slots, and what it opens connections with
@@ -15,3 +16,4 @@ pub record HasBegun (slots : ℕ) (opens : Opening) (p : PollerState) : Type 0 w
   pub dropped : p.dropped ≡ 0
   pub lost : p.lost ≡ 0
   pub over : p.over ≡ false
+  pub episodes : p.episodes ≡ no_episodes

@@ -2,6 +2,7 @@
 ghost use Rattle.std.specs.Prelude.{◌≡◌, ◌+◌, ◌-◌, ◌<◌, ◌≤◌, ◌∷◌, [], length, replicate, map, All, true, false, IfOk, IfErr};
 ghost use Rattle.claims.specs.Seats.{fresh_seat};
 ghost use Rattle.ready.specs.Steps.{unused, opened as filled};
+ghost use Rattle.dispatch.specs.Episodes.{no_episodes};
 ghost use Rattle.dispatch.specs.Parts.{AreFresh};
 ghost use Rattle.server.specs.Limits.{share_of, shares_of};
 ghost use Rattle.dispatch.specs.Splits.{each_part, part_of, parts_of};
@@ -10,7 +11,7 @@ ghost use Rattle.settings.specs.Pollers.{pollers_for};
 
 use berths::Berths;
 use claims::Claims;
-use dispatch::{Front, Opening, Parts, Poller, ServerFault, Shared, Split};
+use dispatch::{Front, Fullness, Opening, Parts, Poller, ServerFault, Shared, Split};
 use ready::{FreeQueue, ReadyQueue};
 use settings::{Settings, pollers_for};
 use std::alloc::{AllocError, Global};
@@ -50,13 +51,17 @@ where
     ensures pollers { IfOk result (λ made. map (λ poller. poller.part) made.pollers.items ≡ each_part split.slots split.size (λ part. part)) }
     ensures begun { IfOk result (λ made. All (λ poller. HasBegun settings.now.slots (record { ring = settings.now.ring; proxy = settings.now.proxy }) poller) made.pollers.items) }
     ensures shares { IfOk result (λ made. map (λ poller. poller.most) made.pollers.items ≡ shares_of settings.now.stop_after (parts_of split.slots split.size)) }
+    ensures reported { IfOk result (λ made. map (λ poller. poller.reported) made.pollers.items ≡ map F.reported fronts.items) }
+    ensures failed { IfOk result (λ made. map (λ poller. poller.failed) made.pollers.items ≡ map F.failed fronts.items) }
+    ensures waker { IfOk result (λ made. made.shared.waker ≡ waker) }
     ensures workers { IfOk result (λ made. made.workers ≡ settings.now.workers) }
     ensures refused { IfErr result (λ fault. fault ≡ ServerFault.NoMemory) }
 {
     let threads = split.pollers() + settings.workers;
     let pollers = pollers_of(alloc, settings, split, fronts)?;
     let free = frees_of(rt, alloc, split, settings.workers)?;
-    let (shared, parts) = shared_of(alloc, settings, threads, waker)?;
+    let full = Fullness::new(split.pollers());
+    let (shared, parts) = shared_of(alloc, settings, threads, waker, full)?;
     Ok(Server {
         shared,
         parts,
@@ -87,7 +92,7 @@ fn frees_of(
 }
 
 /// A poller for each part of the slots, in order.
-#[tactic(auto, using(crate::proofs::Parts::one_more))]
+#[tactic(auto, using(crate::proofs::Parts::one_more, crate::proofs::Parts::none_taken))]
 fn pollers_of<F: Front + Drop>(
     alloc: Global,
     settings: &Settings,
@@ -98,6 +103,8 @@ fn pollers_of<F: Front + Drop>(
     ensures parts { IfOk result (λ all. map (λ poller. poller.part) all.items ≡ each_part split.slots split.size (λ part. part)) }
     ensures begun { IfOk result (λ all. All (λ poller. HasBegun settings.now.slots (record { ring = settings.now.ring; proxy = settings.now.proxy }) poller) all.items) }
     ensures shares { IfOk result (λ all. map (λ poller. poller.most) all.items ≡ shares_of settings.now.stop_after (parts_of split.slots split.size)) }
+    ensures reported { IfOk result (λ all. map (λ poller. poller.reported) all.items ≡ map F.reported fronts.items) }
+    ensures failed { IfOk result (λ all. map (λ poller. poller.failed) all.items ≡ map F.failed fronts.items) }
 {
     let count = split.pollers();
     let mut pollers = Vec::with_capacity(alloc, count)?;
@@ -136,7 +143,7 @@ fn poller_of<F: Front + Drop>(
     front: F,
 ) -> Result<Poller<F>, AllocError>
     requires number { number < parts_of split.slots split.size }
-    ensures { IfOk result (λ poller. poller ≡ record { reported = F.reported front; failed = F.failed front; table = replicate settings.now.slots 0; batch = []; accepting = true; starved = false; tries = 0; opening = record { ring = settings.now.ring; proxy = settings.now.proxy }; part = part_of split.slots split.size number; heavy = replicate settings.now.slots 0; most = share_of settings.now.stop_after (parts_of split.slots split.size) number; opened = 0; dropped = 0; lost = 0; second = 0; swept = 0; over = false }) }
+    ensures { IfOk result (λ poller. poller ≡ record { reported = F.reported front; failed = F.failed front; listening = F.listens front; table = replicate settings.now.slots 0; batch = []; accepting = true; starved = false; tries = 0; opening = record { ring = settings.now.ring; proxy = settings.now.proxy }; part = part_of split.slots split.size number; heavy = replicate settings.now.slots 0; most = share_of settings.now.stop_after (parts_of split.slots split.size) number; opened = 0; dropped = 0; lost = 0; second = 0; swept = 0; over = false; episodes = no_episodes }) }
 {
     let most = share_of(settings.stop_after, split.pollers(), number);
     let part = split.part(number);
@@ -170,12 +177,14 @@ fn shared_of<F: Front>(
     settings: &Settings,
     threads: usize,
     waker: F::Waker,
+    full: Fullness,
 ) -> Result<(Shared<F>, Parts), ServerFault>
 where
     F::Waker: Drop,
     requires threads { (1 ≤ threads) × (threads ≤ 32) }
     ensures slots { IfOk result (λ made. made.0.claims.words ≡ settings.now.slots) }
     ensures budget { IfOk result (λ made. made.0.budget ≡ settings.now.budget) }
+    ensures waker { IfOk result (λ made. made.0.waker ≡ waker) }
     ensures seats { IfOk result (λ made. made.1.seats.items ≡ replicate threads (fresh_seat made.0.claims)) }
     ensures ready { IfOk result (λ made. made.1.ready.items ≡ replicate threads (unused settings.now.slots)) }
     ensures refused { IfErr result (λ fault. fault ≡ ServerFault.NoMemory) }
@@ -187,6 +196,8 @@ where
         berths,
         waker,
         budget: settings.budget as usize,
+        statistics: None,
+        full,
     };
     Ok((shared, parts))
 }

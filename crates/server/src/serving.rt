@@ -1,22 +1,40 @@
 //! A server over the system's sockets, from its settings to its end.
+ghost use Rattle.std.specs.Prelude.{◌≡◌};
 
 use crate::making::{build, split_of};
-use dispatch::{Clock, Gate, ServerFault, Timing};
+use dispatch::{Clock, Front, Gate, ServerFault, Shared, Timing};
 use log::Log;
 use settings::Settings;
 use sockets::{Bound, Dial, Forwarding, open_all};
-use std::alloc::Global;
+use statistics::Statistics;
+use std::alloc::{AllocError, Global};
 use std::net::Net;
-use std::sync::Wait;
+use std::sync::atomic::AtomicBool;
+use std::sync::{Arc, Wait};
 use std::thread::Threads;
-use threads::run_threads;
+use threads::{Server, run_threads};
+
+/// What a server is lent while it serves.
+#[derive(Clone, Copy)]
+pub struct Lent<'a, G, C> {
+    /// Called before and after each turn.
+    pub gate: &'a G,
+    /// By which the idle limit is counted.
+    pub clock: &'a C,
+    /// Set by another thread from when on no more connections are to be opened.
+    pub is_stopped: &'a AtomicBool,
+    /// Where what becomes of the connections is counted, if it is, with a place for each of the settings' slots.
+    pub statistics: Option<&'a Arc<Statistics>>,
+}
 
 /// Serves on the bound socket: accepts connections and forwards each one to the settings' target, with the settings'
 /// number of workers in addition to the threads that poll. There are as many of these as workers, but at most one for
-/// each 64 slots, and at least one; one of them is the calling thread. The settings' idle limit is counted by the clock. If
-/// the settings' `proxy` is set, each target is first sent a line with the addresses of its client's connection. It
-/// returns once `stop_after` connections were opened and
-/// all of them are closed, or on a fault; by then every thread has ended, and every socket is closed.
+/// each 64 slots, and at least one; one of them is the calling thread. The settings' idle limit is counted by the clock that is
+/// lent. If the settings' `proxy` is set, each target is first sent a line with the addresses of its client's connection.
+///
+/// It returns once `stop_after` connections were opened, or `is_stopped` was set, and all connections that were opened are
+/// closed; or on a fault. From when no more are to be opened on, the listening socket is closed. When it returns, every thread
+/// has ended, and every socket is closed.
 ///
 /// Refuses with `NoMemory` if there is not enough to begin with, `Poll` if the system cannot report on sockets,
 /// `Threads` if a thread cannot be started, and `Worn` if a thread has posted 2^56 notes. Of several faults it answers
@@ -25,17 +43,46 @@ pub fn serve<G: Gate + Sync, C: Clock + Sync, R: Net + Dial + Wait + Threads + L
     rt: &R,
     alloc: Global,
     settings: &Settings,
-    gate: &G,
-    clock: &C,
     bound: Bound,
+    lent: Lent<'_, G, C>,
 ) -> Result<(), ServerFault> {
     let split = split_of(settings);
-    let forwarding = Forwarding::of(settings);
-    let (fronts, wakers) = open_all(rt, alloc, bound, forwarding, split)?;
+    let (fronts, wakers) = open_all(rt, alloc, bound, Forwarding::of(settings), split)?;
     let server = build(rt, alloc, settings, split, fronts, wakers)?;
+    run(rt, alloc, settings, server, lent)
+}
+
+/// Runs a server that was made as the settings say.
+pub(crate) fn run<F, G: Gate + Sync, C: Clock + Sync, R: Wait + Threads + Log + Sync>(
+    rt: &R,
+    alloc: Global,
+    settings: &Settings,
+    mut server: Server<F>,
+    lent: Lent<'_, G, C>,
+) -> Result<(), ServerFault>
+where
+    F: Front + Drop + Send,
+    F::Client: Send,
+    F::Target: Send,
+    F::Waker: Send + Sync + Drop,
+{
+    count_in(&mut server.shared, lent.statistics)?;
     let timing = Timing {
-        clock,
+        clock: lent.clock,
         limit: u64::from(settings.idle),
     };
-    run_threads(rt, alloc, gate, timing, server)
+    run_threads(rt, alloc, lent.gate, timing, lent.is_stopped, server)
+}
+
+/// Has what becomes of the connections counted there, if it is to be counted.
+fn count_in<F: Front>(
+    shared: &mut Shared<F>,
+    statistics: Option<&Arc<Statistics>>,
+) -> Result<(), AllocError>
+    ensures { shared.new.claims ≡ shared.old.claims }
+{
+    if let Some(statistics) = statistics {
+        shared.statistics = Some(statistics.clone()?);
+    }
+    Ok(())
 }

@@ -23,6 +23,8 @@ pub(crate) enum Act {
     AtOnce(bool),
     /// How many faults it has counted, and how many answers that were "would block".
     Counts(u64, u64),
+    /// The number of the error that the log may tell, if it has one.
+    Kept(Option<i32>),
 }
 
 /// As many bytes as the relay writes at a time.
@@ -44,6 +46,7 @@ pub(crate) fn goes(wire: &mut SocketWire, act: &Act) -> bool {
         }
         Act::AtOnce(at_once) => wire.stream().sends_at_once().ok() == Some(at_once),
         Act::Counts(faults, blocks) => (wire.faults(), wire.blocks()) == (faults, blocks),
+        Act::Kept(number) => wire.error() == number,
     }
 }
 

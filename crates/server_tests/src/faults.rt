@@ -1,5 +1,5 @@
 // Which of several faults is kept, and that a fault ends threads that sleep. What else it does is shown by `tests/drill`.
-ghost use Rattle.std.specs.Prelude.{[]};
+ghost use Rattle.std.specs.Prelude.{[], false};
 
 use crate::serving::NO_LIMIT;
 use dispatch::{Front, OpenGate, Opened, ServerFault, Unopened};
@@ -12,6 +12,7 @@ use std::alloc::{AllocError, Global};
 use std::io::{self, ErrorKind};
 use std::net::SocketAddr;
 use std::sync::Wait;
+use std::sync::atomic::AtomicBool;
 use std::test::Fail;
 use threads::{Ending, Server, run_threads};
 use token::Token;
@@ -25,8 +26,8 @@ fn the_fault_of_the_first_thread_is_kept(rt: HostRuntime) -> Result<(), Fail> {
         (1, ServerFault::NoMemory),
     ] {
         let ending = Ending::new(1);
-        ending.record(&rt, 2, ServerFault::Worn);
-        ending.record(&rt, later, ServerFault::NoMemory);
+        ending.record(&rt, 2, ServerFault::Worn).spend();
+        ending.record(&rt, later, ServerFault::NoMemory).spend();
         assert_eq!(rt; ending.into_fault(), Some(kept));
     }
     Ok(())
@@ -38,6 +39,8 @@ struct Failing;
 
 impl Front for Failing {
     ghost reported = { λ _. [] };
+
+    ghost listens = { λ _. false };
 
     type Client = SocketWire;
 
@@ -53,6 +56,8 @@ impl Front for Failing {
     fn accept(&mut self) -> io::Result<SocketWire> {
         Err(io::Error::from(ErrorKind::WouldBlock))
     }
+
+    fn stop_listening(&mut self) {}
 
     fn open<N: Log>(
         &mut self,
@@ -91,7 +96,14 @@ fn a_failed_wait_ends_all_threads(rt: HostRuntime) -> Result<(), Fail> {
     let sink = Locked::new(rt, Vec::new(alloc));
     let log = Logged::new(rt, Level::Error, &sink);
     let server = server_without_reports(&rt, alloc)?;
-    let served = run_threads(&log, alloc, &OpenGate, NO_LIMIT, server);
+    let served = run_threads(
+        &log,
+        alloc,
+        &OpenGate,
+        NO_LIMIT,
+        &AtomicBool::new(false),
+        server,
+    );
     let bytes = sink.into_inner();
     // A worker that was not started, and a line that is missing, are refused allocations.
     if served == Err(ServerFault::Threads) || bytes.is_empty() {

@@ -6,11 +6,12 @@ use crate::holding::Holding;
 use dispatch::{Clock, Timing};
 use log::sink::Discard;
 use log::{Level, Logged};
-use server::serve;
+use server::{Lent, serve};
 use settings::{Settings, parse};
 use sockets::bind;
 use std::alloc::Global;
 use std::net::{Shutdown, SocketAddr, TcpListener, TcpStream};
+use std::sync::atomic::AtomicBool;
 use std::test::Fail;
 use std::{io, thread};
 
@@ -50,6 +51,16 @@ fn echo(listener: &TcpListener, connections: usize) -> io::Result<()> {
     Ok(())
 }
 
+/// What a server is lent that ends by its number of connections alone.
+fn lend<'a, G>(gate: &'a G, clock: &'a Still, is_stopped: &'a AtomicBool) -> Lent<'a, G, Still> {
+    Lent {
+        gate,
+        clock,
+        is_stopped,
+        statistics: None,
+    }
+}
+
 // refuses one_worker_runs_all: all tickets are run by one worker
 // A client is connected when both have shut their side before the server begins.
 #[test]
@@ -67,9 +78,16 @@ fn two_workers_run_at_once(rt: HostRuntime) -> Result<(), Fail> {
     first.shutdown(Shutdown::Write)?;
     second.shutdown(Shutdown::Write)?;
     let gate = Holding::new();
+    let is_stopped = AtomicBool::new(false);
     let (served, echoed) = thread::join(
         &rt,
-        || serve(&log, alloc, &settings, &gate, &Still, bound),
+        || serve(
+            &log,
+            alloc,
+            &settings,
+            bound,
+            lend(&gate, &Still, &is_stopped),
+        ),
         || echo(&listener, 2),
     );
     assert_eq!(rt; served, Ok(()));

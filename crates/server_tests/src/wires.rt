@@ -1,5 +1,5 @@
 // What fronts and wires over sockets answer.
-use crate::acts::Act::{AtOnce, Brings, Counts, Join, Offer, Read, Settle};
+use crate::acts::Act::{AtOnce, Brings, Counts, Join, Kept, Offer, Read, Settle};
 use crate::stage::Step::{self, Client, Leaves, Open, Reports, Sends, Target};
 use crate::stage::{BOTH, Fronts, NEAR, Row, STORY, first_wrong, fronts_for, reports};
 use dispatch::{Front, Split, Unopened};
@@ -35,7 +35,9 @@ static ROWS: [Row; 4] = [
         ],
         ..STORY
     },
-    // A target that refuses is a failure at the first call.
+    // A target that refuses is a failure at the first call, whose number (ECONNREFUSED) is kept for the log.
+    // refuses pending_error_swallowed: the error that is pending on a socket is overlooked
+    // refuses pending_error_without_its_number: such an error is told without the system's number
     Row {
         refuses: true,
         steps: &[
@@ -43,12 +45,19 @@ static ROWS: [Row; 4] = [
             BOTH,
             Target(Join(Err(ErrorKind::ConnectionRefused))),
             Target(Counts(1, 0)),
+            Target(Kept(Some(111))),
         ],
         ..STORY
     },
-    // A client that is registered already cannot be opened.
+    // A client that is registered already (EEXIST) cannot be opened.
+    // refuses registers_cause_is_not_kept: the log is not told why a socket cannot be reported
     Row {
-        steps: &[Open(None), Open(Some(Unopened::Register))],
+        steps: &[
+            Open(None),
+            Client(Kept(None)),
+            Open(Some(Unopened::Register)),
+            Client(Kept(Some(17))),
+        ],
         lines: &["[DEBUG relayd] register: "],
         ..STORY
     },

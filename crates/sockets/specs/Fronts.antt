@@ -1,5 +1,5 @@
 -- Where a server listens, and what is reported. Part of the promises.
-use Rattle.std.specs.Prelude.{◌≡◌, ◌≢◌, ℕ, Bool, true, false, ◌||◌, if◌then◌else◌, List, map, Option, Some, None, Result, Ok, Err}
+use Rattle.std.specs.Prelude.{◌≡◌, ◌≢◌, ℕ, ◌*◌, max, min, Bool, true, false, ◌||◌, if◌then◌else◌, List, map, Option, Some, None, Result, Ok, Err}
 use Rattle.std.specs.IoError.{error_kind}
 use Rattle.std.specs.declared.io.Error.{Error}
 use Rattle.std.specs.declared.io.ErrorKind.TheVariants.{Interrupted}
@@ -48,11 +48,19 @@ abbrev pub Fails : Result (Unit {0}) Error → Type 0
 Fails (Ok done) = ⊥
 Fails (Err error) = error_kind error ≢ Interrupted
 
--- how a front's connections are forwarded, the numbers that its last poll was told, and whether that failed
+-- how a front's connections are forwarded, the most milliseconds that it waits for reports, the numbers that its last poll was told,
+-- whether that failed, and whether it has a share of the listening socket
 pub record Watched : Type 0 where
   pub forwarding : Forwarding
+  pub wait : ℕ
   pub reported : List ℕ
   pub failed : Bool
+  pub listening : Bool
+
+-- the longest wait for reports of each of so many pollers, 16 at most, in milliseconds: together they wake at most 10 times a second by
+-- themselves
+abbrev pub wait_of : ℕ → ℕ
+wait_of pollers = 100 * max (min pollers 16) 2
 
 -- a socket that listens: the address that the system was asked for, and the one that it told, which has its port where
 -- any port was asked for

@@ -10,7 +10,7 @@ use std::marker::Model;
 ///
 /// Sending at once, a request in two writes is not held back by a peer that is slow to acknowledge the first. In bulk it
 /// costs up to 30 % more processor time. The switch back at a quiet turn's end also sends a short tail that waits.
-#[derive(Clone, Copy, Debug, PartialEq, Eq)]
+#[derive(Clone, Copy)]
 pub(crate) struct Delay {
     at_once: bool,
     full_offers: u8,

@@ -5,7 +5,7 @@ use settings::Settings;
 use std::net::SocketAddr;
 
 /// Where the connections of clients go, and whether their addresses are told.
-#[derive(Clone, Copy, Debug, PartialEq, Eq)]
+#[derive(Clone, Copy)]
 pub struct Forwarding {
     /// The address to which each client is connected.
     pub target: SocketAddr,

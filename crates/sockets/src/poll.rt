@@ -4,15 +4,16 @@ ghost use Rattle.std.specs.declared.io.ErrorKind.TheVariants.{Interrupted};
 ghost use Rattle.mio.specs.Event.{event_token};
 ghost use Rattle.mio.specs.Events.{items};
 ghost use Rattle.token.specs.Numbers.{name_of};
-ghost use Rattle.sockets.specs.Fronts.{Fails, end_in, heard_of, names_reading, numbers, v4_of, IsRoute, MayTell};
+ghost use Rattle.sockets.specs.Fronts.{Fails, end_in, heard_of, names_reading, numbers, v4_of, wait_of, IsRoute, MayTell};
 ghost use Rattle.dispatch.specs.Splits.{parts_of};
+ghost use Rattle.dispatch.specs.declared.front.Unopened.TheVariants.{Connect, Register};
 ghost use Rattle.sockets.specs.Wires.{SameButWatched, fresh_wire, under};
 
 use crate::bound::Bound;
 use crate::dial::Dial;
 use crate::failure::{log_failure, log_failure_at};
 use crate::forwarding::Forwarding;
-use crate::limits::MAX_WAIT_MILLIS;
+use crate::limits::{MAX_POLLERS, WAIT_MILLIS};
 use crate::socket::Socket;
 use crate::wire::SocketWire;
 use dispatch::{
@@ -21,12 +22,14 @@ use dispatch::{
 use log::{Level, Log};
 use mio::event::Event;
 use mio::net::TcpListener;
+use mio::unix::SourceFd;
 use mio::{Events, Interest, Poll, Waker};
 use readiness::{Heard, Reports, Told};
 use std::alloc::{AllocError, Global};
 use std::io;
 use std::marker::Model;
 use std::net::{Net, SocketAddr, SocketAddrV4};
+use std::os::fd::AsRawFd;
 use std::sync::Arc;
 use std::time::Duration;
 use token::{Name, Token, unpack};
@@ -36,12 +39,15 @@ use token::{Name, Token, unpack};
 #[derive(Drop)]
 pub struct Sockets<'r, R> {
     rt: &'r R,
-    listener: Arc<TcpListener>,
+    // Its share of the listening socket, until it no longer listens.
+    listener: Option<Arc<TcpListener>>,
     forwarding: Forwarding,
     // What wires are told of their sockets' reports.
     told: Arc<Reports>,
     poll: Poll,
     events: Events,
+    // The longest wait for reports, in milliseconds.
+    wait: u64,
     // Whether the last wait failed, and not by a signal.
     failed: bool,
 }
@@ -49,11 +55,12 @@ pub struct Sockets<'r, R> {
 impl<'r, R> Model for Sockets<'r, R> {
     ghost use Rattle.std.specs.Prelude.{◌≡◌};
     ghost use Rattle.mio.specs.Events.{items, capacity as events_capacity};
+    ghost use Rattle.std.specs.Option.{is_some};
     ghost use Rattle.sockets.specs.Fronts.{Watched, numbers};
 
     ghost Value = { Watched };
 
-    ghost view = { λ s. record { forwarding = s.forwarding; reported = numbers (items s.events); failed = s.failed } };
+    ghost view = { λ s. record { forwarding = s.forwarding; wait = s.wait; reported = numbers (items s.events); failed = s.failed; listening = is_some s.listener } };
 
     // The most reports that one wait gives, MAX_BATCH.
     ghost invariant = { λ s. events_capacity s.events ≡ 256 };
@@ -79,7 +86,7 @@ pub fn open_all<'r, R: Net + Log>(
     forwarding: Forwarding,
     split: Split,
 ) -> Result<(Vec<Sockets<'r, R>>, Wakers), ServerFault>
-    ensures opened { IfOk result (λ made. made.0.items ≡ replicate (parts_of split.slots split.size) (record { forwarding = forwarding; reported = []; failed = false })) }
+    ensures opened { IfOk result (λ made. made.0.items ≡ replicate (parts_of split.slots split.size) (record { forwarding = forwarding; wait = wait_of (parts_of split.slots split.size); reported = []; failed = false; listening = true })) }
     ensures wakers { IfOk result (λ made. made.1.split ≡ split) }
     ensures refused { IfErr result (λ fault. (fault ≡ ServerFault.Poll) ⊎ (fault ≡ ServerFault.NoMemory)) }
 {
@@ -119,27 +126,36 @@ fn fronts_of<'r, R>(
     mut polls: Vec<Poll>,
     forwarding: Forwarding,
 ) -> Result<Vec<Sockets<'r, R>>, AllocError>
-    ensures { IfOk result (λ fronts. fronts.items ≡ replicate (vec_len polls) (record { forwarding = forwarding; reported = []; failed = false })) }
+    ensures { IfOk result (λ fronts. fronts.items ≡ replicate (vec_len polls) (record { forwarding = forwarding; wait = wait_of (vec_len polls); reported = []; failed = false; listening = true })) }
 {
     let listener = Arc::new(alloc, listener)?;
     let count = polls.len();
+    let wait = wait_of(count);
     let mut fronts = Vec::with_capacity(alloc, count)?;
     polls.reverse();
     for _front in 0..count {
         match polls.pop() {
             Some(poll) => fronts.push_reserved(Sockets {
                 rt,
-                listener: Arc::try_clone(&listener)?,
+                listener: Some(Arc::try_clone(&listener)?),
                 forwarding,
                 told: Arc::try_clone(told)?,
                 poll,
                 events: Events::with_capacity(alloc, MAX_BATCH)?,
+                wait,
                 failed: false,
             }),
             None => unreachable!(),
         }
     }
     Ok(fronts)
+}
+
+/// The longest wait for reports of each of so many pollers, in milliseconds.
+fn wait_of(pollers: usize) -> u64
+    ensures { result ≡ wait_of pollers }
+{
+    pollers.min(MAX_POLLERS).max(2) as u64 * WAIT_MILLIS
 }
 
 /// What reports on the listening socket, and the waker. Why there is none was logged.
@@ -156,8 +172,9 @@ fn watched<R: Net + Log>(rt: &R, listener: &mut TcpListener) -> Result<(Poll, Wa
 }
 
 impl<R: Dial> Sockets<'_, R> {
-    /// Starts the connection to the target.
-    fn begin<N: Log>(&self, rt: &N) -> Result<SocketWire, Unopened>
+    /// Starts the connection to the target. If that fails, the client's wire keeps the cause.
+    fn begin<N: Log>(&self, rt: &N, client: &mut SocketWire) -> Result<SocketWire, Unopened>
+        ensures client { client.new ≡ client.old }
         ensures begun { IfOk result (λ target. target.socket ≡ fresh_wire false None) }
         ensures refused { IfErr result (λ why. why ≡ Unopened.Connect) }
     {
@@ -165,6 +182,7 @@ impl<R: Dial> Sockets<'_, R> {
             Ok(stream) => Ok(SocketWire::connecting(Socket::new(stream))),
             Err(error) => {
                 log_failure_at(rt, Level::Debug, "connect", self.forwarding.target, &error);
+                client.keep(&error);
                 Err(Unopened::Connect)
             }
         }
@@ -182,6 +200,7 @@ impl<R: Dial> Sockets<'_, R> {
             Ok(()) => Ok(()),
             Err(error) => {
                 log_failure(rt, Level::Debug, "register", &error);
+                wire.keep(&error);
                 Err(Unopened::Register)
             }
         }
@@ -285,7 +304,11 @@ impl<R: Dial> Front for Sockets<'_, R> {
 
     ghost failed = { λ s. s.failed };
 
+    ghost listens = { λ s. s.listening };
+
     ghost may_tell = { λ client route. MayTell client.socket.peer route };
+
+    ghost may_refuse = { λ _ why. (why ≡ Connect) ⊎ (why ≡ Register) };
 
     type Client = SocketWire;
 
@@ -301,10 +324,10 @@ impl<R: Dial> Front for Sockets<'_, R> {
         ensures reported { batch.new.items ≡ self.new.reported }
         ensures fault { IfErr result (λ error. error_kind error ≢ Interrupted → self.new.failed ≡ true) }
         ensures fails { IsTrue self.new.failed ↔ Fails result }
-        ensures same { self.new.forwarding ≡ self.old.forwarding }
+        ensures same { self.new ≡ record self.old { reported = self.new.reported; failed = self.new.failed } }
     {
         batch.clear();
-        let most = if wait { MAX_WAIT_MILLIS } else { 0 };
+        let most = if wait { self.wait } else { 0 };
         let answer = self
             .poll
             .poll(&mut self.events, Some(Duration::from_millis(most)));
@@ -318,8 +341,21 @@ impl<R: Dial> Front for Sockets<'_, R> {
         ensures accepted { IfOk result (λ client. (peer : SocketAddr) × (client.socket ≡ fresh_wire true (Some peer))) }
         ensures same { self.new ≡ self.old }
     {
-        let (stream, peer) = self.listener.accept()?;
+        let Some(listener) = &self.listener else {
+            return Err(io::Error::from(io::ErrorKind::WouldBlock));
+        };
+        let (stream, peer) = listener.accept()?;
         Ok(SocketWire::accepted(Socket::new(stream), peer))
+    }
+
+    fn stop_listening(&mut self)
+        ensures { self.new ≡ record self.old { listening = false } }
+    {
+        if let Some(listener) = self.listener.take() {
+            // Others may go on to listen: without this the socket would still be reported here.
+            let socket = listener.as_raw_fd();
+            let _ = self.poll.registry().deregister(&mut SourceFd(&socket));
+        }
     }
 
     /// If it fails, the cause is logged at level debug.
@@ -333,12 +369,13 @@ impl<R: Dial> Front for Sockets<'_, R> {
         ensures opened { IfOk result (λ opened. opened.target.socket ≡ under target_token (fresh_wire false None)) }
         ensures route { IfOk result (λ opened. IsRoute self.old.forwarding.proxy client.old.socket.peer opened.route) }
         ensures told { IfOk result (λ opened. MayTell client.old.socket.peer opened.route) }
+        ensures refused { IfErr result (λ why. (why ≡ Unopened.Connect) ⊎ (why ≡ Unopened.Register)) }
         ensures client { OnOk result (client.new.socket ≡ under client_token client.old.socket) }
         ensures unopened { OnErr result (SameButWatched client.old.socket client.new.socket) }
         ensures same { client.new.socket.tally ≡ client.old.socket.tally }
         ensures kept { self.new ≡ self.old }
     {
-        let mut target = self.begin(rt)?;
+        let mut target = self.begin(rt, client)?;
         self.watch(rt, client, client_token)?;
         self.watch(rt, &mut target, target_token)?;
         let route = self.route(client);

@@ -36,6 +36,8 @@ pub struct SocketWire<S = Socket> {
     attention: Attention,
     peer: Option<SocketAddr>,
     watched: Option<Token>,
+    // The system's error of the last call that failed, by its number. It is only for the log.
+    error: Option<i32>,
 }
 
 impl<S> Model for SocketWire<S> {
@@ -58,6 +60,7 @@ impl<S: Stream> SocketWire<S> {
             attention: Attention::new(),
             peer: Some(peer),
             watched: None,
+            error: None,
         }
     }
 
@@ -72,6 +75,7 @@ impl<S: Stream> SocketWire<S> {
             attention: Attention::new(),
             peer: None,
             watched: None,
+            error: None,
         }
     }
 
@@ -108,6 +112,13 @@ impl<S: Stream> SocketWire<S> {
         Ok(())
     }
 
+    /// The log may tell this error of the connection from now on.
+    pub(crate) fn keep(&mut self, error: &io::Error)
+        ensures { self.new ≡ self.old }
+    {
+        self.error = error.raw_os_error();
+    }
+
     /// Whether the wire reads its socket. If it does not, it looks, and reads from now on if it was told of something to
     /// read.
     fn looks(&mut self) -> bool
@@ -134,18 +145,21 @@ impl<S: Stream> SocketWire<S> {
         ensures stream { self.new.stream ≡ self.old.stream }
     {
         let class = class_of(&call, error.kind(), self.tally.joined());
-        self.heed(call, class);
+        self.heed(call, class, &error);
         self.tally.refuse(call, error.kind());
         error
     }
 
-    /// Whether the wire reads its socket after an error of this class.
-    fn heed(&mut self, call: Call, class: Class)
+    /// Whether the wire reads its socket after an error of this class. A failure is kept for the log.
+    fn heed(&mut self, call: Call, class: Class, error: &io::Error)
         ensures { self.new ≡ record self.old { socket = record self.old.socket { reads = goes_on call class self.old.socket.reads } } }
     {
         match class {
             Class::Interrupted => {}
-            Class::Failed(_) => self.attention.wake(),
+            Class::Failed(_) => {
+                self.attention.wake();
+                self.keep(error);
+            }
             Class::Blocked => match call {
                 Call::Read(..) => self.attention.rest(),
                 Call::Write(_) | Call::Join(_) | Call::Shut(_) => {}
@@ -189,11 +203,17 @@ fn stand<S: Stream>(stream: &mut S) -> io::Result<()>
     Ok(())
 }
 
-/// An error that was pending on a socket, as the answer of a call. It is always a failure of the connection.
+/// An error that was pending on a socket, as the answer of a call. It is always a failure of the connection. It is the
+/// system's own, with its number, unless one of its kind could mean something else.
 fn failure(pending: io::Error) -> io::Error
     ensures { error_kind result ≡ pending_kind (error_kind pending) }
 {
-    io::Error::from(engine::pending(pending.kind()))
+    let told = engine::pending(pending.kind());
+    if told == pending.kind() {
+        pending
+    } else {
+        io::Error::from(told)
+    }
 }
 
 impl<S: Stream> Wire for SocketWire<S> {
@@ -265,5 +285,9 @@ impl<S: Stream> Settle for SocketWire<S> {
         if self.delay.settle() {
             self.stream.send_at_once(true);
         }
+    }
+
+    fn error(&self) -> Option<i32> {
+        self.error
     }
 }

@@ -1,3 +1,4 @@
 pub mod Ends
 pub mod Casts
+pub mod Endings
 pub mod Loops

@@ -1,11 +1,11 @@
 -- What the calls of a thread's loop do with the tickets that it is obliged to put.
-use Rattle.std.proofs.Common.{◌≡◌, ◌≢◌, ℕ, zero, suc, ◌+◌, ◌*◌, ◌<◌, ◌≤◌, Bool, true, false, cond, List, [], ◌∷◌, ◌++◌, length, length-append, drop, sym, ◌∙◌, refl, subst, ap, arith, inl, inr, append_assoc, ltb}
-use Rattle.std.specs.Prelude.{◌⊎◌, ◌==◌, ◌&&◌, Option, Some, None, Result, Ok, Err, IfErr, IfOk, IfSome, OnOk, OnErr, slice_get, map, nat_lt, if◌then◌else◌, sum_by}
+use Rattle.std.proofs.Common.{◌≡◌, ◌≢◌, ℕ, zero, suc, ◌+◌, ◌<◌, ◌≤◌, Bool, true, false, cond, List, [], ◌∷◌, ◌++◌, length, length-append, drop, sym, ◌∙◌, refl, subst, ap, arith, inl, inr, append_assoc}
+use Rattle.std.specs.Prelude.{◌==◌, ◌&&◌, Option, Some, None, Result, Ok, Err, IfErr, IfOk, IfSome, OnOk, OnErr, slice_get, map, nat_lt, if◌then◌else◌}
 use Rattle.std.proofs.lemmas.List.{map-append, append-nil}
 use Rattle.std.proofs.lemmas.List.Sums.{sum_by-append, sum_by-cons}
 use Rattle.std.proofs.lemmas.Bool.{ltb-true, ltb-false, false≢true}
 use Rattle.std.specs.Option.{is_some}
-use Rattle.std.proofs.lemmas.Option.{none-some, same_Some}
+use Rattle.std.proofs.lemmas.Option.{none-some}
 use mathlib.Core.Logic.{dite}
 use native.Mathlib.Decide.{ℕ_discrete}
 use Rattle.claims.specs.declared.view.Account.{Account}
@@ -16,17 +16,17 @@ use Rattle.ready.specs.Steps.{EndState, TookOne}
 use Rattle.relay_log.specs.declared.faults.ServerFault.{ServerFault}
 use Rattle.relay_log.specs.declared.faults.ServerFault.TheVariants.{Worn}
 use Rattle.dispatch.specs.declared.shared.Own.{Own}
-use Rattle.dispatch.specs.declared.worker.Worked.{Worked}
-use Rattle.dispatch.specs.declared.worker.Worked.TheVariants as worked
-use Rattle.dispatch.specs.Deliveries.{at_slot, IsSubsequence}
+use Rattle.turns.specs.declared.worker.Worked.{Worked}
+use Rattle.rounds.specs.Deliveries.{at_slot, IsSubsequence}
+use Rattle.dispatch.specs.Hands.{HandState}
 use Rattle.dispatch.specs.Outgoing.{outgoing, Inserted, tickets_out, without_first}
 use Rattle.dispatch.specs.Polls.{PollerState, looked_at}
-use Rattle.dispatch.specs.Rounds.{RoundDone}
-use Rattle.dispatch.specs.Shares.{AreShared, OneShared, TicketsShared}
-use Rattle.dispatch.specs.Turns.{exchanges, TicketsKept, TurnMade, OwnTurn}
-use Rattle.dispatch.proofs.Reports.{at_slot-append, one_at, none_at, subsequence-append}
+use Rattle.rounds.specs.Rounds.{RoundDone}
+use Rattle.turns.specs.Shares.{AreShared, OneShared, TicketsShared}
+use Rattle.turns.specs.Turns.{exchanges, TicketsKept, TurnMade, OwnTurn}
+use Rattle.rounds.proofs.Reports.{at_slot-append, one_at, none_at, subsequence-append}
 use Rattle.threads.specs.declared.ended.Ended.{Ended}
-use Rattle.threads.specs.Loops.{times_of, Run, tickets_of, exchanges_of, TurnsMade, OneRan, tickets_in, WorkerRan, OwnTurnsRan, StepMade, StepCut, StepsMade, PollerRan}
+use Rattle.threads.specs.Loops.{times_of, Run, tickets_of, exchanges_of, TurnsMade, OneRan, tickets_in, Took, WorkerEnded, WorkerRan, OwnTurnsRan, SharedAndRan, StepMade, StepCut, StepsMade, PollerRan}
 
 -- how often a ticket stands in lists one behind the other
 times-append : (u : Ticket) (xs ys : List Ticket) → times_of u (xs ++ ys) ≡ times_of u xs + times_of u ys
@@ -130,14 +130,23 @@ one_between t answer a b c d seat out ran seat_then out_then = record {
       omega arith);
 }
 
+-- what an end of the queue has put
+abbrev puts : EndState Ticket → List Ticket
+puts end = map (λ (put : ℕ × Ticket). put.1) end.history.put
+
 -- what was to be put, where the queue's end and the hand are the same
 pub out_same : (a b : Own) → b.ready ≡ a.ready → b.hand.tickets ≡ a.hand.tickets → tickets_out b ≡ tickets_out a
 out_same a b ready hand = ap (λ (q : EndState Ticket). outgoing q.history b.hand.tickets) ready ∙ ap (λ (ts : List Ticket). outgoing a.ready.history ts) hand
 
+-- what is told of a refusal
+pub on_err : {T E : Type 0} {X : Type 0} (result : Result T E) → X → OnErr result X
+on_err (Ok value) told = tt
+on_err (Err error) told = told
+
 -- A worker
 
 -- nothing was taken and nothing was run, and what was to be put is put or in hand
-pub worker_none : (a b : Own) → b.seat ≡ a.seat → tickets_out b ≡ tickets_out a → b.ready.history.taken ≡ a.ready.history.taken → WorkerRan a b
+pub worker_none : (a b : Own) → b.seat ≡ a.seat → tickets_out b ≡ tickets_out a → b.ready.history.taken ≡ a.ready.history.taken → WorkerRan [] a b
 worker_none a b seat out taken = record {
   ran = [];
   due = [];
@@ -146,37 +155,71 @@ worker_none a b seat out taken = record {
   tickets = λ u. (let same : times_of u (tickets_out b) ≡ times_of u (tickets_out a) = ap (λ (ts : List Ticket). times_of u ts) out in omega arith);
 }
 
-pub worker_both : (a b c : Own) → WorkerRan a b → WorkerRan b c → WorkerRan a c
-worker_both a b c one two = record {
+pub worker_both : (left : List Ticket) (a b c : Own) → WorkerRan [] a b → WorkerRan left b c → WorkerRan left a c
+worker_both left a b c one two = record {
   ran = one.ran ++ two.ran;
   due = one.due ++ two.due;
   turns = turns_both one.ran two.ran one.due two.due a.seat b.seat c.seat one.turns two.turns;
-  taken = two.taken ∙ ap (λ (ts : List Ticket). ts ++ tickets_of two.ran) one.taken ∙ append_assoc (tickets_in a) (tickets_of one.ran) (tickets_of two.ran)
-      ∙ ap (λ (ts : List Ticket). tickets_in a ++ ts) (sym (map-append (λ (run : Run). run.ticket) one.ran two.ran));
+  taken = two.taken ∙ ap (λ (ts : List Ticket). ts ++ (tickets_of two.ran ++ left)) (one.taken ∙ ap (λ (ts : List Ticket). tickets_in a ++ ts) (append-nil (tickets_of one.ran)))
+      ∙ append_assoc (tickets_in a) (tickets_of one.ran) (tickets_of two.ran ++ left)
+      ∙ ap (λ (ts : List Ticket). tickets_in a ++ ts) (sym (append_assoc (tickets_of one.ran) (tickets_of two.ran) left)
+      ∙ ap (λ (ts : List Ticket). ts ++ left) (sym (map-append (λ (run : Run). run.ticket) one.ran two.ran)));
   tickets = λ u. (let first = one.tickets u in let second = two.tickets u in let both = times-append u one.due two.due in omega arith);
 }
 
+-- what was taken, and what was to be put, once a ticket was taken
+taken_one : (t : Ticket) (a b : Own) → Took t a b → tickets_in b ≡ tickets_in a ++ t ∷ []
+taken_one t a b took = ap (λ (h : History Ticket). map (λ (take : ℕ × Ticket). take.1) h.taken) took.took.taken
+    ∙ map-append (λ (take : ℕ × Ticket). take.1) a.ready.history.taken ((length took.took.before.gone, t) ∷ [])
+
+took_out : (t : Ticket) (a b : Own) → Took t a b → tickets_out b ≡ tickets_out a
+took_out t a b took = ap (λ (h : History Ticket). outgoing h b.hand.tickets) took.took.taken ∙ ap (λ (h : HandState). outgoing a.ready.history h.tickets) took.hand
+
 -- a ticket was taken, and its turn was run
-pub worker_one : (t : Ticket) (answer : Result Worked ServerFault) (a b c : Own) → TookOne a.ready.history t b.ready.history → b.seat ≡ a.seat → b.hand ≡ a.hand
-    → OneRan t answer b c → c.ready.history.taken ≡ b.ready.history.taken → WorkerRan a c
-worker_one t answer a b c took seat hand ran taken = record {
+pub worker_one : (t : Ticket) (answer : Result Worked ServerFault) (a b c : Own) → Took t a b
+    → OneRan t answer b c → c.ready.history.taken ≡ b.ready.history.taken → WorkerRan [] a c
+worker_one t answer a b c took ran taken = record {
   ran = record { ticket = t; answer = answer } ∷ [];
   due = ran.due;
-  turns = subst (λ (s : SeatState). TurnsMade (record { ticket = t; answer = answer } ∷ []) ran.due s c.seat) seat ran.turns;
-  taken = ap (λ (takes : List (ℕ × Ticket)). map (λ (take : ℕ × Ticket). take.1) takes) (taken ∙ ap (λ (h : History Ticket). h.taken) took.taken)
-      ∙ map-append (λ (take : ℕ × Ticket). take.1) a.ready.history.taken ((length took.before.gone, t) ∷ []);
+  turns = subst (λ (s : SeatState). TurnsMade (record { ticket = t; answer = answer } ∷ []) ran.due s c.seat) took.seat ran.turns;
+  taken = ap (λ (takes : List (ℕ × Ticket)). map (λ (take : ℕ × Ticket). take.1) takes) taken ∙ taken_one t a b took;
   tickets = λ u. (
       let after = ran.tickets u in
-      let out : tickets_out b ≡ tickets_out a = ap (λ (h : History Ticket). outgoing h b.hand.tickets) took.taken ∙ ap (λ h. outgoing a.ready.history h) (ap (λ h. h.tickets) hand) in
-      let same : times_of u (tickets_out b) ≡ times_of u (tickets_out a) = ap (λ (ts : List Ticket). times_of u ts) out in
+      let same : times_of u (tickets_out b) ≡ times_of u (tickets_out a) = ap (λ (ts : List Ticket). times_of u ts) (took_out t a b took) in
       omega arith);
 }
+
+-- a ticket was taken, and stays in hand
+pub worker_kept : (t : Ticket) (a b c : Own) → Took t a b → c.seat ≡ b.seat → c.ready ≡ b.ready → c.hand ≡ record b.hand { tickets = b.hand.tickets ++ t ∷ [] } → WorkerEnded a c
+worker_kept t a b c took seat ready hand = record {
+  left = t ∷ [];
+  few = omega arith;
+  made = record {
+    ran = [];
+    due = [];
+    turns = subst (λ (s : SeatState). TurnsMade [] [] a.seat s) (sym (seat ∙ took.seat)) (turns_none a.seat);
+    taken = ap (λ (q : EndState Ticket). map (λ (take : ℕ × Ticket). take.1) q.history.taken) ready ∙ taken_one t a b took;
+    tickets = λ u. (
+        let out : tickets_out c ≡ tickets_out b ++ t ∷ [] =
+        ap (λ (q : EndState Ticket). outgoing q.history c.hand.tickets) ready ∙ ap (λ (h : HandState). outgoing b.ready.history h.tickets) hand
+        ∙ sym (append_assoc (puts b.ready) b.hand.tickets (t ∷ [])) in
+        let more : times_of u (tickets_out c) ≡ times_of u (tickets_out b ++ t ∷ []) = ap (λ (ts : List Ticket). times_of u ts) out in
+        let both = times-append u (tickets_out b) (t ∷ []) in
+        let same : times_of u (tickets_out b) ≡ times_of u (tickets_out a) = ap (λ (ts : List Ticket). times_of u ts) (took_out t a b took) in
+        omega arith);
+  };
+}
+
+-- nothing was left
+pub worker_ends : (a b : Own) → WorkerRan [] a b → WorkerEnded a b
+worker_ends a b made = record { left = []; few = omega arith; made = made }
+
+pub worker_then_ends : (a b c : Own) → WorkerRan [] a b → WorkerEnded b c → WorkerEnded a c
+worker_then_ends a b c one two = record { left = two.left; few = two.few; made = worker_both two.left a b c one two.made }
 
 -- A poller
 
 -- sharing the tickets in hand loses none
-abbrev puts : EndState Ticket → List Ticket
-puts end = map (λ (put : ℕ × Ticket). put.1) end.history.put
 
 one_shared : (u : Ticket) (stayed : ℕ) (heavy : List ℕ) (t : Ticket) (queue : EndState Ticket) (after : ℕ) (behind : List Ticket) (next : EndState Ticket) → OneShared stayed heavy t queue after behind next
     → times_of u (puts next) + times_of u behind ≡ times_of u (puts queue) + times_of u (t ∷ [])
@@ -309,24 +352,26 @@ round_ran p q a b done = record {
       omega arith);
 }
 
-turns_ran : (count : ℕ) (heavy left : List ℕ) (a b c : Own) → TicketsShared heavy left a b → OwnTurnsRan count b c → PollerRan a c
-turns_ran count heavy left a b c shared turns = record {
-  ran = tickets_of turns.ran;
-  came_up = turns.due;
-  tickets = λ u. (let law = turns.tickets u in let same = shared_same u heavy left a b shared in omega arith);
+turns_ran : (count : ℕ) (p q : PollerState) (a b : Own) → SharedAndRan count p q a b → PollerRan a b
+turns_ran count p q a b made = record {
+  ran = tickets_of made.turns.ran;
+  came_up = made.turns.due;
+  tickets = λ u. (let law = made.turns.tickets u in let same = shared_same u p.heavy made.heavy a made.shared made.sharing in omega arith);
   minted = λ slot. (
-      let law = turns.turns.minted slot in
-      let same : (account_at b.seat slot).minted ≡ (account_at a.seat slot).minted = ap (λ (s : SeatState). (account_at s slot).minted) shared.seat in
+      let law = made.turns.turns.minted slot in
+      let same : (account_at made.shared.seat slot).minted ≡ (account_at a.seat slot).minted = ap (λ (s : SeatState). (account_at s slot).minted) made.sharing.seat in
       omega arith);
 }
 
 pub step_ran : (p q : PollerState) (a b : Own) → StepMade p q a b → PollerRan a b
 step_ran p q a b step =
-    ran_both a step.between b (round_ran p step.polled a step.between step.round) (turns_ran step.turns.count step.polled.heavy step.turns.heavy step.between step.turns.shared b step.turns.sharing step.turns.turns)
+    ran_both a step.between b (round_ran step.round.begun step.polled a step.between step.round.round) (turns_ran step.turns.count step.polled q step.between b step.turns.made)
 
 pub cut_ran : (p q : PollerState) (a b : Own) → StepCut p q a b → PollerRan a b
 cut_ran p q a b (inl same) = subst (λ (o : Own). PollerRan a o) (sym same.1) (ran_none a)
-cut_ran p q a b (inr done) = round_ran p q a b done
+cut_ran p q a b (inr (inl done)) = round_ran done.begun q a b done.round
+cut_ran p q a b (inr (inr step)) =
+    ran_both a step.between b (round_ran step.round.begun step.polled a step.between step.round.round) (turns_ran step.turns.count step.polled q step.between b step.turns.made)
 
 pub steps_ran : (steps : ℕ) (p q : PollerState) (a b : Own) → StepsMade steps p q a b → PollerRan a b
 steps_ran zero p q a b same = subst (λ (o : Own). PollerRan a o) (sym same.1) (ran_none a)

@@ -1,3 +1,4 @@
 -- The crate's definitions. The first line of each file says whether the promises need it.
 pub mod Casts
+pub mod Endings
 pub mod Loops

@@ -3,16 +3,16 @@ use Rattle.std.specs.Prelude.{◌≡◌, ◌≢◌, ◌⊎◌, ℕ, zero, suc, �
 use Rattle.std.specs.List.{count_by}
 use Rattle.claims.specs.Seats.{SeatState, account_at}
 use Rattle.ready.specs.declared.ticket.Ticket.{Ticket}
-use Rattle.ready.specs.Steps.{EndState}
+use Rattle.ready.specs.Steps.{EndState, TookOne}
 use Rattle.relay_log.specs.declared.faults.ServerFault.{ServerFault}
 use Rattle.dispatch.specs.declared.shared.Own.{Own}
-use Rattle.dispatch.specs.declared.worker.Worked.{Worked}
-use Rattle.dispatch.specs.Deliveries.{at_slot, IsSubsequence}
+use Rattle.turns.specs.declared.worker.Worked.{Worked}
+use Rattle.rounds.specs.Deliveries.{at_slot, IsSubsequence}
 use Rattle.dispatch.specs.Outgoing.{tickets_out}
 use Rattle.dispatch.specs.Polls.{PollerState, IsIn}
-use Rattle.dispatch.specs.Rounds.{RoundDone}
-use Rattle.dispatch.specs.Shares.{TicketsShared}
-use Rattle.dispatch.specs.Turns.{exchanges, NoOwnTurn}
+use Rattle.rounds.specs.Rounds.{EndedEarly, ListenerKept, ListensToOpen, RoundDone}
+use Rattle.turns.specs.Shares.{TicketsShared}
+use Rattle.turns.specs.Turns.{exchanges, NoOwnTurn}
 use Rattle.dispatch.specs.declared.split.Split.{Split}
 use Rattle.dispatch.specs.Splits.{part_of}
 
@@ -50,14 +50,27 @@ pub record OneRan (ticket : Ticket) (answer : Result Worked ServerFault) (old ne
 abbrev pub tickets_in : Own → List Ticket
 tickets_in own = map (λ (take : ℕ × Ticket). take.1) own.ready.history.taken
 
--- A worker's thread ran each ticket that it took, in order. What it was to put before, and the tickets that are due again, are put or
--- in hand
-pub record WorkerRan (old new : Own) : Type 0 where
+-- A worker's thread ran each ticket that it took, in order, but for these, which it took last. What it was to put before, the tickets
+-- that are due again, and these, are put or in hand
+pub record WorkerRan (left : List Ticket) (old new : Own) : Type 0 where
   pub ran : List Run
   pub due : List Ticket
   pub turns : TurnsMade ran due old.seat new.seat
-  pub taken : tickets_in new ≡ tickets_in old ++ tickets_of ran
-  pub tickets : (t : Ticket) → times_of t (tickets_out new) ≡ times_of t (tickets_out old) + times_of t due
+  pub taken : tickets_in new ≡ tickets_in old ++ (tickets_of ran ++ left)
+  pub tickets : (t : Ticket) → times_of t (tickets_out new) ≡ times_of t (tickets_out old) + (times_of t due + times_of t left)
+
+-- to its end: one ticket at most was taken and not run
+pub record WorkerEnded (old new : Own) : Type 0 where
+  pub left : List Ticket
+  pub few : length left ≤ 1
+  pub made : WorkerRan left old new
+
+-- it took this ticket, and did nothing else
+pub record Took (ticket : Ticket) (old new : Own) : Type 0 where
+  pub took : TookOne old.ready.history ticket new.ready.history
+  pub seat : new.seat ≡ old.seat
+  pub free : new.free ≡ old.free
+  pub hand : new.hand ≡ old.hand
 
 -- A poller's thread ran so many tickets in its hand. What it was to put before, and the tickets that are due again, were run or are put or in
 -- hand, each once
@@ -68,28 +81,56 @@ pub record OwnTurnsRan (count : ℕ) (old new : Own) : Type 0 where
   pub turns : TurnsMade ran due old.seat new.seat
   pub tickets : (t : Ticket) → times_of t (tickets_out new) + times_of t (tickets_of ran) ≡ times_of t (tickets_out old) + times_of t due
 
--- Behind a round the tickets in hand were shared, and the poller's thread ran 16 of those that stayed, or fewer: then none is left, or no
--- slot more fits in hand
-pub record TurnsBehind (p q : PollerState) (a b : Own) : Type 0 where
+-- The tickets in hand were shared, and the poller's thread ran so many of those that stayed
+pub record SharedAndRan (count : ℕ) (p q : PollerState) (a b : Own) : Type 0 where
   pub heavy : List ℕ
   pub shared : Own
-  pub count : ℕ
   pub sharing : TicketsShared p.heavy heavy a shared
   pub turns : OwnTurnsRan count shared b
-  pub most : count ≤ 16
-  pub ended : (count ≡ 16) ⊎ NoOwnTurn b
   pub poller : q ≡ record p { heavy = q.heavy }
 
--- a step of a poller's thread: a round, and the turns behind it
-pub record StepMade (p q : PollerState) (a b : Own) : Type 0 where
+-- Behind a round the tickets in hand were shared, and 16 of those that stayed were run, or fewer: then none is left, or no slot more
+-- fits in hand
+pub record TurnsBehind (p q : PollerState) (a b : Own) : Type 0 where
+  pub count : ℕ
+  pub made : SharedAndRan count p q a b
+  pub most : count ≤ 16
+  pub ended : (count ≡ 16) ⊎ NoOwnTurn b
+
+-- Behind a round the tickets in hand were shared, and fewer than 16 of those that stayed were run
+pub record TurnsCut (p q : PollerState) (a b : Own) : Type 0 where
+  pub count : ℕ
+  pub made : SharedAndRan count p q a b
+  pub few : count < 16
+
+-- a poller may have been told to open no more connections
+abbrev pub MayStop : PollerState → PollerState → Type 0
+MayStop p q = (q ≡ p) ⊎ (q ≡ record p { most = 0 })
+
+-- A poller's thread made a round. Before it, the poller may have been told to open no more; else it may open as many as before
+pub record RoundMade (p q : PollerState) (a b : Own) : Type 0 where
+  pub begun : PollerState
+  pub stopped : MayStop p begun
+  pub round : RoundDone begun q a b
+  pub most : q.most ≡ begun.most
+  pub listens : ListenerKept begun q
+
+-- A round, and what came behind it. Once all connections that the poller may open were opened, its front does not listen, unless the
+-- round ended early
+pub record RoundAnd (Behind : PollerState → PollerState → Own → Own → Type 0) (p q : PollerState) (a b : Own) : Type 0 where
   pub polled : PollerState
   pub between : Own
-  pub round : RoundDone p polled a between
-  pub turns : TurnsBehind polled q between b
+  pub round : RoundMade p polled a between
+  pub closed : EndedEarly (length polled.table) between ⊎ ListensToOpen polled
+  pub turns : Behind polled q between b
 
--- the last step: nothing happened, or a round alone
+-- a step of a poller's thread: a round, and the turns behind it
+abbrev pub StepMade : PollerState → PollerState → Own → Own → Type 0
+StepMade p q a b = RoundAnd TurnsBehind p q a b
+
+-- the last step: nothing happened, or a round alone, or a round and fewer turns behind it
 abbrev pub StepCut : PollerState → PollerState → Own → Own → Type 0
-StepCut p q a b = ((q ≡ p) × (b ≡ a)) ⊎ RoundDone p q a b
+StepCut p q a b = ((q ≡ p) × (b ≡ a)) ⊎ (RoundMade p q a b ⊎ RoundAnd TurnsCut p q a b)
 
 -- so many steps, one after the other
 abbrev pub StepsMade : ℕ → PollerState → PollerState → Own → Own → Type 0

@@ -1,12 +1,14 @@
 //! What every thread of a server is handed, and how a fault of one ends the others.
-ghost use Rattle.std.specs.Prelude.{◌≡◌};
+ghost use Rattle.std.specs.Prelude.{◌≡◌, OnSome, option_map};
+ghost use Rattle.threads.specs.Endings.{AllWoken};
 
 use crate::ended::Ended;
-use crate::ending::Ending;
+use crate::ending::{Ending, Recorded};
 use dispatch::{Front, Shared, Split, Timing};
 use ready::ReadyQueue;
 use std::alloc::Global;
 use std::sync::Wait;
+use std::sync::atomic::AtomicBool;
 
 /// What every thread of a server is handed at each of its steps.
 #[derive(Drop)]
@@ -16,6 +18,8 @@ pub struct Crew<'a, G, C, R> {
     pub gate: &'a G,
     pub timing: Timing<'a, C>,
     pub ending: &'a Ending,
+    /// Whether no more connections are to be opened.
+    pub is_stopped: &'a AtomicBool,
     /// Which slots are which poller's.
     pub split: Split,
 }
@@ -29,14 +33,22 @@ impl<G, C, R: Wait> Crew<'_, G, C, R> {
         number: usize,
         ready: &mut ReadyQueue,
         ended: Ended,
-    )
-        ensures { ready.new ≡ ready.old }
+    ) -> Option<Recorded>
+        ensures ready { ready.new ≡ ready.old }
+        ensures recorded { result ≡ option_map (λ fault. (number, fault)) ended.fault }
+        ensures woken { OnSome result (AllWoken (F.woke shared.now.waker) self.now.split) }
     {
-        let Some(fault) = ended.into_fault() else {
-            return;
-        };
-        self.ending.record(self.rt, number, fault);
+        let fault = ended.into_fault()?;
+        let recorded = self.ending.record(self.rt, number, fault);
         ready.close();
+        self.wake_pollers(shared);
+        Some(recorded)
+    }
+
+    /// Wakes all pollers.
+    pub(crate) fn wake_pollers<F: Front>(&self, shared: &Shared<F>)
+        ensures { AllWoken (F.woke shared.now.waker) self.now.split }
+    {
         for poller in 0..self.split.pollers() {
             F::wake(&shared.waker, self.split.part(poller).first);
         }

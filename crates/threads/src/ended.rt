@@ -29,7 +29,7 @@ impl Ended {
     }
 
     /// The fault that ended the loop, if one did.
-    pub fn into_fault(self) -> Option<ServerFault>
+    pub(crate) fn into_fault(self) -> Option<ServerFault>
         ensures { result ≡ self.fault }
     {
         let Ended { fault } = self;

@@ -1,6 +1,10 @@
 //! How the threads of a server come to their end: by a fault of one of them, or behind the last poller.
+ghost use Rattle.std.specs.Prelude.{◌≡◌, None, IfErr, false};
+ghost use Rattle.threads.specs.Endings.{earliest};
 
+use crate::ended::Ended;
 use dispatch::ServerFault;
+use std::marker::Model;
 use std::sync::atomic::Ordering::SeqCst;
 use std::sync::atomic::{AtomicBool, AtomicUsize};
 use std::sync::{Mutex, Wait};
@@ -14,6 +18,41 @@ pub struct Ending {
     polling: AtomicUsize,
 }
 
+/// A fault is recorded. Nothing but [`Ending::record`] makes one, and it cannot be dropped.
+///
+/// In a clause it is the number of the thread that met the fault, and the fault.
+pub struct Recorded {
+    number: usize,
+    fault: ServerFault,
+}
+
+impl Model for Recorded {
+    ghost use Rattle.std.specs.Prelude.{ℕ};
+    ghost use Rattle.relay_log.specs.declared.faults.ServerFault.{ServerFault};
+
+    ghost Value = { ℕ × ServerFault };
+
+    ghost view = { λ r. (r.number, r.fault) };
+}
+
+/// A look at the record found no fault. Nothing but [`Ending::look`] makes one, and it cannot be copied: each round and each turn
+/// asks for one of its own.
+#[derive(Drop)]
+pub(crate) struct NoFault {
+    recorded: bool,
+    ghost none: { recorded ≡ false },
+}
+
+impl Recorded {
+    /// The thread that met the fault has ended, or was not started.
+    pub fn spend(self) {
+        let Recorded {
+            number: _,
+            fault: _,
+        } = self;
+    }
+}
+
 impl Ending {
     /// Of a server with so many pollers, before its threads run.
     pub fn new(pollers: usize) -> Ending {
@@ -25,18 +64,30 @@ impl Ending {
     }
 
     /// Records the fault of the thread with this number. Of several faults, the lowest-numbered thread's is kept.
-    pub fn record(&self, rt: &impl Wait, number: usize, fault: ServerFault) {
+    pub fn record(&self, rt: &impl Wait, number: usize, fault: ServerFault) -> Recorded
+        ensures { result ≡ (number, fault) }
+    {
         let mut first = self.first.lock(rt);
-        let earlier = matches!(*first, Some((other, _)) if other <= number);
-        if !earlier {
-            *first = Some((number, fault));
-        }
+        *first = Some(earliest(*first, number, fault));
         self.recorded.store(true, SeqCst);
+        Recorded { number, fault }
     }
 
     /// Whether a fault is recorded.
     pub fn is_recorded(&self) -> bool {
         self.recorded.load(SeqCst)
+    }
+
+    /// Goes on only if no fault is recorded. If one is, the thread ends well.
+    pub(crate) fn look(&self) -> Result<NoFault, Ended>
+        ensures { IfErr result (λ ended. ended.fault ≡ None) }
+    {
+        let recorded = self.is_recorded();
+        if recorded {
+            Err(Ended::well())
+        } else {
+            Ok(NoFault { recorded })
+        }
     }
 
     /// A poller has ended. Answers whether none is left.
@@ -47,5 +98,19 @@ impl Ending {
     /// The recorded fault, if any.
     pub fn into_fault(self) -> Option<ServerFault> {
         self.first.into_inner().map(|(_, fault)| fault)
+    }
+}
+
+/// Of the fault that is kept and that of the thread with this number, which one is kept from then on.
+fn earliest(
+    kept: Option<(usize, ServerFault)>,
+    number: usize,
+    fault: ServerFault,
+) -> (usize, ServerFault)
+    ensures { result ≡ earliest kept (number, fault) }
+{
+    match kept {
+        Some((other, earlier)) if other <= number => (other, earlier),
+        _ => (number, fault),
     }
 }

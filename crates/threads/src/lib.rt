@@ -16,7 +16,7 @@ mod working;
 pub use crew::Crew;
 pub use dividing::{Cast, Rest, divide};
 pub use ended::Ended;
-pub use ending::Ending;
+pub use ending::{Ending, Recorded};
 pub use polling::PollerThread;
 pub use running::{Server, run_threads};
 pub use working::Worker;

@@ -1,20 +1,23 @@
 //! The steps of a poller's thread.
-ghost use Rattle.std.specs.Prelude.{◌≡◌, ◌≢◌, length, Some, None, Ok, Err, OnOk, OnErr, IfErr};
+ghost use Rattle.std.specs.Prelude.{◌≡◌, ◌≢◌, ◌⊎◌, ℕ, length, Some, None, Ok, Err, OnOk, OnErr, IfErr};
 ghost use Rattle.std.specs.Arc.{arc_value};
 ghost use Rattle.claims.specs.Seats.{HoldsNothing};
 ghost use Rattle.relay_log.specs.declared.faults.ServerFault.TheVariants.{Worn};
-ghost use Rattle.dispatch.specs.Rounds.{RoundDone};
-ghost use Rattle.dispatch.specs.Turns.{NoOwnTurn};
-ghost use Rattle.threads.specs.Loops.{LoopMade, OwnTurnsRan, PollerRan, StepCut, StepMade, TurnsBehind};
+ghost use Rattle.dispatch.specs.Drops.{no_drops};
+ghost use Rattle.rounds.specs.Rounds.{EndedEarly, ListensToOpen, RoundDone};
+ghost use Rattle.turns.specs.Turns.{NoOwnTurn};
+ghost use Rattle.threads.specs.Endings.{AllWoken};
+ghost use Rattle.threads.specs.Loops.{LoopMade, MayStop, OwnTurnsRan, PollerRan, RoundMade, StepCut, StepMade, TurnsBehind, TurnsCut};
 
 use crate::crew::Crew;
 use crate::ended::Ended;
-use dispatch::{
-    Clock, Front, Gate, MAX_OWN_TURNS, Own, Poller, Shared, Worked, own_turn, poller_round,
-    share_tickets,
-};
+use crate::ending::NoFault;
+use dispatch::{Clock, Front, Gate, MAX_OWN_TURNS, Own, Poller, Shared};
 use log::Log;
+use rounds::poller_round;
+use std::sync::atomic::Ordering::SeqCst;
 use std::sync::{Arc, Wait};
+use turns::{Worked, own_turn, share_tickets};
 
 /// A poller, and what its thread owns.
 #[derive(Drop)]
@@ -42,21 +45,26 @@ where
 
     /// The thread begins: sweeps are counted from now on.
     pub fn begin<G: Gate, C: Clock, R: Wait + Log>(&mut self, crew: &Crew<'_, G, C, R>)
-        ensures { self.new.own ≡ self.old.own }
+        ensures own { self.new.own ≡ self.old.own }
+        ensures begun { (second : ℕ) × C.tells crew.now.timing.clock.now second × (self.new.poller ≡ record self.old.poller { swept = second }) }
     {
         self.poller.begin_at(crew.timing.moment().second);
     }
 
     /// The thread has ended. A fault of its own is recorded, and ends all other threads. Behind the last poller the
-    /// workers end.
+    /// workers end. The log is told of all clients that were closed unopened.
     pub fn finish<G: Gate, C: Clock, R: Wait + Log>(
         &mut self,
         crew: &Crew<'_, G, C, R>,
         ended: Ended,
     )
-        ensures { self.new.own ≡ self.old.own }
+        ensures own { self.new.own ≡ self.old.own }
+        ensures told { self.new.poller.episodes.drops ≡ no_drops }
     {
-        crew.end(&self.shared, self.number, &mut self.own.ready, ended);
+        self.poller.end_episodes(crew.rt);
+        if let Some(recorded) = crew.end(&self.shared, self.number, &mut self.own.ready, ended) {
+            recorded.spend();
+        }
         crew.leave(&mut self.own.ready);
     }
 
@@ -77,7 +85,8 @@ where
     }
 
     /// One step of the thread: a round, and the turns of the tickets that it leaves to the poller's own thread, 16 at most.
-    /// It is refused where the thread has come to its end: the poller is over, a fault is recorded, or this step met one.
+    /// It is refused where the thread has come to its end: the poller is over, a fault is recorded before the round or before
+    /// one of the turns, or this step met one.
     pub fn step<G: Gate, C: Clock, R: Wait + Log>(
         &mut self,
         crew: &Crew<'_, G, C, R>,
@@ -86,33 +95,50 @@ where
         ensures cut { OnErr result (result ≢ Err (record { fault = Some Worn }) → StepCut self.old.poller self.new.poller self.old.own self.new.own) }
         ensures tickets { result ≢ Err (record { fault = Some Worn }) → PollerRan self.old.own self.new.own }
     {
-        if crew.ending.is_recorded() || self.poller.is_over() {
+        let seen = crew.ending.look()?;
+        if self.poller.is_over() {
             return Err(Ended::well());
         }
-        self.round(crew)
+        self.round(crew, seen)
+    }
+
+    /// If no more connections are to be opened, this poller opens none, and all others are woken, so that they come to know it.
+    fn stop_if_asked<G: Gate, C: Clock, R: Wait + Log>(&mut self, crew: &Crew<'_, G, C, R>)
+        ensures own { self.new.own ≡ self.old.own }
+        ensures stopped { MayStop self.old.poller self.new.poller }
+        ensures woken { (self.new.poller ≡ self.old.poller) ⊎ AllWoken (F.woke (arc_value self.old.shared).waker) crew.now.split }
+    {
+        if crew.is_stopped.load(SeqCst) && !self.poller.has_opened_all() {
+            self.poller.stop_opening();
+            crew.wake_pollers(&self.shared);
+        }
     }
 
     /// Makes a round, and runs the turns that it left to its own thread.
     fn round<G: Gate, C: Clock, R: Wait + Log>(
         &mut self,
         crew: &Crew<'_, G, C, R>,
+        seen: NoFault,
     ) -> Result<(), Ended>
         ensures made { OnOk result (StepMade self.old.poller self.new.poller self.old.own self.new.own) }
         ensures cut { OnErr result (result ≢ Err (record { fault = Some Worn }) → StepCut self.old.poller self.new.poller self.old.own self.new.own) }
     {
-        match self.poll(crew) {
+        match self.poll(crew, seen) {
             Ok(()) => self.run_turns(crew),
             polled => polled,
         }
     }
 
-    /// Makes a round, and runs no turn.
+    /// Makes a round, and runs no turn. Where no more connections are to be opened, the poller first comes to know that.
     fn poll<G: Gate, C: Clock, R: Wait + Log>(
         &mut self,
         crew: &Crew<'_, G, C, R>,
+        _seen: NoFault,
     ) -> Result<(), Ended>
-        ensures round { result ≢ Err (record { fault = Some Worn }) → RoundDone self.old.poller self.new.poller self.old.own self.new.own }
+        ensures round { result ≢ Err (record { fault = Some Worn }) → RoundMade self.old.poller self.new.poller self.old.own self.new.own }
+        ensures closed { OnOk result (EndedEarly (length self.new.poller.table) self.new.own ⊎ ListensToOpen self.new.poller) }
     {
+        self.stop_if_asked(crew);
         Ended::on_fault(poller_round(
             crew.rt,
             crew.alloc,
@@ -123,17 +149,18 @@ where
         ))
     }
 
-    /// Runs the tickets in hand that are for its own thread.
+    /// Runs the tickets in hand that are for its own thread, until a fault is recorded.
     fn run_turns<G: Gate, C: Clock, R: Wait + Log>(
         &mut self,
         crew: &Crew<'_, G, C, R>,
     ) -> Result<(), Ended>
         ensures turns { OnOk result (TurnsBehind self.old.poller self.new.poller self.old.own self.new.own) }
-        ensures worn { IfErr result (λ ended. ended ≡ record { fault = Some Worn }) }
+        ensures cut { OnErr result (result ≢ Err (record { fault = Some Worn }) → TurnsCut self.old.poller self.new.poller self.old.own self.new.own) }
     {
         share_tickets(crew.rt, &mut self.own, &mut self.poller);
         for _turn in 0..MAX_OWN_TURNS {
-            if self.turn(crew)?.is_none() {
+            let seen = crew.ending.look()?;
+            if self.turn(crew, seen)?.is_none() {
                 return Ok(());
             }
         }
@@ -144,6 +171,7 @@ where
     fn turn<G: Gate, C: Clock, R: Wait + Log>(
         &mut self,
         crew: &Crew<'_, G, C, R>,
+        _seen: NoFault,
     ) -> Result<Option<Worked>, Ended>
         ensures ran { result ≢ Ok None → OwnTurnsRan 1 self.old.own self.new.own }
         ensures none { result ≡ Ok None → NoOwnTurn self.old.own × (self.new.own ≡ self.old.own) }

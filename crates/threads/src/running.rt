@@ -8,6 +8,7 @@ use dispatch::{Clock, Front, Gate, Parts, Poller, ServerFault, Shared, Split, Ti
 use log::{Log, error};
 use ready::FreeQueue;
 use std::alloc::Global;
+use std::sync::atomic::AtomicBool;
 use std::sync::{Arc, Mutex, Wait};
 use std::thread::Threads;
 use std::{fmt, thread};
@@ -28,7 +29,7 @@ pub struct Server<F: Front> {
 }
 
 /// Runs a server: starts all threads but one that polls, which is the calling thread, and returns when the last of them has
-/// ended.
+/// ended. From when it `is_stopped` on, no more connections are opened, and it ends once all are closed.
 ///
 /// Refuses with `NoMemory` if there is none for what the threads own, before any has started; else with the fault that a
 /// thread met, or `Threads` for one that could not be started. Of several it is that of the first poller, or else of the
@@ -38,6 +39,7 @@ pub fn run_threads<F, G: Gate + Sync, C: Clock + Sync, R: Wait + Threads + Log +
     alloc: Global,
     gate: &G,
     timing: Timing<'_, C>,
+    is_stopped: &AtomicBool,
     server: Server<F>,
 ) -> Result<(), ServerFault>
 where
@@ -47,7 +49,7 @@ where
     F::Waker: Send + Sync + Drop,
 {
     let ending = Ending::new(server.pollers.len());
-    run_server(rt, alloc, gate, timing, server, &ending)?;
+    run_server(rt, alloc, gate, timing, (&ending, is_stopped), server)?;
     match ending.into_fault() {
         Some(fault) => Err(fault),
         None => Ok(()),
@@ -61,8 +63,8 @@ fn run_server<'a, F, G: Gate + Sync, C: Clock + Sync, R: Wait + Threads + Log + 
     alloc: Global,
     gate: &'a G,
     timing: Timing<'a, C>,
+    (ending, is_stopped): (&'a Ending, &'a AtomicBool),
     server: Server<F>,
-    ending: &'a Ending,
 ) -> Result<(), ServerFault>
 where
     F: Front + Drop + Send,
@@ -88,6 +90,7 @@ where
             gate,
             timing,
             ending,
+            is_stopped,
             split,
         },
         cast: Mutex::new(cast),
@@ -155,5 +158,5 @@ where
 /// A thread that was not started is a fault.
 fn not_started<G, C, R: Wait + Log, E: fmt::Display>(crew: &Crew<G, C, R>, error: &E) {
     error!(crew.rt; target: "relayd", "threads: {error}");
-    crew.ending.record(crew.rt, 0, ServerFault::Threads);
+    crew.ending.record(crew.rt, 0, ServerFault::Threads).spend();
 }

@@ -1,18 +1,20 @@
 //! The steps of a worker's thread.
-ghost use Rattle.std.specs.Prelude.{◌≡◌, ◌≢◌, ◌<◌, ◌-◌, [], ◌∷◌, Result, length, slice_get, slice_set, IfSome};
+ghost use Rattle.std.specs.Prelude.{◌≡◌, ◌≢◌, ◌<◌, ◌-◌, [], ◌∷◌, Result, length, slice_get, slice_set, IfNone, IfSome, OnErr, OnOk};
 ghost use Rattle.std.specs.Arc.{arc_value};
 ghost use Rattle.claims.specs.Seats.{HoldsNothing};
 ghost use Rattle.dispatch.specs.Hands.{HasRoom};
 ghost use Rattle.relay_log.specs.declared.faults.ServerFault.{ServerFault};
-ghost use Rattle.threads.specs.Loops.{GivesToOwner, OneRan, WorkerRan};
+ghost use Rattle.threads.specs.Loops.{GivesToOwner, OneRan, Took, WorkerEnded, WorkerRan};
 
 use crate::crew::Crew;
 use crate::ended::Ended;
-use dispatch::{Clock, Front, Gate, Own, Shared, Worked, give_slots, put_tickets, worker_turn};
+use crate::ending::NoFault;
+use dispatch::{Clock, Front, Gate, Own, Shared, give_slots, put_tickets};
 use log::Log;
 use ready::{FreeQueue, Ticket};
 use std::sync::{Arc, Wait};
 use std::{mem, thread};
+use turns::{Worked, worker_turn};
 
 /// A worker, and what its thread owns.
 #[derive(Drop)]
@@ -34,7 +36,7 @@ where
 {
     /// Makes its steps until one ends the thread.
     pub fn run<G: Gate, C: Clock, R: Wait + Log>(&mut self, crew: &Crew<'_, G, C, R>)
-        ensures ran { WorkerRan self.old.own self.new.own }
+        ensures ran { WorkerEnded self.old.own self.new.own }
     {
         let ended = self.run_turns(crew);
         self.finish(crew, ended);
@@ -48,12 +50,14 @@ where
     )
         ensures { self.new.own ≡ self.old.own }
     {
-        crew.end(&self.shared, self.number, &mut self.own.ready, ended);
+        if let Some(recorded) = crew.end(&self.shared, self.number, &mut self.own.ready, ended) {
+            recorded.spend();
+        }
     }
 
     /// Makes steps until the queue of tickets is closed and empty, or a fault is recorded or met.
     fn run_turns<G: Gate, C: Clock, R: Wait + Log>(&mut self, crew: &Crew<'_, G, C, R>) -> Ended
-        ensures ran { WorkerRan self.old.own self.new.own }
+        ensures ran { WorkerEnded self.old.own self.new.own }
     {
         for _turn in crew.rt.forever() {
             if let Err(ended) = self.step(crew) {
@@ -64,30 +68,48 @@ where
     }
 
     /// One step of the thread: it takes a ticket, which may mean to wait for one, and runs its turn. It is refused where the
-    /// thread has come to its end: the queue of tickets is closed and empty, a fault is recorded, or this step met one.
+    /// thread has come to its end: the queue of tickets is closed and empty, a fault is recorded before the ticket is taken or
+    /// behind that, or this step met one. Behind a fault the ticket that was taken stays in hand.
     pub fn step<G: Gate, C: Clock, R: Wait + Log>(
         &mut self,
         crew: &Crew<'_, G, C, R>,
     ) -> Result<(), Ended>
-        ensures ran { WorkerRan self.old.own self.new.own }
+        ensures ran { OnOk result (WorkerRan [] self.old.own self.new.own) }
+        ensures cut { OnErr result (WorkerEnded self.old.own self.new.own) }
     {
-        if crew.ending.is_recorded() {
-            return Err(Ended::well());
-        }
+        let seen = crew.ending.look()?;
         if !self.own.hand.has_room() {
             self.empty_hand(crew.rt);
             return Ok(());
         }
-        let Some(ticket) = self.own.ready.take(crew.rt) else {
+        let Some(ticket) = self.take(crew.rt, seen) else {
             return Err(Ended::well());
         };
-        self.turn(crew, ticket)?;
-        Ok(())
+        match crew.ending.look() {
+            Ok(seen) => {
+                self.turn(crew, ticket, seen)?;
+                Ok(())
+            }
+            Err(ended) => {
+                self.own.hand.keep_ticket(ticket);
+                Err(ended)
+            }
+        }
+    }
+
+    /// Takes a ticket, and may sleep until there is one. So it uses up a look for a fault, and a turn asks for another.
+    fn take(&mut self, rt: &impl Wait, _seen: NoFault) -> Option<Ticket>
+        requires room { HasRoom self.old.own.hand }
+        ensures room { HasRoom self.new.own.hand }
+        ensures taken { IfSome result (λ ticket. Took ticket self.old.own self.new.own) }
+        ensures none { IfNone result (self.new.own ≡ self.old.own) }
+    {
+        self.own.ready.take(rt)
     }
 
     /// Puts and gives all in hand, as far as the queues have room, and lets other threads go on.
     fn empty_hand(&mut self, rt: &impl Wait)
-        ensures ran { WorkerRan self.old.own self.new.own }
+        ensures ran { WorkerRan [] self.old.own self.new.own }
     {
         put_tickets(rt, &mut self.own.ready, &mut self.own.hand);
         self.give_all(rt);
@@ -99,6 +121,7 @@ where
         &mut self,
         crew: &Crew<'_, G, C, R>,
         ticket: Ticket,
+        _seen: NoFault,
     ) -> Result<Worked, Ended>
         requires { HasRoom self.old.own.hand }
         ensures ran { (answer : Result Worked ServerFault) × OneRan ticket answer self.old.own self.new.own }

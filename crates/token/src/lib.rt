@@ -12,8 +12,6 @@ mod kind;
 mod limits;
 mod name;
 mod side;
-#[cfg(test)]
-mod tests;
 mod token;
 
 pub use direction::Direction;

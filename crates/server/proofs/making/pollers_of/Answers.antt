@@ -1,5 +1,5 @@
-use Rattle.std.proofs.Common.{ap, ◌∙◌, ◌+◌, ℕ, arith}
-use Rattle.server.proofs.Parts.{mapped_more, mapped_all, begun_one}
+use Rattle.std.proofs.Common.{◌≡◌, ap, ◌∙◌, ◌+◌, ℕ, length, arith}
+use Rattle.server.proofs.Parts.{mapped_more, mapped_all, begun_one, one_taken, all_taken}
 use Rattle.server.proofs.making.pollers_of.Goals as goal
 
 pub loop-number-preserved : goal.loop-number-preserved
@@ -8,6 +8,8 @@ loop-number-preserved g c = record {
   parts = mapped_more _ _ _ _ c.loop-number.number c.push_reserved.ensures.items (ap (λ poller. poller.part) c.in_ok-poller_of-in-Some.ensures) c.loop-number.invariant.parts;
   begun = begun_one _ _ _ _ c.push_reserved.ensures.items c.in_ok-poller_of-in-Some.ensures c.loop-number.invariant.begun;
   shares = mapped_more _ _ _ _ c.loop-number.number c.push_reserved.ensures.items (ap (λ poller. poller.most) c.in_ok-poller_of-in-Some.ensures) c.loop-number.invariant.shares;
+  reported = one_taken _ _ _ _ _ _ _ c.push_reserved.ensures.items c.in-Some.ensures.items (ap (λ poller. poller.reported) c.in_ok-poller_of-in-Some.ensures) c.loop-number.invariant.reported;
+  failed = one_taken _ _ _ _ _ _ _ c.push_reserved.ensures.items c.in-Some.ensures.items (ap (λ poller. poller.failed) c.in_ok-poller_of-in-Some.ensures) c.loop-number.invariant.failed;
   len = c.push_reserved.ensures.len ∙ ap (λ (n : ℕ). n + 1) c.loop-number.invariant.len;
   room = omega (arith, c.push_reserved.ensures.capacity, c.loop-number.invariant.room);
 }
@@ -17,3 +19,9 @@ returns-clause-parts g c = mapped_all _ _ _ c.loop-number.number _ (omega (arith
 
 pub returns-clause-shares : goal.returns-clause-shares
 returns-clause-shares g c = mapped_all _ _ _ c.loop-number.number _ (omega (arith, c.loop-number.invariant.left, c.pollers-count.ensures.parts)) c.loop-number.invariant.shares
+
+pub returns-clause-reported : goal.returns-clause-reported
+returns-clause-reported g c = all_taken _ _ _ c.loop-number.fronts.items _ (let none : length c.loop-number.fronts.items ≡ 0 = omega (arith, c.loop-number.invariant.left, c.loop-number-test.false, c.pollers-count.ensures.parts) in none) c.loop-number.invariant.reported
+
+pub returns-clause-failed : goal.returns-clause-failed
+returns-clause-failed g c = all_taken _ _ _ c.loop-number.fronts.items _ (let none : length c.loop-number.fronts.items ≡ 0 = omega (arith, c.loop-number.invariant.left, c.loop-number-test.false, c.pollers-count.ensures.parts) in none) c.loop-number.invariant.failed

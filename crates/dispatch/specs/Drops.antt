@@ -1,0 +1,75 @@
+-- Which lines the log gets of accepted connections that are closed unopened. Part of the promises. The first of a cause has a line of
+-- its own. Those that follow it are counted, and told by one line a second.
+use Rattle.std.specs.Prelude.{◌≡◌, ℕ, ◌+◌, ◌==◌, ◌||◌, nat_lt, Bool, false, Option, Some, None, if◌then◌else◌}
+use Rattle.relay_log.specs.declared.cause.Cause.{Cause}
+use Rattle.relay_log.specs.declared.cause.Cause.TheVariants as cause
+use Rattle.dispatch.specs.Polls.{counted_up}
+use Rattle.dispatch.specs.declared.drops.Tally.{Tally}
+use Rattle.dispatch.specs.declared.drops.Drops.{Drops}
+use Rattle.dispatch.specs.declared.dropping.Owed.{Owed}
+
+-- nothing was told of a cause, and nothing is counted
+abbrev pub no_tally : Tally
+no_tally = record { last = None; line = 0; more = 0 }
+
+-- whether no whole second passed between the last drop and this one
+abbrev pub follows : ℕ → Option ℕ → Bool
+follows second None = false
+follows second (Some last) = nat_lt second (last + 2)
+
+-- whether a drop at this second is counted: some are that no line has told, or it follows the last one
+abbrev pub is_counted : ℕ → Tally → Bool
+is_counted second t = nat_lt 0 t.more || follows second t.last
+
+-- what such a drop makes of it
+abbrev pub dropped_at : ℕ → Tally → Tally
+dropped_at second t =
+    if is_counted second t then record t { last = Some second; more = counted_up t.more 1 }
+    else record t { last = Some second; line = second }
+
+-- the line that the log is owed for it: one of its own, if it is not counted
+abbrev pub owed_for : Cause → ℕ → Tally → Option Owed
+owed_for cause second t = if is_counted second t then None else Some (record { cause = cause; more = 0 })
+
+-- the line that tells so many, if there are any
+abbrev pub owed : Cause → ℕ → Option Owed
+owed cause more = if nat_lt 0 more then Some (record { cause = cause; more = more }) else None
+
+-- how many are to be told at this second: all that are counted, unless the second has had a line of that cause
+abbrev pub due_at : ℕ → Tally → ℕ
+due_at second t = if t.line == second then 0 else t.more
+
+-- what is left once they are
+abbrev pub told_at : ℕ → Tally → Tally
+told_at second t = if nat_lt 0 (due_at second t) then record t { line = second; more = 0 } else t
+
+abbrev pub tally_of : Cause → Drops → Tally
+tally_of cause.Memory d = d.memory
+tally_of cause.Connect d = d.connect
+tally_of cause.Register d = d.register
+tally_of cause.Address d = d.address
+
+-- all causes
+abbrev pub no_drops : Drops
+no_drops = record { memory = no_tally; connect = no_tally; register = no_tally; address = no_tally }
+
+abbrev pub dropped_for : Cause → ℕ → Drops → Drops
+dropped_for cause.Memory second d = record d { memory = dropped_at second d.memory }
+dropped_for cause.Connect second d = record d { connect = dropped_at second d.connect }
+dropped_for cause.Register second d = record d { register = dropped_at second d.register }
+dropped_for cause.Address second d = record d { address = dropped_at second d.address }
+
+abbrev pub all_told_at : ℕ → Drops → Drops
+all_told_at second d = record {
+  memory = told_at second d.memory;
+  connect = told_at second d.connect;
+  register = told_at second d.register;
+  address = told_at second d.address;
+}
+
+-- none is to be told at this second
+pub record AreTold (second : ℕ) (d : Drops) : Type 0 where
+  pub memory : due_at second d.memory ≡ 0
+  pub connect : due_at second d.connect ≡ 0
+  pub register : due_at second d.register ≡ 0
+  pub address : due_at second d.address ≡ 0

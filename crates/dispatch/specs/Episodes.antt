@@ -1,0 +1,12 @@
+-- What the log is told once for as long as it lasts. Part of the promises.
+use Rattle.std.specs.Prelude.{false}
+use Rattle.dispatch.specs.Drops.{no_drops}
+use Rattle.dispatch.specs.declared.episodes.Episodes.{Episodes}
+
+-- nothing goes on
+abbrev pub no_episodes : Episodes
+no_episodes = record { starved = false; full = false; drops = no_drops }
+
+-- behind an opening a lack is told again, and each cause of drops by a line of its own
+abbrev pub opened_after : Episodes → Episodes
+opened_after e = record e { starved = false; drops = no_drops }

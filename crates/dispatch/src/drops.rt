@@ -1,0 +1,155 @@
+//! Which lines the log gets of accepted connections that are closed unopened: the first of a cause has one of its own, and those that
+//! follow it are counted.
+ghost use Rattle.std.specs.Prelude.{◌≡◌};
+ghost use Rattle.dispatch.specs.Drops.{all_told_at, dropped_at, dropped_for, due_at, follows, is_counted, no_drops, no_tally, owed, owed_for, tally_of, told_at, AreTold};
+
+use crate::dropping::Owed;
+use log::Log;
+use relay_log::Cause;
+
+/// The drops of one cause.
+#[derive(Drop)]
+pub struct Tally {
+    /// The second of the last one, if one came since a connection was opened.
+    last: Option<u64>,
+    /// The second of the last line.
+    line: u64,
+    /// How many no line has told.
+    more: u64,
+}
+
+impl Tally {
+    fn none() -> Tally
+        ensures { result ≡ no_tally }
+    {
+        Tally {
+            last: None,
+            line: 0,
+            more: 0,
+        }
+    }
+
+    /// Whether a drop at this second is counted, and has no line of its own.
+    fn is_counted(&self, second: u64) -> bool
+        ensures { result ≡ is_counted second self.now }
+    {
+        self.more > 0 || follows(second, self.last)
+    }
+
+    /// A drop at this second. The line that the log is owed for it, if it is not counted.
+    fn add(&mut self, cause: Cause, second: u64) -> Option<Owed>
+        ensures tally { self.new ≡ dropped_at second self.old }
+        ensures owed { result ≡ owed_for cause second self.old }
+    {
+        let is_counted = self.is_counted(second);
+        self.last = Some(second);
+        if is_counted {
+            self.more = self.more.saturating_add(1);
+            return None;
+        }
+        self.line = second;
+        Some(Owed { cause, more: 0 })
+    }
+
+    /// The line that tells what is counted, if there is anything and this second has had no line.
+    fn tell(&mut self, cause: Cause, second: u64) -> Option<Owed>
+        ensures tally { self.new ≡ told_at second self.old }
+        ensures owed { result ≡ owed cause (due_at second self.old) }
+        ensures told { due_at second self.new ≡ 0 }
+    {
+        if self.line == second || self.more == 0 {
+            return None;
+        }
+        let more = self.more;
+        self.line = second;
+        self.more = 0;
+        Some(Owed { cause, more })
+    }
+
+    /// The next drop has a line of its own. The line that tells what is counted until now, if there is anything.
+    fn end(&mut self, cause: Cause) -> Option<Owed>
+        ensures tally { self.new ≡ no_tally }
+        ensures owed { result ≡ owed cause self.old.more }
+    {
+        let more = self.more;
+        *self = Tally::none();
+        if more == 0 {
+            return None;
+        }
+        Some(Owed { cause, more })
+    }
+}
+
+/// Whether no whole second passed between the last drop, if there was one, and this second.
+fn follows(second: u64, last: Option<u64>) -> bool
+    ensures { result ≡ follows second last }
+{
+    match last {
+        None => false,
+        Some(last) => second < last || second - last < 2,
+    }
+}
+
+/// The drops of a poller, by their causes.
+#[derive(Drop)]
+pub struct Drops {
+    memory: Tally,
+    connect: Tally,
+    register: Tally,
+    address: Tally,
+}
+
+impl Drops {
+    /// Nothing was told, and nothing is counted.
+    pub(crate) fn none() -> Drops
+        ensures { result ≡ no_drops }
+    {
+        Drops {
+            memory: Tally::none(),
+            connect: Tally::none(),
+            register: Tally::none(),
+            address: Tally::none(),
+        }
+    }
+
+    /// A drop for this cause at this second. The line that the log is owed for it, if it is not counted.
+    pub(crate) fn add(&mut self, cause: Cause, second: u64) -> Option<Owed>
+        ensures drops { self.new ≡ dropped_for cause second self.old }
+        ensures owed { result ≡ owed_for cause second (tally_of cause self.old) }
+    {
+        match cause {
+            Cause::Memory => self.memory.add(cause, second),
+            Cause::Connect => self.connect.add(cause, second),
+            Cause::Register => self.register.add(cause, second),
+            Cause::Address => self.address.add(cause, second),
+        }
+    }
+
+    /// Tells the log at this second what is counted, of each cause of which the second has had no line.
+    pub(crate) fn tell(&mut self, rt: &impl Log, second: u64)
+        ensures told { self.new ≡ all_told_at second self.old }
+        ensures all { AreTold second self.new }
+    {
+        log_owed(rt, self.memory.tell(Cause::Memory, second));
+        log_owed(rt, self.connect.tell(Cause::Connect, second));
+        log_owed(rt, self.register.tell(Cause::Register, second));
+        log_owed(rt, self.address.tell(Cause::Address, second));
+    }
+
+    /// Tells the log all that is counted. The next drop of each cause has a line of its own.
+    pub(crate) fn end(&mut self, rt: &impl Log)
+        ensures { self.new ≡ no_drops }
+    {
+        log_owed(rt, self.memory.end(Cause::Memory));
+        log_owed(rt, self.connect.end(Cause::Connect));
+        log_owed(rt, self.register.end(Cause::Register));
+        log_owed(rt, self.address.end(Cause::Address));
+    }
+}
+
+/// The log gets what it is owed.
+fn log_owed(rt: &impl Log, owed: Option<Owed>) {
+    if let Some(owed) = owed {
+        owed.log(rt);
+    }
+}

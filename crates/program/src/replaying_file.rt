@@ -1,0 +1,66 @@
+//! A recording that is replayed.
+ghost use Rattle.std.specs.Prelude.{◌≡◌, IfOk, IfErr};
+ghost use Rattle.program.specs.Statuses.{IsCarriedOut, status_of};
+
+use crate::command_line::Replayed;
+use crate::constants::{DONE, FAULT};
+use crate::faults::ProgramFault;
+use crate::streams::{Stream, log_error};
+use log::Log;
+use records::{Outcome, Replay, ReplayFault, Wanted};
+use settings::OneLine;
+use std::fs::File;
+use std::io::Write;
+use std::rt::Files;
+
+/// Replays the recording in a file. Returns 0 if it is of runs of the machine, and 1 if not. What is wrong with the file is
+/// logged.
+pub(crate) fn replay_file<R: AllocGlobal + Files, L: Log, O: Write, P: Replay>(
+    rt: &R,
+    log: &L,
+    replayed: Replayed<'_>,
+    writer: &mut O,
+    player: &P,
+) -> Result<u8, ProgramFault>
+    ensures done { IfOk result (λ status. IsCarriedOut status) }
+    ensures fault { IfErr result (λ fault. status_of fault ≡ 1) }
+{
+    let name = OneLine(replayed.path);
+    let Some(wanted) = wanted_of(replayed) else {
+        return Err(ProgramFault::Replay(ReplayFault::Unknown));
+    };
+    let file = match File::open(rt, replayed.path) {
+        Ok(file) => file,
+        Err(error) => {
+            log_error(log, &name, &error);
+            return Err(ProgramFault::Replay(ReplayFault::Read));
+        }
+    };
+    let mut file = Stream {
+        name,
+        inner: file,
+        log,
+    };
+    match player.replay(rt.alloc(), &mut file, wanted, replayed.rests, writer) {
+        Ok(Outcome::Run) => Ok(DONE),
+        Ok(Outcome::NoRun) => Ok(FAULT),
+        Err(fault) => {
+            if let ReplayFault::Broken(cause) = &fault {
+                log_error(log, &name, cause);
+            }
+            Err(ProgramFault::Replay(fault))
+        }
+    }
+}
+
+/// What is wanted of a recording. None if no connection has such a name.
+fn wanted_of(replayed: Replayed<'_>) -> Option<Wanted> {
+    match replayed.script {
+        Some(name) => {
+            let (slot, generation) = name.split_once('.')?;
+            Some(Wanted::Script(slot.parse().ok()?, generation.parse().ok()?))
+        }
+        None if replayed.ends => Some(Wanted::Ends),
+        None => Some(Wanted::Totals),
+    }
+}

@@ -1,0 +1,86 @@
+//! The statistics of a relay that serves: what its threads count, and a thread that logs the sums from time to time.
+ghost use Rattle.std.specs.Prelude.{◌≡◌, ◌⊎◌, IfErr};
+
+use crate::command_line::Extras;
+use log::sink::Console;
+use log::{error, info};
+use log_queue::{LogQueue, Queued};
+use relay_log::ServerFault;
+use settings::{LogLevel, Settings};
+use statistics::Statistics;
+use std::alloc::{AllocError, AllocGlobal, Global};
+use std::io::Eprint;
+use std::sync::{Arc, Wait};
+use std::thread::{self, Builder, Threads};
+use std::time::{Clock, Duration};
+
+/// What the threads of a relay with these settings count, if they are to, and a thread that logs the sums each time that so
+/// many seconds have passed. It runs until the program ends.
+///
+/// Where nothing is logged, nothing is counted, and nothing is taken. Refuses with `NoMemory` if there is none, and `Threads`
+/// if the thread cannot be started; its cause is logged.
+pub fn start<R>(
+    rt: R,
+    settings: &Settings,
+    extras: Extras,
+    queue: &Arc<LogQueue>,
+) -> Result<Option<Arc<Statistics>>, ServerFault>
+where
+    R: AllocGlobal + Threads + Eprint + Wait + Clock + Send + Copy + Drop + 'static,
+    ensures refused { IfErr result (λ fault. (fault ≡ ServerFault.NoMemory) ⊎ (fault ≡ ServerFault.Threads)) }
+{
+    let Some(seconds) = extras.stats else {
+        return Ok(None);
+    };
+    if settings.log == LogLevel::Off {
+        return Ok(None);
+    }
+    let statistics = made(rt.alloc(), settings.slots)?;
+    tell_from_now(rt, Duration::from_secs(seconds), &statistics, queue)?;
+    Ok(Some(statistics))
+}
+
+/// A place for the counts of each slot.
+fn made(alloc: Global, slots: usize) -> Result<Arc<Statistics>, AllocError> {
+    Ok(Arc::new(alloc, Statistics::new(alloc, slots)?)?)
+}
+
+/// Starts the thread.
+fn tell_from_now<R>(
+    rt: R,
+    rhythm: Duration,
+    statistics: &Arc<Statistics>,
+    queue: &Arc<LogQueue>,
+) -> Result<(), ServerFault>
+where
+    R: Threads + Eprint + Wait + Clock + Send + Copy + Drop + 'static,
+    ensures refused { IfErr result (λ fault. (fault ≡ ServerFault.NoMemory) ⊎ (fault ≡ ServerFault.Threads)) }
+{
+    let (counted, lines) = (statistics.clone()?, queue.clone()?);
+    if let Err(error) = Builder::new().spawn(
+        &rt,
+        move || tell_every(&rt, rhythm, &counted, &lines),
+    ) {
+        error!(Console(rt); target: "relayd", "threads: {error}");
+        return Err(ServerFault::Threads);
+    }
+    Ok(())
+}
+
+/// Logs the sums each time that this has passed.
+fn tell_every<R: Wait + Clock + Copy + Drop>(
+    rt: &R,
+    rhythm: Duration,
+    statistics: &Statistics,
+    queue: &LogQueue,
+) {
+    for _line in rt.forever() {
+        thread::sleep(rt, rhythm);
+        tell(*rt, statistics, queue);
+    }
+}
+
+/// Logs the sums, at level info, whatever level the settings have.
+pub fn tell<R: Wait + Drop>(rt: R, statistics: &Statistics, queue: &LogQueue) {
+    info!(Queued { rt, queue }; target: "relayd", "{}", statistics.totals());
+}

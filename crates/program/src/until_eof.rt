@@ -1,0 +1,65 @@
+//! Standard input as a sign: a relay that is started with `--until-eof` opens no more connections once it has ended.
+//!
+//! The thread that reads is never waited for: standard input may never end.
+ghost use Rattle.std.specs.Prelude.{◌≡◌, ◌⊎◌, IfErr};
+
+use crate::command_line::Extras;
+use log::sink::Console;
+use log::{LevelFilter, Logged, error, info, warn};
+use log_queue::{LogQueue, Queued};
+use relay_log::ServerFault;
+use std::alloc::AllocGlobal;
+use std::io::{self, Eprint, Stdin};
+use std::sync::atomic::AtomicBool;
+use std::sync::atomic::Ordering::SeqCst;
+use std::sync::{Arc, Wait};
+use std::thread::{Builder, Threads};
+
+/// Starts a thread, if the options ask for it, that reads standard input to its end, throws away what it reads, and then sets
+/// what is answered. A read that fails counts as the end; both are logged, at levels warn and info.
+///
+/// Refuses with `NoMemory` if there is none for what it answers, and `Threads` if the thread cannot be started; its cause is
+/// logged.
+pub fn watch<R>(
+    rt: R,
+    input: Stdin,
+    level: LevelFilter,
+    extras: Extras,
+    queue: &Arc<LogQueue>,
+) -> Result<Arc<AtomicBool>, ServerFault>
+where
+    R: AllocGlobal + Threads + Eprint + Wait + Send + Copy + Drop + 'static,
+    ensures refused { IfErr result (λ fault. (fault ≡ ServerFault.NoMemory) ⊎ (fault ≡ ServerFault.Threads)) }
+{
+    let has_ended = Arc::new(rt.alloc(), AtomicBool::new(false))?;
+    if !extras.until_eof {
+        return Ok(has_ended);
+    }
+    let lines = queue.clone()?;
+    let sign = has_ended.clone()?;
+    let read = move || {
+        read_to_end(&rt, input, level, &lines);
+        sign.store(true, SeqCst);
+    };
+    if let Err(error) = Builder::new().spawn(&rt, read) {
+        error!(Console(rt); target: "relayd", "threads: {error}");
+        return Err(ServerFault::Threads);
+    }
+    Ok(has_ended)
+}
+
+/// Reads standard input to its end, and logs that it has come.
+fn read_to_end<R>(rt: &R, mut input: Stdin, level: LevelFilter, queue: &LogQueue)
+where
+    R: Eprint + Wait + Copy + Drop,
+{
+    let log = Logged::new(*rt, level, Queued { rt: *rt, queue });
+    match io::copy(&mut input, &mut io::sink()) {
+        Ok(_) => {
+            info!(log; target: "relayd", "input: has ended, so no more clients are accepted");
+        }
+        Err(error) => {
+            warn!(log; target: "relayd", "input: {error}, so no more clients are accepted");
+        }
+    }
+}

@@ -1,0 +1,33 @@
+// A gate that records turns.
+use crate::recorder::Recorder;
+use dispatch::Gate;
+use log::Log;
+use records::Act;
+use std::sync::Wait;
+
+/// A gate that does what the one in it does, and records where turns begin and end.
+#[derive(Drop)]
+pub struct RecordedGate<'r, G, R> {
+    inner: &'r G,
+    recorder: Recorder<'r, R>,
+}
+
+impl<'r, G, R> RecordedGate<'r, G, R> {
+    pub fn new(inner: &'r G, recorder: Recorder<'r, R>) -> RecordedGate<'r, G, R> {
+        RecordedGate { inner, recorder }
+    }
+}
+
+impl<G: Gate, R: Wait + Log> Gate for RecordedGate<'_, G, R> {
+    fn before_turn(&self, slot: usize) {
+        let before = self.recorder.before();
+        self.inner.before_turn(slot);
+        self.recorder.record(before, Act::Begin(slot));
+    }
+
+    fn after_turn(&self, slot: usize) {
+        let before = self.recorder.before();
+        self.inner.after_turn(slot);
+        self.recorder.record(before, Act::End(slot));
+    }
+}

@@ -1,0 +1,31 @@
+//! What a relay writes down of its own run: each thread records what it did, as [`Record`](records::Record)s, and one thread of
+//! its own writes them to a file.
+//!
+//! It is done around the parts that a server is made of, by its own type parameters: [`RecordedFront`] is a front that records
+//! its waits for reports, what it accepts and what it opens; [`RecordedWire`] is a wire that records its calls and its end;
+//! [`RecordedGate`] records where turns begin and end, and [`RecordedClock`] what second was told. Each does what the part in
+//! it does, and promises what that promises. Nothing is recorded of the bytes but how many there were.
+//!
+//! A thread that records waits for nobody, and takes no memory: its record goes into a bounded queue ([`RecordQueue`]), and a
+//! writer that sleeps is woken ([`write_records`]). Where the queue is full the recording ends, which its last line says and a
+//! warning tells, and the relay serves on.
+#![tactic(auto)]
+
+mod answers;
+mod clock;
+mod front;
+mod gate;
+mod limits;
+mod queue;
+mod recorder;
+mod wire;
+mod writing;
+
+pub use clock::RecordedClock;
+pub use front::{RecordedFront, record_all};
+pub use gate::RecordedGate;
+pub use limits::MAX_RECORDS;
+pub use queue::RecordQueue;
+pub use recorder::Recorder;
+pub use wire::RecordedWire;
+pub use writing::write_records;

@@ -1,0 +1,101 @@
+//! What a relay did.
+use token::{Kind, Name, Token};
+
+/// An act, and the values of the recording's count just before and just after it.
+#[derive(Clone, Copy, Debug, PartialEq, Eq)]
+pub struct Record {
+    pub before: u64,
+    pub after: u64,
+    pub act: Act,
+}
+
+/// What happened.
+#[derive(Clone, Copy, Debug, PartialEq, Eq)]
+pub enum Act {
+    /// The poller with this number did this.
+    Poller(usize, Polling),
+    /// The clock showed this second, to a turn or to a round.
+    Second(u64),
+    /// The gate's first call of a turn at this slot.
+    Begin(usize),
+    /// The gate's second call of a turn at this slot.
+    End(usize),
+    /// This was done with the wire of an end.
+    Wire(Token, Made),
+    /// The relay ended, and everything is recorded. It is the last record.
+    Ended,
+    /// There was no room for a record, so that the recording stops here. It is the last record.
+    Full,
+}
+
+/// What a poller did.
+#[derive(Clone, Copy, Debug, PartialEq, Eq)]
+pub enum Polling {
+    /// A wait for reports gave so many.
+    Gave(usize),
+    /// A signal ended a wait for reports.
+    Interrupted,
+    /// A wait for reports failed.
+    Failed,
+    /// The last wait reported this.
+    Reported(Name),
+    /// What accept(2) answered.
+    Accept(Accepted),
+    /// The front was asked to open a connection in this slot, under this generation.
+    Open(usize, u64, Opening),
+}
+
+/// What accept(2) answered, by the class of its answer.
+#[derive(Clone, Copy, Debug, PartialEq, Eq)]
+pub enum Accepted {
+    Taken,
+    Blocked,
+    Again,
+    Starved,
+}
+
+/// Whether a front opened a connection.
+#[derive(Clone, Copy, Debug, PartialEq, Eq)]
+pub enum Opening {
+    Opened,
+    /// The connection to the target could not be started.
+    Connect,
+    /// A socket could not be registered for reports.
+    Register,
+}
+
+/// What was done with a wire.
+#[derive(Clone, Copy, Debug, PartialEq, Eq)]
+pub enum Made {
+    /// A read of at most so many bytes. Its answer is a number of bytes, the end, or no success.
+    Read(usize, Answer),
+    /// A write that offered so many bytes. Its answer is a number of bytes, or no success.
+    Write(usize, Answer),
+    /// The question whether the socket is connected.
+    Join(Answer),
+    /// A shutdown. Its answer is never `Blocked`.
+    Shut(Answer),
+    /// It was told that a turn had ended quiet.
+    Settle,
+    /// It was dropped, which closes its socket.
+    Drop,
+}
+
+/// What a wire answered.
+#[derive(Clone, Copy, Debug, PartialEq, Eq)]
+pub enum Answer {
+    /// So many bytes moved.
+    Moved(usize),
+    /// The end of input.
+    End,
+    /// The socket is connected.
+    Joined,
+    /// The end of input was passed on.
+    Shut,
+    /// The call would have had to wait.
+    Blocked,
+    /// A signal interrupted the call, and nothing moved.
+    Interrupted,
+    /// The call failed.
+    Failed(Kind),
+}

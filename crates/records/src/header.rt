@@ -1,0 +1,137 @@
+//! The first line of a recording.
+ghost use Rattle.std.specs.Prelude.{Some};
+ghost use Rattle.records.specs.Texts.{header_text};
+
+use crate::names::yes_or_no;
+use crate::words::{Words, is, number, said};
+use crate::wrong::Wrong;
+use std::fmt::{self, Display};
+
+/// The sizes of the relay that was recorded.
+#[derive(Clone, Copy, Debug, PartialEq, Eq)]
+pub struct Header {
+    /// Connections at a time.
+    pub slots: usize,
+    /// Threads that poll.
+    pub pollers: usize,
+    /// Threads that only run turns.
+    pub workers: usize,
+    /// Bytes buffered for each direction.
+    pub ring: usize,
+    /// Calls of a turn.
+    pub budget: usize,
+    /// Seconds that a connection may move nothing; 0 for ever.
+    pub idle: u64,
+    /// Whether each target is first sent a line with the addresses of its client's connection.
+    pub proxy: bool,
+}
+
+impl Display for Header {
+    ghost output = { λ header. Some (header_text header) };
+
+    fn fmt<W: fmt::Write>(&self, f: &mut fmt::Formatter<W>) -> fmt::Result {
+        let (slots, pollers, workers) = (self.slots, self.pollers, self.workers);
+        let (ring, budget, idle) = (self.ring, self.budget, self.idle);
+        let proxy = yes_or_no(self.proxy);
+        write!(
+            f,
+            "relayd recording 1 slots={slots} pollers={pollers} workers={workers} ring={ring} budget={budget} idle={idle} proxy={proxy}"
+        )
+    }
+}
+
+/// Reads a recording's first line, which is given without its line feed.
+///
+/// It refuses a line of another form, and sizes that no relay has: 0 or over 4,096 slots, 0 or over 16 pollers or workers,
+/// a ring of 0 or over 65,536 bytes, a budget of 0 or over 1,024 calls, and an idle limit of over 86,400 seconds.
+pub fn read_header(line: &[u8]) -> Result<Header, Wrong<'_>> {
+    let mut words = Words::new(line, b' ');
+    for word in &["relayd", "recording", "1"] {
+        first(&mut words, word)?;
+    }
+    let header = Header {
+        slots: size(
+            &mut words,
+            "slots=",
+            4_096,
+            "slots=1 to slots=4096 is wanted",
+        )?,
+        pollers: size(
+            &mut words,
+            "pollers=",
+            16,
+            "pollers=1 to pollers=16 is wanted",
+        )?,
+        workers: size(
+            &mut words,
+            "workers=",
+            16,
+            "workers=1 to workers=16 is wanted",
+        )?,
+        ring: size(
+            &mut words,
+            "ring=",
+            65_536,
+            "ring=1 to ring=65536 is wanted",
+        )?,
+        budget: size(
+            &mut words,
+            "budget=",
+            1_024,
+            "budget=1 to budget=1024 is wanted",
+        )?,
+        idle: idle(&mut words)?,
+        proxy: proxy(&mut words)?,
+    };
+    words.end()?;
+    Ok(header)
+}
+
+/// One of the words with which every recording begins.
+fn first<'a>(words: &mut Words<'a>, text: &str) -> Result<(), Wrong<'a>> {
+    let wanted = "a recording begins with relayd recording 1";
+    let word = words.word(wanted)?;
+    said(if is(word, text) { Some(()) } else { None }, word, wanted)
+}
+
+/// The number after a key, which ends with its `=`.
+fn value_after(key: &str, word: &[u8]) -> Option<u64> {
+    number(word.strip_prefix(key.as_bytes())?)
+}
+
+/// A size, which is 1 at least.
+fn size<'a>(
+    words: &mut Words<'a>,
+    key: &str,
+    most: u64,
+    wanted: &'static str,
+) -> Result<usize, Wrong<'a>> {
+    let word = words.word(wanted)?;
+    match value_after(key, word) {
+        Some(value) if 1 <= value && value <= most => Ok(value as usize),
+        _ => said(None, word, wanted),
+    }
+}
+
+/// The idle limit.
+fn idle<'a>(words: &mut Words<'a>) -> Result<u64, Wrong<'a>> {
+    let wanted = "idle=0 to idle=86400 is wanted";
+    let word = words.word(wanted)?;
+    match value_after("idle=", word) {
+        Some(value) if value <= 86_400 => Ok(value),
+        _ => said(None, word, wanted),
+    }
+}
+
+/// Whether targets are told addresses.
+fn proxy<'a>(words: &mut Words<'a>) -> Result<bool, Wrong<'a>> {
+    let wanted = "proxy=yes or proxy=no is wanted";
+    let word = words.word(wanted)?;
+    if is(word, "proxy=yes") {
+        Ok(true)
+    } else if is(word, "proxy=no") {
+        Ok(false)
+    } else {
+        said(None, word, wanted)
+    }
+}

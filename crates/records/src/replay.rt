@@ -1,0 +1,70 @@
+//! What a replay is asked, and what it answers. Who hands a recording on need not know the machine on which it is played.
+use std::alloc::{AllocError, AllocFailed, Global};
+use std::io::{Read, Write};
+use thiserror::Error;
+
+/// What is to be told of a recording.
+#[derive(Clone, Copy, Debug, PartialEq, Eq)]
+pub enum Wanted {
+    /// How many connections, how many events of each kind, and how many bytes.
+    Totals,
+    /// What became of each connection, as the log says it.
+    Ends,
+    /// The script of the connection of this slot and generation.
+    Script(usize, u64),
+}
+
+/// Whether a recording is of runs of the machine.
+#[derive(Clone, Copy, Debug, PartialEq, Eq)]
+pub enum Outcome {
+    /// Each slot and each listener is one. What was wanted is written.
+    Run,
+    /// One of them is not. The first record that can stand at no place is written, and the script that leads there.
+    NoRun,
+}
+
+/// Replays recordings.
+pub trait Replay {
+    /// Reads a recording, plays it, and writes what is wanted of it. With `rests` the relay had come to rest when it was
+    /// stopped.
+    fn replay<R: Read, W: Write>(
+        &self,
+        alloc: Global,
+        input: &mut R,
+        wanted: Wanted,
+        rests: bool,
+        output: &mut W,
+    ) -> Result<Outcome, ReplayFault>;
+}
+
+/// Why a recording is not replayed. Its text is what a person sees.
+#[derive(Debug, Drop, Error)]
+pub enum ReplayFault {
+    /// The reader gave an error.
+    #[error("recording: cannot be read")]
+    Read,
+    /// The file is no recording: its first line that is wrong, and what is wanted there.
+    #[error("recording: malformed")]
+    Broken(String),
+    /// The recording has no such connection.
+    #[error("recording: no such connection")]
+    Unknown,
+    /// The outcome could not be written.
+    #[error("output: cannot be written")]
+    Write,
+    /// Memory ran out.
+    #[error("out of memory")]
+    NoMemory,
+}
+
+impl From<AllocError> for ReplayFault {
+    fn from(_error: AllocError) -> ReplayFault {
+        ReplayFault::NoMemory
+    }
+}
+
+impl<T: Drop> From<AllocFailed<T>> for ReplayFault {
+    fn from(_error: AllocFailed<T>) -> ReplayFault {
+        ReplayFault::NoMemory
+    }
+}

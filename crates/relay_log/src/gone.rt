@@ -1,0 +1,121 @@
+// What the log has of a connection that did not end well.
+ghost use Rattle.std.specs.Prelude.{◌≡◌, Some};
+ghost use Rattle.std.specs.Fmt.{◌++?◌};
+ghost use Rattle.relay_log.specs.Messages.{gone_begins, gone_between, gone_counts, yes_or_no};
+
+use std::fmt::{self, Display};
+use std::io;
+
+/// A connection that did not end well: whose it was, how far it got, and what the system says of the cause.
+#[derive(Clone, Copy)]
+pub struct Gone<'a, D, E> {
+    /// Its slot and generation, if it was opened.
+    pub opened: Option<(usize, u64)>,
+    /// The client's address, as it prints.
+    pub from: &'a D,
+    /// Whether its target was ever connected.
+    pub connected: bool,
+    /// Bytes sent to the target.
+    pub up: u64,
+    /// Bytes sent to the client.
+    pub down: u64,
+    /// How many seconds it was open.
+    pub seconds: u64,
+    /// The cause, as it prints.
+    pub cause: &'a E,
+}
+
+impl<'a, D: Display, E: Display> Display for Gone<'a, D, E> {
+    ghost output = { λ gone. Some (gone_begins gone.opened) ++? D.output gone.from.now ++? Some (gone_between gone.connected gone.up gone.down gone.seconds) ++? E.output gone.cause.now };
+
+    fn fmt<W: fmt::Write>(&self, f: &mut fmt::Formatter<W>) -> fmt::Result {
+        let (begins, from, cause) = (Begins(self.opened), self.from, self.cause);
+        let between = Between {
+            connected: yes_or_no(self.connected),
+            up: self.up,
+            down: self.down,
+            seconds: self.seconds,
+        };
+        write!(f, "{begins}{from}{between}{cause}")
+    }
+}
+
+/// What stands before the client's address.
+#[derive(Clone, Copy)]
+struct Begins(Option<(usize, u64)>);
+
+impl Display for Begins {
+    ghost output = { λ begins. Some (gone_begins begins.0) };
+
+    fn fmt<W: fmt::Write>(&self, f: &mut fmt::Formatter<W>) -> fmt::Result {
+        match self.0 {
+            Some((slot, generation)) => write!(f, "gone s={slot} g={generation} from="),
+            None => f.write_str("gone from="),
+        }
+    }
+}
+
+/// What stands between the client's address and the cause.
+#[derive(Clone, Copy)]
+struct Between {
+    connected: &'static str,
+    up: u64,
+    down: u64,
+    seconds: u64,
+}
+
+impl Display for Between {
+    ghost output = { λ b. Some (gone_counts b.connected.now b.up b.down b.seconds) };
+
+    fn fmt<W: fmt::Write>(&self, f: &mut fmt::Formatter<W>) -> fmt::Result {
+        let Between {
+            connected,
+            up,
+            down,
+            seconds,
+        } = *self;
+        write!(
+            f,
+            " connected={connected} up={up} down={down} seconds={seconds} cause="
+        )
+    }
+}
+
+fn yes_or_no(is_so: bool) -> &'static str
+    ensures { result.now ≡ yes_or_no is_so }
+{
+    if is_so { "yes" } else { "no" }
+}
+
+/// What is known, as it prints, or that it is unknown.
+#[derive(Clone, Copy)]
+pub struct Known<D>(pub Option<D>);
+
+impl<D: Display> Display for Known<D> {
+    fn fmt<W: fmt::Write>(&self, f: &mut fmt::Formatter<W>) -> fmt::Result {
+        match &self.0 {
+            Some(known) => write!(f, "{known}"),
+            None => f.write_str("unknown"),
+        }
+    }
+}
+
+/// Why a connection did not end well: what the system says of an error with this number (errno(3)), or a word where there is
+/// none.
+#[derive(Clone, Copy)]
+pub struct Why {
+    pub error: Option<i32>,
+    pub word: &'static str,
+}
+
+impl Display for Why {
+    fn fmt<W: fmt::Write>(&self, f: &mut fmt::Formatter<W>) -> fmt::Result {
+        match self.error {
+            Some(number) => {
+                let error = io::Error::from_raw_os_error(number);
+                write!(f, "{error}")
+            }
+            None => f.write_str(self.word),
+        }
+    }
+}

@@ -1,0 +1,72 @@
+//! Which seconds the clock showed, as far as it was read.
+use crate::recording::Numbered;
+use records::Act;
+use std::alloc::{AllocError, Global};
+
+/// The readings of the clock, by the counts around them. Each list rises by its first number, and has with it the latest
+/// second up to there.
+#[derive(Drop)]
+pub(crate) struct Clock {
+    before: Vec<(u64, u64)>,
+    after: Vec<(u64, u64)>,
+}
+
+impl Clock {
+    /// The readings of these records, which rise by the count before them.
+    pub(crate) fn new(alloc: Global, records: &[Numbered]) -> Result<Clock, AllocError> {
+        let mut before = Vec::new(alloc);
+        let mut after = Vec::new(alloc);
+        for numbered in records {
+            if let Act::Second(second) = numbered.record.act {
+                before.push((numbered.record.before, second))?;
+                after.push((numbered.record.after, second))?;
+            }
+        }
+        after.sort()?;
+        rise(before.as_mut_slice());
+        rise(after.as_mut_slice());
+        Ok(Clock { before, after })
+    }
+
+    /// The earliest and the latest second of a reading between these two counts, which was made by a thread of which nothing
+    /// else is recorded there. Without one these are the seconds that the clock can have shown.
+    pub(crate) fn between(&self, from: u64, to: u64) -> (u64, u64) {
+        let readings = self.before.as_slice();
+        let last = count_below(readings, to).saturating_sub(1);
+        let latest = second_at(readings, last);
+        let first = count_below(readings, from);
+        if first <= last && first < readings.len() {
+            return (second_at(readings, first), latest);
+        }
+        (self.earliest(from), latest)
+    }
+
+    /// The earliest second that it can have shown once the count had this value.
+    pub(crate) fn earliest(&self, count: u64) -> u64 {
+        match count_below(self.after.as_slice(), count.saturating_add(1)).checked_sub(1) {
+            Some(last) => second_at(self.after.as_slice(), last),
+            None => second_at(self.before.as_slice(), 0),
+        }
+    }
+}
+
+/// Gives each place the greatest second up to there.
+fn rise(readings: &mut [(u64, u64)]) {
+    let mut most = 0;
+    for reading in readings.iter_mut() {
+        most = most.max(reading.1);
+        reading.1 = most;
+    }
+}
+
+fn second_at(readings: &[(u64, u64)], index: usize) -> u64 {
+    match readings.get(index) {
+        Some(reading) => reading.1,
+        None => 0,
+    }
+}
+
+/// How many of these have a first number below this one. They rise by it.
+fn count_below(readings: &[(u64, u64)], count: u64) -> usize {
+    readings.partition_point(|reading| reading.0 < count)
+}

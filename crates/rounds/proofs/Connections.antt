@@ -1,0 +1,377 @@
+-- Connections that are opened one after the other.
+use Rattle.std.proofs.Common.{◌≡◌, ◌≢◌, ◌⊎◌, ℕ, ◌+◌, ◌-◌, ◌≤◌, List, [], ◌∷◌, ◌++◌, length, drop, slice_get, slice_set, min, cond, Bool, refl, sym, subst, ap, ◌∙◌, arith, inl, inr, append_assoc, length-append}
+use Rattle.std.specs.Prelude.{◌==◌, Some, None, Result, Ok, Err, OnOk, map}
+use Rattle.std.proofs.lemmas.List.{append-nil}
+use Rattle.std.proofs.lemmas.List.Sums.{sum_by-append}
+use Rattle.std.proofs.lemmas.Option.{none-some, same_Some}
+use mathlib.Core.Logic.{dite}
+use native.Mathlib.Decide.{ℕ_discrete}
+use Rattle.claims.specs.declared.view.Account.{Account}
+use Rattle.claims.specs.Seats.{SeatState, account_at}
+use Rattle.ready.specs.declared.ticket.Ticket.{Ticket}
+use Rattle.dispatch.specs.declared.shared.Own.{Own}
+use Rattle.ready.specs.Steps.{EndState}
+use Rattle.dispatch.specs.Hands.{HandState, ticket_room}
+use Rattle.rounds.specs.Deliveries.{at_slot}
+use Rattle.rounds.specs.Openings.{times, slots_in, AreIn, AreOpened, SlotsCounted, OnlyTook, Connected, AcceptDone}
+use Rattle.dispatch.specs.Polls.{PollerState, Counted, counted_up, IsIn}
+use Rattle.dispatch.specs.declared.part.Part.{Part}
+use Rattle.dispatch.specs.declared.episodes.Episodes.{Episodes}
+use Rattle.dispatch.specs.Posts.{Rose}
+use Rattle.rounds.proofs.Reports.{at_slot-append, one_at, none_at}
+
+-- counts
+
+pub counted_none : (count : ℕ) → Counted count 0 count
+counted_none count = inl (omega arith)
+
+pub counted_one : (most old new : ℕ) → new ≡ min (old + 1) most → (new ≡ old + 1) ⊎ ((most ≤ old + 1) × (most ≤ new))
+counted_one most old new is = dite (ℕ_discrete new (old + 1)) (λ same. inl same) (λ other. inr (omega arith, omega arith))
+
+counted_both : (most a b c m n : ℕ)
+    → (b ≡ a + m) ⊎ ((most ≤ a + m) × (most ≤ b)) → (c ≡ b + n) ⊎ ((most ≤ b + n) × (most ≤ c))
+    → (c ≡ a + (m + n)) ⊎ ((most ≤ a + (m + n)) × (most ≤ c))
+counted_both most a b c m n (inl first) (inl second) = inl (omega arith)
+counted_both most a b c m n (inl first) (inr second) = let x = second.0 in let y = second.1 in inr (omega arith, y)
+counted_both most a b c m n (inr first) (inl second) = let x = first.0 in let y = first.1 in inr (omega arith, omega arith)
+counted_both most a b c m n (inr first) (inr second) = let x = first.0 in let y = second.1 in inr (omega arith, y)
+
+-- lists of slots
+
+pub times-append : (slot : ℕ) (xs ys : List ℕ) → times slot (xs ++ ys) ≡ times slot xs + times slot ys
+times-append slot xs ys = sum_by-append (λ (s : ℕ). cond (s == slot) 1 0) xs ys
+
+pub times_first : (slot : ℕ) (xs : List ℕ) (x : ℕ) → slice_get xs 0 ≡ Some x → times slot xs ≡ times slot (x ∷ []) + times slot (drop 1 xs)
+times_first slot [] x is = absurd (none-some x is)
+times_first slot (y ∷ ys) x is = subst (λ (z : ℕ). times slot (y ∷ ys) ≡ times slot (z ∷ []) + times slot ys) (same_Some y x is) (times-append slot (y ∷ []) ys)
+
+opened-append : (xs ys : List Ticket) (a b c : List ℕ) → AreOpened a xs b → AreOpened b ys c → AreOpened a (xs ++ ys) c
+opened-append [] ys a b c same rest = subst (λ (t : List ℕ). AreOpened t ys c) same rest
+opened-append (x ∷ xs) ys a b c first rest = (first.0, opened-append xs ys (slice_set a x.slot x.generation) b c first.1 rest)
+
+-- accounts
+
+rose_none : (a b : Account) → b ≡ a → Rose 0 0 a b
+rose_none a b same =
+    let posted : b.posted ≡ a.posted = ap (λ (x : Account). x.posted) same in
+    let minted : b.minted ≡ a.minted = ap (λ (x : Account). x.minted) same in
+    record { posted = omega arith; minted = omega arith }
+
+rose_both : (a b c : Account) (m n k : ℕ) → k ≡ m + n → Rose m m a b → Rose n n b c → Rose k k a c
+rose_both a b c m n k sum first second =
+    let posted = first.posted in
+    let posts = second.posted in
+    let minted = first.minted in
+    let mints = second.minted in
+    record { posted = omega arith; minted = omega arith }
+
+own_both : (p q : Part) (xs ys : List Ticket) → q ≡ p → AreIn p xs → AreIn q ys → AreIn p (xs ++ ys)
+own_both p q xs ys same one two slot out =
+    let first = one slot out in
+    let second = two slot (λ is. out (subst (λ (part : Part). IsIn part slot) same is)) in
+    let both = at_slot-append slot xs ys in
+    omega arith
+
+-- a connection in one of the poller's own slots
+pub own_one : (part : Part) (t : Ticket) → IsIn part t.slot → AreIn part (t ∷ [])
+own_one part t here slot out = none_at t slot (λ same. out (subst (λ (i : ℕ). IsIn part i) (sym same) here))
+
+slots_both : (a b c : Own) (xs ys : List Ticket) (ls ms : List ℕ) → SlotsCounted a b xs ls → SlotsCounted b c ys ms → SlotsCounted a c (xs ++ ys) (ls ++ ms)
+slots_both a b c xs ys ls ms one two slot =
+    let first = one slot in
+    let second = two slot in
+    let tickets = at_slot-append slot xs ys in
+    let lost = times-append slot ls ms in
+    omega arith
+
+module _ {p q r : PollerState} {a b c : Own} where
+  -- connections, and then others
+  pub connected_both : (xs ys : List Ticket) (ls ms : List ℕ) (h k : ℕ) → Connected xs ls h p q a b → Connected ys ms k q r b c → Connected (xs ++ ys) (ls ++ ms) (h + k) p r a c
+  connected_both xs ys ls ms h k one two = record {
+    some = (let first = one.some in let second = two.some in let both = length-append ls ms in omega arith);
+    exchanges = (let first = one.exchanges in let second = two.exchanges in let both = length-append xs ys in omega arith);
+    table = opened-append xs ys p.table q.table r.table one.table two.table;
+    counted = subst (λ (n : ℕ). Counted p.opened n r.opened) (sym (length-append xs ys))
+        (counted_both 18446744073709551615 p.opened q.opened r.opened (length xs) (length ys) one.counted two.counted);
+    unused = subst (λ (n : ℕ). Counted p.lost n r.lost) (sym (length-append ls ms))
+        (counted_both 18446744073709551615 p.lost q.lost r.lost (length ls) (length ms) one.unused two.unused);
+    batch = two.batch ∙ one.batch;
+    part = two.part ∙ one.part;
+    own = own_both p.part q.part xs ys one.part one.own two.own;
+    accounts = λ slot. rose_both (account_at a.seat slot) (account_at b.seat slot) (account_at c.seat slot)
+        (at_slot slot xs) (at_slot slot ys) (at_slot slot (xs ++ ys)) (at_slot-append slot xs ys) (one.accounts slot) (two.accounts slot);
+    tickets = two.tickets ∙ ap (λ (ts : List Ticket). ts ++ ys) one.tickets ∙ append_assoc a.hand.tickets xs ys;
+    ready = two.ready ∙ one.ready;
+    gave = two.gave ∙ one.gave;
+  }
+
+  pub accept_both : AcceptDone p q a b → AcceptDone q r b c → AcceptDone p r a c
+  accept_both one two = record {
+    opened = one.opened ++ two.opened;
+    lost = one.lost ++ two.lost;
+    held = one.held + two.held;
+    connected = connected_both one.opened two.opened one.lost two.lost one.held two.held one.connected two.connected;
+    slots = slots_both a b c one.opened two.opened one.lost two.lost one.slots two.slots;
+  }
+
+-- what a poller has to say of a change that opens nothing
+pub record SamePoller (old new : PollerState) : Type 0 where
+  pub table : new.table ≡ old.table
+  pub opened : new.opened ≡ old.opened
+  pub lost : new.lost ≡ old.lost
+  pub batch : new.batch ≡ old.batch
+  pub part : new.part ≡ old.part
+
+counted_same : (old new : ℕ) → new ≡ old → Counted old 0 new
+counted_same old new same = subst (λ (n : ℕ). Counted old 0 n) (sym same) (counted_none old)
+
+-- slots were taken, and nothing was opened
+pub accept_took : (p q : PollerState) (a b : Own) → SamePoller p q → OnlyTook a b → AcceptDone p q a b
+accept_took p q a b same took = record {
+  opened = [];
+  lost = [];
+  held = 0;
+  connected = record {
+    some = omega arith;
+    exchanges = (let still : b.seat.steps ≡ a.seat.steps = ap (λ (s : SeatState). s.steps) took.seat in omega arith);
+    table = same.table;
+    counted = counted_same p.opened q.opened same.opened;
+    unused = counted_same p.lost q.lost same.lost;
+    batch = same.batch;
+    part = same.part;
+    own = λ slot out. refl;
+    accounts = λ slot. rose_none (account_at a.seat slot) (account_at b.seat slot) (ap (λ (s : SeatState). account_at s slot) took.seat);
+    tickets = took.tickets ∙ sym (append-nil a.hand.tickets);
+    ready = took.ready;
+    gave = took.gave;
+  };
+  slots = took.slots;
+}
+
+-- nothing happened
+pub took_none : (a : Own) → OnlyTook a a
+took_none a = record {
+  seat = refl;
+  ready = refl;
+  tickets = refl;
+  capacity = refl;
+  gave = refl;
+  slots = λ slot. omega arith;
+}
+
+pub took_both : (a b c : Own) → OnlyTook a b → OnlyTook b c → OnlyTook a c
+took_both a b c one two = record {
+  seat = two.seat ∙ one.seat;
+  ready = two.ready ∙ one.ready;
+  tickets = two.tickets ∙ one.tickets;
+  capacity = two.capacity ∙ one.capacity;
+  gave = two.gave ∙ one.gave;
+  slots = λ slot. (let first = one.slots slot in let second = two.slots slot in omega arith);
+}
+
+-- the account of one slot that was opened, and of every other
+pub accounts_of_one : (t : Ticket) (old new : SeatState) → Rose 1 1 (account_at old t.slot) (account_at new t.slot)
+    → ((other : ℕ) → other ≢ t.slot → account_at new other ≡ account_at old other)
+    → (slot : ℕ) → Rose (at_slot slot (t ∷ [])) (at_slot slot (t ∷ [])) (account_at old slot) (account_at new slot)
+accounts_of_one t old new here elsewhere slot = dite (ℕ_discrete slot t.slot)
+    (λ same. subst (λ (i : ℕ). Rose (at_slot i (t ∷ [])) (at_slot i (t ∷ [])) (account_at old i) (account_at new i)) (sym same)
+    (subst (λ (n : ℕ). Rose n n (account_at old t.slot) (account_at new t.slot)) (sym (one_at t)) here))
+    (λ other. subst (λ (n : ℕ). Rose n n (account_at old slot) (account_at new slot)) (sym (none_at t slot other))
+    (rose_none (account_at old slot) (account_at new slot) (elsewhere slot other)))
+
+none_first : (xs : List ℕ) → slice_get xs 0 ≡ None → drop 1 xs ≡ xs
+none_first [] is = refl
+none_first (x ∷ xs) is = absurd (none-some x (sym is))
+
+module _ (p q : PollerState) (a : Own) (hand : HandState) (taken : hand ≡ record a.hand { slots = drop 1 a.hand.slots }) where
+  -- no slot was in hand
+  pub opened_nowhere : slice_get a.hand.slots 0 ≡ None → AcceptDone p p a (record a { hand = hand })
+  opened_nowhere none =
+      let same : hand ≡ a.hand = taken ∙ ap (λ (xs : List ℕ). record a.hand { slots = xs }) (none_first a.hand.slots none) in
+      subst (λ (h : HandState). AcceptDone p p a (record a { hand = h })) (sym same)
+      (accept_took p p a a (record { table = refl; opened = refl; lost = refl; batch = refl; part = refl }) (took_none a))
+
+  at_is_times : (s : ℕ) (t : Ticket) (slot : ℕ) → t.slot ≡ slot → at_slot s (t ∷ []) ≡ times s (slot ∷ [])
+  at_is_times s t slot here = ap (λ (i : ℕ). 0 + cond (i == s) 1 0) here
+
+  -- that the slot was taken in hand changes nothing that a connection says
+  from_hand : (ts : List Ticket) (ls : List ℕ) (h : ℕ) (b : Own) → Connected ts ls h p q (record a { hand = hand }) b → Connected ts ls h p q a b
+  from_hand ts ls h b one = record {
+    some = one.some;
+    exchanges = one.exchanges;
+    table = one.table;
+    counted = one.counted;
+    unused = one.unused;
+    batch = one.batch;
+    part = one.part;
+    own = one.own;
+    accounts = one.accounts;
+    tickets = one.tickets ∙ ap (λ (h : HandState). h.tickets ++ ts) taken;
+    ready = one.ready;
+    gave = one.gave;
+  }
+
+  module _ (slot : ℕ) (is : slice_get a.hand.slots 0 ≡ Some slot) where
+    -- the slot cannot be opened any more
+    pub opened_never : q ≡ record p { lost = counted_up p.lost 1 } → AcceptDone p q a (record a { hand = hand })
+    opened_never lost = record {
+      opened = [];
+      lost = slot ∷ [];
+      held = 0;
+      connected = record {
+        some = omega arith;
+        exchanges = omega arith;
+        table = ap (λ (s : PollerState). s.table) lost;
+        counted = counted_same p.opened q.opened (ap (λ (s : PollerState). s.opened) lost);
+        unused = counted_one 18446744073709551615 p.lost q.lost (ap (λ (s : PollerState). s.lost) lost);
+        batch = ap (λ (s : PollerState). s.batch) lost;
+        part = ap (λ (s : PollerState). s.part) lost;
+        own = λ s out. refl;
+        accounts = λ s. rose_none (account_at a.seat s) (account_at a.seat s) refl;
+        tickets = ap (λ (h : HandState). h.tickets) taken ∙ sym (append-nil a.hand.tickets);
+        ready = refl;
+        gave = refl;
+      };
+      slots = λ s.
+          (let left : times s hand.slots ≡ times s (drop 1 a.hand.slots) = ap (λ (h : HandState). times s h.slots) taken in
+          let first = times_first s a.hand.slots slot is in
+          omega arith);
+    }
+
+    -- its opening failed, and it is in hand again
+    pub opened_not : (kept : HandState) → kept ≡ record hand { slots = hand.slots ++ slot ∷ [] } → SamePoller p q → AcceptDone p q a (record a { hand = kept })
+    opened_not kept again still = accept_took p q a (record a { hand = kept }) still (record {
+      seat = refl;
+      ready = refl;
+      tickets = ap (λ (h : HandState). h.tickets) again ∙ ap (λ (h : HandState). h.tickets) taken;
+      capacity = ap (λ (h : HandState). h.capacity) again ∙ ap (λ (h : HandState). h.capacity) taken;
+      gave = refl;
+      slots = λ s.
+          (let left : times s hand.slots ≡ times s (drop 1 a.hand.slots) = ap (λ (h : HandState). times s h.slots) taken in
+          let now : times s kept.slots ≡ times s hand.slots + times s (slot ∷ []) = ap (λ (h : HandState). times s h.slots) again ∙ times-append s hand.slots (slot ∷ []) in
+          let first = times_first s a.hand.slots slot is in
+          omega arith);
+    })
+
+    slot_left : (s : ℕ) (b : Own) → b.free ≡ a.free → b.hand.slots ≡ hand.slots
+        → times s (slots_in b) + times s a.hand.slots ≡ times s (slots_in a) + (times s b.hand.slots + times s (slot ∷ []))
+    slot_left s b free slots =
+        let queue : times s (slots_in b) ≡ times s (slots_in a) = ap (λ (f : EndState ℕ). times s (map (λ (take : ℕ × ℕ). take.1) f.history.taken)) free in
+        let now : times s b.hand.slots ≡ times s (drop 1 a.hand.slots) = ap (λ (xs : List ℕ). times s xs) slots ∙ ap (λ (h : HandState). times s h.slots) taken in
+        let first = times_first s a.hand.slots slot is in
+        omega arith
+
+    there : (b : Own) (t : Ticket) → t.slot ≡ slot
+        → Connected (t ∷ []) [] 0 p q (record a { hand = hand }) b ⊎ Connected [] (t.slot ∷ []) 1 p q (record a { hand = hand }) b
+        → b.free ≡ a.free → b.hand.slots ≡ hand.slots → AcceptDone p q a b
+    there b t here (inl one) free slots = record {
+      opened = t ∷ [];
+      lost = [];
+      held = 0;
+      connected = from_hand (t ∷ []) [] 0 b one;
+      slots = λ s.
+          (let counted = slot_left s b free slots in
+          let same : at_slot s (t ∷ []) ≡ times s (slot ∷ []) = at_is_times s t slot here in
+          omega arith);
+    }
+    there b t here (inr none) free slots = record {
+      opened = [];
+      lost = t.slot ∷ [];
+      held = 1;
+      connected = from_hand [] (t.slot ∷ []) 1 b none;
+      slots = λ s.
+          (let counted = slot_left s b free slots in
+          let same : times s (t.slot ∷ []) ≡ times s (slot ∷ []) = ap (λ (i : ℕ). times s (i ∷ [])) here in
+          omega arith);
+    }
+
+    -- a connection was placed in it, or it is no longer used
+    pub opened_there : (s : PollerState) (b : Own) (t : Ticket) → s ≡ p → t.slot ≡ slot
+        → Connected (t ∷ []) [] 0 s q (record a { hand = hand }) b ⊎ Connected [] (t.slot ∷ []) 1 s q (record a { hand = hand }) b
+        → b.free ≡ a.free → b.hand.slots ≡ hand.slots → AcceptDone p q a b
+    opened_there s b t still here placed free slots =
+        there b t here (subst (λ (x : PollerState). Connected (t ∷ []) [] 0 x q (record a { hand = hand }) b ⊎ Connected [] (t.slot ∷ []) 1 x q (record a { hand = hand }) b) still placed) free slots
+
+-- three clauses of a call that answered Ok give a fourth
+pub on_ok : {T E A B C D : Type 0} (r : Result T E) → (A → B → C → D) → OnOk r A → OnOk r B → OnOk r C → OnOk r D
+on_ok (Ok x) f a b c = f a b c
+on_ok (Err e) f a b c = tt
+
+-- nothing was opened, and nothing was taken
+pub accept_none : (p q : PollerState) (a : Own) → SamePoller p q → AcceptDone p q a a
+accept_none p q a same = accept_took p q a a same (took_none a)
+
+-- a connection was closed unopened
+pub same_dropped : (p r q : PollerState) (episodes : Episodes) (dropped : ℕ) → r ≡ record p { episodes = episodes } → q ≡ record r { dropped = dropped } → SamePoller p q
+same_dropped p r q episodes dropped one two = record {
+  table = ap (λ (s : PollerState). s.table) two ∙ ap (λ (s : PollerState). s.table) one;
+  opened = ap (λ (s : PollerState). s.opened) two ∙ ap (λ (s : PollerState). s.opened) one;
+  lost = ap (λ (s : PollerState). s.lost) two ∙ ap (λ (s : PollerState). s.lost) one;
+  batch = ap (λ (s : PollerState). s.batch) two ∙ ap (λ (s : PollerState). s.batch) one;
+  part = ap (λ (s : PollerState). s.part) two ∙ ap (λ (s : PollerState). s.part) one;
+}
+
+-- the flags and the tries are no matter of the connections
+pub same_two : (p a q : PollerState) (tries : ℕ) (accepting starved : Bool) (episodes : Episodes)
+    → a ≡ record p { tries = tries } → q ≡ record a { accepting = accepting; starved = starved; episodes = episodes } → SamePoller p q
+same_two p a q tries accepting starved episodes one two = record {
+  table = ap (λ (s : PollerState). s.table) two ∙ ap (λ (s : PollerState). s.table) one;
+  opened = ap (λ (s : PollerState). s.opened) two ∙ ap (λ (s : PollerState). s.opened) one;
+  lost = ap (λ (s : PollerState). s.lost) two ∙ ap (λ (s : PollerState). s.lost) one;
+  batch = ap (λ (s : PollerState). s.batch) two ∙ ap (λ (s : PollerState). s.batch) one;
+  part = ap (λ (s : PollerState). s.part) two ∙ ap (λ (s : PollerState). s.part) one;
+}
+
+pub same_tries : (p q : PollerState) (tries : ℕ) → q ≡ record p { tries = tries } → SamePoller p q
+same_tries p q tries is = same_two p q q tries q.accepting q.starved q.episodes is refl
+
+same_still : (p : PollerState) → SamePoller p p
+same_still p = record { table = refl; opened = refl; lost = refl; batch = refl; part = refl }
+
+-- a slot was taken for the next try
+pub accept_and_took : {p q : PollerState} {a b c : Own} → AcceptDone p q a b → OnlyTook b c → AcceptDone p q a c
+accept_and_took {p} {q} {a} {b} {c} done took = accept_both done (accept_took q q b c (same_still q) took)
+
+-- and the try was made
+pub accept_and_next : {p q r : PollerState} {a b c d : Own} → AcceptDone p q a b → OnlyTook b c → AcceptDone q r c d → AcceptDone p r a d
+accept_and_next {p} {q} {r} {a} {b} {c} {d} done took next = accept_both (accept_both done (accept_took q q b c (same_still q) took)) next
+
+pub room_same : (a b : Own) → OnlyTook a b → ticket_room b.hand ≡ ticket_room a.hand
+room_same a b took = ap (λ (n : ℕ). n - length b.hand.tickets) took.capacity ∙ ap (λ (ts : List Ticket). a.hand.capacity - length ts) took.tickets
+
+-- a try took one ticket in hand at most
+pub room_left : (try : ℕ) (a b c : Own) → OnlyTook a b → ticket_room b.hand ≤ ticket_room c.hand + 1 → 4 ≤ try + ticket_room a.hand → 4 ≤ try + 1 + ticket_room c.hand
+room_left try a b c took one room = let same = room_same a b took in omega arith
+
+-- what trying accept(2) may change of what the poller keeps
+abbrev tried : PollerState → PollerState → PollerState
+tried p q = record p { table = q.table; accepting = q.accepting; starved = q.starved; tries = q.tries; opened = q.opened; dropped = q.dropped; lost = q.lost; episodes = q.episodes }
+
+pub accept_again : (p q r : PollerState) → q ≡ tried p q → r ≡ tried q r → r ≡ tried p r
+accept_again p q r one two = two ∙ ap (λ (s : PollerState). tried s r) one
+
+pub accept_still : (p q : PollerState) (tries : ℕ) → q ≡ record p { tries = tries } → q ≡ tried p q
+accept_still p q tries is = subst (λ (s : PollerState). s ≡ tried p s) (sym is) refl
+
+pub accept_refused : (p a q : PollerState) (tries : ℕ) (accepting starved : Bool) (episodes : Episodes)
+    → a ≡ record p { tries = tries } → q ≡ record a { accepting = accepting; starved = starved; episodes = episodes } → q ≡ tried p q
+accept_refused p a q tries accepting starved episodes one two =
+    accept_again p a q (accept_still p a tries one) (subst (λ (s : PollerState). s ≡ tried a s) (sym two) refl)
+
+pub accept_opened : (p a q : PollerState) (tries : ℕ) (starved : Bool) (table : List ℕ) (opened dropped lost : ℕ) (episodes : Episodes)
+    → a ≡ record p { tries = tries; starved = starved } → q ≡ record a { table = table; opened = opened; dropped = dropped; lost = lost; episodes = episodes } → q ≡ tried p q
+accept_opened p a q tries starved table opened dropped lost episodes one two =
+    accept_again p a q (subst (λ (s : PollerState). s ≡ tried p s) (sym one) refl) (subst (λ (s : PollerState). s ≡ tried a s) (sym two) refl)
+
+-- that the log was told of a client that waits for a slot opens nothing
+pub same_full : {p q : PollerState} (episodes : Episodes) → q ≡ record p { episodes = episodes } → SamePoller p q
+same_full episodes is = record {
+  table = ap (λ (s : PollerState). s.table) is;
+  opened = ap (λ (s : PollerState). s.opened) is;
+  lost = ap (λ (s : PollerState). s.lost) is;
+  batch = ap (λ (s : PollerState). s.batch) is;
+  part = ap (λ (s : PollerState). s.part) is;
+}
+
+pub accept_told : (p q : PollerState) (episodes : Episodes) → q ≡ record p { episodes = episodes } → q ≡ tried p q
+accept_told p q episodes is = subst (λ (s : PollerState). s ≡ tried p s) (sym is) refl

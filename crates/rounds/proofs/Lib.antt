@@ -1,0 +1,5 @@
+pub mod Causes
+pub mod Connections
+pub mod Reports
+pub mod Sweeps
+pub mod WholeRounds

@@ -1,0 +1,175 @@
+-- A round, of its parts: the reports were delivered, a sweep was made or none, and connections
+-- were opened.
+use Rattle.std.proofs.Common.{◌≡◌, ◌⊎◌, ℕ, ◌+◌, ◌*◌, ◌<◌, ◌≤◌, inl, inr, List, [], ◌++◌, length, refl, sym, subst, ap, ◌∙◌, arith, append_assoc}
+use Rattle.std.specs.Prelude.{map}
+use Rattle.claims.specs.declared.view.Account.{Account}
+use Rattle.claims.specs.Seats.{SeatState, account_at}
+use Rattle.ready.specs.declared.ticket.Ticket.{Ticket}
+use Rattle.ready.specs.Steps.{EndState}
+use Rattle.dispatch.specs.declared.shared.Own.{Own}
+use Rattle.rounds.specs.Deliveries.{all_reported, at_slot, raised, IsSubsequence, ArePosted, Delivered}
+use Rattle.dispatch.specs.Hands.{HandState}
+use Rattle.rounds.specs.Openings.{times, slots_in, AreIn, AreOpened, SlotsCounted, OnlyTook, AcceptDone}
+use Rattle.dispatch.specs.Outgoing.{outgoing, tickets_out}
+use Rattle.dispatch.specs.Polls.{PollerState, Counted, HasOpenedAll}
+use Rattle.dispatch.specs.declared.part.Part.{Part}
+use Rattle.rounds.specs.Rounds.{RoundDone, AcceptEnded}
+use Rattle.std.proofs.lemmas.Bool.{cases_lt}
+use Rattle.rounds.specs.Sweeps.{swept_after, sweep_of}
+use Rattle.dispatch.specs.Posts.{Rose}
+use Rattle.rounds.proofs.Connections.{SamePoller, accept_none}
+use Rattle.rounds.proofs.Reports.{posted_none}
+use Rattle.rounds.proofs.Sweeps.{no_sweep, same_sweep}
+
+-- notes were posted for reports, then for a sweep, then for openings
+rose_after : (a b c d : Account) (posts wakes sweeps rouses opened : ℕ) → b ≡ raised posts wakes a → c ≡ raised sweeps rouses b → Rose opened opened c d → Rose (posts + (sweeps + opened)) (wakes + (rouses + opened)) a d
+rose_after a b c d posts wakes sweeps rouses opened first second rose =
+    let posted : b.posted ≡ a.posted + posts = ap (λ (x : Account). x.posted) first in
+    let minted : b.minted ≡ a.minted + wakes = ap (λ (x : Account). x.minted) first in
+    let swept : c.posted ≡ b.posted + sweeps = ap (λ (x : Account). x.posted) second in
+    let roused : c.minted ≡ b.minted + rouses = ap (λ (x : Account). x.minted) second in
+    let more = rose.posted in
+    let mints = rose.minted in
+    record { posted = omega arith; minted = omega arith }
+
+-- what the poller keeps, but for the reports and the flags
+pub record SameTable (old new : PollerState) : Type 0 where
+  pub table : new.table ≡ old.table
+  pub opened : new.opened ≡ old.opened
+  pub lost : new.lost ≡ old.lost
+  pub part : new.part ≡ old.part
+  pub swept : new.swept ≡ old.swept
+
+pub begun_is : {p q : PollerState} → q ≡ record p { batch = [] } → SameTable p q
+begun_is same = record {
+  table = ap (λ (s : PollerState). s.table) same;
+  opened = ap (λ (s : PollerState). s.opened) same;
+  lost = ap (λ (s : PollerState). s.lost) same;
+  part = ap (λ (s : PollerState). s.part) same;
+  swept = ap (λ (s : PollerState). s.swept) same;
+}
+
+pub looked_is : {p q r : PollerState} → q ≡ record p { batch = [] } → r ≡ record q { reported = r.reported; failed = r.failed; batch = r.batch } → SameTable p r
+looked_is begun looked = record {
+  table = ap (λ (s : PollerState). s.table) looked ∙ ap (λ (s : PollerState). s.table) begun;
+  opened = ap (λ (s : PollerState). s.opened) looked ∙ ap (λ (s : PollerState). s.opened) begun;
+  lost = ap (λ (s : PollerState). s.lost) looked ∙ ap (λ (s : PollerState). s.lost) begun;
+  part = ap (λ (s : PollerState). s.part) looked ∙ ap (λ (s : PollerState). s.part) begun;
+  swept = ap (λ (s : PollerState). s.swept) looked ∙ ap (λ (s : PollerState). s.swept) begun;
+}
+
+module _ (p q r v t : PollerState) (a b c d e : Own) (begun : SameTable p q) (took : OnlyTook a b)
+    (delivered : Delivered q.table q.batch b.seat c.seat b.hand c.hand) (ready : c.ready ≡ b.ready) (free : c.free ≡ b.free)
+    (own : AreIn q.part (all_reported q.table q.batch)) (flag : SamePoller q r) (unswept : r.swept ≡ q.swept)
+    (posted : ArePosted (sweep_of r v) c.seat d.seat c.hand d.hand) (ready_then : d.ready ≡ c.ready) (free_then : d.free ≡ c.free)
+    (own_then : AreIn r.part (sweep_of r v)) (sweep : SamePoller r v)
+    (accepted : AcceptDone v t d e) (swept : t.swept ≡ v.swept) where
+  table_is : v.table ≡ p.table
+  table_is = sweep.table ∙ flag.table ∙ begun.table
+
+  part_is : r.part ≡ p.part
+  part_is = flag.part ∙ begun.part
+
+  batch_is : t.batch ≡ q.batch
+  batch_is = accepted.connected.batch ∙ sweep.batch ∙ flag.batch
+
+  reported_is : all_reported p.table t.batch ≡ all_reported q.table q.batch
+  reported_is = ap (λ (g : List ℕ). all_reported g t.batch) (sym begun.table) ∙ ap (λ (bs : List ℕ). all_reported q.table bs) batch_is
+
+  sweep_is : sweep_of p t ≡ sweep_of r v
+  sweep_is = same_sweep p r v t (flag.table ∙ begun.table) (unswept ∙ begun.swept) swept
+
+  accounts_are : (slot : ℕ) → Rose (at_slot slot (all_reported p.table t.batch) + (at_slot slot (sweep_of p t) + at_slot slot accepted.opened)) (at_slot slot delivered.woke + (at_slot slot posted.woke + at_slot slot accepted.opened)) (account_at a.seat slot) (account_at e.seat slot)
+  accounts_are slot =
+      subst (λ (ts : List Ticket). Rose (at_slot slot ts + (at_slot slot (sweep_of p t) + at_slot slot accepted.opened)) (at_slot slot delivered.woke + (at_slot slot posted.woke + at_slot slot accepted.opened)) (account_at a.seat slot) (account_at e.seat slot)) (sym reported_is)
+      (subst (λ (ts : List Ticket). Rose (at_slot slot (all_reported q.table q.batch) + (at_slot slot ts + at_slot slot accepted.opened)) (at_slot slot delivered.woke + (at_slot slot posted.woke + at_slot slot accepted.opened)) (account_at a.seat slot) (account_at e.seat slot)) (sym sweep_is)
+      (subst (λ (s : SeatState). Rose (at_slot slot (all_reported q.table q.batch) + (at_slot slot (sweep_of r v) + at_slot slot accepted.opened)) (at_slot slot delivered.woke + (at_slot slot posted.woke + at_slot slot accepted.opened)) (account_at s slot) (account_at e.seat slot)) took.seat
+      (rose_after (account_at b.seat slot) (account_at c.seat slot) (account_at d.seat slot) (account_at e.seat slot)
+      (at_slot slot (all_reported q.table q.batch)) (at_slot slot delivered.woke) (at_slot slot (sweep_of r v)) (at_slot slot posted.woke) (at_slot slot accepted.opened)
+      (delivered.accounts slot) (posted.accounts slot) (accepted.connected.accounts slot))))
+
+  hand_is : e.hand.tickets ≡ b.hand.tickets ++ (delivered.woke ++ (posted.woke ++ accepted.opened))
+  hand_is = accepted.connected.tickets
+      ∙ ap (λ (h : HandState). h.tickets ++ accepted.opened) posted.hand
+      ∙ append_assoc c.hand.tickets posted.woke accepted.opened
+      ∙ ap (λ (h : HandState). h.tickets ++ (posted.woke ++ accepted.opened)) delivered.hand
+      ∙ append_assoc b.hand.tickets delivered.woke (posted.woke ++ accepted.opened)
+
+  tickets_are : tickets_out e ≡ tickets_out a ++ (delivered.woke ++ (posted.woke ++ accepted.opened))
+  tickets_are =
+      ap (λ (q : EndState Ticket). outgoing q.history e.hand.tickets) (accepted.connected.ready ∙ ready_then ∙ ready)
+      ∙ ap (λ (ts : List Ticket). outgoing b.ready.history ts) hand_is
+      ∙ sym (append_assoc (map (λ (put : ℕ × Ticket). put.1) b.ready.history.put) b.hand.tickets (delivered.woke ++ (posted.woke ++ accepted.opened)))
+      ∙ ap (λ (q : EndState Ticket). outgoing q.history b.hand.tickets ++ (delivered.woke ++ (posted.woke ++ accepted.opened))) took.ready
+      ∙ ap (λ (ts : List Ticket). outgoing a.ready.history ts ++ (delivered.woke ++ (posted.woke ++ accepted.opened))) took.tickets
+
+  slots_are : SlotsCounted a e accepted.opened accepted.lost
+  slots_are slot =
+      let hand : d.hand.slots ≡ b.hand.slots = ap (λ (h : HandState). h.slots) posted.hand ∙ ap (λ (h : HandState). h.slots) delivered.hand in
+      let queue : times slot (slots_in d) ≡ times slot (slots_in b) = ap (λ (f : EndState ℕ). times slot (map (λ (take : ℕ × ℕ). take.1) f.history.taken)) (free_then ∙ free) in
+      let in_hand : times slot d.hand.slots ≡ times slot b.hand.slots = ap (λ (xs : List ℕ). times slot xs) hand in
+      let taken = took.slots slot in
+      let counted = accepted.slots slot in
+      omega arith
+
+  exchanges_are : e.seat.steps ≡ a.seat.steps + (length (all_reported p.table t.batch) + length (sweep_of p t) + (4 * length accepted.opened + accepted.held))
+  exchanges_are =
+      let reports = delivered.exchanges in
+      let posts = posted.exchanges in
+      let opens = accepted.connected.exchanges in
+      let before : b.seat.steps ≡ a.seat.steps = ap (λ (s : SeatState). s.steps) took.seat in
+      let same : length (all_reported p.table t.batch) ≡ length (all_reported q.table q.batch) = ap (λ (ts : List Ticket). length ts) reported_is in
+      let swept_same : length (sweep_of p t) ≡ length (sweep_of r v) = ap (λ (ts : List Ticket). length ts) sweep_is in
+      omega arith
+
+  pub round_of : RoundDone p t a e
+  round_of = record {
+    woke = delivered.woke;
+    roused = posted.woke;
+    opened = accepted.opened;
+    lost = accepted.lost;
+    held = accepted.held;
+    some = accepted.connected.some;
+    exchanges = exchanges_are;
+    in_order = subst (λ (ts : List Ticket). IsSubsequence delivered.woke ts) (sym reported_is) delivered.in_order;
+    roused_in_order = subst (λ (ts : List Ticket). IsSubsequence posted.woke ts) (sym sweep_is) posted.in_order;
+    accounts = accounts_are;
+    part = accepted.connected.part ∙ sweep.part ∙ part_is;
+    own_reports = subst (λ (part : Part). AreIn part (all_reported p.table t.batch)) begun.part (subst (λ (ts : List Ticket). AreIn q.part ts) (sym reported_is) own);
+    own_sweep = subst (λ (part : Part). AreIn part (sweep_of p t)) part_is (subst (λ (ts : List Ticket). AreIn r.part ts) (sym sweep_is) own_then);
+    own_openings = subst (λ (part : Part). AreIn part accepted.opened) (sweep.part ∙ part_is) accepted.connected.own;
+    tickets = tickets_are;
+    table = subst (λ (g : List ℕ). AreOpened g accepted.opened t.table) table_is accepted.connected.table;
+    counted = subst (λ (n : ℕ). Counted n (length accepted.opened) t.opened) (sweep.opened ∙ flag.opened ∙ begun.opened) accepted.connected.counted;
+    unused = subst (λ (n : ℕ). Counted n (length accepted.lost) t.lost) (sweep.lost ∙ flag.lost ∙ begun.lost) accepted.connected.unused;
+    gave = accepted.connected.gave ∙ ap (λ (f : EndState ℕ). f.history.put) (free_then ∙ free) ∙ took.gave;
+    slots = slots_are;
+  }
+
+-- nothing was reported, nothing was posted for time, and nothing was accepted
+pub round_ended : (p q : PollerState) (a b : Own) → SameTable p q → q.batch ≡ [] → OnlyTook a b → RoundDone p q a b
+round_ended p q a b begun none took =
+    let still : SamePoller q q = record { table = refl; opened = refl; lost = refl; batch = refl; part = refl } in
+    let unswept : sweep_of q q ≡ [] = no_sweep q q.swept refl in
+    round_of p q q q q a b b b b begun took
+    (subst (λ (bs : List ℕ). Delivered q.table bs b.seat b.seat b.hand b.hand) (sym none) (posted_none b.seat b.hand))
+    refl refl (λ slot out. ap (λ (bs : List ℕ). at_slot slot (all_reported q.table bs)) none) still refl
+    (subst (λ (ts : List Ticket). ArePosted ts b.seat b.seat b.hand b.hand) (sym unswept) (posted_none b.seat b.hand))
+    refl refl (λ slot out. ap (λ (ts : List Ticket). at_slot slot ts) unswept) still
+    (accept_none q q b still) refl
+
+-- the second of the last sweep, if what came before the look at the clock left it, and what comes after leaves both seconds
+pub swept_is : (limit : ℕ) (p r s t : PollerState) → r.swept ≡ p.swept → s.swept ≡ swept_after limit s.second r.swept
+    → t.swept ≡ s.swept → t.second ≡ s.second → t.swept ≡ swept_after limit t.second p.swept
+swept_is limit p r s t was swept still second =
+    still ∙ swept ∙ ap (λ (n : ℕ). swept_after limit n r.swept) (sym second) ∙ ap (λ (n : ℕ). swept_after limit t.second n) was
+
+-- why accepting ended stays the reason, since the slots are taken back only once all connections were opened
+pub ended_still : (p q : PollerState) (a b : Own) → AcceptEnded p a → q ≡ record p { listening = q.listening; over = q.over }
+    → ((HasOpenedAll p → ⊥) → (b ≡ a) × (q ≡ p)) → AcceptEnded q b
+ended_still p q a b ended is left = by_count (cases_lt p.opened p.most) where
+  by_count : (p.opened < p.most) ⊎ (p.most ≤ p.opened) → AcceptEnded q b
+  by_count (inl some) =
+      let same = left (λ all. omega (arith, some, all)) in
+      subst (λ (s : PollerState). AcceptEnded s b) (sym same.1) (subst (λ (o : Own). AcceptEnded p o) (sym same.0) ended)
+  by_count (inr all) = inl (inr (inr (inr (subst (λ (s : PollerState). HasOpenedAll s) (sym is) all))))

@@ -1,0 +1,23 @@
+use Rattle.std.proofs.Common.{List, subst, sym, arith}
+use Rattle.ready.specs.declared.ticket.Ticket.{Ticket}
+use Rattle.rounds.specs.Deliveries.{ArePosted}
+use Rattle.rounds.proofs.Reports.{posted_none, posted_both, few_tickets, capacity_kept}
+use Rattle.rounds.proofs.Sweeps.{below_more, few_below}
+use Rattle.rounds.proofs.sweeping.sweep.Goals as goal
+
+pub loop-slot-init : goal.loop-slot-init
+loop-slot-init c = posted_none c.args.seat.now c.args.hand.now
+
+-- each slot takes at most one ticket in hand
+pub sweep_slot-requires-clause-room : goal.sweep_slot-requires-clause-room
+sweep_slot-requires-clause-room c =
+    let few = few_tickets c.loop-slot.invariant in
+    let same = capacity_kept c.loop-slot.invariant in
+    let slots = few_below c.args.table.now c.loop-slot.slot in
+    omega arith
+
+pub loop-slot-preserved : goal.loop-slot-preserved
+loop-slot-preserved c =
+    subst (λ (ts : List Ticket). ArePosted ts c.args.seat.now c.sweep_slot.new.seat c.args.hand.now c.sweep_slot.new.hand)
+    (sym (below_more c.args.table.now c.loop-slot.slot))
+    (posted_both c.loop-slot.invariant c.in_ok-sweep_slot.ensures.posted)

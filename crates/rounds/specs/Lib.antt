@@ -1,0 +1,7 @@
+-- The crate's definitions. The first line of each file says whether the promises need it.
+pub mod Accepts
+pub mod Deliveries
+pub mod Leads
+pub mod Openings
+pub mod Rounds
+pub mod Sweeps

@@ -1,0 +1,122 @@
+-- What accepting and opening connections does to what the poller's thread owns. Part of the promises.
+use Rattle.std.specs.Prelude.{◌≡◌, ◌⊎◌, ℕ, ◌+◌, ◌*◌, ◌≤◌, ◌==◌, Bool, List, [], ◌∷◌, ◌++◌, length, map, None, slice_index, slice_set}
+use Rattle.std.specs.List.{count_by}
+use Rattle.claims.specs.Seats.{SeatState, TableId, account_at, HoldsNothing, one_step_later}
+use Rattle.ready.specs.declared.ticket.Ticket.{Ticket}
+use Rattle.dispatch.specs.declared.shared.Own.{Own}
+use Rattle.rounds.specs.Deliveries.{at_slot}
+use Rattle.dispatch.specs.Hands.{HandState}
+use Rattle.dispatch.specs.Polls.{PollerState, Counted, counted_up, IsIn}
+use Rattle.relay_log.specs.declared.cause.Cause.{Cause}
+use Rattle.relay_log.specs.declared.cause.Cause.TheVariants as cause
+use Rattle.dispatch.specs.declared.front.Unopened.{Unopened}
+use Rattle.dispatch.specs.declared.front.Unopened.TheVariants as unopened
+use Rattle.dispatch.specs.declared.route.Route.{Route}
+use Rattle.rounds.specs.Leads.{LeadTold}
+use Rattle.dispatch.specs.declared.part.Part.{Part}
+use Rattle.dispatch.specs.Posts.{Rose}
+use Rattle.dispatch.specs.Drops.{dropped_for}
+use Rattle.dispatch.specs.Episodes.{opened_after}
+
+-- Between two steps of a round the poller's thread holds no slot, its seat is one of these claim words, and its table has a
+-- generation for each slot
+pub record Between (claims : TableId) (own : Own) (poller : PollerState) : Type 0 where
+  pub same : own.seat.table ≡ claims
+  pub idle : HoldsNothing own.seat
+  pub sized : length poller.table ≡ claims.words
+
+-- how often a slot stands in a list
+abbrev pub times : ℕ → List ℕ → ℕ
+times slot slots = count_by (λ s. s == slot) slots
+
+-- the free slots that a thread has taken out of their queue so far
+abbrev pub slots_in : Own → List ℕ
+slots_in own = map (λ (take : ℕ × ℕ). take.1) own.free.history.taken
+
+-- Connections that were opened, in order: each has the next generation of its slot, and the table has it from then on
+abbrev pub AreOpened : List ℕ → List Ticket → List ℕ → Type 0
+AreOpened old [] new = new ≡ old
+AreOpened old (t ∷ ts) new = (t.generation ≡ slice_index old t.slot + 1) × AreOpened (slice_set old t.slot t.generation) ts new
+
+-- all of these are for a poller's own slots: none is for any other
+abbrev pub AreIn : Part → List Ticket → Type 0
+AreIn part tickets = (slot : ℕ) → (IsIn part slot → ⊥) → at_slot slot tickets ≡ 0
+
+-- Of each slot, what was taken out of the queue or was in hand is in hand, or left it in one of these two ways
+abbrev pub SlotsCounted : Own → Own → List Ticket → List ℕ → Type 0
+SlotsCounted had has opened lost =
+    (slot : ℕ) → times slot (slots_in has) + times slot had.hand.slots
+    ≡ times slot (slots_in had) + (times slot has.hand.slots + (at_slot slot opened + times slot lost))
+
+-- free slots were taken, which are in hand, and nothing else changed
+pub record OnlyTook (had has : Own) : Type 0 where
+  pub seat : has.seat ≡ had.seat
+  pub ready : has.ready ≡ had.ready
+  pub tickets : has.hand.tickets ≡ had.hand.tickets
+  pub capacity : has.hand.capacity ≡ had.hand.capacity
+  pub gave : has.free.history.put ≡ had.free.history.put
+  pub slots : SlotsCounted had has [] []
+
+-- the connection has the one note of its opening, and the one ticket for it is in hand
+pub record Started (ticket : Ticket) (old new : SeatState) (had has : HandState) : Type 0 where
+  pub account : Rose 1 1 (account_at old ticket.slot) (account_at new ticket.slot)
+  pub hand : has ≡ record had { tickets = had.tickets ++ ticket ∷ [] }
+
+-- These connections were opened in the poller's own slots, each with the next generation of its slot, with one note and with one
+-- ticket, which is in hand behind the others. And these slots are no longer used, so many of which were found not to be free. An opening
+-- makes four exchanges: adopt, take, post, release; a slot that is not free is found by one
+pub record Connected (opened : List Ticket) (lost : List ℕ) (held : ℕ) (old new : PollerState) (had has : Own) : Type 0 where
+  pub table : AreOpened old.table opened new.table
+  pub counted : Counted old.opened (length opened) new.opened
+  pub unused : Counted old.lost (length lost) new.lost
+  pub some : held ≤ length lost
+  pub exchanges : has.seat.steps ≡ had.seat.steps + (4 * length opened + held)
+  pub batch : new.batch ≡ old.batch
+  pub part : new.part ≡ old.part
+  pub own : AreIn old.part opened
+  pub accounts : (slot : ℕ) → Rose (at_slot slot opened) (at_slot slot opened) (account_at had.seat slot) (account_at has.seat slot)
+  pub tickets : has.hand.tickets ≡ had.hand.tickets ++ opened
+  pub ready : has.ready ≡ had.ready
+  pub gave : has.free.history.put ≡ had.free.history.put
+
+-- What became of an accepted connection, as it counts: it was opened, or closed unopened with a line that says why or tells how many
+-- more there were, or its slot is no longer used. An opening alone ends what the log is told once for as long as it lasts
+abbrev pub IsOpened : PollerState → PollerState → Type 0
+IsOpened old new =
+    (new.opened ≡ counted_up old.opened 1) × (new.dropped ≡ old.dropped) × (new.lost ≡ old.lost)
+    × (new.episodes ≡ opened_after old.episodes)
+
+abbrev pub IsDropped : PollerState → PollerState → Type 0
+IsDropped old new =
+    (new.opened ≡ old.opened) × (new.dropped ≡ counted_up old.dropped 1) × (new.lost ≡ old.lost)
+    × ((cause : Cause) × (new.episodes ≡ record old.episodes { drops = dropped_for cause old.second old.episodes.drops }))
+
+abbrev pub IsLost : PollerState → PollerState → Type 0
+IsLost old new =
+    (new.opened ≡ old.opened) × (new.dropped ≡ old.dropped) × (new.lost ≡ counted_up old.lost 1)
+    × (new.episodes ≡ old.episodes)
+
+-- Why an accepted connection is closed unopened: memory ran out, or the front refused to open it, or an address is missing of the line
+-- that its target is to be sent
+abbrev pub DropsFor : (Unopened → Type 0) → (Route → Type 0) → Bool → Cause → Type 0
+DropsFor may_refuse may_tell proxy cause.Memory = Unit {0}
+DropsFor may_refuse may_tell proxy cause.Connect = may_refuse unopened.Connect
+DropsFor may_refuse may_tell proxy cause.Register = may_refuse unopened.Register
+DropsFor may_refuse may_tell proxy cause.Address = LeadTold may_tell proxy None
+
+-- no connection can be opened in this slot: it is another poller's, or the table or the names lack it, or its generation is the last
+abbrev pub IsSpent : PollerState → ℕ → Type 0
+IsSpent p slot = (IsIn p.part slot → ⊥) ⊎ ((length p.table ≤ slot) ⊎ ((32768 ≤ slot) ⊎ (slice_index p.table slot ≡ 140737488355327)))
+
+-- why a slot is lost: it is spent, or one exchange found that it is not free
+abbrev pub LostFor : PollerState → ℕ → SeatState → SeatState → Type 0
+LostFor p slot old new = IsSpent p slot ⊎ (new ≡ one_step_later old)
+
+-- What accepting did: connections were opened, and each slot that was taken was opened, or is in hand, or is no longer used. A
+-- connection whose opening failed leaves its slot in hand
+pub record AcceptDone (old new : PollerState) (had has : Own) : Type 0 where
+  pub opened : List Ticket
+  pub lost : List ℕ
+  pub held : ℕ
+  pub connected : Connected opened lost held old new had has
+  pub slots : SlotsCounted had has opened lost

@@ -1,0 +1,106 @@
+-- What a round of the poller does. Part of the promises.
+use Rattle.std.specs.Prelude.{◌≡◌, ◌≢◌, ◌⊎◌, ℕ, ◌+◌, ◌*◌, ◌<◌, ◌≤◌, true, false, List, [], ◌++◌, length, Contains}
+use Rattle.claims.specs.Seats.{account_at}
+use Rattle.ready.specs.declared.ticket.Ticket.{Ticket}
+use Rattle.ready.specs.Steps.{HeldOnce}
+use Rattle.dispatch.specs.declared.shared.Own.{Own}
+use Rattle.rounds.specs.Deliveries.{all_reported, at_slot, IsSubsequence}
+use Rattle.dispatch.specs.Hands.{HasRoom, ticket_room}
+use Rattle.rounds.specs.Openings.{AreIn, AreOpened, SlotsCounted}
+use Rattle.dispatch.specs.Outgoing.{tickets_out}
+use Rattle.dispatch.specs.Polls.{PollerState, HasOpenedAll, Counted}
+use Rattle.rounds.specs.Sweeps.{sweep_of}
+use Rattle.dispatch.specs.Posts.{Rose}
+
+-- The reports of the batch were delivered: each that is for a connection was posted at its slot, and those that woke made their
+-- tickets. Then came the posts of a sweep, if one was made, and those that woke made theirs. Then connections were opened, each with
+-- one post and one ticket at its slot. All tickets that were to be put before, then those of the reports, of the sweep and of the
+-- openings are put or in hand, in this order. Each slot that was taken was opened, or is in hand, or is no longer used. A post makes one
+-- exchange and an opening four, and one more found each slot that was held. Nothing was posted or opened at a slot of another poller
+pub record RoundDone (old new : PollerState) (had has : Own) : Type 0 where
+  pub woke : List Ticket
+  pub roused : List Ticket
+  pub opened : List Ticket
+  pub lost : List ℕ
+  pub held : ℕ
+  pub in_order : IsSubsequence woke (all_reported old.table new.batch)
+  pub roused_in_order : IsSubsequence roused (sweep_of old new)
+  pub accounts : (slot : ℕ) → Rose (at_slot slot (all_reported old.table new.batch) + (at_slot slot (sweep_of old new) + at_slot slot opened)) (at_slot slot woke + (at_slot slot roused + at_slot slot opened)) (account_at had.seat slot) (account_at has.seat slot)
+  pub some : held ≤ length lost
+  pub exchanges : has.seat.steps ≡ had.seat.steps + (length (all_reported old.table new.batch) + length (sweep_of old new) + (4 * length opened + held))
+  pub part : new.part ≡ old.part
+  pub own_reports : AreIn old.part (all_reported old.table new.batch)
+  pub own_sweep : AreIn old.part (sweep_of old new)
+  pub own_openings : AreIn old.part opened
+  pub tickets : tickets_out has ≡ tickets_out had ++ (woke ++ (roused ++ opened))
+  pub table : AreOpened old.table opened new.table
+  pub counted : Counted old.opened (length opened) new.opened
+  pub unused : Counted old.lost (length lost) new.lost
+  pub gave : has.free.history.put ≡ had.free.history.put
+  pub slots : SlotsCounted had has opened lost
+
+-- no free slot is in hand, and at one moment there was none in the queue
+pub record NoSlot (own : Own) : Type 0 where
+  pub hand : own.hand.slots ≡ []
+  pub queue : HeldOnce 0 own.free.history
+
+-- the front listens as before, or no longer: then all connections that the poller may open were opened
+abbrev pub ListenerKept : PollerState → PollerState → Type 0
+ListenerKept old new = (new.listening ≡ old.listening) ⊎ (HasOpenedAll new × (new.listening ≡ false))
+
+-- once all connections that the poller may open were opened, its front does not listen
+abbrev pub ListensToOpen : PollerState → Type 0
+ListensToOpen p = HasOpenedAll p → p.listening ≡ false
+
+-- why no connection is to be accepted now: none may be waiting, or no slot is free, or all were opened
+abbrev pub NoneToAccept : PollerState → Own → Type 0
+NoneToAccept p own = (p.accepting ≡ false) ⊎ (NoSlot own ⊎ HasOpenedAll p)
+
+-- accepting may end if no connection is to be accepted now, or if the system lacked what accept(2) needs
+abbrev pub AcceptMayEnd : PollerState → Own → Type 0
+AcceptMayEnd p own = (p.starved ≡ true) ⊎ NoneToAccept p own
+
+-- the poller waits only with no ticket in hand, and where accepting may end
+abbrev pub MayWait : PollerState → Own → Type 0
+MayWait p own = (own.hand.tickets ≡ []) × AcceptMayEnd p own
+
+-- why accepting ends: it may, or it was tried 4 times
+abbrev pub AcceptEnded : PollerState → Own → Type 0
+AcceptEnded p own = AcceptMayEnd p own ⊎ (p.tries ≡ 0)
+
+-- a round ends early if its hand has not room for a ticket of each slot and 512 more
+abbrev pub EndedEarly : ℕ → Own → Type 0
+EndedEarly slots own = ticket_room own.hand < 512 + slots
+
+-- a connection may be accepted now: one may be waiting, it would be opened, and a free slot is in hand
+pub record MayAccept (p : PollerState) (own : Own) : Type 0 where
+  pub flag : p.accepting ≡ true
+  pub left : HasOpenedAll p → ⊥
+  pub slot : 1 ≤ length own.hand.slots
+
+-- why the poller does not wait: a ticket is in hand, or a connection may be accepted now, and the system did not lack what that needs
+abbrev pub MayNotWait : PollerState → Own → Type 0
+MayNotWait p own = (own.hand.tickets ≢ []) ⊎ ((p.starved ≡ false) × MayAccept p own)
+
+-- a client waits for a slot: the listener was reported, and connections would be opened, but no slot was free even before any was
+pub record IsFull (p : PollerState) (own : Own) : Type 0 where
+  pub reported : Contains p.batch 0
+  pub left : HasOpenedAll p → ⊥
+  pub slot : NoSlot own
+
+-- each of the poller's slots is in hand or no longer used
+abbrev pub IsBack : PollerState → Own → Type 0
+IsBack p own = p.part.slots ≤ length own.hand.slots + p.lost
+
+-- the poller is over only once all connections that it may open were opened, and each of its slots is back in hand or no longer used
+pub record IsOver (p : PollerState) (own : Own) : Type 0 where
+  pub opened : HasOpenedAll p
+  pub back : IsBack p own
+
+-- free slots were taken in hand: at one moment none was left in the queue, or there are so many in hand, or no more fit
+abbrev pub TookAll : ℕ → Own → Type 0
+TookAll slots own = HeldOnce 0 own.free.history ⊎ ((slots ≤ length own.hand.slots) ⊎ (HasRoom own.hand → ⊥))
+
+-- once all connections that it may open were opened, the poller takes its slots in hand, and is over where all of them are back
+abbrev pub LooksForAll : PollerState → Own → Type 0
+LooksForAll p own = HasOpenedAll p → TookAll p.part.slots own × (IsBack p own → p.over ≡ true)

@@ -1,0 +1,116 @@
+//! The reports of one poll become notes at their slots.
+ghost use Rattle.std.specs.Prelude.{◌≡◌, ℕ, ◌-◌, ◌^◌, ◌<◌, ◌≤◌, ◌↔◌, ◌∷◌, [], length, take, IsTrue, IfOk, OnOk, IfErr, OnErr, IfSome, Contains, sum_by};
+ghost use Rattle.claims.specs.Views.{posted_of};
+ghost use Rattle.claims.specs.Seats.{HoldsNothing};
+ghost use Rattle.dispatch.specs.Hands.{ticket_room};
+ghost use Rattle.rounds.specs.Deliveries.{connection, reported, ArePosted, Delivered};
+
+use claims::{ClaimSeat, Claims, Posted};
+use dispatch::{Hand, LISTENER};
+use ready::Ticket;
+use relay_log::ServerFault;
+use token::{Name, Token, unpack};
+
+/// Posts a note for each report of a batch, and adds a ticket to the hand for each post that answers Wake. Returns
+/// whether the listener was reported.
+///
+/// A batch has the numbers of the tokens that were reported, in order (epoll_wait(2)), and the table has each slot's
+/// generation. A number that names no end, such as the waker's, leaves no note, and neither does an end whose slot the
+/// table lacks or has with another generation: its connection was closed after the report arrived.
+///
+/// The only refusal is `Worn`: the seat has posted 2^56 times. Then the reports before that one are delivered.
+pub fn deliver(
+    claims: &Claims,
+    seat: &mut ClaimSeat,
+    table: &[u64],
+    batch: &[u64],
+    hand: &mut Hand,
+) -> Result<bool, ServerFault>
+    requires same { seat.old.table ≡ claims.now }
+    requires idle { HoldsNothing seat.old }
+    requires sized { length table.now ≡ claims.now.words }
+    requires room { length batch.now ≤ ticket_room hand.old }
+    ensures delivered { OnOk result (Delivered table.now batch.now seat.old seat.new hand.old hand.new) }
+    ensures listener { IfOk result (λ told. IsTrue told ↔ Contains batch.now 0) }
+    ensures begun { OnErr result ((n : ℕ) × Delivered table.now (take n batch.now) seat.old seat.new hand.old hand.new) }
+    ensures worn { IfErr result (λ fault. (fault ≡ ServerFault.Worn) × (sum_by posted_of seat.new.accounts ≡ 2 ^ 56)) }
+    ensures idle { HoldsNothing seat.new }
+    ensures same { seat.new.table ≡ seat.old.table }
+{
+    for number in batch {
+        report(claims, seat, table, *number, hand)?;
+    }
+    Ok(batch.contains(&LISTENER))
+}
+
+/// Posts a note for one report, if it is for a connection. `Worn` changes nothing.
+fn report(
+    claims: &Claims,
+    seat: &mut ClaimSeat,
+    table: &[u64],
+    number: u64,
+    hand: &mut Hand,
+) -> Result<(), ServerFault>
+    requires same { seat.old.table ≡ claims.now }
+    requires idle { HoldsNothing seat.old }
+    requires sized { length table.now ≡ claims.now.words }
+    requires room { length hand.old.tickets < hand.old.capacity }
+    ensures delivered { OnOk result (Delivered table.now (number ∷ []) seat.old seat.new hand.old hand.new) }
+    ensures seat { OnErr result (seat.new ≡ seat.old) }
+    ensures hand { OnErr result (hand.new ≡ hand.old) }
+    ensures worn { IfErr result (λ fault. (fault ≡ ServerFault.Worn) × (sum_by posted_of seat.new.accounts ≡ 2 ^ 56)) }
+{
+    let Some(ticket) = connection(table, number) else {
+        return Ok(());
+    };
+    post_note(claims, seat, ticket, hand)
+}
+
+/// Posts a note at a connection's slot, and adds its ticket to the hand if the post answers Wake. `Worn` changes nothing.
+pub(crate) fn post_note(
+    claims: &Claims,
+    seat: &mut ClaimSeat,
+    ticket: Ticket,
+    hand: &mut Hand,
+) -> Result<(), ServerFault>
+    requires same { seat.old.table ≡ claims.now }
+    requires idle { HoldsNothing seat.old }
+    requires inside { ticket.slot < claims.now.words }
+    requires room { length hand.old.tickets < hand.old.capacity }
+    ensures posted { OnOk result (ArePosted (ticket ∷ []) seat.old seat.new hand.old hand.new) }
+    ensures seat { OnErr result (seat.new ≡ seat.old) }
+    ensures hand { OnErr result (hand.new ≡ hand.old) }
+    ensures worn { IfErr result (λ fault. (fault ≡ ServerFault.Worn) × (sum_by posted_of seat.new.accounts ≡ 2 ^ 56)) }
+{
+    match claims.post(seat, ticket.slot) {
+        Posted::Wake => hand.keep_ticket(ticket),
+        Posted::Quiet => {}
+        Posted::Worn => return Err(ServerFault::Worn),
+    }
+    Ok(())
+}
+
+/// The connection that a report is for, if it is still in its slot.
+fn connection(table: &[u64], number: u64) -> Option<Ticket>
+    ensures value { result ≡ reported table.now number }
+    ensures inside { IfSome result (λ ticket. ticket.slot < length table.now) }
+{
+    match unpack(number)? {
+        Name::End(end) => connection_of(table, end),
+        Name::Listener | Name::Waker => None,
+    }
+}
+
+/// The connection of an end, if it is still in its slot.
+fn connection_of(table: &[u64], end: Token) -> Option<Ticket>
+    ensures value { result ≡ connection table.now (Some (Name.End end)) }
+    ensures inside { IfSome result (λ ticket. ticket.slot < length table.now) }
+{
+    let slot = end.slot();
+    let generation = *table.get(slot)?;
+    if generation == end.generation() {
+        Some(Ticket { slot, generation })
+    } else {
+        None
+    }
+}

@@ -1,0 +1,298 @@
+//! Opens an accepted connection, in the order in which it happens: a free slot, the names of the slot's next
+//! connection, the connection to the target, what the target is sent first, the pair, the place, and the one note that
+//! starts it.
+ghost use Rattle.std.specs.Prelude.{◌≡◌, ◌≢◌, ◌⊎◌, ◌+◌, ◌<◌, ◌≤◌, [], ◌∷◌, ◌++◌, length, Err, Some, None, IfOk, IfErr, OnOk, OnErr, OnSome, IfSome, IsNone, slice_get, slice_index};
+ghost use Rattle.claims.specs.Seats.{account_at, HoldsNothing, OnlyAt, one_step_later};
+ghost use Rattle.relay_core.specs.Pairs.{fresh};
+ghost use Rattle.dispatch.specs.Drops.{dropped_for};
+ghost use Rattle.dispatch.specs.Posts.{HoldsOnly, OnlyWorn, Released as ReleasedHere};
+ghost use Rattle.dispatch.specs.Hands.{ticket_room};
+ghost use Rattle.rounds.specs.Leads.{LeadTold};
+ghost use Rattle.rounds.specs.Openings.{Between, DropsFor, Started, Connected, AcceptDone, IsOpened, IsDropped, IsLost, LostFor};
+ghost use Rattle.dispatch.specs.Polls.{AreGenerations, IsIn};
+
+use crate::lead::lead;
+use berths::Berth;
+use claims::{Adopted, Posted, Released};
+use dispatch::{Dropped, Front, Hand, Opened, Own, Poller, Settle, Shared};
+use log::Log;
+use ready::Ticket;
+use relay_core::Pair;
+use relay_log::{Cause, Gone, Known, ServerFault, Why, log_gone, log_open, log_peer, logs_gone};
+use statistics::Event;
+use std::alloc::Global;
+use std::sync::Wait;
+use token::{Side, Token, next_gen};
+
+/// The names of a connection's two ends.
+#[derive(Clone, Copy)]
+pub(crate) struct Names {
+    pub(crate) client: Token,
+    pub(crate) target: Token,
+}
+
+/// Opens an accepted connection in the free slot in hand. It gets the slot's next generation, one note and one ticket,
+/// and is logged. If its opening fails, it is closed and logged or counted, and its slot is as it was, and in hand.
+///
+/// A slot of another poller, outside the table, at its last generation or not free, none of which happens in any run, is no longer used,
+/// and the connection is closed.
+///
+/// The only refusal is `Worn`: the seat has posted 2^56 times.
+pub(crate) fn open<F: Front, R: Wait + Log>(
+    rt: &R,
+    alloc: Global,
+    shared: &Shared<F>,
+    own: &mut Own,
+    poller: &mut Poller<F>,
+    client: F::Client,
+) -> Result<(), ServerFault>
+    requires between { Between shared.now.claims own.old poller.old }
+    requires room { 1 ≤ ticket_room own.old.hand }
+    requires slot { 1 ≤ length own.old.hand.slots }
+    ensures between { Between shared.now.claims own.new poller.new }
+    ensures worn { IfErr result (λ fault. OnlyWorn fault own.new.seat) }
+    ensures counted { OnOk result (IfSome (slice_get own.old.hand.slots 0) (λ slot. IsOpened poller.old poller.new ⊎ (IsDropped poller.old poller.new ⊎ (IsLost poller.old poller.new × LostFor poller.old slot own.old.seat own.new.seat)))) }
+    ensures done { OnOk result (AcceptDone poller.old poller.new own.old own.new) }
+    ensures ready { own.new.ready ≡ own.old.ready }
+    ensures poller { poller.new ≡ record poller.old { table = poller.new.table; opened = poller.new.opened; dropped = poller.new.dropped; lost = poller.new.lost; episodes = poller.new.episodes } }
+    ensures room { OnOk result (ticket_room own.old.hand ≤ ticket_room own.new.hand + 1) }
+{
+    let Some(slot) = own.hand.take_slot() else {
+        return Ok(());
+    };
+    if !poller.part().has(slot) {
+        poller.count_lost();
+        return Ok(());
+    }
+    let Some(names) = next_names(poller.table(), slot) else {
+        poller.count_lost();
+        return Ok(());
+    };
+    match prepare(rt, alloc, &mut own.hand, poller, client, names) {
+        Ok(berth) => place(rt, shared, own, poller, berth),
+        Err(dropped) => {
+            shared.count(slot, Event::Dropped);
+            poller.count_dropped(dropped);
+            Ok(())
+        }
+    }
+}
+
+/// Starts the connection to the target, and makes the pair. If that fails, it is closed and logged or counted, and its slot is
+/// in hand again.
+fn prepare<F: Front, N: Log>(
+    rt: &N,
+    alloc: Global,
+    hand: &mut Hand,
+    poller: &mut Poller<F>,
+    client: F::Client,
+    names: Names,
+) -> Result<Berth<F::Client, F::Target>, Dropped>
+    requires { length hand.old.slots < hand.old.capacity }
+    ensures slot { IfOk result (λ berth. berth.pair.slot ≡ names.client.slot) }
+    ensures generation { IfOk result (λ berth. berth.pair.generation ≡ names.client.generation) }
+    ensures prepared { OnOk result (hand.new ≡ hand.old) }
+    ensures cause { IfErr result (λ dropped. DropsFor (F.may_refuse client) (F.may_tell client) poller.old.opening.proxy dropped) }
+    ensures failed { OnErr result (hand.new ≡ record hand.old { slots = hand.old.slots ++ names.client.slot ∷ [] }) }
+    ensures same { OnOk result (poller.new ≡ poller.old) }
+    ensures told { IfErr result (λ dropped. poller.new ≡ record poller.old { episodes = record poller.old.episodes { drops = dropped_for dropped poller.old.second poller.old.episodes.drops } }) }
+{
+    let slot = names.client.slot();
+    match connect(rt, alloc, poller, client, names) {
+        Ok(berth) => Ok(berth),
+        Err(cause) => {
+            hand.keep_slot(slot);
+            Err(poller.tell_dropped(rt, cause))
+        }
+    }
+}
+
+/// The names of the ends of a slot's next connection. None if the table lacks the slot, or if the slot has had its last
+/// generation.
+pub(crate) fn next_names(table: &[u64], slot: usize) -> Option<Names>
+    requires { AreGenerations table.now }
+    ensures client { IfSome result (λ names. names.client ≡ record { slot = slot; side = Side.Client; generation = slice_index table.now slot + 1 }) }
+    ensures target { IfSome result (λ names. names.target ≡ record { slot = slot; side = Side.Target; generation = slice_index table.now slot + 1 }) }
+    ensures inside { OnSome result (slot < length table.now) }
+    ensures none { IsNone result → slot ≤ 32767 → slot < length table.now → slice_index table.now slot ≡ 140737488355327 }
+{
+    let generation = next_gen(*table.get(slot)?)?;
+    let client = Token::pack(slot, Side::Client, generation).ok()?;
+    let target = Token::pack(slot, Side::Target, generation).ok()?;
+    Some(Names { client, target })
+}
+
+/// Starts the connection to the target, and makes the pair. A refusal closes the client's connection, and the target's if it
+/// had been started, and the log may say whose it was.
+pub(crate) fn connect<F: Front, N: Log>(
+    rt: &N,
+    alloc: Global,
+    poller: &mut Poller<F>,
+    mut client: F::Client,
+    names: Names,
+) -> Result<Berth<F::Client, F::Target>, Cause>
+    ensures pair { IfOk result (λ berth. berth.pair ≡ fresh names.client.slot names.client.generation poller.old.opening.ring poller.old.second berth.pair.up.lead) }
+    ensures second { IfOk result (λ berth. berth.second ≡ poller.old.second) }
+    ensures lead { IfOk result (λ berth. LeadTold (F.may_tell client) poller.old.opening.proxy (Some berth.pair.up.lead)) }
+    ensures cause { IfErr result (λ cause. DropsFor (F.may_refuse client) (F.may_tell client) poller.old.opening.proxy cause) }
+    ensures same { poller.new ≡ poller.old }
+{
+    let second = poller.second();
+    match reach(rt, alloc, poller, &mut client, names) {
+        Ok((pair, target)) => Ok(Berth {
+            pair,
+            second,
+            client,
+            target,
+        }),
+        Err(cause) => {
+            log_unopened::<F, N>(rt, &client, cause);
+            Err(cause)
+        }
+    }
+}
+
+/// Starts the connection to the target, and makes the pair, at the second of the round. If targets are sent a line with
+/// the addresses of their clients' connections, the pair begins with it on the way up. A refusal closes the target's
+/// connection if it had been started. It is what the front answered, or `Address` if the line is to be sent and an address is
+/// missing, or `Memory`.
+#[tactic(auto, using(crate::proofs::Causes::refused_drops, crate::proofs::Causes::lacking_drops, crate::proofs::Causes::memory_drops))]
+fn reach<F: Front, N: Log>(
+    rt: &N,
+    alloc: Global,
+    poller: &mut Poller<F>,
+    client: &mut F::Client,
+    names: Names,
+) -> Result<(Pair, F::Target), Cause>
+    ensures pair { IfOk result (λ made. made.0 ≡ fresh names.client.slot names.client.generation poller.old.opening.ring poller.old.second made.0.up.lead) }
+    ensures lead { IfOk result (λ made. LeadTold (F.may_tell client.old) poller.old.opening.proxy (Some made.0.up.lead)) }
+    ensures cause { IfErr result (λ cause. DropsFor (F.may_refuse client.old) (F.may_tell client.old) poller.old.opening.proxy cause) }
+    ensures same { poller.new ≡ poller.old }
+{
+    let Opened { target, route } = poller.open(rt, client, names.client, names.target)?;
+    let opening = poller.opening();
+    let lead = lead(alloc, opening.proxy, &route)?;
+    let pair = Pair::new(
+        alloc,
+        names.client.slot(),
+        names.client.generation(),
+        opening.ring,
+        poller.second(),
+        lead.as_slice(),
+    )?;
+    Ok((pair, target))
+}
+
+/// Logs whose connection could not be opened, and why, if the log takes that.
+fn log_unopened<F: Front, N: Log>(rt: &N, client: &F::Client, cause: Cause) {
+    if logs_gone(rt) {
+        let gone = Gone {
+            opened: None,
+            from: &Known(F::peer(client)),
+            connected: false,
+            up: 0,
+            down: 0,
+            seconds: 0,
+            cause: &Why {
+                error: client.error(),
+                word: cause.name(),
+            },
+        };
+        log_gone(rt, gone);
+    }
+}
+
+/// Places a prepared connection in its slot, which has it from then on.
+#[tactic(auto, using(crate::proofs::Connections::own_one))]
+fn place<F: Front, R: Wait + Log>(
+    rt: &R,
+    shared: &Shared<F>,
+    own: &mut Own,
+    poller: &mut Poller<F>,
+    berth: Berth<F::Client, F::Target>,
+) -> Result<(), ServerFault>
+    requires between { Between shared.now.claims own.old poller.old }
+    requires inside { berth.pair.slot < length poller.old.table }
+    requires own { IsIn poller.old.part berth.pair.slot }
+    requires next { berth.pair.generation ≡ slice_index poller.old.table berth.pair.slot + 1 }
+    requires generation { berth.pair.generation ≤ 140737488355327 }
+    requires room { 1 ≤ ticket_room own.old.hand }
+    ensures between { Between shared.now.claims own.new poller.new }
+    ensures worn { IfErr result (λ fault. OnlyWorn fault own.new.seat) }
+    ensures done { OnOk result (Connected (record { slot = berth.pair.slot; generation = berth.pair.generation } ∷ []) [] 0 poller.old poller.new own.old own.new ⊎ Connected [] (berth.pair.slot ∷ []) 1 poller.old poller.new own.old own.new) }
+    ensures poller { poller.new ≡ record poller.old { table = poller.new.table; opened = poller.new.opened; lost = poller.new.lost; episodes = poller.new.episodes } }
+    ensures ready { own.new.ready ≡ own.old.ready }
+    ensures counted { OnOk result (IsOpened poller.old poller.new ⊎ (IsLost poller.old poller.new × (own.new.seat ≡ one_step_later own.old.seat))) }
+    ensures free { OnOk result (own.new.free ≡ own.old.free) }
+    ensures slots { OnOk result (own.new.hand.slots ≡ own.old.hand.slots) }
+    ensures room { OnOk result (ticket_room own.old.hand ≤ ticket_room own.new.hand + 1) }
+{
+    let (slot, generation) = (berth.pair.slot(), berth.pair.generation());
+    if let Some(from) = F::peer(&berth.client) {
+        log_peer(rt, slot, generation, &from);
+    }
+    match shared.claims.adopt(&mut own.seat, slot) {
+        Adopted::NotFree => poller.count_lost(),
+        Adopted::Adopted => {
+            let ticket = Ticket { slot, generation };
+            shared.count(slot, Event::Opened);
+            start(rt, shared, own, ticket, berth)?;
+            poller.count_opened(ticket);
+            poller.end_episodes(rt);
+            log_open(rt, slot, generation);
+        }
+    }
+    Ok(())
+}
+
+/// Puts a connection into the place of its slot, which is held, posts the note that starts it, and releases the slot.
+/// The notes of the previous connection are discarded.
+pub(crate) fn start<F: Front, R: Wait>(
+    rt: &R,
+    shared: &Shared<F>,
+    own: &mut Own,
+    ticket: Ticket,
+    berth: Berth<F::Client, F::Target>,
+) -> Result<(), ServerFault>
+    requires same { own.old.seat.table ≡ shared.now.claims }
+    requires inside { ticket.slot < shared.now.claims.words }
+    requires holder { HoldsOnly ticket.slot own.old.seat }
+    requires room { length own.old.hand.tickets < own.old.hand.capacity }
+    ensures idle { HoldsNothing own.new.seat }
+    ensures only { OnlyAt ticket.slot own.old.seat own.new.seat }
+    ensures worn { IfErr result (λ fault. OnlyWorn fault own.new.seat) }
+    ensures started { OnOk result (Started ticket own.old.seat own.new.seat own.old.hand own.new.hand) }
+    ensures exchanges { OnOk result (own.new.seat.steps ≡ own.old.seat.steps + 3) }
+    ensures ready { own.new.ready ≡ own.old.ready }
+    ensures free { own.new.free ≡ own.old.free }
+{
+    shared.claims.take(&mut own.seat, ticket.slot);
+    // A place that is not empty, which happens in no run, keeps what it has, and the connection is closed.
+    let _ = shared.berths.put_in(rt, &own.seat, ticket.slot, berth);
+    // A holder's own post never answers Wake: the release does.
+    let posted = shared.claims.post(&mut own.seat, ticket.slot);
+    let_go(shared, own, ticket);
+    match posted {
+        Posted::Worn => Err(ServerFault::Worn),
+        Posted::Wake | Posted::Quiet => Ok(()),
+    }
+}
+
+/// Releases the slot of a connection that is in its place, and keeps the ticket in hand if notes wait.
+fn let_go<F: Front>(shared: &Shared<F>, own: &mut Own, ticket: Ticket)
+    requires same { own.old.seat.table ≡ shared.now.claims }
+    requires inside { ticket.slot < shared.now.claims.words }
+    requires holder { HoldsOnly ticket.slot own.old.seat }
+    requires room { length own.old.hand.tickets < own.old.hand.capacity }
+    ensures idle { HoldsNothing own.new.seat }
+    ensures only { OnlyAt ticket.slot own.old.seat own.new.seat }
+    ensures released { ReleasedHere (account_at own.old.seat ticket.slot) (account_at own.new.seat ticket.slot) }
+    ensures kept { 1 ≤ (account_at own.old.seat ticket.slot).known → own.new.hand ≡ record own.old.hand { tickets = own.old.hand.tickets ++ ticket ∷ [] } }
+    ensures exchanges { own.new.seat.steps ≡ own.old.seat.steps + 1 }
+    ensures ready { own.new.ready ≡ own.old.ready }
+    ensures free { own.new.free ≡ own.old.free }
+{
+    if shared.claims.release(&mut own.seat, ticket.slot) == Released::Wake {
+        own.hand.keep_ticket(ticket);
+    }
+}

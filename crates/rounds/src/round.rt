@@ -1,0 +1,428 @@
+//! A round of the poller: it delivers reports, and accepts and opens connections.
+ghost use Rattle.std.specs.Prelude.{◌≡◌, ◌≢◌, ◌⊎◌, ◌+◌, ◌-◌, ◌<◌, ◌≤◌, ◌↔◌, [], length, Ok, Err, IsOk, OnOk, OnErr, IfErr, IfSome, IfOk, IsTrue, MatchResult, Contains, true, false};
+ghost use Rattle.std.specs.IoError.{error_kind};
+ghost use Rattle.std.specs.declared.io.ErrorKind.TheVariants.{Interrupted};
+ghost use Rattle.claims.specs.Seats.{HoldsNothing};
+ghost use Rattle.ready.specs.Steps.{HeldOnce};
+ghost use Rattle.rounds.specs.Accepts.{accepted_of, episodes_after, flag_after, starved_after};
+ghost use Rattle.rounds.specs.Deliveries.{Delivered, all_reported};
+ghost use Rattle.dispatch.specs.Drops.{AreTold};
+ghost use Rattle.dispatch.specs.Hands.{ticket_room};
+ghost use Rattle.rounds.specs.Openings.{AreIn, Between, OnlyTook, AcceptDone};
+ghost use Rattle.dispatch.specs.Polls.{HasOpenedAll};
+ghost use Rattle.rounds.specs.Rounds.{RoundDone, AcceptEnded, EndedEarly, IsBack, IsFull, IsOver, LooksForAll, MayAccept, MayNotWait, MayWait, NoSlot, NoneToAccept, TookAll, ListenerKept, ListensToOpen};
+ghost use Rattle.rounds.specs.Sweeps.{swept_after};
+ghost use Rattle.dispatch.specs.Posts.{OnlyWorn};
+
+use crate::accepting::{Accepted, accepted_of};
+use crate::delivering::deliver;
+use crate::opening::open;
+use crate::sweeping::sweep_if_due;
+use dispatch::{
+    Clock, Front, Hand, LISTENER, MAX_ACCEPTS, Own, Poller, ROUND_ROOM, Shared, Timing,
+};
+use log::{Log, error};
+use relay_log::{ServerFault, log_all_taken};
+use std::alloc::Global;
+use std::io;
+use std::sync::Wait;
+
+/// One round of the poller.
+///
+/// The tickets in hand stay there, in front of those of the round; if the hand has no room for a ticket of each slot and 512
+/// more, the round ends there. Then it asks once for reports and delivers them ([`deliver`]); it waits for them only if no
+/// ticket is in hand and no connection can be accepted now. If at least the idle limit has passed since the last sweep, or since the poller began,
+/// it makes one: it posts a note at each slot in which it has opened a connection, in rising order. Without a limit none
+/// is made. While connections may be waiting and a slot is free, it accepts and opens them, with
+/// at most 4 calls of accept(2).
+///
+/// Once all connections that the poller may open were opened, its front no longer listens.
+///
+/// An opened connection has the slot's next generation, one note and one ticket, and is logged. A connection whose
+/// opening fails is closed and logged or counted, and its slot is as it was, and in hand. At its end the log is told of what is
+/// counted, once a second. Where the listener was reported and no slot is free, the last poller to find so tells the log. What
+/// connections are opened with stays the same.
+///
+/// Refusals: `Poll` if waiting for reports failed, and `Worn` if the seat has posted 2^56 times. Then, too, the seat
+/// holds nothing.
+pub fn poller_round<F: Front, C: Clock, R: Wait + Log>(
+    rt: &R,
+    alloc: Global,
+    shared: &Shared<F>,
+    own: &mut Own,
+    poller: &mut Poller<F>,
+    timing: &Timing<'_, C>,
+) -> Result<(), ServerFault>
+    requires same { own.old.seat.table ≡ shared.now.claims }
+    requires idle { HoldsNothing own.old.seat }
+    requires sized { length poller.old.table ≡ shared.now.claims.words }
+    ensures same { own.new.seat.table ≡ own.old.seat.table }
+    ensures idle { HoldsNothing own.new.seat }
+    ensures sized { length poller.new.table ≡ length poller.old.table }
+    ensures round { result ≢ Err ServerFault.Worn → RoundDone poller.old poller.new own.old own.new }
+    ensures batch { result ≢ Err ServerFault.Worn → EndedEarly shared.now.claims.words own.new ⊎ (poller.new.batch ≡ poller.new.reported) }
+    ensures told { OnOk result (EndedEarly shared.now.claims.words own.new ⊎ C.tells timing.now.clock.now poller.new.second) }
+    ensures swept { OnOk result (EndedEarly shared.now.claims.words own.new ⊎ (poller.new.swept ≡ swept_after timing.now.limit poller.new.second poller.old.swept)) }
+    ensures unswept { (poller.new.swept ≡ poller.old.swept) ⊎ (poller.new.swept ≡ swept_after timing.now.limit poller.new.second poller.old.swept) }
+    ensures accepted { OnOk result (EndedEarly shared.now.claims.words own.new ⊎ AcceptEnded poller.new own.new) }
+    ensures over { OnOk result (poller.new.over ≡ true → (poller.old.over ≡ true) ⊎ IsOver poller.new own.new) }
+    ensures listens { ListenerKept poller.old poller.new }
+    ensures closed { OnOk result (EndedEarly shared.now.claims.words own.new ⊎ ListensToOpen poller.new) }
+    ensures ended { OnOk result (EndedEarly shared.now.claims.words own.new ⊎ LooksForAll poller.new own.new) }
+    ensures told_drops { OnOk result (EndedEarly shared.now.claims.words own.new ⊎ AreTold poller.new.second poller.new.episodes.drops) }
+    ensures opening { poller.new.opening ≡ poller.old.opening }
+    ensures most { poller.new.most ≡ poller.old.most }
+    ensures heavy { poller.new.heavy ≡ poller.old.heavy }
+    ensures took { own.new.ready.history.taken ≡ own.old.ready.history.taken }
+    ensures refused { IfErr result (λ fault. ((fault ≡ ServerFault.Poll) × (poller.new.failed ≡ true)) ⊎ OnlyWorn fault own.new.seat) }
+{
+    if !begin(&own.hand, poller, shared.claims.slots()) {
+        return Ok(());
+    }
+    look(rt, own, poller)?;
+    deliver_batch(shared, own, poller)?;
+    sweep_if_due(shared, own, poller, timing)?;
+    accept(rt, alloc, shared, own, poller)?;
+    take_back(rt, own, poller);
+    Ok(())
+}
+
+/// The start of a round. Answers false if the hand has no room for a ticket of each of so many slots and 512 more.
+fn begin<F: Front>(hand: &Hand, poller: &mut Poller<F>, slots: usize) -> bool
+    ensures poller { poller.new ≡ record poller.old { batch = [] } }
+    ensures room { IsTrue result ↔ (512 + slots ≤ ticket_room hand.now) }
+{
+    poller.forget_reports();
+    let room = hand.room();
+    room >= ROUND_ROOM && room - ROUND_ROOM >= slots
+}
+
+/// Takes the reports. It waits for them, unless a ticket is in hand or a connection can be accepted now.
+fn look<F: Front, R: Wait + Log>(
+    rt: &R,
+    own: &mut Own,
+    poller: &mut Poller<F>,
+) -> Result<(), ServerFault>
+    requires room { 1 ≤ ticket_room own.old.hand }
+    ensures took { OnlyTook own.old own.new }
+    ensures poller { poller.new ≡ record poller.old { reported = poller.new.reported; failed = poller.new.failed; batch = poller.new.batch } }
+    ensures batch { poller.new.batch ≡ poller.new.reported }
+    ensures failed { IfErr result (λ fault. (fault ≡ ServerFault.Poll) × (poller.new.failed ≡ true) × (poller.new.batch ≡ [])) }
+    ensures few { length poller.new.batch ≤ 256 }
+{
+    let wait = may_wait(rt, own, poller);
+    poll(rt, own, poller, wait)
+}
+
+/// Whether the poller may wait for reports.
+fn may_wait<F: Front, R: Wait>(rt: &R, own: &mut Own, poller: &Poller<F>) -> bool
+    requires room { 1 ≤ ticket_room own.old.hand }
+    ensures took { OnlyTook own.old own.new }
+    ensures reason { result ≡ true → MayWait poller.now own.new }
+    ensures haste { result ≡ false → MayNotWait poller.now own.new }
+{
+    own.hand.tickets() == 0 && (poller.is_starved() || !may_accept(rt, own, poller))
+}
+
+/// Asks for reports. After a signal the batch is empty. While it waits no ticket is in hand, and no connection is to be
+/// accepted, unless the system lacked what accept(2) needs.
+fn poll<F: Front, R: Log>(
+    rt: &R,
+    _own: &Own,
+    poller: &mut Poller<F>,
+    wait: bool,
+) -> Result<(), ServerFault>
+    requires wait { wait ≡ true → MayWait poller.old _own.now }
+    requires haste { wait ≡ false → MayNotWait poller.old _own.now }
+    ensures same { poller.new ≡ record poller.old { reported = poller.new.reported; failed = poller.new.failed; batch = poller.new.batch } }
+    ensures batch { poller.new.batch ≡ poller.new.reported }
+    ensures failed { OnErr result ((poller.new.failed ≡ true) × (poller.new.batch ≡ [])) }
+    ensures fault { IfErr result (λ fault. fault ≡ ServerFault.Poll) }
+    ensures few { length poller.new.batch ≤ 256 }
+{
+    let answer = poller.poll(wait);
+    polled(rt, answer)
+}
+
+/// What an answer to the wait for reports means. A signal ends a wait, and is no fault.
+fn polled<R: Log>(rt: &R, answer: io::Result<()>) -> Result<(), ServerFault>
+    ensures waited { IsOk result ↔ MatchResult answer (λ _. Unit {0}) (λ error. error_kind error ≡ Interrupted) }
+    ensures fault { IfErr result (λ fault. fault ≡ ServerFault.Poll) }
+{
+    match answer {
+        Ok(()) => Ok(()),
+        Err(error) if error.kind() == io::ErrorKind::Interrupted => Ok(()),
+        Err(error) => {
+            log_failure(rt, "poll", &error);
+            Err(ServerFault::Poll)
+        }
+    }
+}
+
+/// Delivers the reports of the batch, and raises the accept flag if the listener was reported. None is for a slot of
+/// another poller, since the table has no connection there.
+fn deliver_batch<F: Front>(
+    shared: &Shared<F>,
+    own: &mut Own,
+    poller: &mut Poller<F>,
+) -> Result<(), ServerFault>
+    requires between { Between shared.now.claims own.old poller.old }
+    requires room { length poller.old.batch ≤ ticket_room own.old.hand }
+    ensures between { Between shared.now.claims own.new poller.new }
+    ensures poller { poller.new ≡ record poller.old { accepting = poller.new.accepting } }
+    ensures worn { IfErr result (λ fault. OnlyWorn fault own.new.seat) }
+    ensures delivered { OnOk result (Delivered poller.old.table poller.old.batch own.old.seat own.new.seat own.old.hand own.new.hand) }
+    ensures flag { OnOk result (IsTrue poller.new.accepting ↔ (IsTrue poller.old.accepting ⊎ Contains poller.old.batch 0)) }
+    ensures own { AreIn poller.old.part (all_reported poller.old.table poller.old.batch) }
+    ensures ready { own.new.ready ≡ own.old.ready }
+    ensures free { own.new.free ≡ own.old.free }
+{
+    let listener = deliver(
+        &shared.claims,
+        &mut own.seat,
+        poller.table(),
+        poller.batch(),
+        &mut own.hand,
+    )?;
+    if listener {
+        poller.raise_accept_flag();
+    }
+    Ok(())
+}
+
+/// Accepts and opens connections while one may be waiting and a slot is free. The log is told where a client waits for a slot, and of
+/// what was closed unopened.
+fn accept<F: Front, R: Wait + Log>(
+    rt: &R,
+    alloc: Global,
+    shared: &Shared<F>,
+    own: &mut Own,
+    poller: &mut Poller<F>,
+) -> Result<(), ServerFault>
+    requires between { Between shared.now.claims own.old poller.old }
+    requires room { 4 ≤ ticket_room own.old.hand }
+    ensures between { Between shared.now.claims own.new poller.new }
+    ensures worn { IfErr result (λ fault. OnlyWorn fault own.new.seat) }
+    ensures done { OnOk result (AcceptDone poller.old poller.new own.old own.new) }
+    ensures ended { OnOk result (AcceptEnded poller.new own.new) }
+    ensures ready { own.new.ready ≡ own.old.ready }
+    ensures poller { poller.new ≡ record poller.old { table = poller.new.table; accepting = poller.new.accepting; starved = poller.new.starved; tries = poller.new.tries; opened = poller.new.opened; dropped = poller.new.dropped; lost = poller.new.lost; episodes = poller.new.episodes } }
+    ensures told { OnOk result (AreTold poller.new.second poller.new.episodes.drops) }
+{
+    tell_if_full(rt, shared, own, poller);
+    accept_all(rt, alloc, shared, own, poller)?;
+    poller.tell_counted(rt);
+    Ok(())
+}
+
+/// Before any is accepted: if a client waits for a slot, the poller is full until accept(2) answers that nobody waits. The log is told
+/// by the last poller that becomes so.
+fn tell_if_full<F: Front, R: Wait + Log>(
+    rt: &R,
+    shared: &Shared<F>,
+    own: &mut Own,
+    poller: &mut Poller<F>,
+)
+    requires room { 1 ≤ ticket_room own.old.hand }
+    ensures took { OnlyTook own.old own.new }
+    ensures poller { poller.new ≡ record poller.old { episodes = record poller.old.episodes { full = poller.new.episodes.full } } }
+    ensures full { poller.new.episodes.full ≡ true → (poller.old.episodes.full ≡ true) ⊎ IsFull poller.new own.new }
+    ensures kept { poller.old.episodes.full ≡ true → poller.new.episodes.full ≡ true }
+    ensures found { IsFull poller.new own.new → poller.new.episodes.full ≡ true }
+{
+    if poller.is_full() {
+        return;
+    }
+    if !is_full(rt, own, poller) {
+        return;
+    }
+    poller.set_full(true);
+    if shared.full.enter() {
+        log_all_taken(rt, shared.claims.slots());
+    }
+}
+
+/// Whether a client waits for a slot: the listener was reported, the client would be opened, and no slot is free.
+fn is_full<F: Front, R: Wait>(rt: &R, own: &mut Own, poller: &Poller<F>) -> bool
+    requires room { 1 ≤ ticket_room own.old.hand }
+    ensures took { OnlyTook own.old own.new }
+    ensures full { result ≡ true → IsFull poller.now own.new }
+    ensures found { IsFull poller.now own.new → result ≡ true }
+{
+    poller.batch().contains(&LISTENER) && !poller.has_opened_all() && !has_slot(rt, own)
+}
+
+/// Accepts and opens connections while one may be waiting and a slot is free.
+fn accept_all<F: Front, R: Wait + Log>(
+    rt: &R,
+    alloc: Global,
+    shared: &Shared<F>,
+    own: &mut Own,
+    poller: &mut Poller<F>,
+) -> Result<(), ServerFault>
+    requires between { Between shared.now.claims own.old poller.old }
+    requires room { 4 ≤ ticket_room own.old.hand }
+    ensures between { Between shared.now.claims own.new poller.new }
+    ensures worn { IfErr result (λ fault. OnlyWorn fault own.new.seat) }
+    ensures done { OnOk result (AcceptDone poller.old poller.new own.old own.new) }
+    ensures ended { OnOk result (AcceptEnded poller.new own.new) }
+    ensures ready { own.new.ready ≡ own.old.ready }
+    ensures poller { poller.new ≡ record poller.old { table = poller.new.table; accepting = poller.new.accepting; starved = poller.new.starved; tries = poller.new.tries; opened = poller.new.opened; dropped = poller.new.dropped; lost = poller.new.lost; episodes = poller.new.episodes } }
+{
+    poller.reset_tries();
+    for _try in 0..MAX_ACCEPTS {
+        if !may_accept(rt, own, poller) {
+            return Ok(());
+        }
+        if !accept_next(rt, alloc, shared, own, poller)? {
+            return Ok(());
+        }
+    }
+    Ok(())
+}
+
+/// Whether accept(2) is to be tried: a connection may be waiting, it would be opened, and a free slot is in hand.
+fn may_accept<F: Front, R: Wait>(rt: &R, own: &mut Own, poller: &Poller<F>) -> bool
+    requires room { 1 ≤ ticket_room own.old.hand }
+    ensures took { OnlyTook own.old own.new }
+    ensures ended { result ≡ false → NoneToAccept poller.now own.new }
+    ensures slot { result ≡ true → 1 ≤ length own.new.hand.slots }
+    ensures may { result ≡ true → MayAccept poller.now own.new }
+{
+    poller.is_accepting() && !poller.has_opened_all() && has_slot(rt, own)
+}
+
+/// Tries accept(2), and opens the connection that it gives. Answers whether the next try is worth making: not if the
+/// system lacked what accept(2) needs.
+fn accept_next<F: Front, R: Wait + Log>(
+    rt: &R,
+    alloc: Global,
+    shared: &Shared<F>,
+    own: &mut Own,
+    poller: &mut Poller<F>,
+) -> Result<bool, ServerFault>
+    requires between { Between shared.now.claims own.old poller.old }
+    requires room { 1 ≤ ticket_room own.old.hand }
+    requires left { 1 ≤ poller.old.tries }
+    requires slot { 1 ≤ length own.old.hand.slots }
+    ensures between { Between shared.now.claims own.new poller.new }
+    ensures worn { IfErr result (λ fault. OnlyWorn fault own.new.seat) }
+    ensures done { OnOk result (AcceptDone poller.old poller.new own.old own.new) }
+    ensures room { OnOk result (ticket_room own.old.hand ≤ ticket_room own.new.hand + 1) }
+    ensures ready { own.new.ready ≡ own.old.ready }
+    ensures tries { poller.new.tries + 1 ≡ poller.old.tries }
+    ensures starved { IfOk result (λ more. more ≡ false → poller.new.starved ≡ true) }
+    ensures poller { poller.new ≡ record poller.old { table = poller.new.table; accepting = poller.new.accepting; starved = poller.new.starved; tries = poller.new.tries; opened = poller.new.opened; dropped = poller.new.dropped; lost = poller.new.lost; episodes = poller.new.episodes } }
+{
+    match poller.accept() {
+        Ok(client) => {
+            open(rt, alloc, shared, own, poller, client)?;
+            Ok(true)
+        }
+        Err(error) => Ok(not_accepted(rt, shared, poller, &error) != Accepted::Starved),
+    }
+}
+
+/// Whether a free slot is in hand, or can be taken. None is taken if one is in hand.
+fn has_slot<R: Wait>(rt: &R, own: &mut Own) -> bool
+    requires room { 1 ≤ ticket_room own.old.hand }
+    ensures took { OnlyTook own.old own.new }
+    ensures had { 1 ≤ length own.old.hand.slots → (result ≡ true) × (own.new ≡ own.old) }
+    ensures slot { result ≡ true → 1 ≤ length own.new.hand.slots }
+    ensures none { result ≡ false → NoSlot own.new × (own.new ≡ own.old) }
+{
+    own.hand.slots() > 0 || take_one(rt, own)
+}
+
+/// Takes a free slot in hand, if there is one.
+fn take_one<R: Wait>(rt: &R, own: &mut Own) -> bool
+    requires room { length own.old.hand.slots < own.old.hand.capacity }
+    ensures took { OnlyTook own.old own.new }
+    ensures slot { result ≡ true → 1 ≤ length own.new.hand.slots }
+    ensures queue { result ≡ false → HeldOnce 0 own.new.free.history }
+    ensures none { result ≡ false → own.new ≡ own.old }
+    ensures more { result ≡ true → length own.new.hand.slots ≡ length own.old.hand.slots + 1 }
+{
+    match own.free.try_take(rt) {
+        Some(slot) => {
+            own.hand.keep_slot(slot);
+            true
+        }
+        None => false,
+    }
+}
+
+/// What an answer without a connection does to the accept flag. That accept(2) is starved is logged once until a connection is
+/// opened.
+fn not_accepted<F: Front, R: Log>(
+    rt: &R,
+    shared: &Shared<F>,
+    poller: &mut Poller<F>,
+    error: &io::Error,
+) -> Accepted
+    ensures class { result ≡ accepted_of (error_kind error.now) }
+    ensures flag { poller.new ≡ record poller.old { accepting = flag_after result poller.old.accepting; starved = starved_after result poller.old.starved; episodes = episodes_after result poller.old.episodes } }
+    ensures starved { result ≡ Accepted.Starved → poller.new.starved ≡ true }
+{
+    let class = accepted_of(error.kind());
+    match class {
+        Accepted::Again => {}
+        Accepted::Blocked => {
+            poller.lower_accept_flag();
+            end_full(shared, poller);
+        }
+        Accepted::Starved => {
+            if poller.mark_starved() {
+                log_failure(rt, "accept", error);
+            }
+        }
+    }
+    class
+}
+
+/// Nobody waits, for a slot or otherwise.
+fn end_full<F: Front>(shared: &Shared<F>, poller: &mut Poller<F>)
+    ensures { poller.new ≡ record poller.old { episodes = record poller.old.episodes { full = false } } }
+{
+    if poller.is_full() {
+        shared.full.leave();
+    }
+    poller.set_full(false);
+}
+
+/// Logs why a system call failed.
+fn log_failure<R: Log>(rt: &R, call: &str, error: &io::Error) {
+    error!(rt; target: "relayd", "{call}: {error}");
+}
+
+/// Once all connections that it may open have been opened, it listens no longer, takes the free slots in hand and checks whether
+/// they are all there. A slot that is no longer used counts as free.
+fn take_back<F: Front, R: Wait>(rt: &R, own: &mut Own, poller: &mut Poller<F>)
+    ensures took { OnlyTook own.old own.new }
+    ensures poller { poller.new ≡ record poller.old { listening = poller.new.listening; over = poller.new.over } }
+    ensures closed { ListensToOpen poller.new }
+    ensures unlimited { (HasOpenedAll poller.old → ⊥) → (own.new ≡ own.old) × (poller.new ≡ poller.old) }
+    ensures over { poller.new.over ≡ true → (poller.old.over ≡ true) ⊎ IsOver poller.new own.new }
+    ensures all { LooksForAll poller.new own.new }
+{
+    if !poller.has_opened_all() {
+        return;
+    }
+    poller.stop_listening();
+    let part = poller.part();
+    take_all(rt, own, part.slots);
+    let slots = own.hand.slots() as u64;
+    poller.set_over(slots.saturating_add(poller.lost()) >= part.slots as u64);
+}
+
+/// Takes free slots in hand, at most so many, until there is none or the hand is full.
+fn take_all<R: Wait>(rt: &R, own: &mut Own, most: usize)
+    ensures took { OnlyTook own.old own.new }
+    ensures all { TookAll most own.new }
+{
+    for _slot in 0..most {
+        if !own.hand.has_room() || !take_one(rt, own) {
+            return;
+        }
+    }
+}

@@ -1,0 +1,103 @@
+//! What a round posts for time: a note at each slot in which a connection was opened, once the idle limit has passed.
+ghost use Rattle.std.specs.Prelude.{◌≡◌, ◌⊎◌, ◌^◌, ◌<◌, ◌≤◌, length, IfErr, OnErr, OnOk, sum_by};
+ghost use Rattle.claims.specs.Views.{posted_of};
+ghost use Rattle.claims.specs.Seats.{HoldsNothing};
+ghost use Rattle.relay_core.specs.Idle.{is_past};
+ghost use Rattle.rounds.specs.Deliveries.{ArePosted};
+ghost use Rattle.dispatch.specs.Hands.{ticket_room};
+ghost use Rattle.rounds.specs.Openings.{AreIn, Between};
+ghost use Rattle.dispatch.specs.Posts.{OnlyWorn};
+ghost use Rattle.rounds.specs.Sweeps.{all_opened, opened_in, swept_after, sweep_of};
+
+use crate::delivering::post_note;
+use claims::{ClaimSeat, Claims};
+use dispatch::{Clock, Front, Hand, Own, Poller, Shared, Timing};
+use engine::Moment;
+use ready::Ticket;
+use relay_log::ServerFault;
+
+/// Reads the second of the round, and makes a sweep if the idle limit has passed since the last one. The poller opened
+/// no connection in the slots of another one, and posts none there.
+pub(crate) fn sweep_if_due<F: Front, C: Clock>(
+    shared: &Shared<F>,
+    own: &mut Own,
+    poller: &mut Poller<F>,
+    timing: &Timing<'_, C>,
+) -> Result<(), ServerFault>
+    requires between { Between shared.now.claims own.old poller.old }
+    requires room { length poller.old.table ≤ ticket_room own.old.hand }
+    ensures between { Between shared.now.claims own.new poller.new }
+    ensures poller { poller.new ≡ record poller.old { second = poller.new.second; swept = poller.new.swept } }
+    ensures told { C.tells timing.now.clock.now poller.new.second }
+    ensures worn { IfErr result (λ fault. OnlyWorn fault own.new.seat) }
+    ensures posted { OnOk result (ArePosted (sweep_of poller.old poller.new) own.old.seat own.new.seat own.old.hand own.new.hand) }
+    ensures swept { OnOk result (poller.new.swept ≡ swept_after timing.now.limit poller.new.second poller.old.swept) }
+    ensures unswept { OnErr result (poller.new.swept ≡ poller.old.swept) }
+    ensures own { AreIn poller.old.part (sweep_of poller.old poller.new) }
+    ensures ready { own.new.ready ≡ own.old.ready }
+    ensures free { own.new.free ≡ own.old.free }
+{
+    let moment = timing.moment();
+    poller.set_second(moment.second);
+    if !has_passed(moment, poller.swept()) {
+        return Ok(());
+    }
+    sweep(&shared.claims, &mut own.seat, poller.table(), &mut own.hand)?;
+    poller.count_sweep();
+    Ok(())
+}
+
+/// Whether the limit, if there is one, has passed since that second.
+fn has_passed(moment: Moment, last: u64) -> bool
+    ensures { result ≡ is_past moment.second moment.limit last }
+{
+    moment.limit > 0 && moment.second >= last && moment.second - last >= moment.limit
+}
+
+/// Posts a note at each slot in which a connection was opened, in rising order.
+///
+/// The only refusal is `Worn`: the seat has posted 2^56 times. Then the slots before that one have their notes.
+fn sweep(
+    claims: &Claims,
+    seat: &mut ClaimSeat,
+    table: &[u64],
+    hand: &mut Hand,
+) -> Result<(), ServerFault>
+    requires same { seat.old.table ≡ claims.now }
+    requires idle { HoldsNothing seat.old }
+    requires sized { length table.now ≡ claims.now.words }
+    requires room { length table.now ≤ ticket_room hand.old }
+    ensures posted { OnOk result (ArePosted (all_opened table.now) seat.old seat.new hand.old hand.new) }
+    ensures worn { IfErr result (λ fault. (fault ≡ ServerFault.Worn) × (sum_by posted_of seat.new.accounts ≡ 2 ^ 56)) }
+    ensures idle { HoldsNothing seat.new }
+    ensures same { seat.new.table ≡ seat.old.table }
+{
+    for slot in 0..table.len() {
+        sweep_slot(claims, seat, table, slot, hand)?;
+    }
+    Ok(())
+}
+
+/// Posts a note at a slot, if a connection was opened there. `Worn` changes nothing.
+fn sweep_slot(
+    claims: &Claims,
+    seat: &mut ClaimSeat,
+    table: &[u64],
+    slot: usize,
+    hand: &mut Hand,
+) -> Result<(), ServerFault>
+    requires same { seat.old.table ≡ claims.now }
+    requires idle { HoldsNothing seat.old }
+    requires sized { length table.now ≡ claims.now.words }
+    requires inside { slot < length table.now }
+    requires room { length hand.old.tickets < hand.old.capacity }
+    ensures posted { OnOk result (ArePosted (opened_in table.now slot) seat.old seat.new hand.old hand.new) }
+    ensures seat { OnErr result (seat.new ≡ seat.old) }
+    ensures worn { IfErr result (λ fault. (fault ≡ ServerFault.Worn) × (sum_by posted_of seat.new.accounts ≡ 2 ^ 56)) }
+{
+    let generation = table[slot];
+    if generation == 0 {
+        return Ok(());
+    }
+    post_note(claims, seat, Ticket { slot, generation }, hand)
+}

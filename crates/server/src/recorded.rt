@@ -1,0 +1,130 @@
+//! A server that records what its threads do.
+use crate::making::{build, split_of};
+use crate::serving::{Lent, run};
+use dispatch::{Clock, Gate, ServerFault, Split};
+use log::{Log, error};
+use recording::{RecordQueue, RecordedClock, RecordedGate, Recorder, record_all, write_records};
+use records::Header;
+use settings::Settings;
+use sockets::{Bound, Dial, Forwarding, open_all};
+use std::alloc::Global;
+use std::io::Write;
+use std::net::Net;
+use std::sync::{Mutex, Wait};
+use std::thread;
+use std::thread::Threads;
+
+/// Serves as [`serve`](crate::serve) does, and records into the file what each thread does, until the server ends: then the
+/// last line says that all is recorded. One thread more writes the file, and the call returns once it has written all.
+/// Where records come faster than they are written, or the file cannot be written, the recording ends, a warning is logged,
+/// and the server serves on.
+///
+/// Refuses what `serve` refuses, and also with `NoMemory` and `Threads` if the recording cannot begin.
+pub fn serve_recorded<
+    G: Gate + Sync,
+    C: Clock + Sync,
+    W: Write + Send + Drop,
+    R: Net + Dial + Wait + Threads + Log + Sync,
+>(
+    rt: &R,
+    alloc: Global,
+    settings: &Settings,
+    bound: Bound,
+    lent: Lent<'_, G, C>,
+    file: W,
+) -> Result<(), ServerFault> {
+    let recording = Recording {
+        rt,
+        alloc,
+        queue: RecordQueue::new(alloc)?,
+        header: header_of(settings, split_of(settings)),
+        file: Mutex::new(Some(file)),
+    };
+    let queue = &recording.queue;
+    serve_beside(
+        &recording,
+        move || serve_into(rt, alloc, settings, bound, lent, queue),
+    )
+}
+
+/// What a recording needs beside its server.
+#[derive(Drop)]
+struct Recording<'a, W, R> {
+    rt: &'a R,
+    alloc: Global,
+    queue: RecordQueue,
+    header: Header,
+    /// The file, until its thread has begun.
+    file: Mutex<Option<W>>,
+}
+
+impl<W: Write + Drop, R: Wait + Log> Recording<'_, W, R> {
+    /// The thread that writes the file.
+    fn write(&self) {
+        let file = self.file.lock(self.rt).take();
+        if let Some(file) = file {
+            write_records(self.rt, self.alloc, &self.queue, self.header, file);
+        }
+    }
+}
+
+/// Starts the thread that writes, serves, and waits until all is written.
+fn serve_beside<W, R, S>(recording: &Recording<'_, W, R>, serve: S) -> Result<(), ServerFault>
+where
+    W: Write + Send + Drop,
+    R: Wait + Threads + Log + Sync,
+    S: FnOnce() -> Result<(), ServerFault> + Drop,
+    requires { S.IsAlwaysCallable serve }
+{
+    thread::scope(
+        thread::scope_env(),
+        recording.rt,
+        move |scope|
+            requires { S.IsAlwaysCallable serve }
+        {
+            if let Err(error) = scope.spawn(move || recording.write()) {
+                error!(recording.rt; target: "relayd", "threads: {error}");
+                return Err(ServerFault::Threads);
+            }
+            let served = serve();
+            recording.queue.close();
+            served
+        },
+    )
+}
+
+/// Serves, and records into the queue.
+fn serve_into<G: Gate + Sync, C: Clock + Sync, R: Net + Dial + Wait + Threads + Log + Sync>(
+    rt: &R,
+    alloc: Global,
+    settings: &Settings,
+    bound: Bound,
+    lent: Lent<'_, G, C>,
+    queue: &RecordQueue,
+) -> Result<(), ServerFault> {
+    let recorder = Recorder::new(rt, queue);
+    let lent = Lent {
+        gate: &RecordedGate::new(lent.gate, recorder.again()),
+        clock: &RecordedClock::new(lent.clock, recorder.again(), settings.idle > 0),
+        is_stopped: lent.is_stopped,
+        statistics: lent.statistics,
+    };
+    let split = split_of(settings);
+    let (fronts, wakers) = open_all(rt, alloc, bound, Forwarding::of(settings), split)?;
+    let fronts = record_all(alloc, fronts, &recorder)?;
+    let server = build(rt, alloc, settings, split, fronts, wakers)?;
+    run(rt, alloc, settings, server, lent)
+}
+
+/// The sizes of a server, as its recording begins.
+fn header_of(settings: &Settings, split: Split) -> Header {
+    Header {
+        slots: settings.slots,
+        pollers: split.pollers(),
+        workers: settings.workers,
+        ring: settings.ring,
+        budget: settings.budget as usize,
+        idle: u64::from(settings.idle),
+        proxy: settings.proxy,
+    }
+}

@@ -1,0 +1,56 @@
+-- What is counted at a slot. Part of the promises.
+use Rattle.std.specs.Prelude.{ℕ, ◌+◌, ◌-◌, min}
+use Rattle.token.specs.declared.kind.Kind.{Kind}
+use Rattle.token.specs.declared.kind.Kind.TheVariants.{Refused, Reset, TimedOut}
+use Rattle.token.specs.declared.side.Side.{Side}
+use Rattle.token.specs.declared.side.Side.TheVariants.{Client, Target}
+use Rattle.relay_core.specs.declared.verdict.Fault.TheVariants.{Broken, Idle}
+use Rattle.relay_core.specs.declared.verdict.Verdict.{Verdict}
+use Rattle.relay_core.specs.declared.verdict.Verdict.TheVariants.{Live, Done, Failed}
+use Rattle.statistics.specs.declared.counts.Counts.{Counts}
+use Rattle.statistics.specs.declared.event.Event.{Event}
+use Rattle.statistics.specs.declared.event.Event.TheVariants.{Dropped, Opened, Moved, Ended}
+
+-- a count of 64 bits, so many later: it stays at its greatest value
+abbrev pub sum : ℕ → ℕ → ℕ
+sum count count_more = min (count + count_more) 18446744073709551615
+
+abbrev pub more : ℕ → ℕ
+more count = sum count 1
+
+-- a failed call is counted by the side on whose socket it was made
+abbrev pub blamed : Side → Counts → Counts
+blamed Client c = record c { client = more c.client }
+blamed Target c = record c { target = more c.target }
+
+-- and some of them by how they failed
+abbrev pub by_kind : Kind → Counts → Counts
+by_kind Refused c = record c { refused = more c.refused }
+by_kind Reset c = record c { reset = more c.reset }
+by_kind TimedOut c = record c { timedout = more c.timedout }
+by_kind _ c = c
+
+-- the bytes are those of the connections that have ended, and these of the one that is open
+abbrev pub moved : ℕ → ℕ → Counts → Counts
+moved up down c = record c { up = sum c.up_ended up; down = sum c.down_ended down }
+
+-- it has ended with the bytes that were counted
+abbrev pub closed : Counts → Counts
+closed c = record c { up_ended = c.up; down_ended = c.down }
+
+abbrev pub verdict_counted : Verdict → Counts → Counts
+verdict_counted Live c = c
+verdict_counted Done c = record c { done = more c.done }
+verdict_counted (Failed Idle) c = record c { idle = more c.idle }
+verdict_counted (Failed (Broken side call kind)) c = by_kind kind (blamed side c)
+
+-- what is counted once this has happened, too
+abbrev pub after : Event → Counts → Counts
+after Dropped c = record c { dropped = more c.dropped }
+after Opened c = record c { opened = more c.opened }
+after (Moved up down) c = moved up down c
+after (Ended verdict up down) c = verdict_counted verdict (closed (moved up down c))
+
+-- how many of its connections are open: those that were opened and have not ended, and one at most
+abbrev pub live_at : Counts → ℕ
+live_at c = min (c.opened - c.done - c.client - c.target - c.idle) 1

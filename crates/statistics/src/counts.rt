@@ -1,0 +1,143 @@
+ghost use Rattle.std.specs.Prelude.{◌≡◌};
+ghost use Rattle.statistics.specs.Counts.{after, blamed, by_kind, closed, more, moved, live_at, verdict_counted};
+
+use crate::event::Event;
+use relay_core::{Fault, Verdict};
+use token::{Kind, Side};
+
+/// What was counted at one slot. A count that has reached 2^64 - 1 stays there.
+#[derive(Clone, Copy, PartialEq, Eq)]
+pub struct Counts {
+    /// Connections that were opened.
+    pub opened: u64,
+    /// Accepted connections that were closed unopened.
+    pub dropped: u64,
+    /// Connections that are done.
+    pub done: u64,
+    /// Those that failed by a call on the client's socket.
+    pub client: u64,
+    /// Those that failed by a call on the target's.
+    pub target: u64,
+    /// Those that failed since they moved nothing for the idle limit.
+    pub idle: u64,
+    /// Of those that failed by a call: nobody listened at the target's address.
+    pub refused: u64,
+    /// The peer reset the connection.
+    pub reset: u64,
+    /// The peer did not answer in time.
+    pub timedout: u64,
+    /// Bytes written to targets.
+    pub up: u64,
+    /// Bytes written to clients.
+    pub down: u64,
+    /// Those of connections that have ended.
+    pub up_ended: u64,
+    pub down_ended: u64,
+}
+
+impl Counts {
+    /// Nothing was counted.
+    pub const NONE: Counts = Counts {
+        opened: 0,
+        dropped: 0,
+        done: 0,
+        client: 0,
+        target: 0,
+        idle: 0,
+        refused: 0,
+        reset: 0,
+        timedout: 0,
+        up: 0,
+        down: 0,
+        up_ended: 0,
+        down_ended: 0,
+    };
+
+    /// The counts once this event was counted, too.
+    pub fn after(self, event: Event) -> Counts
+        ensures { result ≡ after event self }
+    {
+        let mut counts = self;
+        match event {
+            Event::Dropped => counts.dropped = more(counts.dropped),
+            Event::Opened => counts.opened = more(counts.opened),
+            Event::Moved { up, down } => counts.move_to(up, down),
+            Event::Ended { verdict, up, down } => {
+                counts.move_to(up, down);
+                counts.close();
+                counts.count_verdict(verdict);
+            }
+        }
+        counts
+    }
+
+    /// The slot's connection has moved so many bytes in all.
+    fn move_to(&mut self, up: u64, down: u64)
+        ensures { self.new ≡ moved up down self.old }
+    {
+        self.up = self.up_ended.saturating_add(up);
+        self.down = self.down_ended.saturating_add(down);
+    }
+
+    /// The slot's connection has moved all that it will.
+    fn close(&mut self)
+        ensures { self.new ≡ closed self.old }
+    {
+        self.up_ended = self.up;
+        self.down_ended = self.down;
+    }
+
+    /// A connection ended like this.
+    fn count_verdict(&mut self, verdict: Verdict)
+        ensures { self.new ≡ verdict_counted verdict self.old }
+    {
+        match verdict {
+            Verdict::Live => {}
+            Verdict::Done => self.done = more(self.done),
+            Verdict::Failed(Fault::Idle) => self.idle = more(self.idle),
+            Verdict::Failed(Fault::Broken { side, kind, .. }) => {
+                self.count_side(side);
+                self.count_kind(kind);
+            }
+        }
+    }
+
+    fn count_side(&mut self, side: Side)
+        ensures { self.new ≡ blamed side self.old }
+    {
+        match side {
+            Side::Client => self.client = more(self.client),
+            Side::Target => self.target = more(self.target),
+        }
+    }
+
+    fn count_kind(&mut self, kind: Kind)
+        ensures { self.new ≡ by_kind kind self.old }
+    {
+        match kind {
+            Kind::Refused => self.refused = more(self.refused),
+            Kind::Reset => self.reset = more(self.reset),
+            Kind::TimedOut => self.timedout = more(self.timedout),
+            _ => {}
+        }
+    }
+
+    /// How many of its connections are open, which is one at most.
+    pub fn live(&self) -> u64
+        ensures { result ≡ live_at self.now }
+    {
+        self.opened
+            .saturating_sub(self.done)
+            .saturating_sub(self.client)
+            .saturating_sub(self.target)
+            .saturating_sub(self.idle)
+            .min(1)
+    }
+}
+
+/// One more.
+fn more(count: u64) -> u64
+    ensures { result ≡ more count }
+{
+    count.saturating_add(1)
+}

@@ -1,0 +1,58 @@
+-- Which of the tickets in hand a poller's thread keeps for turns of its own, and which it puts for the workers. Part of the promises.
+use Rattle.std.specs.Prelude.{◌≡◌, ◌⊎◌, ℕ, suc, ◌<◌, List, [], ◌∷◌, ◌++◌, slice_index}
+use Rattle.ready.specs.declared.ticket.Ticket.{Ticket}
+use Rattle.ready.specs.Steps.{EndState, PutOne, HeldOnce}
+use Rattle.dispatch.specs.Polls.{looked_at}
+use Rattle.dispatch.specs.declared.shared.Own.{Own}
+
+-- the ticket was put
+pub record Puts (ticket : Ticket) (old new : EndState Ticket) : Type 0 where
+  pub put : PutOne old.history ticket new.history
+  pub capacity : new.capacity ≡ old.capacity
+
+-- the queue was full at one moment
+pub record Refuses (old new : EndState Ticket) : Type 0 where
+  pub full : HeldOnce old.capacity old.history
+  pub same : new ≡ old
+
+-- the ticket's slot has no heavy mark
+abbrev pub IsLight : List ℕ → Ticket → Type 0
+IsLight heavy ticket = slice_index heavy ticket.slot ≡ 0
+
+-- the ticket is light, and fewer than 16 have stayed
+pub record Stays (stayed : ℕ) (heavy : List ℕ) (ticket : Ticket) : Type 0 where
+  pub light : IsLight heavy ticket
+  pub few : stayed < 16
+
+-- What becomes of one ticket in hand, where so many have stayed: a light one stays while fewer than 16 have, and later ones may. Any
+-- other is put, or is in hand where the queue was full at one moment. Then so many have stayed, this is in hand behind the others, and
+-- the queue's end has come to this
+abbrev pub OneShared : ℕ → List ℕ → Ticket → EndState Ticket → ℕ → List Ticket → EndState Ticket → Type 0
+OneShared stayed heavy ticket queue then behind next =
+    (IsLight heavy ticket × (then ≡ suc stayed) × (behind ≡ ticket ∷ []) × (next ≡ queue))
+    ⊎ ((Stays stayed heavy ticket → ⊥) × (then ≡ stayed)
+    × ((Puts ticket queue next × (behind ≡ [])) ⊎ (Refuses queue next × (behind ≡ ticket ∷ []))))
+
+-- What becomes of these tickets in hand, in order, where so many have stayed. Each that was looked at takes one of its slot's marks
+-- away. Then these are in hand, in order, these marks are left, and the queue's end has come to this
+abbrev pub AreShared : ℕ → List ℕ → List Ticket → EndState Ticket → List Ticket → List ℕ → EndState Ticket → Type 0
+AreShared stayed heavy [] queue kept left end = (kept ≡ []) × (left ≡ heavy) × (end ≡ queue)
+AreShared stayed heavy (t ∷ ts) queue kept left end =
+    (then : ℕ) × (behind : List Ticket) × (next : EndState Ticket) × (rest : List Ticket)
+    × OneShared stayed heavy t queue then behind next × (kept ≡ behind ++ rest)
+    × AreShared then (looked_at t.slot heavy) ts next rest left end
+
+-- A ticket that was in nobody's hand was put, or is the last in hand where the queue was full at one moment
+abbrev pub Passed : Ticket → Own → Own → Type 0
+Passed ticket old new =
+    (Puts ticket old.ready new.ready × (new.hand ≡ old.hand))
+    ⊎ (Refuses old.ready new.ready × (new.hand ≡ record old.hand { tickets = old.hand.tickets ++ ticket ∷ [] }))
+
+-- what a poller's thread owns once its tickets in hand were shared, by the heavy marks before and after
+pub record TicketsShared (heavy left : List ℕ) (old new : Own) : Type 0 where
+  pub tickets : AreShared 0 heavy old.hand.tickets old.ready new.hand.tickets left new.ready
+  pub took : new.ready.history.taken ≡ old.ready.history.taken
+  pub seat : new.seat ≡ old.seat
+  pub free : new.free ≡ old.free
+  pub slots : new.hand.slots ≡ old.hand.slots
+  pub capacity : new.hand.capacity ≡ old.hand.capacity

@@ -1,0 +1,132 @@
+//! The turns that the poller's thread runs by itself, so that no worker has to be woken for them.
+ghost use Rattle.std.specs.Prelude.{◌≡◌, ◌↔◌, ◌<◌, ◌∷◌, ◌++◌, [], length, slice_get, Ok, Some, None, IfErr, IfSome, IsSome};
+ghost use Rattle.claims.specs.Seats.{HoldsNothing, OnlyAt};
+ghost use Rattle.dispatch.specs.Outgoing.{TookNothing};
+ghost use Rattle.dispatch.specs.Polls.{HasOpenedAll, looked_at};
+ghost use Rattle.turns.specs.Shares.{IsLight, Stays, TicketsShared};
+ghost use Rattle.dispatch.specs.Posts.{OnlyWorn};
+ghost use Rattle.turns.specs.Turns.{marks_after, NoOwnTurn, OwnTurn};
+
+use crate::giving::put_ticket;
+use crate::terms::Terms;
+use crate::worker::{Worked, turn_of};
+use dispatch::{Clock, Front, Gate, Hand, MAX_OWN_TURNS, Own, Poller, Shared, Timing};
+use log::Log;
+use ready::{AllBusy, ReadyQueue, Ticket};
+use relay_log::ServerFault;
+use std::sync::Wait;
+
+/// Why a light ticket stays in hand.
+#[derive(Drop)]
+enum Stay {
+    /// Fewer than 16 have stayed.
+    Early,
+    /// Nobody sleeps who could run it at once.
+    Busy(AllBusy),
+}
+
+/// Puts the tickets in hand that the poller's thread does not run by itself, so that the workers begin with them: those
+/// of connections that spent all of its budget a short while ago, and those behind the first 16 that are left from the one on at
+/// which an end of the ready queue is found asleep. The others stay in hand, in order, and so do those that the queue refuses:
+/// where no worker sleeps, all of them may be at work on much larger turns.
+pub fn share_tickets<F: Front, R: Wait>(rt: &R, own: &mut Own, poller: &mut Poller<F>)
+    requires idle { HoldsNothing own.old.seat }
+    ensures poller { poller.new ≡ record poller.old { heavy = poller.new.heavy } }
+    ensures shared { TicketsShared poller.old.heavy poller.new.heavy own.old own.new }
+{
+    let mut kept = 0;
+    let mut asleep = false;
+    for _ticket in 0..own.hand.tickets() {
+        let Some(ticket) = own.hand.take_ticket() else {
+            return;
+        };
+        if let Some(stay) = stays(&own.ready, poller, ticket, kept, &mut asleep) {
+            keep(&mut own.hand, ticket, kept, stay);
+            kept += 1;
+        } else {
+            put_ticket(rt, own, ticket);
+        }
+    }
+}
+
+/// Why a ticket stays in hand, where so many have stayed, and an end of the queue may have been found asleep before. None: it does
+/// not. An end that is woken for one ticket runs the next ones, too: one wake for each would cost more than their turns.
+fn stays<F: Front>(
+    ready: &ReadyQueue,
+    poller: &mut Poller<F>,
+    ticket: Ticket,
+    kept: usize,
+    asleep: &mut bool,
+) -> Option<Stay>
+    ensures light { IsSome result → IsLight poller.old.heavy ticket }
+    ensures stays { Stays kept poller.old.heavy ticket → IsSome result }
+    ensures early { result ≡ Some Stay.Early → kept < 16 }
+    ensures marks { poller.new ≡ record poller.old { heavy = looked_at ticket.slot poller.old.heavy } }
+{
+    if !poller.is_light(ticket.slot) {
+        return None;
+    }
+    if kept < MAX_OWN_TURNS {
+        return Some(Stay::Early);
+    }
+    if *asleep {
+        return None;
+    }
+    let busy = ready.all_busy();
+    *asleep = busy.is_none();
+    busy.map(Stay::Busy)
+}
+
+/// Keeps a ticket in hand, where so many have stayed: behind the first 16 only by a look for it alone.
+fn keep(hand: &mut Hand, ticket: Ticket, _kept: usize, _stay: Stay)
+    requires room { length hand.old.tickets < hand.old.capacity }
+    requires early { _stay ≡ Stay.Early → _kept < 16 }
+    ensures kept { hand.new ≡ record hand.old { tickets = hand.old.tickets ++ ticket ∷ [] } }
+{
+    hand.keep_ticket(ticket);
+}
+
+/// Runs the turn of the oldest ticket in hand, with at most 8 calls. A connection that spends them is the workers' for a
+/// while. None if there is no ticket, or no room in hand for a slot: then nothing changes. The only refusal is `Worn`, as of
+/// a worker's turn.
+///
+/// Nothing else that is in hand is put. Where a connection ends, the round that follows looks for its slot before it
+/// waits, if a client may be waiting. If no more connections are to be opened, it does not wait, so that the poller's end
+/// is found at once.
+pub fn own_turn<F: Front, G: Gate, C: Clock, R: Wait + Log>(
+    rt: &R,
+    shared: &Shared<F>,
+    own: &mut Own,
+    gate: &G,
+    poller: &mut Poller<F>,
+    timing: &Timing<'_, C>,
+) -> Result<Option<Worked>, ServerFault>
+    requires same { own.old.seat.table ≡ shared.now.claims }
+    requires idle { HoldsNothing own.old.seat }
+    ensures same { own.new.seat.table ≡ own.old.seat.table }
+    ensures idle { HoldsNothing own.new.seat }
+    ensures poller { poller.new ≡ record poller.old { heavy = marks_after (slice_get own.old.hand.tickets 0) result poller.old.heavy } }
+    ensures only { IfSome (slice_get own.old.hand.tickets 0) (λ ticket. OnlyAt ticket.slot own.old.seat own.new.seat) }
+    ensures turn { IfSome (slice_get own.old.hand.tickets 0) (λ ticket. OwnTurn shared.now.claims.words ticket result own.old own.new) }
+    ensures none { result ≡ Ok None ↔ NoOwnTurn own.old }
+    ensures unchanged { result ≡ Ok None → own.new ≡ own.old }
+    ensures took { TookNothing own.old own.new }
+    ensures worn { IfErr result (λ fault. OnlyWorn fault own.new.seat) }
+    ensures woken { result ≡ Ok (Some Worked.Ended) → HasOpenedAll poller.old → IfSome (slice_get own.old.hand.tickets 0) (λ ticket. F.woke shared.now.waker ticket.slot) }
+{
+    if !own.hand.has_slot_room() {
+        return Ok(None);
+    }
+    let Some(ticket) = own.hand.take_ticket() else {
+        return Ok(None);
+    };
+    let terms = Terms::own(shared.budget, timing.moment());
+    let worked = turn_of(rt, shared, own, gate, ticket, terms)?;
+    if worked == Worked::Again {
+        poller.mark_heavy(ticket.slot);
+    }
+    if worked == Worked::Ended && poller.has_opened_all() {
+        F::wake(&shared.waker, ticket.slot);
+    }
+    Ok(Some(worked))
+}

@@ -1,0 +1,24 @@
+//! What one turn is held to.
+ghost use Rattle.std.specs.Prelude.{◌≡◌, min};
+
+use dispatch::OWN_BUDGET;
+use engine::Moment;
+
+/// What one turn is held to: it makes at most `budget` calls, 1 to 1,024, all at one moment.
+#[derive(Clone, Copy)]
+pub(crate) struct Terms {
+    pub(crate) budget: usize,
+    pub(crate) moment: Moment,
+}
+
+impl Terms {
+    /// What a turn of a poller's own is held to: 8 calls at most, so that the reports of other connections wait no longer.
+    pub(crate) fn own(budget: usize, moment: Moment) -> Terms
+        ensures { result ≡ record { budget = min budget 8; moment = moment } }
+    {
+        Terms {
+            budget: budget.min(OWN_BUDGET),
+            moment,
+        }
+    }
+}

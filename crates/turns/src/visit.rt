@@ -1,0 +1,193 @@
+//! The connection of a held slot, out of its place and back.
+ghost use Rattle.std.specs.Prelude.{◌≡◌, ◌<◌, ◌≤◌, IfOk, IfErr};
+ghost use Rattle.engine.specs.Turns.{outcome_of, IsServed, IsTurn};
+ghost use Rattle.dispatch.specs.Posts.{HoldsOnly};
+ghost use Rattle.turns.specs.Turns.{noted_by};
+
+use crate::terms::Terms;
+use berths::Berth;
+use dispatch::{Front, Own, Settle, Shared};
+use engine::{Turn, turn_with};
+use ready::Ticket;
+use relay_core::{MAX_READ, Pair};
+use std::marker::Model;
+use std::net::SocketAddr;
+use std::sync::Wait;
+use token::Side;
+
+/// A connection that its thread has taken out of the place of a slot which it holds. Nothing else makes one, and it ends
+/// only by [`put_in`] or [`Visit::close`], since it cannot be dropped: what is put back is what was taken out.
+pub(crate) struct Visit<F: Front> {
+    ticket: Ticket,
+    berth: Berth<F::Client, F::Target>,
+}
+
+/// No connection of this slot is out of its place. Only then may the slot be released: the next holder would find the
+/// place empty, and the connection would never be run again. It cannot be dropped, so each visit is followed by one
+/// release.
+///
+/// In a clause it is the slot.
+pub(crate) struct Back {
+    slot: usize,
+}
+
+/// The connection of this slot is closed. It cannot be dropped, so each closing is followed by one look whether the slot
+/// is to be given back.
+///
+/// In a clause it is the slot.
+pub(crate) struct Closed {
+    slot: usize,
+}
+
+impl Model for Back {
+    ghost use Rattle.std.specs.Prelude.{ℕ};
+
+    ghost Value = { ℕ };
+
+    ghost view = { λ b. b.slot };
+}
+
+impl Model for Closed {
+    ghost use Rattle.std.specs.Prelude.{ℕ};
+
+    ghost Value = { ℕ };
+
+    ghost view = { λ c. c.slot };
+}
+
+/// Takes the connection out of the place of a ticket's slot, which is held, unless the place is empty. It may be another
+/// connection than the ticket's.
+pub(crate) fn take_out<F: Front, R: Wait>(
+    rt: &R,
+    shared: &Shared<F>,
+    own: &Own,
+    ticket: Ticket,
+) -> Result<Visit<F>, Back>
+    requires inside { ticket.slot < shared.now.claims.words }
+    requires holder { HoldsOnly ticket.slot own.now.seat }
+    ensures out { IfOk result (λ visit. visit.ticket ≡ ticket) }
+    ensures empty { IfErr result (λ back. back ≡ ticket.slot) }
+{
+    let slot = ticket.slot;
+    match shared.berths.take_out(rt, &own.seat, slot) {
+        Some(berth) => Ok(Visit { ticket, berth }),
+        None => Err(Back { slot }),
+    }
+}
+
+/// Tells a pair that something was reported, if notes waited.
+fn tell_notes(pair: &mut Pair, notes: u64)
+    ensures { pair.new ≡ noted_by notes pair.old }
+{
+    if notes > 0 {
+        pair.note();
+    }
+}
+
+/// Puts the connection back into its place. A place that is not empty, which happens in no run, keeps what it has, and
+/// the connection is closed.
+pub(crate) fn put_in<F: Front, R: Wait>(
+    rt: &R,
+    shared: &Shared<F>,
+    own: &Own,
+    visit: Visit<F>,
+) -> Back
+    requires inside { visit.ticket.slot < shared.now.claims.words }
+    requires holder { HoldsOnly visit.ticket.slot own.now.seat }
+    ensures { result ≡ visit.ticket.slot }
+{
+    let Visit { ticket, berth } = visit;
+    let slot = ticket.slot;
+    shared.count_moved(slot, &berth.pair);
+    let _ = shared.berths.put_in(rt, &own.seat, slot, berth);
+    Back { slot }
+}
+
+impl<F: Front> Visit<F> {
+    /// The ticket for whose slot it was taken out.
+    pub(crate) fn ticket(&self) -> Ticket
+        ensures { result ≡ self.now.ticket }
+    {
+        self.ticket
+    }
+
+    /// The connection's pair.
+    pub(crate) fn pair(&self) -> &Pair
+        ensures { result.now ≡ self.now.berth.pair }
+    {
+        &self.berth.pair
+    }
+
+    /// Gives the connection a report if notes waited, and makes its calls on its two wires, which read into the buffer:
+    /// at most as many as the budget, and all at the moment. It allocates no memory and waits for no lock.
+    pub(crate) fn play(&mut self, notes: u64, terms: Terms, buffer: &mut [u8; MAX_READ]) -> Turn
+        requires least { 1 ≤ terms.budget }
+        requires most { terms.budget ≤ 1024 }
+        ensures ticket { self.new.ticket ≡ self.old.ticket }
+        ensures outcome { result ≡ outcome_of self.new.berth.pair }
+        ensures run { IsTurn terms.budget terms.moment.second terms.moment.limit (noted_by notes self.old.berth.pair) self.new.berth.pair (IsServed F.Client.told F.Client.does terms.moment.second self.old.berth.client self.new.berth.client) (IsServed F.Target.told F.Target.does terms.moment.second self.old.berth.target self.new.berth.target) }
+    {
+        tell_notes(&mut self.berth.pair, notes);
+        turn_with(
+            &mut self.berth.pair,
+            &mut self.berth.client,
+            &mut self.berth.target,
+            terms.budget,
+            terms.moment,
+            buffer,
+        )
+    }
+
+    /// Has both sockets send at once what they held back.
+    pub(crate) fn settle(&mut self)
+        ensures ticket { self.new.ticket ≡ self.old.ticket }
+        ensures pair { self.new.berth.pair ≡ self.old.berth.pair }
+        ensures client { F.Client.settled self.new.berth.client }
+        ensures target { F.Target.settled self.new.berth.target }
+    {
+        self.berth.client.settle();
+        self.berth.target.settle();
+    }
+
+    /// The client's address, if it is known.
+    pub(crate) fn peer(&self) -> Option<SocketAddr> {
+        F::peer(&self.berth.client)
+    }
+
+    /// The system's error of the last call that failed on a side's socket, by its number, if it is known.
+    pub(crate) fn error(&self, side: Side) -> Option<i32> {
+        match side {
+            Side::Client => self.berth.client.error(),
+            Side::Target => self.berth.target.error(),
+        }
+    }
+
+    /// The second in which the connection was opened.
+    pub(crate) fn opened(&self) -> u64 {
+        self.berth.second
+    }
+
+    /// Counts the connection as ended, and closes both sockets.
+    pub(crate) fn close(self, shared: &Shared<F>) -> Closed
+        ensures { result ≡ self.ticket.slot }
+    {
+        let Visit { ticket, berth } = self;
+        shared.count_ended(ticket.slot, &berth.pair);
+        drop(berth);
+        Closed { slot: ticket.slot }
+    }
+}
+
+impl Back {
+    /// The slot is released.
+    pub(crate) fn spend(self) {
+        let Back { slot: _ } = self;
+    }
+}
+
+impl Closed {
+    /// The slot is given back, unless it had its last generation.
+    pub(crate) fn spend(self) {
+        let Closed { slot: _ } = self;
+    }
+}

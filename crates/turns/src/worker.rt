@@ -1,0 +1,346 @@
+//! One turn of a worker: it claims a ticket's slot, takes its connection out, gives it the notes, runs it, and puts it
+//! back.
+ghost use Rattle.std.specs.Prelude.{◌≡◌, ◌≢◌, ◌⊎◌, ◌+◌, ◌-◌, ◌<◌, ◌≤◌, length, Ok, IfOk, IfErr};
+ghost use Rattle.claims.specs.Seats.{account_at, HoldsNothing, OnlyAt};
+ghost use Rattle.engine.specs.Turns.{outcome_of, IsServed, IsTurn};
+ghost use Rattle.dispatch.specs.Hands.{HasRoom};
+ghost use Rattle.dispatch.specs.Outgoing.{KeepsSlot, TookNothing};
+ghost use Rattle.dispatch.specs.Posts.{Rose, HoldsOnly, OnlyWorn, Released as ReleasedHere};
+ghost use Rattle.turns.specs.Turns.{TurnChange, exchanges, exchanges_left, AtWork, TicketsKept, SlotsKept, TurnDone, noted_by};
+
+use crate::giving::{give_back, put_ticket};
+use crate::gone::log_gone;
+use crate::terms::Terms;
+use crate::visit::{Back, Visit, put_in, take_out};
+use claims::{ClaimSeat, Claimed, Posted, Released};
+use dispatch::{Clock, Front, Gate, Own, Shared, Timing, give_slots, put_tickets};
+use engine::Turn;
+use log::Log;
+use ready::Ticket;
+use relay_core::{MAX_READ, Pair, Verdict};
+use relay_log::{ServerFault, log_done, log_fail};
+use std::sync::Wait;
+use token::MAX_GENERATION;
+
+/// The outcome of a worker's turn.
+#[derive(Clone, Copy, PartialEq, Eq)]
+pub enum Worked {
+    /// The slot was held or free. The ticket is dropped, and nothing else has changed.
+    Busy,
+    /// There was no such connection in the slot.
+    Gone,
+    /// The connection is done or has failed. Its sockets are closed, and its slot is free.
+    Ended,
+    /// The budget is spent, and the connection is due again.
+    Again,
+    /// No call is worth trying before the next report.
+    Quiet,
+}
+
+/// Runs one turn of the connection that a ticket names.
+///
+/// Whatever is in hand is put first, until an item is refused. Then the slot is claimed, the connection is taken out of
+/// its place, its pair is given a report if notes wait, and it is run on its two wires, between the gate's two calls. A
+/// connection that is done or failed is logged and closed, its slot is given back unless its generation is the last
+/// one, and the poller is woken. Any other connection is put back before the slot is released. If the release finds
+/// notes, a ticket is put for them. What a queue refuses stays in hand.
+///
+/// Beside that ticket and that slot, all that was to be put is put or in hand, in order.
+///
+/// The turn is made at one second of the clock, and a connection that is left without a call then, and has moved nothing
+/// for the idle limit, fails.
+///
+/// The only refusal is `Worn`: the seat has posted 2^56 times. The slot is released then, too.
+pub fn worker_turn<F: Front, G: Gate, C: Clock, R: Wait + Log>(
+    rt: &R,
+    shared: &Shared<F>,
+    own: &mut Own,
+    gate: &G,
+    ticket: Ticket,
+    timing: &Timing<'_, C>,
+) -> Result<Worked, ServerFault>
+    requires same { own.old.seat.table ≡ shared.now.claims }
+    requires idle { HoldsNothing own.old.seat }
+    requires room { HasRoom own.old.hand }
+    ensures idle { HoldsNothing own.new.seat }
+    ensures only { OnlyAt ticket.slot own.old.seat own.new.seat }
+    ensures change { TurnChange (account_at own.old.seat ticket.slot) result (account_at own.new.seat ticket.slot) }
+    ensures exchanges { ticket.slot < shared.now.claims.words → own.new.seat.steps ≡ own.old.seat.steps + exchanges result }
+    ensures tickets { TicketsKept ticket own.old own.new }
+    ensures slots { SlotsKept ticket result own.old own.new }
+    ensures outside { shared.now.claims.words ≤ ticket.slot → (result ≡ Ok Worked.Gone) × (own.new.seat ≡ own.old.seat) }
+    ensures took { TookNothing own.old own.new }
+    ensures worn { IfErr result (λ fault. OnlyWorn fault own.new.seat) }
+    ensures woken { result ≡ Ok Worked.Ended → F.woke shared.now.waker ticket.slot }
+{
+    put_tickets(rt, &mut own.ready, &mut own.hand);
+    give_slots(rt, &mut own.free, &mut own.hand);
+    let terms = Terms {
+        budget: shared.budget,
+        moment: timing.moment(),
+    };
+    let worked = turn_of(rt, shared, own, gate, ticket, terms)?;
+    if worked == Worked::Ended {
+        wake_poller(shared, own, ticket);
+    }
+    Ok(worked)
+}
+
+/// A turn without what comes before it and after it: nothing in hand is put first, and nobody is woken.
+pub(crate) fn turn_of<F: Front, G: Gate, R: Wait + Log>(
+    rt: &R,
+    shared: &Shared<F>,
+    own: &mut Own,
+    gate: &G,
+    ticket: Ticket,
+    terms: Terms,
+) -> Result<Worked, ServerFault>
+    requires same { own.old.seat.table ≡ shared.now.claims }
+    requires idle { HoldsNothing own.old.seat }
+    requires room { HasRoom own.old.hand }
+    requires budget { (1 ≤ terms.budget) × (terms.budget ≤ 1024) }
+    ensures idle { HoldsNothing own.new.seat }
+    ensures only { OnlyAt ticket.slot own.old.seat own.new.seat }
+    ensures change { TurnChange (account_at own.old.seat ticket.slot) result (account_at own.new.seat ticket.slot) }
+    ensures exchanges { ticket.slot < shared.now.claims.words → own.new.seat.steps ≡ own.old.seat.steps + exchanges result }
+    ensures tickets { TicketsKept ticket own.old own.new }
+    ensures slots { SlotsKept ticket result own.old own.new }
+    ensures outside { shared.now.claims.words ≤ ticket.slot → (result ≡ Ok Worked.Gone) × (own.new.seat ≡ own.old.seat) }
+    ensures took { TookNothing own.old own.new }
+    ensures worn { IfErr result (λ fault. OnlyWorn fault own.new.seat) }
+{
+    if ticket.slot >= shared.claims.slots() {
+        return Ok(Worked::Gone);
+    }
+    match shared.claims.claim(&mut own.seat, ticket.slot) {
+        Claimed::Busy => Ok(Worked::Busy),
+        Claimed::Held => claimed(rt, shared, own, gate, ticket, terms),
+    }
+}
+
+/// The rest of a turn, once the slot is held.
+fn claimed<F: Front, G: Gate, R: Wait + Log>(
+    rt: &R,
+    shared: &Shared<F>,
+    own: &mut Own,
+    gate: &G,
+    ticket: Ticket,
+    terms: Terms,
+) -> Result<Worked, ServerFault>
+    requires work { AtWork shared.now.claims ticket.slot own.old }
+    requires budget { (1 ≤ terms.budget) × (terms.budget ≤ 1024) }
+    ensures done { TurnDone ticket result own.old own.new }
+    ensures exchanges { own.new.seat.steps ≡ own.old.seat.steps + exchanges_left result }
+    ensures worn { IfErr result (λ fault. OnlyWorn fault own.new.seat) }
+{
+    match take_out(rt, shared, own, ticket) {
+        Ok(visit) if visit.pair().generation() == ticket.generation => {
+            run(rt, shared, own, gate, visit, terms)
+        }
+        Ok(other) => {
+            let back = put_in(rt, shared, own, other);
+            give_up(rt, shared, own, ticket, back);
+            Ok(Worked::Gone)
+        }
+        Err(back) => {
+            give_up(rt, shared, own, ticket, back);
+            Ok(Worked::Gone)
+        }
+    }
+}
+
+/// Takes the notes of a slot whose connection is missing, and releases the slot.
+fn give_up<F: Front, R: Wait>(rt: &R, shared: &Shared<F>, own: &mut Own, ticket: Ticket, back: Back)
+    requires work { AtWork shared.now.claims ticket.slot own.old }
+    requires back { back ≡ ticket.slot }
+    ensures done { TurnDone ticket (Ok Worked.Gone) own.old own.new }
+    ensures exchanges { own.new.seat.steps ≡ own.old.seat.steps + 2 }
+{
+    shared.claims.take(&mut own.seat, ticket.slot);
+    leave(rt, shared, own, ticket, back);
+}
+
+/// Runs the connection of a slot that is held, which is the ticket's own, and then ends it or puts it back.
+fn run<F: Front, G: Gate, R: Wait + Log>(
+    rt: &R,
+    shared: &Shared<F>,
+    own: &mut Own,
+    gate: &G,
+    mut visit: Visit<F>,
+    terms: Terms,
+) -> Result<Worked, ServerFault>
+    requires work { AtWork shared.now.claims visit.ticket.slot own.old }
+    requires own { visit.berth.pair.generation ≡ visit.ticket.generation }
+    requires budget { (1 ≤ terms.budget) × (terms.budget ≤ 1024) }
+    ensures done { TurnDone visit.ticket result own.old own.new }
+    ensures exchanges { own.new.seat.steps ≡ own.old.seat.steps + exchanges_left result }
+    ensures worn { IfErr result (λ fault. OnlyWorn fault own.new.seat) }
+{
+    match play(
+        shared,
+        &mut own.seat,
+        gate,
+        &mut visit,
+        terms,
+        &mut own.buffer,
+    ) {
+        Turn::Done | Turn::Failed => {
+            log_gone(rt, &visit, terms.moment.second);
+            end(rt, shared, own, visit);
+            Ok(Worked::Ended)
+        }
+        Turn::Again => again(rt, shared, own, visit),
+        Turn::Quiet => {
+            rest(rt, shared, own, visit);
+            Ok(Worked::Quiet)
+        }
+    }
+}
+
+/// Takes the notes of a held slot, and plays its connection between the gate's two calls. It is passed neither an
+/// allocator nor anything that may wait, so it allocates nothing and waits for no lock.
+fn play<F: Front, G: Gate>(
+    shared: &Shared<F>,
+    seat: &mut ClaimSeat,
+    gate: &G,
+    visit: &mut Visit<F>,
+    terms: Terms,
+    buffer: &mut [u8; MAX_READ],
+) -> Turn
+    requires budget { (1 ≤ terms.budget) × (terms.budget ≤ 1024) }
+    requires same { seat.old.table ≡ shared.now.claims }
+    requires inside { visit.old.ticket.slot < shared.now.claims.words }
+    requires holder { HoldsOnly visit.old.ticket.slot seat.old }
+    ensures holder { HoldsOnly visit.old.ticket.slot seat.new }
+    ensures only { OnlyAt visit.old.ticket.slot seat.old seat.new }
+    ensures account { Rose 0 0 (account_at seat.old visit.old.ticket.slot) (account_at seat.new visit.old.ticket.slot) }
+    ensures exchanges { seat.new.steps ≡ seat.old.steps + 1 }
+    ensures ticket { visit.new.ticket ≡ visit.old.ticket }
+    ensures outcome { result ≡ outcome_of visit.new.berth.pair }
+    ensures run { IsTurn terms.budget terms.moment.second terms.moment.limit (noted_by ((account_at seat.new visit.old.ticket.slot).taken - (account_at seat.old visit.old.ticket.slot).taken) visit.old.berth.pair) visit.new.berth.pair (IsServed F.Client.told F.Client.does terms.moment.second visit.old.berth.client visit.new.berth.client) (IsServed F.Target.told F.Target.does terms.moment.second visit.old.berth.target visit.new.berth.target) }
+{
+    let slot = visit.ticket().slot;
+    let notes = shared.claims.take(seat, slot);
+    gate.before_turn(slot);
+    let outcome = visit.play(notes, terms, buffer);
+    gate.after_turn(slot);
+    outcome
+}
+
+/// Puts a connection back whose budget is spent, and keeps it due.
+fn again<F: Front, R: Wait>(
+    rt: &R,
+    shared: &Shared<F>,
+    own: &mut Own,
+    visit: Visit<F>,
+) -> Result<Worked, ServerFault>
+    requires work { AtWork shared.now.claims visit.ticket.slot own.old }
+    requires due { outcome_of visit.berth.pair ≡ Turn.Again }
+    ensures done { TurnDone visit.ticket result own.old own.new }
+    ensures answer { IfOk result (λ worked. worked ≡ Worked.Again) }
+    ensures exchanges { own.new.seat.steps + 1 ≡ own.old.seat.steps + exchanges_left result }
+    ensures worn { IfErr result (λ fault. OnlyWorn fault own.new.seat) }
+{
+    let ticket = visit.ticket();
+    let back = put_in(rt, shared, own, visit);
+    stay_due(rt, shared, own, ticket, back)
+}
+
+/// Posts the note that keeps a connection due, which is back in its place, and releases its slot.
+fn stay_due<F: Front, R: Wait>(
+    rt: &R,
+    shared: &Shared<F>,
+    own: &mut Own,
+    ticket: Ticket,
+    back: Back,
+) -> Result<Worked, ServerFault>
+    requires work { AtWork shared.now.claims ticket.slot own.old }
+    requires back { back ≡ ticket.slot }
+    ensures done { TurnDone ticket result own.old own.new }
+    ensures answer { IfOk result (λ worked. worked ≡ Worked.Again) }
+    ensures exchanges { own.new.seat.steps + 1 ≡ own.old.seat.steps + exchanges_left result }
+    ensures worn { IfErr result (λ fault. OnlyWorn fault own.new.seat) }
+{
+    // A holder's own post never answers Wake: the release does.
+    let posted = shared.claims.post(&mut own.seat, ticket.slot);
+    leave(rt, shared, own, ticket, back);
+    match posted {
+        Posted::Worn => Err(ServerFault::Worn),
+        Posted::Wake | Posted::Quiet => Ok(Worked::Again),
+    }
+}
+
+/// Puts a connection back that has no call worth trying, and releases its slot. What its sockets held back is sent.
+fn rest<F: Front, R: Wait>(rt: &R, shared: &Shared<F>, own: &mut Own, mut visit: Visit<F>)
+    requires work { AtWork shared.now.claims visit.ticket.slot own.old }
+    requires quiet { outcome_of visit.berth.pair ≡ Turn.Quiet }
+    ensures done { TurnDone visit.ticket (Ok Worked.Quiet) own.old own.new }
+    ensures exchanges { own.new.seat.steps ≡ own.old.seat.steps + 1 }
+{
+    visit.settle();
+    leave_settled(rt, shared, own, visit);
+}
+
+/// Puts a connection back that holds nothing back, and releases its slot.
+fn leave_settled<F: Front, R: Wait>(rt: &R, shared: &Shared<F>, own: &mut Own, visit: Visit<F>)
+    requires work { AtWork shared.now.claims visit.ticket.slot own.old }
+    requires client { F.Client.settled visit.berth.client }
+    requires target { F.Target.settled visit.berth.target }
+    ensures done { TurnDone visit.ticket (Ok Worked.Quiet) own.old own.new }
+    ensures exchanges { own.new.seat.steps ≡ own.old.seat.steps + 1 }
+{
+    let ticket = visit.ticket();
+    let back = put_in(rt, shared, own, visit);
+    leave(rt, shared, own, ticket, back);
+}
+
+/// Releases a slot whose connection is back in its place, and puts a ticket if notes wait.
+fn leave<F: Front, R: Wait>(rt: &R, shared: &Shared<F>, own: &mut Own, ticket: Ticket, back: Back)
+    requires work { AtWork shared.now.claims ticket.slot own.old }
+    requires back { back ≡ ticket.slot }
+    ensures done { TurnDone ticket (Ok Worked.Quiet) own.old own.new }
+    ensures released { ReleasedHere (account_at own.old.seat ticket.slot) (account_at own.new.seat ticket.slot) }
+    ensures exchanges { own.new.seat.steps ≡ own.old.seat.steps + 1 }
+{
+    if shared.claims.release(&mut own.seat, ticket.slot) == Released::Wake {
+        put_ticket(rt, own, ticket);
+    }
+    back.spend();
+}
+
+/// Logs and closes a connection that is done or failed, and gives its slot back.
+fn end<F: Front, R: Wait + Log>(rt: &R, shared: &Shared<F>, own: &mut Own, visit: Visit<F>)
+    requires work { AtWork shared.now.claims visit.ticket.slot own.old }
+    requires over { (outcome_of visit.berth.pair ≡ Turn.Done) ⊎ (outcome_of visit.berth.pair ≡ Turn.Failed) }
+    ensures done { TurnDone visit.ticket (Ok Worked.Ended) own.old own.new }
+    ensures exchanges { own.new.seat.steps ≡ own.old.seat.steps + 1 }
+{
+    let ticket = visit.ticket();
+    log_end(rt, visit.pair());
+    let closed = visit.close(shared);
+    shared.claims.retire(&mut own.seat, ticket.slot);
+    give_back(rt, own, ticket, closed);
+}
+
+/// Wakes the poller, which may be waiting for the slot. If it were woken before the slot is given back, it could look
+/// and keep waiting.
+fn wake_poller<F: Front>(shared: &Shared<F>, _own: &Own, ended: Ticket)
+    requires given { ended.generation < MAX_GENERATION → KeepsSlot ended.slot _own.now.free.history _own.now.hand }
+    ensures woken { F.woke shared.now.waker ended.slot }
+{
+    F::wake(&shared.waker, ended.slot);
+}
+
+/// Logs what became of a connection.
+fn log_end<R: Log>(rt: &R, pair: &Pair) {
+    let (slot, generation) = (pair.slot(), pair.generation());
+    match pair.verdict() {
+        Verdict::Failed(fault) => log_fail(rt, slot, generation, fault),
+        Verdict::Done => {
+            let (up, down) = pair.counts();
+            log_done(rt, slot, generation, up, down);
+        }
+        // Only a connection that has ended is logged here.
+        Verdict::Live => {}
+    }
+}
