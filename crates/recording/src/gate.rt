@@ -20,14 +20,12 @@ impl<'r, G, R> RecordedGate<'r, G, R> {
 
 impl<G: Gate, R: Wait + Log> Gate for RecordedGate<'_, G, R> {
     fn before_turn(&self, slot: usize) {
-        let before = self.recorder.before();
         self.inner.before_turn(slot);
-        self.recorder.record(before, Act::Begin(slot));
+        self.recorder.record_now(Act::Begin(slot));
     }
 
     fn after_turn(&self, slot: usize) {
-        let before = self.recorder.before();
         self.inner.after_turn(slot);
-        self.recorder.record(before, Act::End(slot));
+        self.recorder.record_now(Act::End(slot));
     }
 }

@@ -7,7 +7,7 @@
 //! it does, and promises what that promises. Nothing is recorded of the bytes but how many there were.
 //!
 //! A thread that records waits for nobody, and takes no memory: its record goes into a bounded queue ([`RecordQueue`]), and a
-//! writer that sleeps is woken ([`write_records`]). Where the queue is full the recording ends, which its last line says and a
+//! writer that sleeps is woken ([`write_records`]). Where a queue is full the recording ends, which its last line says and a
 //! warning tells, and the relay serves on.
 #![tactic(auto)]
 
@@ -24,7 +24,7 @@ mod writing;
 pub use clock::RecordedClock;
 pub use front::{RecordedFront, record_all};
 pub use gate::RecordedGate;
-pub use limits::MAX_RECORDS;
+pub use limits::{MAX_RECORDS, QUEUES};
 pub use queue::RecordQueue;
 pub use recorder::Recorder;
 pub use wire::RecordedWire;

@@ -1,9 +1,11 @@
 // The records that wait, and what the writer and the threads that record tell each other.
-ghost use Rattle.std.specs.Prelude.{◌≡◌, IfOk, IsNone, true, false};
+ghost use Rattle.std.specs.Prelude.{◌≡◌, ◌<◌, All, IfOk, IsNone, true, false};
 ghost use Rattle.crossbeam_queue.specs.Passes.{queue_capacity};
 
-use crate::limits::{MAX_RECORDS, soon};
+use crate::limits::{MAX_RECORDS, QUEUES, soon};
 use crossbeam_queue::ArrayQueue;
+use crossbeam_utils::CachePadded;
+use dispatch::Split;
 use records::{Act, Record};
 use std::alloc::{AllocError, Global};
 use std::sync::Wait;
@@ -28,12 +30,15 @@ pub(crate) struct Found {
     pub(crate) some: bool,
 }
 
-/// At most [`MAX_RECORDS`] records between the threads that record and the one that writes, and the count by which all of
-/// them tell when an act was.
+/// The records between the threads that record and the one that writes, and the count by which all of them tell when an act
+/// was. There are [`QUEUES`] queues, of at most [`MAX_RECORDS`] records each: what a poller did, and what was done at its slots,
+/// waits in one of them, in the order in which it was done.
 #[derive(Drop)]
 pub struct RecordQueue {
-    records: ArrayQueue<Record>,
-    count: AtomicU64,
+    queues: [ArrayQueue<Record>; QUEUES],
+    split: Split,
+    /// Each act changes it, so it shares no cache line with what each act only looks at.
+    count: CachePadded<AtomicU64>,
     /// A record found no room, or could not be written: nothing is recorded any more.
     is_over: AtomicBool,
     is_closed: AtomicBool,
@@ -44,13 +49,19 @@ pub struct RecordQueue {
 }
 
 impl RecordQueue {
-    /// An empty queue. It takes memory for all its records; no later call takes any.
-    pub fn new(alloc: Global) -> Result<RecordQueue, AllocError>
-        ensures room { IfOk result (λ queue. queue_capacity queue.records ≡ 262144) }
+    /// Empty queues for a relay whose pollers have these slots. It takes memory for all records; no later call takes any.
+    pub fn new(alloc: Global, split: Split) -> Result<RecordQueue, AllocError>
+        ensures room { IfOk result (λ made. All (λ queue. queue_capacity queue ≡ 131072) made.queues) }
     {
         Ok(RecordQueue {
-            records: ArrayQueue::new(alloc, MAX_RECORDS)?,
-            count: AtomicU64::new(0),
+            queues: [
+                ArrayQueue::new(alloc, MAX_RECORDS)?,
+                ArrayQueue::new(alloc, MAX_RECORDS)?,
+                ArrayQueue::new(alloc, MAX_RECORDS)?,
+                ArrayQueue::new(alloc, MAX_RECORDS)?,
+            ],
+            split,
+            count: CachePadded::new(AtomicU64::new(0)),
             is_over: AtomicBool::new(false),
             is_closed: AtomicBool::new(false),
             is_asleep: AtomicBool::new(false),
@@ -61,6 +72,11 @@ impl RecordQueue {
     /// The next value of the count. No two calls give the same before it has gone round.
     pub(crate) fn next(&self) -> u64 {
         self.count.fetch_add(1, Ordering::SeqCst)
+    }
+
+    /// The next two values of the count, of which the first is answered.
+    pub(crate) fn next_two(&self) -> u64 {
+        self.count.fetch_add(2, Ordering::SeqCst)
     }
 
     /// Whether nothing is recorded any more.
@@ -78,9 +94,20 @@ impl RecordQueue {
     /// Puts a record behind the others, and wakes a writer that sleeps. One that has found records a moment ago looks by
     /// itself, so that most records cost no system call. Answers whether there was room.
     pub(crate) fn put(&self, rt: &impl Wait, record: Record) -> bool {
-        let is_put = self.records.push(rt, record).is_ok();
+        let at = self.poller_of(&record.act) % QUEUES;
+        let is_put = self.queues[at].push(rt, record).is_ok();
         self.wake();
         is_put
+    }
+
+    /// The poller whose act it is, or at whose slot it was.
+    fn poller_of(&self, act: &Act) -> usize {
+        match act {
+            Act::Poller(poller, _) => *poller,
+            Act::Begin(slot) | Act::End(slot) => self.split.poller_of(*slot),
+            Act::Wire(token, _) => self.split.poller_of(token.slot()),
+            Act::Second(_) | Act::Ended | Act::Full => 0,
+        }
     }
 
     /// Wakes the writer if it sleeps. Only one of those who put records meanwhile does.
@@ -92,9 +119,11 @@ impl RecordQueue {
         }
     }
 
-    /// The oldest record.
-    pub(crate) fn take(&self, rt: &impl Wait) -> Option<Record> {
-        self.records.pop(rt)
+    /// The oldest record of a queue.
+    pub(crate) fn take(&self, rt: &impl Wait, at: usize) -> Option<Record>
+        requires { at < 4 }
+    {
+        self.queues[at].pop(rt)
     }
 
     /// Lets the writer end once every record is written, and wakes it. It is for when the relay has ended: what is put later

@@ -48,6 +48,15 @@ impl<R: Wait + Log> Recorder<'_, R> {
         }
     }
 
+    /// An act has ended just now that could have no other order than it has: it is recorded as taking no time.
+    pub(crate) fn record_now(&self, act: Act) {
+        if !self.queue.is_over() {
+            let before = self.queue.next_two();
+            let after = before.wrapping_add(1);
+            self.put(Record { before, after, act });
+        }
+    }
+
     /// A wait for reports that began then has given these numbers. Each report has the counts of the wait.
     pub(crate) fn record_reports(&self, before: Before, poller: usize, numbers: &[u64]) {
         let Before(Some(before)) = before else {

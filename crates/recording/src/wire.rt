@@ -7,7 +7,7 @@ use dispatch::Settle;
 use engine::Wire;
 use log::Log;
 use records::{Act, Answer, Made};
-use relay_core::Kind;
+use relay_core::{Kind, Side};
 use std::io;
 use std::sync::Wait;
 use token::Token;
@@ -128,10 +128,14 @@ impl<W: Wire + Drop, R: Wait + Log> Wire for RecordedWire<'_, W, R> {
 impl<W: Settle + Drop, R: Wait + Log> Settle for RecordedWire<'_, W, R> {
     ghost settled = { λ w. W.settled w.inner };
 
+    /// Both ends are told, the target's last, which alone is recorded.
     fn settle(&mut self) {
-        let before = self.recorder.before();
         self.inner.settle();
-        self.record(before, Made::Settle);
+        if let Some(name) = self.name {
+            if name.side() == Side::Target {
+                self.recorder.record_now(Act::Wire(name, Made::Settle));
+            }
+        }
     }
 
     fn error(&self) -> Option<i32> {

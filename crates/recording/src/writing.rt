@@ -1,7 +1,7 @@
 // The thread that writes.
-ghost use Rattle.std.specs.Prelude.{◌≡◌, IfOk, true};
+ghost use Rattle.std.specs.Prelude.{◌≡◌, ◌<◌, IfOk, true};
 
-use crate::limits::MAX_WRITE;
+use crate::limits::{MAX_RUN, MAX_WRITE, QUEUES};
 use crate::queue::{Found, Look, RecordQueue};
 use arrayvec::ArrayString;
 use log::{Log, warn};
@@ -11,7 +11,7 @@ use std::fmt::Write as _;
 use std::io::{self, BufWriter, ErrorKind, Write};
 use std::sync::Wait;
 
-/// Writes the header and the queue's records, in the order in which each thread put them, until the queue is closed or
+/// Writes the header and the queue's records, in the order in which each queue has them, until the queue is closed or
 /// nothing is recorded any more, and then the last record. It writes what it has before it rests. It takes memory at its
 /// beginning alone. If there is none, or the file cannot be written, the recording ends, which is logged, and what was written
 /// stays.
@@ -77,17 +77,39 @@ fn write_waiting<R: Wait, W: Write>(
     Ok(Found { look, some })
 }
 
-/// Writes records until none is left, and answers whether there was one.
+/// Writes records until a look at each queue finds none, and answers whether there was one.
 fn write_all<R: Wait, W: Write>(rt: &R, queue: &RecordQueue, file: &mut W) -> io::Result<bool> {
     let mut found = false;
-    for _record in rt.forever() {
-        let Some(record) = queue.take(rt) else {
+    for _look in rt.forever() {
+        let mut some = false;
+        for at in 0..QUEUES {
+            some = write_run(rt, queue, at, file)? || some;
+        }
+        if !some {
             return Ok(found);
-        };
-        write_line(&record, file)?;
+        }
         found = true;
     }
     Ok(found)
+}
+
+/// Writes records of one queue, and answers whether there was one. So many at most, since threads may put them there as fast as
+/// they are written, and the others fill meanwhile.
+fn write_run<R: Wait, W: Write>(
+    rt: &R,
+    queue: &RecordQueue,
+    at: usize,
+    file: &mut W,
+) -> io::Result<bool>
+    requires { at < 4 }
+{
+    for written in 0..MAX_RUN {
+        let Some(record) = queue.take(rt, at) else {
+            return Ok(written > 0);
+        };
+        write_line(&record, file)?;
+    }
+    Ok(true)
 }
 
 /// Writes the last record.

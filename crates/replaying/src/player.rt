@@ -20,8 +20,8 @@ pub(crate) enum Phase {
     Open,
     /// A turn has made so many calls.
     Calling(usize),
-    /// A turn has ended quiet, and this end was told.
-    Settling(Option<Side>),
+    /// A turn has ended quiet, and the ends are being told.
+    Settling,
     /// A turn has ended the connection, and this end was dropped.
     Closing(Option<Side>),
 }

@@ -3,7 +3,7 @@ use crate::flaw::{Halt, Why};
 use crate::player::{Phase, Player};
 use records::{Made, Record};
 use relay_core::Verdict;
-use token::Token;
+use token::{Side, Token};
 use world::{Act, Event, Polling};
 
 /// The most calls of a turn that a poller's own thread runs.
@@ -81,7 +81,7 @@ impl Player<'_> {
             return Ok(());
         }
         self.check_idle()?;
-        self.phase = Phase::Settling(None);
+        self.phase = Phase::Settling;
         Ok(())
     }
 
@@ -114,21 +114,17 @@ impl Player<'_> {
         Ok(())
     }
 
-    /// An end is told that a turn has ended quiet. Behind the second one the slot is released.
+    /// The target's end, the last of the two, was told that a turn has ended quiet. Behind that the slot is released.
     pub(crate) fn settle(&mut self, token: Token, record: Record) -> Result<(), Halt> {
         self.check_generation(token)?;
-        let Phase::Settling(told) = self.phase else {
+        if !matches!(self.phase, Phase::Settling) {
             return Err(Halt::because("no turn has ended quiet"));
-        };
-        self.free_from = record.after;
-        match told {
-            None => {
-                self.phase = Phase::Settling(Some(token.side()));
-                Ok(())
-            }
-            Some(side) if side != token.side() => self.release(),
-            Some(_) => Err(Halt::because("the same end is told twice")),
         }
+        if token.side() != Side::Target {
+            return Err(Halt::because("that the client's end is told is not recorded"));
+        }
+        self.free_from = record.after;
+        self.release()
     }
 
     /// An end is dropped. Behind the second one the slot is free.

@@ -36,7 +36,7 @@ pub fn serve_recorded<
     let recording = Recording {
         rt,
         alloc,
-        queue: RecordQueue::new(alloc)?,
+        queue: RecordQueue::new(alloc, split_of(settings))?,
         header: header_of(settings, split_of(settings)),
         file: Mutex::new(Some(file)),
     };
