@@ -80,18 +80,20 @@ install: $(PROGRAM)
 	install -D -m 644 -t $(DESTDIR)$(PREFIX)/share/doc/relayd docs/FORMATS.md docs/GLOSSARY.md docs/OPERATIONS.md
 	install -D -m 644 -t $(DESTDIR)$(PREFIX)/share/doc/relayd README.md LICENSE-APACHE LICENSE-MIT
 	install -D -m 644 -t $(DESTDIR)$(PREFIX)/share/doc/relayd/examples examples/* packaging/*.yaml packaging/replace.conf
+	chmod 755 $(DESTDIR)$(PREFIX)/share/doc/relayd/examples/replace.sh
 	install -D -m 644 -t $(DESTDIR)$(PREFIX)/lib/systemd/system packaging/relayd.service
 	sed -i 's|/usr/local/|$(PREFIX)/|g' $(DESTDIR)$(PREFIX)/lib/systemd/system/relayd.service \
 	  $(DESTDIR)$(PREFIX)/share/doc/relayd/examples/replace.conf
 
 # An archive of what `make install` installs, for machines without the toolchain: unpack it at the root, as with
 # `tar -C / -xzf`. Its file BUILD says of which commit and with which toolchain the program is, and the program's checksum.
-# The same commit gives the same archive.
+# The same commit gives the same archive, whatever the umask and the locale are.
 dist: $(PROGRAM)
 	rm -rf build/dist build/relayd-*.tar.gz
 	$(MAKE) --no-print-directory install DESTDIR=build/dist
 	{ echo "relayd $(VERSION)"; git describe --always --abbrev=40 --dirty --exclude '*'; rt version 2>/dev/null || echo 'no toolchain here'; \
 	  cd build/dist$(PREFIX)/bin && sha256sum relayd; } > build/dist$(PREFIX)/share/doc/relayd/BUILD
-	cd build/dist && find . -type f -print0 | sort -z \
+	chmod 644 build/dist$(PREFIX)/share/doc/relayd/BUILD
+	cd build/dist && find . -type f -print0 | LC_ALL=C sort -z \
 	  | tar --null -T - --owner=0 --group=0 --numeric-owner --mtime=@0 -cf - | gzip -n9 > ../../$(ARCHIVE)
 	@echo $(ARCHIVE)
