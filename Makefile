@@ -87,8 +87,9 @@ install: $(PROGRAM)
 
 # An archive of what `make install` installs, for machines without the toolchain: unpack it at the root, as with
 # `tar -C / -xzf`. Its file BUILD says of which commit and with which toolchain the program is, and the program's checksum.
-# The same commit gives the same archive, whatever the umask and the locale are.
-dist: $(PROGRAM)
+# The same commit gives the same archive, whatever the umask and the locale are. A program older than its sources is built
+# anew, since it is not of that commit.
+dist: build
 	rm -rf build/dist build/relayd-*.tar.gz
 	$(MAKE) --no-print-directory install DESTDIR=build/dist
 	{ echo "relayd $(VERSION)"; git describe --always --abbrev=40 --dirty --exclude '*'; rt version 2>/dev/null || echo 'no toolchain here'; \
