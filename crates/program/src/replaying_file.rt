@@ -27,6 +27,11 @@ pub(crate) fn replay_file<R: AllocGlobal + Files, L: Log, O: Write, P: Replay>(
 {
     let name = OneLine(replayed.path);
     let Some(wanted) = wanted_of(replayed) else {
+        log_error(
+            log,
+            &"--script",
+            &"a slot and a generation are wanted, as in 3.1",
+        );
         return Err(ProgramFault::Replay(ReplayFault::Unknown));
     };
     let file = match File::open(rt, replayed.path) {
@@ -53,7 +58,7 @@ pub(crate) fn replay_file<R: AllocGlobal + Files, L: Log, O: Write, P: Replay>(
     }
 }
 
-/// What is wanted of a recording. None if no connection has such a name.
+/// What is wanted of a recording. None if it is the script of what is no name of a connection.
 fn wanted_of(replayed: Replayed<'_>) -> Option<Wanted> {
     match replayed.script {
         Some(name) => {
