@@ -12,21 +12,22 @@ use Rattle.claims.specs.declared.view.Account.{Account}
 use Rattle.claims.specs.Seats.{SeatState, TableId, account_at, OnlyAt}
 use Rattle.ready.specs.declared.history.History.{History}
 use Rattle.ready.specs.declared.ticket.Ticket.{Ticket}
-use Rattle.ready.specs.Steps.{EndState, TookOne}
+use Rattle.ready.specs.Steps.{EndState}
 use Rattle.relay_log.specs.declared.faults.ServerFault.{ServerFault}
 use Rattle.relay_log.specs.declared.faults.ServerFault.TheVariants.{Worn}
 use Rattle.dispatch.specs.declared.shared.Own.{Own}
 use Rattle.turns.specs.declared.worker.Worked.{Worked}
+use Rattle.turns.specs.declared.worker.Worked.TheVariants as worked
 use Rattle.rounds.specs.Deliveries.{at_slot, IsSubsequence}
 use Rattle.dispatch.specs.Hands.{HandState}
-use Rattle.dispatch.specs.Outgoing.{outgoing, Inserted, tickets_out, without_first}
+use Rattle.dispatch.specs.Outgoing.{outgoing, Inserted, tickets_out, slots_out, without_first}
 use Rattle.dispatch.specs.Polls.{PollerState, looked_at}
 use Rattle.rounds.specs.Rounds.{RoundDone}
 use Rattle.turns.specs.Shares.{AreShared, OneShared, TicketsShared}
-use Rattle.turns.specs.Turns.{exchanges, TicketsKept, TurnMade, OwnTurn}
+use Rattle.turns.specs.Turns.{exchanges, TicketsKept, SlotGiven, SlotsKept, TurnMade, OwnTurn}
 use Rattle.rounds.proofs.Reports.{at_slot-append, one_at, none_at, subsequence-append}
 use Rattle.threads.specs.declared.ended.Ended.{Ended}
-use Rattle.threads.specs.Loops.{times_of, Run, tickets_of, exchanges_of, TurnsMade, OneRan, tickets_in, Took, WorkerEnded, WorkerRan, OwnTurnsRan, SharedAndRan, StepMade, StepCut, StepsMade, PollerRan}
+use Rattle.threads.specs.Loops.{times_of, times_in, freed_by, freed, Run, tickets_of, exchanges_of, TurnsMade, OneRan, tickets_in, Took, WorkerEnded, WorkerRan, OwnTurnsRan, SharedAndRan, StepMade, StepCut, StepsMade, PollerRan}
 
 -- how often a ticket stands in lists one behind the other
 times-append : (u : Ticket) (xs ys : List Ticket) → times_of u (xs ++ ys) ≡ times_of u xs + times_of u ys
@@ -40,6 +41,50 @@ times_inserted u t old new more =
     let rest = times-append u (t ∷ []) more.after in
     let both = times-append u more.before more.after in
     omega arith
+
+-- Free slots
+
+slots-append : (s : ℕ) (xs ys : List ℕ) → times_in s (xs ++ ys) ≡ times_in s xs + times_in s ys
+slots-append s xs ys = sum_by-append (λ (x : ℕ). cond (x == s) 1 0) xs ys
+
+slots_inserted : (s t : ℕ) (old new : List ℕ) → Inserted t old new → times_in s new ≡ times_in s (t ∷ []) + times_in s old
+slots_inserted s t old new more =
+    let is : times_in s new ≡ times_in s (more.before ++ t ∷ more.after) = ap (λ (xs : List ℕ). times_in s xs) more.is in
+    let was : times_in s old ≡ times_in s (more.before ++ more.after) = ap (λ (xs : List ℕ). times_in s xs) more.was in
+    let whole = slots-append s more.before (t ∷ more.after) in
+    let rest = slots-append s (t ∷ []) more.after in
+    let both = slots-append s more.before more.after in
+    omega arith
+
+freed-append : (s : ℕ) (xs ys : List Run) → times_in s (freed (xs ++ ys)) ≡ times_in s (freed xs) + times_in s (freed ys)
+freed-append s [] ys = omega arith
+freed-append s (x ∷ xs) ys =
+    let one = slots-append s (freed_by x.ticket x.answer) (freed (xs ++ ys)) in
+    let two = slots-append s (freed_by x.ticket x.answer) (freed xs) in
+    let rest = freed-append s xs ys in
+    omega arith
+
+-- what a turn freed is given or in hand
+slots_ended : (t : Ticket) (a b : Own) → SlotGiven t a b → (s : ℕ) → (below : Bool) → nat_lt t.generation 140737488355327 ≡ below
+    → times_in s (slots_out b) ≡ times_in s (slots_out a) + times_in s ((if below then t.slot ∷ [] else []) ++ [])
+slots_ended t a b given s true is =
+    let more = slots_inserted s t.slot (slots_out a) (slots_out b) (given.slots (ltb-true t.generation 140737488355327 is)) in
+    omega arith
+slots_ended t a b given s false is =
+    let same : times_in s (slots_out b) ≡ times_in s (slots_out a) = ap (λ (xs : List ℕ). times_in s xs) (given.last (ltb-false t.generation 140737488355327 is)) in
+    omega arith
+
+slots_same : (s : ℕ) (a b : Own) → slots_out b ≡ slots_out a → times_in s (slots_out b) ≡ times_in s (slots_out a) + 0
+slots_same s a b same = (let e : times_in s (slots_out b) ≡ times_in s (slots_out a) = ap (λ (xs : List ℕ). times_in s xs) same in omega arith)
+
+slots_one : (t : Ticket) (answer : Result Worked ServerFault) (a b : Own) → SlotsKept t answer a b
+    → (s : ℕ) → times_in s (slots_out b) ≡ times_in s (slots_out a) + times_in s (freed (record { ticket = t; answer = answer } ∷ []))
+slots_one t (Ok worked.Busy) a b same s = slots_same s a b same
+slots_one t (Ok worked.Gone) a b same s = slots_same s a b same
+slots_one t (Ok worked.Ended) a b given s = slots_ended t a b given s (nat_lt t.generation 140737488355327) refl
+slots_one t (Ok worked.Again) a b same s = slots_same s a b same
+slots_one t (Ok worked.Quiet) a b same s = slots_same s a b same
+slots_one t (Err fault) a b same s = slots_same s a b same
 
 -- Turns, one after the other
 
@@ -262,7 +307,7 @@ shared_same u heavy left a b shared =
 
 -- no turn was run
 pub own_none : (a : Own) → OwnTurnsRan 0 a a
-own_none a = record { ran = []; due = []; each = refl; turns = turns_none a.seat; tickets = λ u. omega arith }
+own_none a = record { ran = []; due = []; each = refl; turns = turns_none a.seat; tickets = λ u. omega arith; slots = λ s. omega arith }
 
 pub own_both : (n m : ℕ) (a b c : Own) → OwnTurnsRan n a b → OwnTurnsRan m b c → OwnTurnsRan (n + m) a c
 own_both n m a b c one two = record {
@@ -277,11 +322,13 @@ own_both n m a b c one two = record {
       let mapped : times_of u (tickets_of (one.ran ++ two.ran)) ≡ times_of u (tickets_of one.ran ++ tickets_of two.ran) = ap (λ (ts : List Ticket). times_of u ts) (map-append (λ (run : Run). run.ticket) one.ran two.ran) in
       let runs = times-append u (tickets_of one.ran) (tickets_of two.ran) in
       omega arith);
+  slots = λ s. (let first = one.slots s in let second = two.slots s in let both = freed-append s one.ran two.ran in omega arith);
 }
 
 -- the oldest ticket in hand was run
-own_one : (t : Ticket) (ts : List Ticket) (answer : Result Worked ServerFault) (a b : Own) → a.hand.tickets ≡ t ∷ ts → OneRan t answer (without_first a) b → OwnTurnsRan 1 a b
-own_one t ts answer a b is ran = record {
+own_one : (t : Ticket) (ts : List Ticket) (answer : Result Worked ServerFault) (a b : Own) → a.hand.tickets ≡ t ∷ ts → OneRan t answer (without_first a) b → SlotsKept t answer (without_first a) b
+    → OwnTurnsRan 1 a b
+own_one t ts answer a b is ran kept = record {
   ran = record { ticket = t; answer = answer } ∷ [];
   due = ran.due;
   each = refl;
@@ -294,11 +341,12 @@ own_one t ts answer a b is ran = record {
       let second = times-append u (puts a.ready) ts in
       let whole = times-append u (t ∷ []) ts in
       omega arith);
+  slots = slots_one t answer (without_first a) b kept;
 }
 
 turn_ran : (words : ℕ) (t : Ticket) (ts : List Ticket) (answer : Result Worked ServerFault) (a b : Own) → a.seat.table.words ≡ words → a.hand.tickets ≡ t ∷ ts → OnlyAt t.slot a.seat b.seat → TurnMade words t answer (without_first a) b → OwnTurnsRan 1 a b
 turn_ran words t ts answer a b same is only turn =
-    own_one t ts answer a b is (one_ran words t answer (without_first a) b same only turn.tickets turn.exchanges (λ outside. (turn.outside outside).1))
+    own_one t ts answer a b is (one_ran words t answer (without_first a) b same only turn.tickets turn.exchanges (λ outside. (turn.outside outside).1)) turn.slots
 
 own_turn_of : (words : ℕ) (t : Ticket) (ts : List Ticket) (result : Result (Option Worked) ServerFault) (a b : Own) → a.seat.table.words ≡ words → a.hand.tickets ≡ t ∷ ts → OnlyAt t.slot a.seat b.seat
     → OwnTurn words t result a b → result ≢ Ok None → OwnTurnsRan 1 a b

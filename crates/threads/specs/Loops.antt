@@ -1,5 +1,5 @@
 -- What a thread's loop does with tickets, and with free slots. Part of the promises.
-use Rattle.std.specs.Prelude.{◌≡◌, ◌≢◌, ◌⊎◌, ℕ, zero, suc, ◌+◌, ◌<◌, ◌≤◌, ◌==◌, ◌&&◌, nat_lt, if◌then◌else◌, List, [], ◌∷◌, ◌++◌, length, map, sum_by, Result, slice_get}
+use Rattle.std.specs.Prelude.{◌≡◌, ◌≢◌, ◌⊎◌, ℕ, zero, suc, ◌+◌, ◌<◌, ◌≤◌, ◌==◌, ◌&&◌, nat_lt, if◌then◌else◌, List, [], ◌∷◌, ◌++◌, length, map, sum_by, Result, Ok, slice_get}
 use Rattle.std.specs.List.{count_by}
 use Rattle.claims.specs.Seats.{SeatState, account_at}
 use Rattle.ready.specs.declared.ticket.Ticket.{Ticket}
@@ -7,8 +7,9 @@ use Rattle.ready.specs.Steps.{EndState, TookOne}
 use Rattle.relay_log.specs.declared.faults.ServerFault.{ServerFault}
 use Rattle.dispatch.specs.declared.shared.Own.{Own}
 use Rattle.turns.specs.declared.worker.Worked.{Worked}
+use Rattle.turns.specs.declared.worker.Worked.TheVariants as worked
 use Rattle.rounds.specs.Deliveries.{at_slot, IsSubsequence}
-use Rattle.dispatch.specs.Outgoing.{tickets_out}
+use Rattle.dispatch.specs.Outgoing.{tickets_out, slots_out}
 use Rattle.dispatch.specs.Polls.{PollerState, IsIn}
 use Rattle.rounds.specs.Rounds.{EndedEarly, ListenerKept, ListensToOpen, RoundDone}
 use Rattle.turns.specs.Shares.{TicketsShared}
@@ -31,6 +32,19 @@ tickets_of ran = map (λ (run : Run). run.ticket) ran
 -- the exchanges of these turns; one with a ticket whose slot the claim words lack makes none
 abbrev pub exchanges_of : ℕ → List Run → ℕ
 exchanges_of words ran = sum_by (λ (run : Run). if nat_lt run.ticket.slot words then exchanges run.answer else 0) ran
+
+-- how often a slot stands in a list
+abbrev pub times_in : ℕ → List ℕ → ℕ
+times_in slot slots = count_by (λ s. s == slot) slots
+
+-- the slot of a connection that a turn ended is free, unless its generation was the last
+abbrev pub freed_by : Ticket → Result Worked ServerFault → List ℕ
+freed_by ticket (Ok worked.Ended) = if nat_lt ticket.generation 140737488355327 then ticket.slot ∷ [] else []
+freed_by ticket answer = []
+
+abbrev pub freed : List Run → List ℕ
+freed [] = []
+freed (run ∷ ran) = freed_by run.ticket run.answer ++ freed ran
 
 -- These turns were made by this seat, and nothing else was: their exchanges are all that it made, and some of their tickets are due
 -- again, one for each mint
@@ -73,13 +87,14 @@ pub record Took (ticket : Ticket) (old new : Own) : Type 0 where
   pub hand : new.hand ≡ old.hand
 
 -- A poller's thread ran so many tickets in its hand. What it was to put before, and the tickets that are due again, were run or are put or in
--- hand, each once
+-- hand, each once. The free slots that it was to give before, and those that the turns freed, are given or in hand, each once
 pub record OwnTurnsRan (count : ℕ) (old new : Own) : Type 0 where
   pub ran : List Run
   pub due : List Ticket
   pub each : length ran ≡ count
   pub turns : TurnsMade ran due old.seat new.seat
   pub tickets : (t : Ticket) → times_of t (tickets_out new) + times_of t (tickets_of ran) ≡ times_of t (tickets_out old) + times_of t due
+  pub slots : (slot : ℕ) → times_in slot (slots_out new) ≡ times_in slot (slots_out old) + times_in slot (freed ran)
 
 -- The tickets in hand were shared, and the poller's thread ran so many of those that stayed
 pub record SharedAndRan (count : ℕ) (p q : PollerState) (a b : Own) : Type 0 where

@@ -1,9 +1,10 @@
 //! How the threads of a server come to their end: by a fault of one of them, or behind the last poller.
-ghost use Rattle.std.specs.Prelude.{◌≡◌, None, IfErr, false};
+ghost use Rattle.std.specs.Prelude.{◌≡◌, None, IfOk, IfErr, false};
 ghost use Rattle.threads.specs.Endings.{earliest};
 
 use crate::ended::Ended;
 use dispatch::ServerFault;
+use ready::Ticket;
 use std::marker::Model;
 use std::sync::atomic::Ordering::SeqCst;
 use std::sync::atomic::{AtomicBool, AtomicUsize};
@@ -41,6 +42,14 @@ impl Model for Recorded {
 pub(crate) struct NoFault {
     recorded: bool,
     ghost none: { recorded ≡ false },
+}
+
+/// A ticket, and a look that found no fault once it was taken. Nothing but [`Ending::look_behind`] makes one: a look from before the
+/// sleep for the ticket does not do.
+#[derive(Drop)]
+pub(crate) struct Cleared {
+    pub(crate) ticket: Ticket,
+    seen: NoFault,
 }
 
 impl Recorded {
@@ -88,6 +97,15 @@ impl Ending {
         } else {
             Ok(NoFault { recorded })
         }
+    }
+
+    /// The same for the turn of a ticket that was taken, for which the thread may have slept.
+    pub(crate) fn look_behind(&self, ticket: Ticket) -> Result<Cleared, Ended>
+        ensures ticket { IfOk result (λ cleared. cleared.ticket ≡ ticket) }
+        ensures well { IfErr result (λ ended. ended.fault ≡ None) }
+    {
+        let seen = self.look()?;
+        Ok(Cleared { ticket, seen })
     }
 
     /// A poller has ended. Answers whether none is left.

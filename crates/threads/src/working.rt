@@ -3,12 +3,13 @@ ghost use Rattle.std.specs.Prelude.{◌≡◌, ◌≢◌, ◌<◌, ◌-◌, [], 
 ghost use Rattle.std.specs.Arc.{arc_value};
 ghost use Rattle.claims.specs.Seats.{HoldsNothing};
 ghost use Rattle.dispatch.specs.Hands.{HasRoom};
+ghost use Rattle.dispatch.specs.Outgoing.{slots_out};
 ghost use Rattle.relay_log.specs.declared.faults.ServerFault.{ServerFault};
 ghost use Rattle.threads.specs.Loops.{GivesToOwner, OneRan, Took, WorkerEnded, WorkerRan};
 
 use crate::crew::Crew;
 use crate::ended::Ended;
-use crate::ending::NoFault;
+use crate::ending::{Cleared, NoFault};
 use dispatch::{Clock, Front, Gate, Own, Shared, give_slots, put_tickets};
 use log::Log;
 use ready::{FreeQueue, Ticket};
@@ -85,9 +86,9 @@ where
         let Some(ticket) = self.take(crew.rt, seen) else {
             return Err(Ended::well());
         };
-        match crew.ending.look() {
-            Ok(seen) => {
-                self.turn(crew, ticket, seen)?;
+        match crew.ending.look_behind(ticket) {
+            Ok(cleared) => {
+                self.turn(crew, cleared)?;
                 Ok(())
             }
             Err(ended) => {
@@ -97,7 +98,7 @@ where
         }
     }
 
-    /// Takes a ticket, and may sleep until there is one. So it uses up a look for a fault, and a turn asks for another.
+    /// Takes a ticket, and may sleep until there is one. So it uses up a look for a fault, and a turn asks for another, behind that.
     fn take(&mut self, rt: &impl Wait, _seen: NoFault) -> Option<Ticket>
         requires room { HasRoom self.old.own.hand }
         ensures room { HasRoom self.new.own.hand }
@@ -120,14 +121,15 @@ where
     fn turn<G: Gate, C: Clock, R: Wait + Log>(
         &mut self,
         crew: &Crew<'_, G, C, R>,
-        ticket: Ticket,
-        _seen: NoFault,
+        cleared: Cleared,
     ) -> Result<Worked, Ended>
         requires { HasRoom self.old.own.hand }
-        ensures ran { (answer : Result Worked ServerFault) × OneRan ticket answer self.old.own self.new.own }
+        ensures ran { (answer : Result Worked ServerFault) × OneRan cleared.ticket answer self.old.own self.new.own }
         ensures took { self.new.own.ready.history.taken ≡ self.old.own.ready.history.taken }
-        ensures gives { ticket.slot < crew.now.split.slots → GivesToOwner crew.now.split ticket.slot (self.old.own.free ∷ self.old.others.items) (self.new.own.free ∷ self.new.others.items) }
+        ensures given { self.new.own.hand.slots ≡ [] }
+        ensures gives { cleared.ticket.slot < crew.now.split.slots → GivesToOwner crew.now.split cleared.ticket.slot (self.old.own.free ∷ self.old.others.items) (self.new.own.free ∷ self.new.others.items) }
     {
+        let ticket = cleared.ticket;
         let poller = crew.split.poller_of(ticket.slot);
         self.change_queue(poller);
         let worked = Ended::on_fault(worker_turn(
@@ -164,6 +166,7 @@ where
     fn give_all(&mut self, rt: &impl Wait)
         ensures seat { self.new.own.seat ≡ self.old.own.seat }
         ensures given { self.new.own.hand.slots ≡ [] }
+        ensures slots { slots_out self.new.own ≡ slots_out self.old.own }
         ensures tickets { self.new.own.hand.tickets ≡ self.old.own.hand.tickets }
         ensures ready { self.new.own.ready ≡ self.old.own.ready }
         ensures shared { self.new.shared ≡ self.old.shared }

@@ -1,5 +1,5 @@
 use Rattle.std.proofs.Common.{[], refl}
-use Rattle.threads.proofs.Loops.{worker_none, worker_both, worker_ends, worker_then_ends}
+use Rattle.threads.proofs.Loops.{worker_none, worker_both, worker_then_ends}
 use Rattle.threads.proofs.working.Worker.run_turns.Goals as goal
 
 pub loop-turn-init : goal.loop-turn-init
