@@ -67,11 +67,18 @@ where
     F::Waker: Send + Sync + Drop,
 {
     count_in(&mut server.shared, lent.statistics)?;
-    let timing = Timing {
-        clock: lent.clock,
-        limit: u64::from(settings.idle),
-    };
+    let timing = timing_of(settings, lent.clock);
     run_threads(rt, alloc, lent.gate, timing, lent.is_stopped, server)
+}
+
+/// The settings' idle limit, counted by this clock.
+fn timing_of<'a, C>(settings: &Settings, clock: &'a C) -> Timing<'a, C>
+    ensures { result.limit ≡ settings.now.idle }
+{
+    Timing {
+        clock,
+        limit: u64::from(settings.idle),
+    }
 }
 
 /// Has what becomes of the connections counted there, if it is to be counted.
