@@ -1,11 +1,12 @@
 // What a log is handed, at each level. The texts are promised by clauses; the calls promise nothing of what they log.
 use log::sink::Memory;
 use log::{Level, Log, Logged};
-use relay_core::{CallKind, Fault, Kind, Side};
+use relay_core::{CallKind, Fault, Kind, Side, Verdict};
 use relay_log::{
     Cause, done_text, drop_text, fail_text, log_all_taken, log_done, log_drop, log_drops, log_fail,
     log_open, log_peer, open_text,
 };
+use statistics::{Event, Statistics};
 use std::alloc::{AllocError, Global};
 use std::cell::Cell;
 use std::fmt;
@@ -92,6 +93,34 @@ fn texts_are_made(rt: HostRuntime) -> Result<(), Fail> {
     assert_eq!(rt;
         texts(rt.alloc())?.as_str(),
         "open s=3 g=1\ndone s=3 g=1 up=120 down=400\nfail s=3 g=1 idle\ndrop kind=memory"
+    );
+    Ok(())
+}
+
+// refuses counts_of_32_bits: a count goes round at 2^32
+// refuses last_slot_is_not_summed: the last slot's counts are not in the sums
+// refuses two_slots_in_one_place: two slots are counted in one place
+// Two connections at each of all slots, of which the second is open.
+#[test]
+fn statistics_of_each_slot(rt: HostRuntime) -> Result<(), Fail> {
+    let statistics = Statistics::new(rt.alloc(), 2)?;
+    for slot in 0..2 {
+        statistics.count(slot, Event::Opened);
+        statistics.count(slot, Event::Moved { up: 3, down: 5 });
+        statistics.count(
+            slot,
+            Event::Ended {
+                verdict: Verdict::Done,
+                up: UP,
+                down: 7,
+            },
+        );
+        statistics.count(slot, Event::Opened);
+        statistics.count(slot, Event::Moved { up: 1, down: 2 });
+    }
+    assert_eq!(rt;
+        format!(in rt.alloc(); "{}", statistics.totals())?.as_str(),
+        "stats open=2 slots=2 opened=4 done=2 failed=0 dropped=0 client=0 target=0 refused=0 reset=0 timedout=0 idle=0 up=8589934594 down=18"
     );
     Ok(())
 }
