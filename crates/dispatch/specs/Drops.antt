@@ -49,6 +49,13 @@ tally_of cause.Connect d = d.connect
 tally_of cause.Register d = d.register
 tally_of cause.Address d = d.address
 
+-- that cause has this tally
+abbrev pub with_tally : Cause → Tally → Drops → Drops
+with_tally cause.Memory t d = record d { memory = t }
+with_tally cause.Connect t d = record d { connect = t }
+with_tally cause.Register t d = record d { register = t }
+with_tally cause.Address t d = record d { address = t }
+
 -- all causes
 abbrev pub no_drops : Drops
 no_drops = record { memory = no_tally; connect = no_tally; register = no_tally; address = no_tally }

@@ -1,7 +1,7 @@
 //! Which lines the log gets of accepted connections that are closed unopened: the first of a cause has one of its own, and those that
 //! follow it are counted.
 ghost use Rattle.std.specs.Prelude.{◌≡◌};
-ghost use Rattle.dispatch.specs.Drops.{all_told_at, dropped_at, dropped_for, due_at, follows, is_counted, no_drops, no_tally, owed, owed_for, tally_of, told_at, AreTold};
+ghost use Rattle.dispatch.specs.Drops.{all_told_at, dropped_at, dropped_for, due_at, follows, is_counted, no_drops, no_tally, owed, owed_for, tally_of, told_at, with_tally, AreTold};
 
 use crate::dropping::Owed;
 use log::Log;
@@ -130,20 +130,47 @@ impl Drops {
         ensures told { self.new ≡ all_told_at second self.old }
         ensures all { AreTold second self.new }
     {
-        log_owed(rt, self.memory.tell(Cause::Memory, second));
-        log_owed(rt, self.connect.tell(Cause::Connect, second));
-        log_owed(rt, self.register.tell(Cause::Register, second));
-        log_owed(rt, self.address.tell(Cause::Address, second));
+        log_owed(rt, self.tell_of(Cause::Memory, second));
+        log_owed(rt, self.tell_of(Cause::Connect, second));
+        log_owed(rt, self.tell_of(Cause::Register, second));
+        log_owed(rt, self.tell_of(Cause::Address, second));
+    }
+
+    /// The line that tells what is counted of a cause, if there is anything and this second has had no line of it.
+    fn tell_of(&mut self, cause: Cause, second: u64) -> Option<Owed>
+        ensures drops { self.new ≡ with_tally cause (told_at second (tally_of cause self.old)) self.old }
+        ensures owed { result ≡ owed cause (due_at second (tally_of cause self.old)) }
+        ensures told { due_at second (tally_of cause self.new) ≡ 0 }
+    {
+        match cause {
+            Cause::Memory => self.memory.tell(cause, second),
+            Cause::Connect => self.connect.tell(cause, second),
+            Cause::Register => self.register.tell(cause, second),
+            Cause::Address => self.address.tell(cause, second),
+        }
     }
 
     /// Tells the log all that is counted. The next drop of each cause has a line of its own.
     pub(crate) fn end(&mut self, rt: &impl Log)
         ensures { self.new ≡ no_drops }
     {
-        log_owed(rt, self.memory.end(Cause::Memory));
-        log_owed(rt, self.connect.end(Cause::Connect));
-        log_owed(rt, self.register.end(Cause::Register));
-        log_owed(rt, self.address.end(Cause::Address));
+        log_owed(rt, self.end_of(Cause::Memory));
+        log_owed(rt, self.end_of(Cause::Connect));
+        log_owed(rt, self.end_of(Cause::Register));
+        log_owed(rt, self.end_of(Cause::Address));
+    }
+
+    /// The line that tells what is counted of a cause until now, if there is anything. The next drop for it has a line of its own.
+    fn end_of(&mut self, cause: Cause) -> Option<Owed>
+        ensures drops { self.new ≡ with_tally cause no_tally self.old }
+        ensures owed { result ≡ owed cause (tally_of cause self.old).more }
+    {
+        match cause {
+            Cause::Memory => self.memory.end(cause),
+            Cause::Connect => self.connect.end(cause),
+            Cause::Register => self.register.end(cause),
+            Cause::Address => self.address.end(cause),
+        }
     }
 }
 
