@@ -10,7 +10,8 @@
 //!   are made from [`Parts`].
 //! - [`Poller`] is what a poller keeps between its rounds, and [`Opening`] what its connections are opened with. There may be
 //!   several pollers, each with a [`Part`] of the slots, as [`Split`] deals them.
-//! - [`Episodes`] is what a poller tells the log once for as long as it lasts, and [`Dropped`] a client that is closed unopened.
+//! - [`Episodes`] is what a poller tells the log once for as long as it lasts, [`Dropped`] a client that is closed unopened, and
+//!   [`Uncounted`] one of which no count tells yet.
 //! - [`Gate`] lets a test hold a turn back.
 //! - [`Clock`] tells the second, for the idle limit ([`Timing`]).
 #![tactic(auto)]
@@ -31,6 +32,7 @@ mod putting;
 mod route;
 mod shared;
 mod split;
+mod uncounted;
 
 pub use clock::{Clock, Timing};
 pub use dropping::Dropped;
@@ -49,3 +51,4 @@ pub use relay_log::ServerFault;
 pub use route::Route;
 pub use shared::{Own, Shared};
 pub use split::Split;
+pub use uncounted::Uncounted;

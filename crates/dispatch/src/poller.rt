@@ -12,9 +12,12 @@ use crate::front::{Front, Opened, Unopened};
 use crate::limits::{HEAVY_TICKETS, MAX_ACCEPTS, MAX_BATCH};
 use crate::opening::Opening;
 use crate::part::Part;
+use crate::shared::Shared;
+use crate::uncounted::Uncounted;
 use log::Log;
 use ready::Ticket;
 use relay_log::Cause;
+use statistics::Event;
 use std::alloc::{AllocError, Global};
 use std::io;
 use std::marker::Model;
@@ -313,14 +316,14 @@ impl<F: Front> Poller<F> {
     }
 
     /// Tries accept(2) once ([`Front::accept`]), which counts as one of the round's tries if any is left.
-    pub fn accept(&mut self) -> io::Result<F::Client>
+    pub fn accept(&mut self) -> io::Result<(F::Client, Uncounted)>
         ensures accepted { OnOk result (self.new ≡ record self.old { tries = self.old.tries - 1; starved = false }) }
         ensures refused { OnErr result (self.new ≡ record self.old { tries = self.old.tries - 1 }) }
     {
         self.tries = self.tries.saturating_sub(1);
         let client = self.front.accept()?;
         self.starved = false;
-        Ok(client)
+        Ok((client, Uncounted::one()))
     }
 
     /// Starts the connection to the target for a client ([`Front::open`]).
@@ -374,9 +377,10 @@ impl<F: Front> Poller<F> {
         self.swept = self.second;
     }
 
-    /// A round opened a connection: its slot has the ticket's generation from now on.
+    /// A round opens an accepted connection in a slot that its thread holds: the slot has the ticket's generation from now on. The
+    /// statistics have it, too.
     #[tactic(auto, using(crate::proofs::Polls::own_set))]
-    pub fn count_opened(&mut self, ticket: Ticket)
+    pub fn count_opened(&mut self, shared: &Shared<F>, ticket: Ticket, uncounted: Uncounted)
         requires inside { ticket.slot < length self.old.table }
         requires own { IsIn self.old.part ticket.slot }
         requires generation { ticket.generation ≤ 140737488355327 }
@@ -384,6 +388,8 @@ impl<F: Front> Poller<F> {
     {
         self.table[ticket.slot] = ticket.generation;
         self.opened = self.opened.saturating_add(1);
+        shared.count(ticket.slot, Event::Opened);
+        uncounted.spend();
     }
 
     /// A round closes a connection unopened. The log says why, or it is counted among those of which the log is still to be told.
@@ -411,19 +417,29 @@ impl<F: Front> Poller<F> {
         self.episodes.starved = false;
     }
 
-    /// A round closed a connection unopened, and the log was told, or is to be.
-    pub fn count_dropped(&mut self, dropped: Dropped)
+    /// A round closed an accepted connection unopened, and the log was told, or is to be. Its slot is in hand, and the statistics have
+    /// it there, too.
+    pub fn count_dropped(
+        &mut self,
+        shared: &Shared<F>,
+        slot: usize,
+        dropped: Dropped,
+        uncounted: Uncounted,
+    )
         ensures { self.new ≡ record self.old { dropped = counted_up self.old.dropped 1 } }
     {
         self.dropped = self.dropped.saturating_add(1);
+        shared.count(slot, Event::Dropped);
         dropped.spend();
+        uncounted.spend();
     }
 
-    /// A round found a slot that is no longer used.
-    pub fn count_lost(&mut self)
+    /// A round found a slot that is no longer used, and closed the accepted connection that was for it.
+    pub fn count_lost(&mut self, uncounted: Uncounted)
         ensures { self.new ≡ record self.old { lost = counted_up self.old.lost 1 } }
     {
         self.lost = self.lost.saturating_add(1);
+        uncounted.spend();
     }
 
     /// A round looked whether all slots are back, so that the poller is over.

@@ -1,4 +1,5 @@
 ghost use Rattle.std.specs.Prelude.{◌≡◌, ◌≤◌};
+ghost use Rattle.dispatch.specs.Counted.{ended_by, moved_by};
 
 use crate::episodes::Fullness;
 use crate::front::Front;
@@ -33,7 +34,7 @@ pub struct Shared<F: Front> {
 impl<F: Front> Shared<F> {
     /// Counts an event at a slot, if anything is counted. Only the thread that holds the slot may do so, or the poller that has
     /// it in hand while it is free.
-    pub fn count(&self, slot: usize, event: Event) {
+    pub(crate) fn count(&self, slot: usize, event: Event) {
         if let Some(statistics) = &self.statistics {
             statistics.count(slot, event);
         }
@@ -42,17 +43,35 @@ impl<F: Front> Shared<F> {
     /// Counts the bytes of a connection that a turn has left open.
     pub fn count_moved(&self, slot: usize, pair: &Pair) {
         if let Some(statistics) = &self.statistics {
-            let (up, down) = pair.counts();
-            statistics.count(slot, Event::Moved { up, down });
+            statistics.count(slot, moved_by(pair));
         }
     }
 
     /// Counts a connection that has ended.
     pub fn count_ended(&self, slot: usize, pair: &Pair) {
         if let Some(statistics) = &self.statistics {
-            let ((up, down), verdict) = (pair.counts(), pair.verdict());
-            statistics.count(slot, Event::Ended { verdict, up, down });
+            statistics.count(slot, ended_by(pair));
         }
+    }
+}
+
+/// What is counted of a connection that a turn has left open.
+fn moved_by(pair: &Pair) -> Event
+    ensures { result ≡ moved_by pair.now }
+{
+    let (up, down) = pair.counts();
+    Event::Moved { up, down }
+}
+
+/// What is counted of a connection that has ended.
+fn ended_by(pair: &Pair) -> Event
+    ensures { result ≡ ended_by pair.now }
+{
+    let (up, down) = pair.counts();
+    Event::Ended {
+        verdict: pair.verdict(),
+        up,
+        down,
     }
 }
 

@@ -179,18 +179,12 @@ accounts_of_one t old new here elsewhere slot = dite (ℕ_discrete slot t.slot)
     (λ other. subst (λ (n : ℕ). Rose n n (account_at old slot) (account_at new slot)) (sym (none_at t slot other))
     (rose_none (account_at old slot) (account_at new slot) (elsewhere slot other)))
 
-none_first : (xs : List ℕ) → slice_get xs 0 ≡ None → drop 1 xs ≡ xs
-none_first [] is = refl
-none_first (x ∷ xs) is = absurd (none-some x (sym is))
+-- where there are some, there is a first one
+pub some_first : (xs : List ℕ) → 1 ≤ length xs → slice_get xs 0 ≡ None → ⊥
+some_first [] some is = absurd (omega arith)
+some_first (x ∷ xs) some is = none-some x (sym is)
 
 module _ (p q : PollerState) (a : Own) (hand : HandState) (taken : hand ≡ record a.hand { slots = drop 1 a.hand.slots }) where
-  -- no slot was in hand
-  pub opened_nowhere : slice_get a.hand.slots 0 ≡ None → AcceptDone p p a (record a { hand = hand })
-  opened_nowhere none =
-      let same : hand ≡ a.hand = taken ∙ ap (λ (xs : List ℕ). record a.hand { slots = xs }) (none_first a.hand.slots none) in
-      subst (λ (h : HandState). AcceptDone p p a (record a { hand = h })) (sym same)
-      (accept_took p p a a (record { table = refl; opened = refl; lost = refl; batch = refl; part = refl }) (took_none a))
-
   at_is_times : (s : ℕ) (t : Ticket) (slot : ℕ) → t.slot ≡ slot → at_slot s (t ∷ []) ≡ times s (slot ∷ [])
   at_is_times s t slot here = ap (λ (i : ℕ). 0 + cond (i == s) 1 0) here
 

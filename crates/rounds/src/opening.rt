@@ -14,12 +14,11 @@ ghost use Rattle.dispatch.specs.Polls.{AreGenerations, IsIn};
 use crate::lead::lead;
 use berths::Berth;
 use claims::{Adopted, Posted, Released};
-use dispatch::{Dropped, Front, Hand, Opened, Own, Poller, Settle, Shared};
+use dispatch::{Dropped, Front, Hand, Opened, Own, Poller, Settle, Shared, Uncounted};
 use log::Log;
 use ready::Ticket;
 use relay_core::Pair;
 use relay_log::{Cause, Gone, Known, ServerFault, Why, log_gone, log_open, log_peer, logs_gone};
-use statistics::Event;
 use std::alloc::Global;
 use std::sync::Wait;
 use token::{Side, Token, next_gen};
@@ -45,6 +44,7 @@ pub(crate) fn open<F: Front, R: Wait + Log>(
     own: &mut Own,
     poller: &mut Poller<F>,
     client: F::Client,
+    uncounted: Uncounted,
 ) -> Result<(), ServerFault>
     requires between { Between shared.now.claims own.old poller.old }
     requires room { 1 ≤ ticket_room own.old.hand }
@@ -58,21 +58,21 @@ pub(crate) fn open<F: Front, R: Wait + Log>(
     ensures room { OnOk result (ticket_room own.old.hand ≤ ticket_room own.new.hand + 1) }
 {
     let Some(slot) = own.hand.take_slot() else {
+        poller.count_lost(uncounted);
         return Ok(());
     };
     if !poller.part().has(slot) {
-        poller.count_lost();
+        poller.count_lost(uncounted);
         return Ok(());
     }
     let Some(names) = next_names(poller.table(), slot) else {
-        poller.count_lost();
+        poller.count_lost(uncounted);
         return Ok(());
     };
     match prepare(rt, alloc, &mut own.hand, poller, client, names) {
-        Ok(berth) => place(rt, shared, own, poller, berth),
+        Ok(berth) => place(rt, shared, own, poller, berth, uncounted),
         Err(dropped) => {
-            shared.count(slot, Event::Dropped);
-            poller.count_dropped(dropped);
+            poller.count_dropped(shared, slot, dropped, uncounted);
             Ok(())
         }
     }
@@ -210,6 +210,7 @@ fn place<F: Front, R: Wait + Log>(
     own: &mut Own,
     poller: &mut Poller<F>,
     berth: Berth<F::Client, F::Target>,
+    uncounted: Uncounted,
 ) -> Result<(), ServerFault>
     requires between { Between shared.now.claims own.old poller.old }
     requires inside { berth.pair.slot < length poller.old.table }
@@ -232,12 +233,11 @@ fn place<F: Front, R: Wait + Log>(
         log_peer(rt, slot, generation, &from);
     }
     match shared.claims.adopt(&mut own.seat, slot) {
-        Adopted::NotFree => poller.count_lost(),
+        Adopted::NotFree => poller.count_lost(uncounted),
         Adopted::Adopted => {
             let ticket = Ticket { slot, generation };
-            shared.count(slot, Event::Opened);
+            poller.count_opened(shared, ticket, uncounted);
             start(rt, shared, own, ticket, berth)?;
-            poller.count_opened(ticket);
             poller.end_episodes(rt);
             log_open(rt, slot, generation);
         }

@@ -315,8 +315,8 @@ fn accept_next<F: Front, R: Wait + Log>(
     ensures poller { poller.new ≡ record poller.old { table = poller.new.table; accepting = poller.new.accepting; starved = poller.new.starved; tries = poller.new.tries; opened = poller.new.opened; dropped = poller.new.dropped; lost = poller.new.lost; episodes = poller.new.episodes } }
 {
     match poller.accept() {
-        Ok(client) => {
-            open(rt, alloc, shared, own, poller, client)?;
+        Ok((client, uncounted)) => {
+            open(rt, alloc, shared, own, poller, client, uncounted)?;
             Ok(true)
         }
         Err(error) => Ok(not_accepted(rt, shared, poller, &error) != Accepted::Starved),

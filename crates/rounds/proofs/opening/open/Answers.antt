@@ -1,10 +1,10 @@
 use Rattle.std.proofs.Common.{rules, ◌≡◌, ℕ, ◌++◌, ◌∷◌, [], ap, sym, ◌∙◌}
-use Rattle.rounds.proofs.Connections.{opened_nowhere, opened_never, opened_not, opened_there, on_ok, same_dropped}
+use Rattle.rounds.proofs.Connections.{some_first, opened_never, opened_not, opened_there, on_ok, same_dropped}
 use Rattle.rounds.proofs.opening.open.Goals as goal
 
 pub returns-in_default-clause-done : goal.returns-in_default-clause-done
 returns-in_default-clause-done g c =
-    opened_nowhere c.args.poller.now c.args.poller.now c.args.own.now c.take_slot.new.self c.take_slot.ensures.left (sym c.take_slot.ensures.value ∙ c.in_default.is)
+    absurd (some_first c.args.own.now.hand.slots c.requires.slot (sym c.take_slot.ensures.value ∙ c.in_default.is))
 
 pub returns-in_default-next_names-clause-done : goal.returns-in_default-next_names-clause-done
 returns-in_default-next_names-clause-done g c =
@@ -12,7 +12,7 @@ returns-in_default-next_names-clause-done g c =
 
 pub returns-then-not-has-clause-done : goal.returns-then-not-has-clause-done
 returns-then-not-has-clause-done g c =
-    opened_never c.args.poller.now c.count_lost.new.self c.args.own.now c.take_slot.new.self c.take_slot.ensures.left c.in-Some.slot (sym c.take_slot.ensures.value ∙ c.in-Some.is) c.count_lost.ensures
+    opened_never c.args.poller.now c.count_lost-then-not-has.new.self c.args.own.now c.take_slot.new.self c.take_slot.ensures.left c.in-Some.slot (sym c.take_slot.ensures.value ∙ c.in-Some.is) c.count_lost-then-not-has.ensures
 
 pub returns-in-Err-clause-done : goal.returns-in-Err-clause-done
 returns-in-Err-clause-done g c =
