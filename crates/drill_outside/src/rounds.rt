@@ -150,7 +150,12 @@ impl Outside {
         let Some(station) = self.stations.get_mut(poller) else {
             return Accepting::Starved;
         };
+        if station.accepted {
+            self.book
+                .blame("an accepted client is neither opened nor told of");
+        }
         let reply = station.accept(self.waiting > 0);
+        station.accepted = reply == Accepting::Accepted;
         let (all, told) = (station.has_opened_all(), station.told.starved);
         station.told.starved = told || reply == Accepting::Starved;
         station.told.full = station.told.full && reply != Accepting::Blocked;
@@ -199,7 +204,13 @@ impl Outside {
         target: Token,
     ) -> Result<Started, Unopened> {
         let started = match self.stations.get_mut(poller) {
-            Some(station) => station.open(client, target),
+            Some(station) => {
+                if !station.accepted {
+                    self.book.blame("a target without an accepted client");
+                }
+                station.accepted = false;
+                station.open(client, target)
+            }
             None => Err(Unopened::Connect),
         };
         match &started {

@@ -71,6 +71,8 @@ pub struct Station {
     pub may_listen: bool,
     /// Whether accept(2) was starved when it was last called.
     pub(crate) starved: bool,
+    /// Whether a client was accepted of which nothing has become yet.
+    pub(crate) accepted: bool,
     /// Whether a round has begun, and not ended.
     pub(crate) in_round: bool,
     /// Whether it is over: all that it may open was opened, and all its slots were free at the end of its last round.
@@ -112,6 +114,7 @@ impl Station {
             listens: true,
             may_listen: true,
             starved: false,
+            accepted: false,
             in_round: false,
             over: false,
             told: Told::nothing(),

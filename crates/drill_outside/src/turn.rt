@@ -288,6 +288,10 @@ impl Outside {
         match self.stations.get_mut(poller) {
             Some(station) if station.in_round => {
                 station.end_round();
+                if station.accepted {
+                    self.book
+                        .blame("an accepted client is neither opened nor told of");
+                }
                 if !station.may_rest() {
                     self.book
                         .blame("a poller ends a round while it could accept");
