@@ -3,8 +3,7 @@ ghost use Rattle.std.specs.Prelude.{Some};
 ghost use Rattle.records.specs.Texts.{header_text};
 
 use crate::names::yes_or_no;
-use crate::words::{Words, is, number, said};
-use crate::wrong::Wrong;
+use crate::words::{Words, Wrong, is, number, said};
 use std::fmt::{self, Display};
 
 /// The sizes of the relay that was recorded.

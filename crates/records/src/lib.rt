@@ -11,7 +11,6 @@
 
 mod act;
 mod header;
-mod limits;
 mod names;
 mod printing;
 mod reading;
@@ -19,11 +18,10 @@ mod replay;
 #[cfg(test)]
 mod tests;
 mod words;
-mod wrong;
 
 pub use act::{Accepted, Act, Answer, Made, Opening, Polling, Record};
 pub use header::{Header, read_header};
-pub use limits::MAX_RECORD;
+pub use printing::MAX_RECORD;
 pub use reading::read_line;
 pub use replay::{Outcome, Replay, ReplayFault, Wanted};
-pub use wrong::Wrong;
+pub use words::Wrong;

@@ -1,7 +1,6 @@
 // How a record is read: word by word, from left to right.
 use crate::act::{Accepted, Act, Answer, Made, Opening, Polling, Record};
-use crate::words::{Words, is, number, said};
-use crate::wrong::Wrong;
+use crate::words::{Words, Wrong, is, number, said};
 use token::{Kind, Name, Side, Token};
 
 /// Reads the record of a line, which is given without its line feed. What is read from the text of a record is that record.
