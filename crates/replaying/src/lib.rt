@@ -5,7 +5,6 @@ mod acts;
 mod calls;
 mod clock;
 mod flaw;
-mod kinds;
 mod listener;
 mod opening;
 mod order;
@@ -16,10 +15,8 @@ mod reading;
 mod recording;
 mod replaying;
 mod rounds;
-mod tape;
 mod telling;
 mod totals;
 mod turns;
 
 pub use replaying::OnMachine;
-pub use tape::Tape;

@@ -1,12 +1,11 @@
 //! What a poller did at the listener, in a world in which nothing is ever opened.
 use crate::flaw::Halt;
 use crate::recording::Numbered;
-use crate::tape::Tape;
 use kernel_model::Accepting;
 use records::{Accepted, Act, Polling};
 use std::alloc::{AllocError, Global};
 use token::Name;
-use world::{Event, Lead, Limits, Listening, Polling as Polled, Reported};
+use world::{Event, Lead, Limits, Listening, Polling as Polled, Reported, Tape};
 
 /// The sizes of such a world. No ring and no budget matters there.
 const LIMITS: Limits = Limits {

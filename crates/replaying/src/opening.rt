@@ -6,11 +6,10 @@ use crate::acts::{polling_of, wire_of};
 use crate::flaw::Halt;
 use crate::plan::Placed;
 use crate::player::{Phase, Player};
-use crate::tape::Tape;
 use kernel_model::Accepting;
 use records::{Header, Made, Opening, Record};
 use token::{MAX_GENERATION, Side, Token};
-use world::{Event, Lead, Limits, Listening, Polling};
+use world::{Event, Lead, Limits, Listening, Polling, Tape};
 
 /// The lengths that a line about a client has.
 const LEAST_LEAD: usize = 32;

@@ -4,12 +4,11 @@ use crate::clock::Clock;
 use crate::flaw::Halt;
 use crate::plan::{Placed, Post, SlotPlan, Sweep};
 use crate::recording::Numbered;
-use crate::tape::Tape;
 use crate::totals::{Became, Totals};
 use records::{Header, Made, Polling, Record};
 use std::alloc::Global;
 use token::{Side, Token};
-use world::{Event, World};
+use world::{Event, Tape, World};
 
 /// Where the play of a slot stands.
 #[derive(Clone, Copy)]

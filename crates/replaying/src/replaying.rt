@@ -7,12 +7,12 @@ use crate::plan::{Plan, PollerPlan, SlotPlan};
 use crate::player::{Player, Score};
 use crate::reading::read;
 use crate::recording::{Last, Recording};
-use crate::tape::Tape;
 use crate::telling::{tell_ends, tell_flaw, tell_left_out, tell_script, tell_totals};
 use crate::totals::Totals;
 use records::{Outcome, Replay, ReplayFault, Wanted};
 use std::alloc::Global;
 use std::io::{Read, Write};
+use world::Tape;
 
 /// A recording that is played.
 #[derive(Drop)]
@@ -27,7 +27,7 @@ struct Playing<'a> {
 }
 
 /// The machine on which recordings are played: what each slot and each poller's listener did, on a world of its own, event by
-/// event. What is told of a slot is read off that world, whose events all happened there ([`Tape`](crate::Tape)).
+/// event. What is told of a slot is read off that world, whose events all happened there ([`Tape`]).
 pub struct OnMachine;
 
 impl Replay for OnMachine {

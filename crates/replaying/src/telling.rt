@@ -1,16 +1,14 @@
 //! What is told of a recording.
 use crate::flaw::Why;
-use crate::kinds::NAMES;
 use crate::recording::{Numbered, Recording};
-use crate::tape::Tape;
 use crate::totals::{Became, Totals};
 use records::ReplayFault;
 use relay_core::{Call, Verdict};
 use relay_log::{Done, Failed};
-use script_text::{Page, Piece, event_reason, put_event};
+use script_text::{Page, Piece, event_reason, put_event, put_header};
 use std::alloc::{AllocError, Global};
 use std::io::Write;
-use world::{Event, Limits, World};
+use world::{Event, Tape, World};
 
 /// How many events are written at once.
 const AT_ONCE: usize = 256;
@@ -29,21 +27,27 @@ pub(crate) fn tell_totals<W: Write>(
     output: &mut W,
     totals: &Totals,
 ) -> Result<(), ReplayFault> {
-    let (connections, events) = (totals.connections, totals.events);
-    let mut text = format!(in alloc;
-        "{connections} connections, {events} events: each is a run of the machine\n"
-    )?;
-    for (name, count) in NAMES.iter().zip(totals.kinds.iter()) {
-        writeln!(text, "count {count} {name}")?;
-    }
     let (client, target) = (totals.client, totals.target);
-    let (from_client, from_target) = (client.read, target.read);
-    let (to_client, to_target) = (client.written, target.written);
-    writeln!(
-        text,
-        "read client={from_client} target={from_target} written client={to_client} target={to_target}"
-    )?;
-    write(output, text.as_str())
+    let mut page = Page::new(alloc);
+    page.put(&[
+        Piece::Number(totals.connections),
+        Piece::Text(" connections, "),
+        Piece::Number(totals.counts.sum()),
+        Piece::Text(" events: each is a run of the machine\n"),
+    ]);
+    totals.counts.put_lines(&mut page);
+    page.put(&[
+        Piece::Text("read client="),
+        Piece::Number(client.read),
+        Piece::Text(" target="),
+        Piece::Number(target.read),
+        Piece::Text(" written client="),
+        Piece::Number(client.written),
+        Piece::Text(" target="),
+        Piece::Number(target.written),
+        Piece::Text("\n"),
+    ]);
+    write(output, page.finish()?.as_str())
 }
 
 /// Writes what is not played, if anything.
@@ -109,8 +113,9 @@ pub(crate) fn tell_script<W: Write>(
     output: &mut W,
     tape: &Tape,
 ) -> Result<(), ReplayFault> {
-    let header = header_of(alloc, &tape.limits())?;
-    write(output, header.as_str())?;
+    let mut page = Page::new(alloc);
+    put_header(&mut page, &tape.limits());
+    write(output, page.finish()?.as_str())?;
     for events in tape.events().chunks(AT_ONCE) {
         let mut page = Page::new(alloc);
         for event in events {
@@ -185,26 +190,5 @@ fn next_call(alloc: Global, world: &World) -> Result<String, AllocError> {
 fn line_of(alloc: Global, event: &Event) -> Result<String, AllocError> {
     let mut page = Page::new(alloc);
     put_event(&mut page, event);
-    page.finish()
-}
-
-/// The header of a world's script.
-fn header_of(alloc: Global, limits: &Limits) -> Result<String, AllocError> {
-    let mut page = Page::new(alloc);
-    page.put(&[
-        Piece::Text("world slots=1 workers=1 ring="),
-        Piece::Number(limits.ring as u64),
-        Piece::Text(" budget="),
-        Piece::Number(limits.budget as u64),
-        Piece::Text(" gen="),
-        Piece::Number(limits.generation),
-    ]);
-    if limits.idle > 0 {
-        page.put(&[Piece::Text(" idle="), Piece::Number(limits.idle)]);
-    }
-    if !limits.lead.as_slice().is_empty() {
-        page.put(&[Piece::Text(" lead="), Piece::Bytes(limits.lead.as_slice())]);
-    }
-    page.put(&[Piece::Text("\n")]);
     page.finish()
 }

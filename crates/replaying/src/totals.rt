@@ -1,17 +1,15 @@
 //! What was played in all.
-use crate::kinds::{KINDS, kind_of};
-use crate::tape::Tape;
 use kernel_model::End;
 use relay_core::Verdict;
-use world::{Connection, Past, World};
+use script_text::Counts;
+use world::{Connection, Past, Tape, World};
 
 /// What was played in all: how many connections, how many events of each kind, and the bytes that the relay's reads and
 /// writes moved at all clients and at all targets.
 #[derive(Clone, Copy)]
 pub(crate) struct Totals {
     pub connections: u64,
-    pub events: u64,
-    pub kinds: [u64; KINDS],
+    pub counts: Counts,
     pub client: Moved,
     pub target: Moved,
 }
@@ -91,8 +89,7 @@ impl Became {
 impl Totals {
     pub(crate) const NONE: Totals = Totals {
         connections: 0,
-        events: 0,
-        kinds: [0; KINDS],
+        counts: Counts::NONE,
         client: Moved::NONE,
         target: Moved::NONE,
     };
@@ -100,23 +97,18 @@ impl Totals {
     /// Adds the events of a world.
     pub(crate) fn add(&mut self, tape: &Tape) {
         for event in tape.events() {
-            if let Some(count) = self.kinds.get_mut(kind_of(event)) {
-                *count = count.saturating_add(1);
-            }
+            self.counts.count(event);
         }
-        self.events = self.events.saturating_add(tape.events().len() as u64);
         if let Some(became) = Became::of(tape.world()) {
             self.connections = self.connections.saturating_add(1);
             self.client.add(became.client);
             self.target.add(became.target);
         }
     }
+
     /// Adds what was played elsewhere.
     pub(crate) fn add_all(&mut self, other: &Totals) {
-        for (count, more) in self.kinds.iter_mut().zip(other.kinds.iter()) {
-            *count = count.saturating_add(*more);
-        }
-        self.events = self.events.saturating_add(other.events);
+        self.counts.add(&other.counts);
         self.connections = self.connections.saturating_add(other.connections);
         self.client.add(other.client);
         self.target.add(other.target);

@@ -1,13 +1,42 @@
-//! The line of an event, as the readers of this crate read it.
+//! The header of a world's script, and the line of an event, as the readers of this crate read them. No clause says what they
+//! are: what is written of a drill or of a recording, `sim` reads back.
 
 use crate::event::word_of;
 use crate::names::put_names;
 use crate::page::{Page, Piece};
 use kernel_model::{Accepting, Reply};
 use token::Side;
-use world::{Act, Change, Event, Listening, Polling, Reported};
+use world::{Act, Change, Event, Limits, Listening, Polling, Reported};
 
-/// Adds the line of an event, without its end. No clause says what it is: what the drill records, `sim` reads back.
+/// Adds the header of a world with these limits, with its end.
+pub fn put_header(page: &mut Page, limits: &Limits) {
+    put_sizes(page, limits);
+    if limits.idle > 0 {
+        page.put(&[Piece::Text(" idle="), Piece::Number(limits.idle)]);
+    }
+    let lead = limits.lead.as_slice();
+    if !lead.is_empty() {
+        page.put(&[Piece::Text(" lead="), Piece::Bytes(lead)]);
+    }
+    page.put(&[Piece::Text("\n")]);
+}
+
+fn put_sizes(page: &mut Page, limits: &Limits) {
+    page.put(&[
+        Piece::Text("world slots="),
+        Piece::Number(limits.slots as u64),
+        Piece::Text(" workers="),
+        Piece::Number(limits.workers as u64),
+        Piece::Text(" ring="),
+        Piece::Number(limits.ring as u64),
+        Piece::Text(" budget="),
+        Piece::Number(limits.budget as u64),
+        Piece::Text(" gen="),
+        Piece::Number(limits.generation),
+    ]);
+}
+
+/// Adds the line of an event, without its end.
 pub fn put_event(page: &mut Page, event: &Event) {
     put_first(page, event);
     match event {
@@ -103,4 +132,18 @@ fn reply_word(reply: Reply) -> &'static str {
         Reply::Interrupted => "interrupted",
         Reply::Failed(_) => "failed",
     }
+}
+
+/// By what an event is counted: the first word of its line, and what tells it from others that begin so.
+pub(crate) fn kind_of(event: &Event) -> (&'static str, &'static str) {
+    let more = match event {
+        Event::Spurious(Reported::Listener) => "listener",
+        Event::Spurious(Reported::Waker) => "waker",
+        Event::Listen(Listening::Accept(answer)) => accepting_word(*answer),
+        Event::Poll(Polling::Put) => "poller",
+        Event::Work(_, Act::Call(Reply::Wrote(_, true))) => "wrote full",
+        Event::Work(_, Act::Call(reply)) => reply_word(*reply),
+        _ => "",
+    };
+    (word_of(event).text(), more)
 }

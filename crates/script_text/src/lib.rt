@@ -4,14 +4,15 @@
 //! first line, and [`read_step`] and [`read_event`] read the others, by what the header covers. A line that says none of
 //! these has a first word from the left that is [`Wrong`], with what is expected there.
 //!
-//! [`print`] gives the report of a world, and [`event_reason`] says why an event is not allowed in it. [`put_event`] adds the
-//! line of an event to a [`Page`], which is what all these texts are written on.
+//! [`print`] gives the report of a world, and [`event_reason`] says why an event is not allowed in it. [`put_header`] and [`put_event`] add
+//! the lines of a script to a [`Page`], which is what all these texts are written on, and [`Counts`] counts events by kinds.
 //!
 //! `docs/FORMATS.md` describes lines and reports; `specs/` has the same as definitions: `Texts` and `Reading` for lines and
 //! words, `Headers`, `Steps` and `Events` for what they say, and `Words` for the word by which a fault names an event;
 //! `WorldReports` for the report, with `Names` and `Shown` for its parts, and `Pages` for what adds to a page.
 #![tactic(auto)]
 
+mod counts;
 mod ends;
 mod event;
 mod event_line;
@@ -32,9 +33,10 @@ mod values;
 mod word;
 mod wrong;
 
+pub use counts::Counts;
 pub use ends::{end_reason, ended_reason, first_of, read_reason, room_reason, wrote_reason};
 pub use event::{NumberedEvent, word_of};
-pub use event_line::put_event;
+pub use event_line::{put_event, put_header};
 pub use events::read_event;
 pub use header::{Header, read_header};
 pub use lines::{Line, Lines, Pieces};

@@ -1,5 +1,5 @@
 -- A run with one event more.
-use Rattle.std.proofs.Common.{◌≡◌, ℕ, zero, suc, ◌+◌, List, [], ◌∷◌, take, Option, Some, None, refl, option_and_then, add-one}
+use Rattle.std.proofs.Common.{◌≡◌, ℕ, zero, suc, ◌+◌, List, [], ◌∷◌, ◌++◌, take, Option, Some, None, refl, ◌∙◌, option_and_then, add-one}
 use Rattle.std.specs.Prelude.{slice_get}
 use Rattle.world.specs.declared.event.Event.{Event}
 use Rattle.world.specs.States.{State}
@@ -31,3 +31,19 @@ one_more st q (f ∷ events) (suc i) e ran here =
 pub run_more : (st q : State) (events : List Event) (i : ℕ) (e : Event)
     → run st (take i events) ≡ Some q → slice_get events i ≡ Some e → run st (take (i + 1) events) ≡ step q e
 run_more st q events i e ran here = rw add-one (one_more st q events i e ran here)
+
+further_by : (q r : State) (events : List Event) (e : Event)
+    → ((p : State) → run p events ≡ Some q → run p (events ++ e ∷ []) ≡ Some r)
+    → (o : Option State) → option_and_then (λ (p : State). run p events) o ≡ Some q
+    → option_and_then (λ (p : State). run p (events ++ e ∷ [])) o ≡ Some r
+further_by q r events e more None ran = absurd (cc)
+further_by q r events e more (Some p) ran = more p ran
+
+-- where the events lead to a world in which one more can happen
+pub run_and : (st q r : State) (events : List Event) (e : Event)
+    → run st events ≡ Some q → step q e ≡ Some r → run st (events ++ e ∷ []) ≡ Some r
+run_and st q r [] e ran one =
+    let same : st ≡ q = cc in
+    rw same (one_step (step q e) ∙ one)
+run_and st q r (f ∷ events) e ran one =
+    further_by q r events e (λ p ran'. run_and p q r events e ran' one) (step st f) ran

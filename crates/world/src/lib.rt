@@ -4,7 +4,7 @@
 //! A [`World`] starts from its [`Limits`], and changes by one [`Event`] at a time. Every choice is part of the event:
 //! what the network brings, which names a poll gives, what a call is answered. So [`World::step`] has one outcome, or
 //! refuses the event and changes nothing. [`World::play`] makes a list of events happen, and [`replay`] does so from
-//! the opening world on.
+//! the opening world on. A [`Tape`] is a world together with the events that led to it.
 //!
 //! An accepted connection is opened in a free slot, for a new generation of that slot. A report about one of its ends
 //! becomes a note in the slot, if it has the slot's generation; the first note at a slot that nobody holds makes a
@@ -26,7 +26,7 @@
 //!
 //! The definitions are in `specs/`: a lead in `Leads.antt`, slots and workers in `Slots.antt`, the whole state in
 //! `States.antt`, a connection's calls in `Calls.antt`, one event in `Steps.antt`, for which events memory may run out
-//! in `Memory.antt`, lists of events in `Runs.antt`, what could move and what is due in `Due.antt`, the bytes that
+//! in `Memory.antt`, lists of events in `Runs.antt` and `Tapes.antt`, what could move and what is due in `Due.antt`, the bytes that
 //! arrived in `Given.antt`, what holds after every list of events in `Headline.antt`, what that depends on in
 //! `Support.antt`, and the claim words in `Words.antt`. Only private functions use those of `Acts.antt`. The lemmas are
 //! in `proofs/`: `Turns*.antt` about who has a slot, its notes and its tickets, and `Ends*.antt` about the bytes, the
@@ -47,6 +47,7 @@ mod readers;
 mod replaying;
 mod slot;
 mod step;
+mod tape;
 mod worker;
 mod working;
 mod world;
@@ -59,5 +60,6 @@ pub use limits::Limits;
 pub use past::Past;
 pub use replaying::replay;
 pub use slot::Slot;
+pub use tape::Tape;
 pub use worker::Worker;
 pub use world::World;

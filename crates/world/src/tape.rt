@@ -1,8 +1,10 @@
-//! A world, and the events that led to it.
+// A world, and the events that led to it.
+use crate::event::Event;
+use crate::limits::Limits;
+use crate::world::World;
 use kernel_model::Refusal;
 use std::alloc::{AllocError, Global};
 use std::marker::Model;
-use world::{Event, Limits, World};
 
 /// A world from its opening on, with each event that has happened in it. Nothing else makes one or changes it, so its world
 /// is the one after its events.
@@ -14,7 +16,7 @@ pub struct Tape {
 }
 
 impl Model for Tape {
-    ghost use Rattle.replaying.specs.Tapes.{TapeState, IsRun};
+    ghost use Rattle.world.specs.Tapes.{TapeState, IsRun};
 
     ghost Value = { TapeState };
 

@@ -1,0 +1,105 @@
+//! How many events of each kind have happened.
+
+use crate::event_line::kind_of;
+use crate::page::{Page, Piece};
+use world::Event;
+
+/// How many kinds are told apart.
+const KINDS: usize = 39;
+
+/// The kinds, in the order in which they are told.
+static NAMES: [(&str, &str); KINDS] = [
+    ("tick", ""),
+    ("arrive", ""),
+    ("fin", ""),
+    ("reset", ""),
+    ("room", ""),
+    ("spurious", "listener"),
+    ("spurious", "waker"),
+    ("spurious", ""),
+    ("vanish", ""),
+    ("connect", ""),
+    ("accept", "ok"),
+    ("accept", "blocked"),
+    ("accept", "again"),
+    ("accept", "starved"),
+    ("drop", ""),
+    ("open", ""),
+    ("poll", ""),
+    ("deliver", ""),
+    ("sweep", ""),
+    ("put", "poller"),
+    ("put", ""),
+    ("pop", ""),
+    ("claim", ""),
+    ("take", ""),
+    ("post", ""),
+    ("release", ""),
+    ("idle", ""),
+    ("close", ""),
+    ("retire", ""),
+    ("free", ""),
+    ("call", "read"),
+    ("call", "end"),
+    ("call", "wrote"),
+    ("call", "wrote full"),
+    ("call", "joined"),
+    ("call", "shut"),
+    ("call", "blocked"),
+    ("call", "interrupted"),
+    ("call", "failed"),
+];
+
+/// How many events of each kind have happened.
+#[derive(Clone, Copy)]
+pub struct Counts {
+    kinds: [u64; KINDS],
+}
+
+impl Counts {
+    /// None has happened.
+    pub const NONE: Counts = Counts { kinds: [0; KINDS] };
+
+    /// Counts an event.
+    pub fn count(&mut self, event: &Event) {
+        let kind = kind_of(event);
+        for (name, count) in NAMES.iter().zip(self.kinds.iter_mut()) {
+            if *name == kind {
+                *count = count.saturating_add(1);
+                return;
+            }
+        }
+    }
+
+    /// Adds what was counted elsewhere.
+    pub fn add(&mut self, more: &Counts) {
+        for (count, more) in self.kinds.iter_mut().zip(more.kinds.iter()) {
+            *count = count.saturating_add(*more);
+        }
+    }
+
+    /// How many there are of all kinds.
+    pub fn sum(&self) -> u64 {
+        let mut sum: u64 = 0;
+        for count in &self.kinds {
+            sum = sum.saturating_add(*count);
+        }
+        sum
+    }
+
+    /// Adds a line for each kind: `count N KIND`.
+    pub fn put_lines(&self, page: &mut Page) {
+        for ((word, more), count) in NAMES.iter().zip(self.kinds.iter()) {
+            let space = if more.is_empty() { "" } else { " " };
+            page.put(&[
+                Piece::Text("count "),
+                Piece::Number(*count),
+                Piece::Text(" "),
+                Piece::Text(*word),
+                Piece::Text(space),
+                Piece::Text(*more),
+                Piece::Text("\n"),
+            ]);
+        }
+    }
+}
