@@ -1,7 +1,7 @@
 // What the calls answer.
 
 /// What a post found.
-#[derive(Clone, Copy, Debug, PartialEq, Eq)]
+#[derive(Clone, Copy, PartialEq, Eq)]
 pub enum Posted {
     /// No note waited and nobody held the slot. The caller has to put a ticket for the slot.
     Wake,
@@ -12,7 +12,7 @@ pub enum Posted {
 }
 
 /// What a claim found.
-#[derive(Clone, Copy, Debug, PartialEq, Eq)]
+#[derive(Clone, Copy, PartialEq, Eq)]
 pub enum Claimed {
     /// The caller's seat now holds the slot.
     Held,
@@ -21,7 +21,7 @@ pub enum Claimed {
 }
 
 /// What a release found.
-#[derive(Clone, Copy, Debug, PartialEq, Eq)]
+#[derive(Clone, Copy, PartialEq, Eq)]
 pub enum Released {
     /// Notes wait. The caller has to put a ticket for the slot.
     Wake,
@@ -30,7 +30,7 @@ pub enum Released {
 }
 
 /// What an adoption found.
-#[derive(Clone, Copy, Debug, PartialEq, Eq)]
+#[derive(Clone, Copy, PartialEq, Eq)]
 pub enum Adopted {
     /// The slot was free, and the caller's seat now holds it.
     Adopted,

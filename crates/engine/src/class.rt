@@ -6,7 +6,7 @@ use relay_core::{Call, Kind, Side};
 use std::io::ErrorKind;
 
 /// What an error of a call means.
-#[derive(Clone, Copy, Debug, PartialEq, Eq)]
+#[derive(Clone, Copy, PartialEq, Eq)]
 pub enum Class {
     /// A signal interrupted the call, and nothing moved (EINTR).
     Interrupted,

@@ -1,5 +1,5 @@
 /// When a turn is made, by a clock that counts whole seconds, and the idle limit that it is made under.
-#[derive(Clone, Copy, Debug, PartialEq, Eq)]
+#[derive(Clone, Copy)]
 pub struct Moment {
     /// The second.
     pub second: u64,

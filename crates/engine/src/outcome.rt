@@ -1,5 +1,5 @@
 /// The outcome of a turn.
-#[derive(Clone, Copy, Debug, PartialEq, Eq)]
+#[derive(Clone, Copy, PartialEq, Eq)]
 pub enum Turn {
     /// The budget is spent, and there is a next call.
     Again,

@@ -17,7 +17,7 @@ use std::io::ErrorKind;
 use std::marker::Model;
 
 /// One answer that a [`ScriptWire`] gives.
-#[derive(Debug, Drop)]
+#[derive(Drop)]
 pub enum Play {
     /// A read gives these bytes, or as many of the first ones as fit into its buffer; what is left is given next.
     Bytes(Vec<u8>),
@@ -40,7 +40,7 @@ pub enum Play {
 }
 
 /// One of the three lists of answers that a [`ScriptWire`] plays.
-#[derive(Clone, Copy, Debug, PartialEq, Eq)]
+#[derive(Clone, Copy, PartialEq, Eq)]
 pub enum PlayList {
     /// The answers to reads.
     Reads,

@@ -10,7 +10,7 @@ use std::marker::Model;
 
 /// What a [`Wire`](crate::Wire) keeps about its answers: whether its socket is known to be connected, how many of its
 /// answers were faults, and how many were "would block". Both counts wrap around at 2^64.
-#[derive(Debug, Drop)]
+#[derive(Drop)]
 pub struct Tally {
     joined: bool,
     faults: u64,

@@ -87,7 +87,7 @@ fn ending(is_cut: bool) -> &'static str
 }
 
 /// So many lines were left out.
-#[derive(Clone, Copy, Debug, PartialEq, Eq)]
+#[derive(Clone, Copy)]
 pub struct LeftOut(pub u64);
 
 impl Display for LeftOut {

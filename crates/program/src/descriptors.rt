@@ -14,7 +14,7 @@ const FOR_A_CONNECTION: u64 = 2;
 const FOR_A_POLLER: u64 = 2;
 
 /// The descriptors of a process: how many it may have open, its soft limit, and how many are in use.
-#[derive(Clone, Copy, Debug, PartialEq, Eq)]
+#[derive(Clone, Copy, PartialEq, Eq)]
 pub struct Descriptors {
     pub most: u64,
     pub in_use: u64,

@@ -8,7 +8,7 @@ use std::env::{self, Env};
 use std::io;
 
 /// Why the arguments of the command line cannot be read.
-#[derive(Clone, Copy, Debug)]
+#[derive(Clone, Copy)]
 pub enum ArgumentsFault {
     /// Memory ran out.
     NoMemory,

@@ -5,7 +5,7 @@ use std::marker::Model;
 /// Whether a wire reads its socket, or answers "would block" to reads by itself.
 ///
 /// In a clause it is whether the wire reads.
-#[derive(Debug, Drop)]
+#[derive(Drop)]
 pub struct Attention {
     reads: bool,
 }

@@ -1,7 +1,7 @@
 // What waits in the queue of tickets, and what a full queue answers.
 
 /// The right to try a slot.
-#[derive(Clone, Copy, Debug, PartialEq, Eq)]
+#[derive(Clone, Copy, PartialEq, Eq)]
 pub struct Ticket {
     /// The slot to try.
     pub slot: usize,
@@ -10,5 +10,5 @@ pub struct Ticket {
 }
 
 /// The queue was full at one moment during the call. This is the item that it refused.
-#[derive(Clone, Copy, Debug, PartialEq, Eq)]
+#[derive(Clone, Copy)]
 pub struct Full<T>(pub T);

@@ -2,7 +2,7 @@
 use token::{Kind, Name, Token};
 
 /// An act, and the values of the recording's count just before and just after it.
-#[derive(Clone, Copy, Debug, PartialEq, Eq)]
+#[derive(Clone, Copy)]
 pub struct Record {
     pub before: u64,
     pub after: u64,
@@ -10,7 +10,7 @@ pub struct Record {
 }
 
 /// What happened.
-#[derive(Clone, Copy, Debug, PartialEq, Eq)]
+#[derive(Clone, Copy)]
 pub enum Act {
     /// The poller with this number did this.
     Poller(usize, Polling),
@@ -29,7 +29,7 @@ pub enum Act {
 }
 
 /// What a poller did.
-#[derive(Clone, Copy, Debug, PartialEq, Eq)]
+#[derive(Clone, Copy)]
 pub enum Polling {
     /// A wait for reports gave so many.
     Gave(usize),
@@ -46,7 +46,7 @@ pub enum Polling {
 }
 
 /// What accept(2) answered, by the class of its answer.
-#[derive(Clone, Copy, Debug, PartialEq, Eq)]
+#[derive(Clone, Copy)]
 pub enum Accepted {
     Taken,
     Blocked,
@@ -55,7 +55,7 @@ pub enum Accepted {
 }
 
 /// Whether a front opened a connection.
-#[derive(Clone, Copy, Debug, PartialEq, Eq)]
+#[derive(Clone, Copy)]
 pub enum Opening {
     Opened,
     /// The connection to the target could not be started.
@@ -65,7 +65,7 @@ pub enum Opening {
 }
 
 /// What was done with a wire.
-#[derive(Clone, Copy, Debug, PartialEq, Eq)]
+#[derive(Clone, Copy)]
 pub enum Made {
     /// A read of at most so many bytes. Its answer is a number of bytes, the end, or no success.
     Read(usize, Answer),
@@ -82,7 +82,7 @@ pub enum Made {
 }
 
 /// What a wire answered.
-#[derive(Clone, Copy, Debug, PartialEq, Eq)]
+#[derive(Clone, Copy, PartialEq, Eq)]
 pub enum Answer {
     /// So many bytes moved.
     Moved(usize),

@@ -7,7 +7,7 @@ use crate::words::{Words, Wrong, is, number, said};
 use std::fmt::{self, Display};
 
 /// The sizes of the relay that was recorded.
-#[derive(Clone, Copy, Debug, PartialEq, Eq)]
+#[derive(Clone, Copy)]
 pub struct Header {
     /// Connections at a time.
     pub slots: usize,

@@ -4,7 +4,7 @@ use std::io::{Read, Write};
 use thiserror::Error;
 
 /// What is to be told of a recording.
-#[derive(Clone, Copy, Debug, PartialEq, Eq)]
+#[derive(Clone, Copy, PartialEq, Eq)]
 pub enum Wanted {
     /// How many connections, how many events of each kind, and how many bytes.
     Totals,
@@ -15,7 +15,7 @@ pub enum Wanted {
 }
 
 /// Whether a recording is of runs of the machine.
-#[derive(Clone, Copy, Debug, PartialEq, Eq)]
+#[derive(Clone, Copy, PartialEq, Eq)]
 pub enum Outcome {
     /// Each slot and each listener is one. What was wanted is written.
     Run,

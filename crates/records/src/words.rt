@@ -2,7 +2,7 @@
 ghost use Rattle.std.specs.Prelude.{◌≡◌};
 
 /// Why a line of a recording is not read: the first word from the left that is wrong, and what is expected there.
-#[derive(Clone, Copy, Debug)]
+#[derive(Clone, Copy)]
 pub struct Wrong<'a> {
     /// The word, or none where one is missing.
     pub word: Option<&'a [u8]>,

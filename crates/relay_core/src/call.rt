@@ -4,7 +4,7 @@ ghost use Rattle.relay_core.specs.Calls.{side_of, kind_of, call_name, direction_
 use token::{Direction, Side};
 
 /// A call on one of a connection's two sockets. It never waits.
-#[derive(Clone, Copy, Debug, PartialEq, Eq)]
+#[derive(Clone, Copy, PartialEq, Eq)]
 pub enum Call {
     /// write(2) to this side, offering the rest of its lead, or else all bytes in the ring that are bound for it.
     Write(Side),
@@ -18,7 +18,7 @@ pub enum Call {
 }
 
 /// Which of the four calls it is.
-#[derive(Clone, Copy, Debug, PartialEq, Eq)]
+#[derive(Clone, Copy, PartialEq, Eq)]
 pub enum CallKind {
     /// write(2): bytes that wait go out.
     Write,

@@ -2,7 +2,7 @@
 ///
 /// Edge-triggered epoll(7) reports a change once. So a flag stays set, and its call is tried again and again, until a
 /// try is answered "would block"; then the call waits for the next report.
-#[derive(Clone, Copy, Debug, PartialEq, Eq)]
+#[derive(Clone, Copy)]
 pub struct Flags {
     /// A read is worth trying.
     pub read: bool,

@@ -2,7 +2,7 @@ use crate::call::CallKind;
 use token::{Kind, Side};
 
 /// Why a connection failed.
-#[derive(Clone, Copy, Debug, PartialEq, Eq)]
+#[derive(Clone, Copy, PartialEq, Eq)]
 pub enum Fault {
     /// A call failed.
     Broken {
@@ -18,7 +18,7 @@ pub enum Fault {
 }
 
 /// What has become of a connection.
-#[derive(Clone, Copy, Debug, PartialEq, Eq)]
+#[derive(Clone, Copy, PartialEq, Eq)]
 pub enum Verdict {
     /// Both ends are open, or one of them still has to be passed on.
     Live,

@@ -4,7 +4,7 @@ ghost use Rattle.relay_log.specs.Messages.{cause_name};
 use std::alloc::AllocError;
 
 /// Why an accepted connection was closed before it was opened.
-#[derive(Clone, Copy, Debug, PartialEq, Eq)]
+#[derive(Clone, Copy, PartialEq, Eq)]
 pub enum Cause {
     /// There was no memory for it.
     Memory,

@@ -8,7 +8,7 @@ use relay_core::Fault;
 use std::fmt::{self, Display};
 
 /// A connection was opened in a slot, which has now been opened `generation` times.
-#[derive(Clone, Copy, Debug, PartialEq, Eq)]
+#[derive(Clone, Copy)]
 pub struct Opened {
     pub slot: usize,
     pub generation: u64,
@@ -24,7 +24,7 @@ impl Display for Opened {
 }
 
 /// Whose connection it is: the client's address, as it prints.
-#[derive(Clone, Copy, Debug)]
+#[derive(Clone, Copy)]
 pub struct Peer<'a, D> {
     pub slot: usize,
     pub generation: u64,
@@ -41,7 +41,7 @@ impl<'a, D: Display> Display for Peer<'a, D> {
 }
 
 /// A connection is done: `up` bytes were sent to the target, and `down` bytes to the client.
-#[derive(Clone, Copy, Debug, PartialEq, Eq)]
+#[derive(Clone, Copy)]
 pub struct Done {
     pub slot: usize,
     pub generation: u64,
@@ -64,7 +64,7 @@ impl Display for Done {
 }
 
 /// A connection failed: by a call, or since it moved nothing for the idle limit.
-#[derive(Clone, Copy, Debug, PartialEq, Eq)]
+#[derive(Clone, Copy)]
 pub struct Failed {
     pub slot: usize,
     pub generation: u64,
@@ -92,7 +92,7 @@ impl Display for Failed {
 }
 
 /// An accepted connection was closed before it was opened.
-#[derive(Clone, Copy, Debug, PartialEq, Eq)]
+#[derive(Clone, Copy)]
 pub struct Dropped {
     pub cause: Cause,
 }
@@ -107,7 +107,7 @@ impl Display for Dropped {
 }
 
 /// So many more accepted connections were closed before they were opened than those of which the log has lines.
-#[derive(Clone, Copy, Debug, PartialEq, Eq)]
+#[derive(Clone, Copy)]
 pub struct MoreDropped {
     pub cause: Cause,
     pub more: u64,
@@ -123,7 +123,7 @@ impl Display for MoreDropped {
 }
 
 /// All slots of a server, so many, are taken, and a client waits.
-#[derive(Clone, Copy, Debug, PartialEq, Eq)]
+#[derive(Clone, Copy)]
 pub struct AllTaken {
     pub slots: usize,
 }

@@ -10,7 +10,7 @@ use std::fmt;
 use toml::Table;
 
 /// What a settings text sets, with defaults for the keys that it leaves out.
-#[derive(Clone, Copy, Debug, PartialEq, Eq)]
+#[derive(Clone, Copy)]
 pub struct Settings {
     /// The IPv4 address and port to which clients connect. With port 0 the system picks a port.
     pub listen: Address,

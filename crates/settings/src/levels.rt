@@ -6,7 +6,7 @@ use std::fmt;
 
 /// The least important messages that are written to standard error. Each level includes those before it, and `Off`
 /// includes none.
-#[derive(Clone, Copy, Debug, PartialEq, Eq)]
+#[derive(Clone, Copy, PartialEq, Eq)]
 pub enum LogLevel {
     Off,
     Error,

@@ -4,7 +4,7 @@ ghost use Rattle.token.specs.Sides.{opposite, source, destination};
 use crate::side::Side;
 
 /// One of the two ways in which bytes travel through a connection.
-#[derive(Clone, Copy, Debug, PartialEq, Eq)]
+#[derive(Clone, Copy, PartialEq, Eq)]
 pub enum Direction {
     /// From the client to the target.
     Up,

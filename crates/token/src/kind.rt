@@ -5,7 +5,7 @@ ghost use Rattle.token.specs.declared.kind.Kind.{Kind};
 
 /// How a call on a socket failed: the errors of read(2), write(2), connect(2) and shutdown(2) that the relay
 /// distinguishes.
-#[derive(Clone, Copy, Debug, PartialEq, Eq)]
+#[derive(Clone, Copy, PartialEq, Eq)]
 pub enum Kind {
     /// The peer reset the connection (ECONNRESET).
     Reset,

@@ -7,7 +7,7 @@ use crate::side::Side;
 use crate::token::Token;
 
 /// What a readiness queue reports on.
-#[derive(Clone, Copy, Debug, PartialEq, Eq)]
+#[derive(Clone, Copy, PartialEq, Eq)]
 pub enum Name {
     /// The listening socket: number 0.
     Listener,

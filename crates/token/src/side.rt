@@ -3,7 +3,7 @@ ghost use Rattle.token.specs.Sides.{other_side, side_name, side_named, side_numb
 ghost use Rattle.token.specs.declared.side.Side.{Side};
 
 /// One of the two ends of a connection.
-#[derive(Clone, Copy, Debug, PartialEq, Eq)]
+#[derive(Clone, Copy, PartialEq, Eq)]
 pub enum Side {
     /// The end that connected to the relay.
     Client,

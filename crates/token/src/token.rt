@@ -21,7 +21,7 @@ pub enum TokenFault {
 
 /// The name of one end of one connection, by which a readiness queue reports on it: the slot, the side and the slot's
 /// generation.
-#[derive(Clone, Copy, Debug, PartialEq, Eq)]
+#[derive(Clone, Copy, PartialEq, Eq)]
 pub struct Token {
     slot: usize,
     side: Side,
