@@ -135,51 +135,79 @@ where
     ensures unwritten { IfErr result (λ fault. status_of fault ≡ 2 → O.contents writer.new ≡ O.contents writer.old) }
 {
     match command {
-        Command::Simulate { each } => {
-            let mut reader = stream("input", reader, log);
-            let mut writer = stream("output", writer, log);
-            if each {
-                simulate_each(rt.alloc(), log, &mut reader, &mut writer)
-            } else {
-                simulate(rt.alloc(), log, &mut reader, &mut writer)
-            }
-        }
-        Command::Check(path) => {
-            let settings = config::load(rt, log, path)?;
-            foresee(rt, log, &settings);
-            print(rt.alloc(), &settings, &mut stream("output", writer, log))
-        }
+        Command::Simulate { each } => simulate_by(rt.alloc(), log, each, reader, writer),
+        Command::Check(path) => check(rt, log, path, writer),
         Command::Run(path, level, record, extras) => {
-            let settings = config::load(rt, log, path)?;
-            let settings = config::at_level(log, rt.alloc(), settings, level).map_err(
-                ProgramFault::of_arguments,
-            )?;
-            run(
-                rt,
-                settings,
-                record,
-                extras,
-                &mut stream("output", writer, log),
-                serve,
-            )
+            let settings = settings_of_file(rt, log, path, level)?;
+            let mut writer = stream("output", writer, log);
+            run(rt, settings, record, extras, &mut writer, serve)
         }
         Command::Forward(text, record, extras) => {
-            let settings = config::parse_arguments(log, rt.alloc(), text.as_bytes()).map_err(
-                ProgramFault::of_arguments,
-            )?;
-            run(
-                rt,
-                settings,
-                record,
-                extras,
-                &mut stream("output", writer, log),
-                serve,
-            )
+            let settings = settings_of_arguments(rt.alloc(), log, text.as_str())?;
+            let mut writer = stream("output", writer, log);
+            run(rt, settings, record, extras, &mut writer, serve)
         }
         Command::Replay(replayed) => {
             let mut writer = stream("output", writer, log);
             replay_file(rt, log, replayed, &mut writer, player)
         }
+    }
+}
+
+/// The settings of a file, with another level if one is named.
+fn settings_of_file<R: AllocGlobal + Files, L: Log>(
+    rt: &R,
+    log: &L,
+    path: &str,
+    level: Option<&str>,
+) -> Result<Settings, ProgramFault> {
+    let settings = config::load(rt, log, path)?;
+    config::at_level(log, rt.alloc(), settings, level).map_err(ProgramFault::of_arguments)
+}
+
+/// The settings of a command line.
+fn settings_of_arguments<L: Log>(
+    alloc: Global,
+    log: &L,
+    text: &str,
+) -> Result<Settings, ProgramFault> {
+    config::parse_arguments(log, alloc, text.as_bytes()).map_err(ProgramFault::of_arguments)
+}
+
+/// Prints the settings of a file, and warns of what they need.
+fn check<R, L: Log, O: Write>(
+    rt: &R,
+    log: &L,
+    path: &str,
+    writer: &mut O,
+) -> Result<u8, ProgramFault>
+where
+    R: AllocGlobal + Files + Eprint + Net + Copy + Drop,
+    ensures done { IfOk result (λ status. status ≡ 0) }
+    ensures fault { IfErr result (λ fault. status_of fault ≡ 1) }
+{
+    let settings = config::load(rt, log, path)?;
+    foresee(rt, log, &settings);
+    print(rt.alloc(), &settings, &mut stream("output", writer, log))
+}
+
+/// Runs a script, and shows each step if it is asked to.
+fn simulate_by<L: Log, I: Read, O: Write>(
+    alloc: Global,
+    log: &L,
+    each: bool,
+    reader: &mut I,
+    writer: &mut O,
+) -> Result<u8, ProgramFault>
+    ensures done { IfOk result (λ status. IsCarriedOut status) }
+    ensures fault { IfErr result (λ fault. status_of fault ≡ 1) }
+{
+    let mut reader = stream("input", reader, log);
+    let mut writer = stream("output", writer, log);
+    if each {
+        simulate_each(alloc, log, &mut reader, &mut writer)
+    } else {
+        simulate(alloc, log, &mut reader, &mut writer)
     }
 }
 
