@@ -19,8 +19,8 @@
 //
 // A connection begins with a hello of the client. Then each direction is a stream: the pattern, from a place that the
 // hello names; with its first 64 bytes the server answers the hello. A byte that is lost, doubled or another
-// connection's differs from the pattern. A stream of bulk ends with the pattern, so that its reader knows that nothing
-// is missing.
+// connection's differs from the pattern. A stream of bulk ends where the pattern does, so that its reader notices that
+// the end is missing, unless that has just a multiple of the pattern's bytes.
 
 #define _GNU_SOURCE
 #include <arpa/inet.h>
