@@ -32,7 +32,7 @@ sim: build
 
 ## make test          the gate: every proof and test from scratch, and the built program
 test:
-	@.ci/run
+	@.ci/test
 
 ## make test-program  tests the built program as its users run it; part of the gate
 test-program: build
