@@ -47,6 +47,7 @@ test:
 # Runs the built program over its rows, and the relay over loopback. Part of the gate; it needs Python 3.
 test-program: build
 	@tests/program/run $(PROGRAM)
+	@tests/relay $(PROGRAM)
 
 # Plays random scripts on the server's own threads and on the modelled machine, and compares them. Part of the gate; it
 # needs Python 3.
