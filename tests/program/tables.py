@@ -38,7 +38,8 @@ the log tells, or the settings that differ from their defaults, as `ring=1 log=o
 `words` has the words behind `relayd`, as a shell reads them, that are refused. WANTED is such a fault with its cause, or what
 the parser of arguments tells.
 
-In all of them `\xHH` is a byte, and `\xHH*N` that byte N times. Lines that begin with `#` are comments.
+In all of them `\xHH` is a byte, and `\xHH*N` that byte N times, but in what the log tells of a fault, which is as it stands. Lines
+that begin with `#` are comments.
 """
 
 import functools
@@ -74,13 +75,14 @@ def lines_of(path):
     begun = ""
     with open(path, encoding="utf-8") as file:
         for number, line in enumerate(file.read().split("\n"), 1):
-            if begun or line and line[0] != "#":
-                begun += line
-                if not line.endswith((" |", " /", " =>")):
-                    yield number, begun
-                    begun = ""
-                elif begun:
-                    begun += " "
+            if not begun and (not line or line[0] == "#"):
+                continue
+            begun += line
+            if line.endswith((" |", " /", " =>")):
+                begun += " "
+            else:
+                yield number, begun
+                begun = ""
 
 
 def repeated(text, between=" | "):
@@ -149,6 +151,14 @@ def transcript(lines):
             yield replace(row, name=f"{row.name}: {command[0]}", words=words, streams=command.groups()[1:])
 
 
+def choices(line):
+    """The rows for which a line stands, each behind what is chosen in it."""
+    found = re.search(r"\{([^{}]* / [^{}]*)\}(?=.* => )", line)
+    if not found:
+        return [("", line)]
+    return [(one, line.replace(found[0], one).replace("{}", one)) for one in found[1].split(" / ")]
+
+
 def sides(lines):
     """The rows of a table: how their section is marked, the name of each, and its two sides."""
     mark, begins = "begins", ""
@@ -157,10 +167,8 @@ def sides(lines):
         if section:
             mark, begins = section.groups()
             continue
-        choice = re.search(r"\{([^{}]* / [^{}]*)\}(?=.* => )", line)
-        for chosen in choice[1].split(" / ") if choice else [""]:
-            whole = line.replace(choice[0], chosen).replace("{}", chosen) if choice else line
-            given, arrow, wanted = whole.rpartition(" => ")
+        for chosen, row in choices(line):
+            given, arrow, wanted = row.rpartition(" => ")
             if not arrow or not wanted:
                 raise ValueError(f"line {number}")
             given = begins.replace("%s", given) if "%s" in begins else " | ".join(filter(None, [begins, given]))
