@@ -66,7 +66,8 @@ class Maker:
             what = self.random.random()
             side, other = self.random.sample(["client", "target"], 2)
             if what < 0.3:
-                lines += [f"arrive {slot} {side} {self.random.randbytes(self.random.randint(1, 20)).hex()}", f"room {slot} {other}"]
+                data = self.random.randbytes(self.random.randint(1, 20)).hex()
+                lines += [f"arrive {slot} {side} {data}", f"room {slot} {other}"]
             elif what < 0.9:
                 lines.append(f"spurious {slot} {side}")
         return lines + [f"round {poller}" for poller in range(self.pollers)]

@@ -1,4 +1,4 @@
-"""The rows of `rows` and `wrong`: what `drill` is given, and what is seen of it; and a server with the mistakes of `wrong`."""
+"""The rows of `rows` and `wrong`: what `drill` is given, and what is seen of it; and the server with mistakes."""
 
 import os
 import re
@@ -12,8 +12,8 @@ TOP = os.path.dirname(os.path.dirname(HERE))
 sys.path.append(f"{TOP}/tests/program")
 from tables import repeated
 
-# What a slot's report has as long as nothing has happened there, that of a first connection at rest and without bytes, and that of
-# a slot that is free behind its first connection.
+# What a slot's report has as long as nothing has happened there, that of a first connection at rest and without bytes, and that
+# of a slot that is free behind its first connection.
 PLAIN = (
     "slot free gen=0 notes=0",
     "slot live gen=1 notes=0 due=no movable=no",
@@ -25,8 +25,8 @@ PLAIN = (
 
 @dataclass
 class Row:
-    """A row: its name, its script, the lines that are wanted, and changes of the server: each a file, what is there, and what is
-    put in its place."""
+    """A row: its name, its steps, changes of the server, and the lines that are wanted. A change is a file, what is there, and
+    what is put in its place."""
 
     name: str
     steps: list

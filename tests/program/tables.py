@@ -29,8 +29,8 @@ in which nothing has happened: lists are empty, workers idle, directions have no
 `largest` has rows of both kinds, at the largest of everything. Of a world with a report each step is then shown, too.
 
 `recordings` has the acts of recordings. They get the counts from 0 up, but for one with counts before it, which has those;
-reports get those of their poll. Behind `rests:`, in place of `begins:`, all has come to rest when the relay is stopped. WANTED
-is `N connections; LINES`, lines of the output, or `WHOSE: ACT: WHY` of the act that can stand nowhere.
+reports get those of their poll. Behind `rests:`, in place of `begins:`, all has come to rest when the relay is stopped.
+WANTED is `N connections; LINES`, lines of the output, or `WHOSE: ACT: WHY` of the act that can stand nowhere.
 
 `settings` has settings texts, on which `relayd check` is run. WANTED is the fault that is told, and behind ` | ` the cause that
 the log tells, or the settings that differ from their defaults, as `ring=1 log=off`.
@@ -38,8 +38,8 @@ the log tells, or the settings that differ from their defaults, as `ring=1 log=o
 `words` has the words behind `relayd`, as a shell reads them, that are refused. WANTED is such a fault with its cause, or what
 the parser of arguments tells.
 
-In all of them `\xHH` is a byte, and `\xHH*N` that byte N times, but in what the log tells of a fault, which is as it stands. Lines
-that begin with `#` are comments.
+In all of them `\xHH` is a byte, and `\xHH*N` that byte N times, but in what the log tells of a fault, which is as it stands.
+Lines that begin with `#` are comments.
 """
 
 import functools
