@@ -1,41 +1,66 @@
-"""The rows of `rows`: what `drill` is given, and what is seen of it."""
+"""The rows of `rows` and `wrong`: what `drill` is given, and what is seen of it; and the server with mistakes."""
 
+import os
 import re
+import shutil
+import subprocess
+import sys
+from dataclasses import dataclass, field
 
-BYTES = "61" * 1024
-# What a slot's report has as long as nothing has happened there, and that of a first connection at rest and without bytes.
+HERE = os.path.dirname(os.path.abspath(__file__))
+TOP = os.path.dirname(os.path.dirname(HERE))
+sys.path.append(f"{TOP}/tests/program")
+from tables import repeated
+
+# What a slot's report has as long as nothing has happened there, that of a first connection at rest and without bytes, and that
+# of a slot that is free behind its first connection.
 PLAIN = (
     "slot free gen=0 notes=0",
     "slot live gen=1 notes=0 due=no movable=no",
     "up sent=- ring=- unread=- end=no shut=no",
     "down sent=- ring=- unread=- end=no shut=no",
+    "slot free gen=1 notes=0",
 )
 
 
+@dataclass
 class Row:
-    """A row: its name, its script, and the lines that are wanted."""
+    """A row: its name, its steps, changes of the server, and the lines that are wanted. A change is a file, what is there, and
+    what is put in its place."""
 
-    def __init__(self, block):
-        lines = [line for line in block.splitlines() if not line.startswith("#")]
-        self.name = lines[0].removeprefix("row ")
-        self.wanted = [line[2:] for line in lines[2:] if line.startswith("> ")]
-        steps = [step for line in lines[2:] if not line.startswith("> ") for step in steps_of(line)]
-        self.script = "\n".join([f"world {lines[1]}", *steps, "show", ""]).replace("BYTES", BYTES)
+    name: str
+    steps: list
+    changes: list
+    wanted: list = field(default_factory=list)
 
-
-def steps_of(line):
-    """The steps of a line, of which all may come so many times, or once for each slot."""
-    many = re.match(r"(TIMES|EACH) (\d+) (.*)", line)
-    steps = (many[3] if many else line).split("; ")
-    if not many:
-        return steps
-    return [step.replace("{}", str(slot)) for slot in range(int(many[2])) for step in steps]
+    def script(self):
+        """The lines of its script, at whose end all is shown."""
+        return [*self.steps, "show"]
 
 
-def read(path):
+def read(name):
     """The rows of a file."""
-    with open(path) as file:
-        return [Row("row " + block) for block in re.split(r"^row ", file.read(), flags=re.M)[1:]]
+    rows, mutant, path, old, changes = [], "", "", "", []
+    with open(os.path.join(HERE, name)) as file:
+        lines = file.read().splitlines()
+    for number, line in enumerate(lines, 1):
+        mark, _, text = line.partition(" ")
+        if mark == "#":
+            mutant = text.partition(":")[0].removeprefix("refuses ") if text.startswith("refuses ") else mutant
+        elif mark == "file:":
+            path = text
+        elif mark == "old:":
+            old = text.replace("\\n", "\n")
+        elif mark == "new:":
+            changes.append((path, old, text.replace("\\n", "\n")))
+        elif mark.startswith("slots="):
+            rows.append(Row(mutant or f"of line {number}", [f"world {line}"], changes))
+            mutant, changes = "", []
+        elif mark == ">":
+            rows[-1].wanted += repeated(text).split(" | ")
+        elif line:
+            rows[-1].steps += repeated(line, "; ").split("; ")
+    return rows
 
 
 def seen(output):
@@ -44,10 +69,8 @@ def seen(output):
     shown = [line for line in log if not line.startswith("peer ")]
     last = output.rpartition("slot 0\nscript\n")[2].partition("log\n")[0] if "slot 0\nscript\n" in output else ""
     for slot, report in enumerate(re.findall(r"^report\n(.*?)^end$", last, flags=re.M | re.S)):
-        for line in report.splitlines():
-            line = state_of(line)
-            if line and line not in PLAIN:
-                shown.append(f"{slot}: {line}")
+        states = [state_of(line) for line in report.splitlines()]
+        shown += [f"{slot}: {state}" for state in states if state and state not in PLAIN]
     return shown + [line for line in output.splitlines() if line.startswith("differs: ")]
 
 
@@ -59,3 +82,31 @@ def state_of(line):
     if line.startswith(("0 up ", "0 down ")):
         return line[2:]
     return line.replace(" 0.", " ", 1) if line.startswith("past ") else None
+
+
+def build(folder, rows):
+    """Copies the sources into a folder, and makes all mistakes there."""
+    shutil.copytree(TOP, folder, dirs_exist_ok=True, ignore=shutil.ignore_patterns("out", ".git", "build", "docs", "bench"))
+    for row in rows:
+        for path, old, new in row.changes:
+            path = os.path.join(folder, path)
+            with open(path) as file:
+                text = file.read()
+            assert text.count(old) == 1, f"{row.name}: {path} has `{old}` {text.count(old)} times"
+            with open(path, "w") as file:
+                file.write(text.replace(old, new))
+
+
+def noticed(folder, rows):
+    """The names of the rows in whose scripts the program, built over the server with the mistakes, notices a difference."""
+    cases = os.path.join(folder, "cases")
+    os.mkdir(cases)
+    for row in rows:
+        with open(os.path.join(cases, row.name), "w") as file:
+            file.write("".join(f"{line}\n" for line in row.script()))
+    command = ["rt", "try", "--cases", cases]
+    done = subprocess.run(command, cwd=os.path.join(folder, "crates/drill"), capture_output=True, text=True)
+    if done.stdout.count("== ") < len(rows):
+        print(done.stdout[-2000:] + done.stderr[-2000:])
+    told = re.split(r"^== (\S+)\n", done.stdout, flags=re.M)[1:]
+    return {name for name, output in zip(told[::2], told[1::2]) if re.search("^differs: ", output, re.M)}

@@ -1,6 +1,6 @@
 r"""Reads the rows of this folder: what each run of the program is given, and what it must give.
 
-transcripts/TOPIC has runs. All that a run gives is compared to the byte. These are its lines:
+`transcripts` and `help` have runs. All that a run gives is compared to the byte. These are its lines:
 
     == NAME             a run begins
     $ relayd WORDS      the command, as a shell reads it. Behind `<`, `>` and `2>`, in this order, stands where a stream goes:
@@ -15,24 +15,31 @@ transcripts/TOPIC has runs. All that a run gives is compared to the byte. These 
 
 A line of a transcript that ends with `\` has no line feed.
 
-reports/TOPIC has scripts that end well, a line `STEPS => LINES` for each; in both ` | ` is a line feed. The whole report is
-compared. That of a flow is LINES. That of a world is LINES, and what they leave out is as in a world in which nothing has
-happened: lists are empty, workers idle, directions have no bytes, and slots are free. A line `begins: STEPS` says how
-the scripts below it begin, and `begins:` that they are whole.
+The others are tables. A row is `GIVEN => WANTED`; in both ` | ` is a line feed. A line `begins: TEXT` says how what is given
+in the rows below it begins, or, where TEXT has `%s`, what stands around it; `begins:` that it is whole. `N * (TEXT)` is TEXT N
+times, as lines, or as words where it does not begin a line; in it `{}` counts from 0 up. Where GIVEN has `{A / B}` there is a
+row for each of these, and it stands for each `{}` of the row. A line that ends with ` |`, ` /` or ` =>` goes on in the next.
 
-causes/TOPIC has scripts with a fault in their last line, `STEPS => WHY: CAUSE` for each. WHY is `malformed`, `not allowed`,
-`no world` or `script too long`, and CAUSE is what the log tells, without the number of the line. `begins: STEPS` is as above.
+`reports` has scripts, or a file of `examples`, and the whole report of each, which for a world leaves out what is as in a world
+in which nothing has happened: lists are empty, workers idle, directions have no bytes, and slots are free.
 
-recordings/TOPIC has recordings, `ACTS => WANTED` for each. The acts get the counts from 0 up, but for one with counts before it,
-which has those; reports get those of their poll. In the table `rests` all has come to rest when the relay is stopped. WANTED is
-`N connections; LINES`, lines of the output, or `WHOSE: ACT: WHY` of the act that can stand nowhere. `begins: ACTS` is as above.
+`causes` has scripts with a fault in their last line. WANTED is `WHY: CAUSE`: WHY is `malformed`, `not allowed`, `no world` or
+`script too long`, and CAUSE is what the log tells, without the number of the line.
 
-settings/TOPIC has settings texts, `TEXT => WANTED` for each, on which `relayd check` is run. WANTED is the fault that is
-told, and behind ` | ` the cause that the log tells, or the settings that differ from their defaults, as `ring=1 log=off`. In
-the table `addresses` TEXT is the value of `target`, and in `more` it follows the two addresses. In `forward` TEXT is the words
-behind that command, as a shell reads them, and all of them are refused with status 2.
+`largest` has rows of both kinds, at the largest of everything. Of a world with a report each step is then shown, too.
 
-In all of them `\xHH` is a byte, and `\xHH*N` that byte N times. Lines that begin with `#` are comments.
+`recordings` has the acts of recordings. They get the counts from 0 up, but for one with counts before it, which has those;
+reports get those of their poll. Behind `rests:`, in place of `begins:`, all has come to rest when the relay is stopped.
+WANTED is `N connections; LINES`, lines of the output, or `WHOSE: ACT: WHY` of the act that can stand nowhere.
+
+`settings` has settings texts, on which `relayd check` is run. WANTED is the fault that is told, and behind ` | ` the cause that
+the log tells, or the settings that differ from their defaults, as `ring=1 log=off`.
+
+`words` has the words behind `relayd`, as a shell reads them, that are refused. WANTED is such a fault with its cause, or what
+the parser of arguments tells.
+
+In all of them `\xHH` is a byte, and `\xHH*N` that byte N times, but in what the log tells of a fault, which is as it stands.
+Lines that begin with `#` are comments.
 """
 
 import functools
@@ -43,12 +50,6 @@ from dataclasses import dataclass, field, replace
 
 HERE = os.path.dirname(os.path.abspath(__file__))
 EXAMPLES = os.path.join(os.path.dirname(os.path.dirname(HERE)), "examples")
-# What stands around the TEXT of a table of settings.
-AROUND = {
-    "addresses": 'listen = "127.0.0.1:7000"\ntarget = "%s"\n',
-    "more": 'listen = "127.0.0.1:7000"\ntarget = "127.0.0.1:7001"\n%s\n',
-    "whole": "%s",
-}
 # The lines of a world's report on what is there once, in their order, where nothing has happened.
 QUIET = {"listener": " backlog=0 flag=up", "queue": "", "batch": "", "ready": "", "free": "", "poller": ""}
 
@@ -69,6 +70,31 @@ class Row:
     will_do: object = None
 
 
+def lines_of(path):
+    """The lines of a file with their numbers, but for comments and empty ones. One that is not finished goes on in the next."""
+    begun = ""
+    with open(path, encoding="utf-8") as file:
+        for number, line in enumerate(file.read().split("\n"), 1):
+            if not begun and (not line or line[0] == "#"):
+                continue
+            begun += line
+            if line.endswith((" |", " /", " =>")):
+                begun += " "
+            else:
+                yield number, begun
+                begun = ""
+
+
+def repeated(text, between=" | "):
+    """A text in which `N * (TEXT)` stands for TEXT N times."""
+
+    def times(many):
+        start, count, one = many.groups()
+        return start + (" " if start == " " else between).join(one.replace("{}", str(number)) for number in range(int(count)))
+
+    return re.sub(rf"(^|{re.escape(between)}| )(\d+) \* \((.*?)\)", times, text)
+
+
 def bytes_of(text):
     """The bytes of a text, with those that stand in it as numbers."""
     number = re.compile(rb"\\x([0-9a-f]{2})(?:\*([0-9]+))?")
@@ -78,6 +104,11 @@ def bytes_of(text):
 def line_of(text):
     """The bytes of a line of a transcript."""
     return bytes_of(text[:-1]) if text.endswith("\\") else bytes_of(text) + b"\n"
+
+
+def lines_as_bytes(text):
+    """The bytes of lines of a table, each with its line feed."""
+    return bytes_of(text.replace(" | ", "\n") + "\n")
 
 
 def printed(different):
@@ -97,8 +128,6 @@ def transcript(lines):
         if mark == "==":
             runs.append((Row(text), []))
             continue
-        if not runs:
-            raise ValueError(f"line {number}")
         row, commands = runs[-1]
         if mark == "$" and command:
             commands.append(command)
@@ -117,31 +146,33 @@ def transcript(lines):
         else:
             raise ValueError(f"line {number}")
     for row, commands in runs:
-        if not commands:
-            raise ValueError(f"{row.name}: it runs nothing")
         for command in commands:
             words = [bytes_of(word) for word in shlex.split(command[1])]
             yield replace(row, name=f"{row.name}: {command[0]}", words=words, streams=command.groups()[1:])
 
 
+def choices(line):
+    """The rows for which a line stands, each behind what is chosen in it."""
+    found = re.search(r"\{([^{}]* / [^{}]*)\}(?=.* => )", line)
+    if not found:
+        return [("", line)]
+    return [(one, line.replace(found[0], one).replace("{}", one)) for one in found[1].split(" / ")]
+
+
 def sides(lines):
-    """The rows of a table: the name of each and its two sides."""
+    """The rows of a table: how their section is marked, the name of each, and its two sides."""
+    mark, begins = "begins", ""
     for number, line in lines:
-        given, arrow, wanted = line.rpartition(" => ")
-        if not arrow or not wanted:
-            raise ValueError(f"line {number}")
-        yield f"line {number}", given, wanted
-
-
-def scripts(lines):
-    """The rows of a table of scripts: the name of each, its script, and what is wanted of it."""
-    begins = ""
-    for number, line in lines:
-        if line.startswith("begins:"):
-            begins = line[len("begins: ") :] + " | " if line != "begins:" else ""
+        section = re.fullmatch(r"(begins|rests): ?(.*)", line)
+        if section:
+            mark, begins = section.groups()
             continue
-        for name, steps, wanted in sides([(number, line)]):
-            yield name, (begins + steps).replace(" | ", "\n"), wanted
+        for chosen, row in choices(line):
+            given, arrow, wanted = row.rpartition(" => ")
+            if not arrow or not wanted:
+                raise ValueError(f"line {number}")
+            given = begins.replace("%s", given) if "%s" in begins else " | ".join(filter(None, [begins, given]))
+            yield mark, f"line {number} {chosen}".rstrip(), repeated(given), repeated(wanted)
 
 
 def about(line):
@@ -163,29 +194,48 @@ def report_of(script, told):
         if re.search(" (live|done|failed) ", told.get(f"slot {slot}", "")):
             lines |= {f"{slot} {way}": f"{slot} {way} sent=- ring=- unread=- end=no shut=no" for way in ("up", "down")}
     # What is told of other things, which are connections of the past, comes last.
-    return [*{**lines, **told}.values()]
+    return " | ".join({**lines, **told}.values())
 
 
-def reports(lines):
-    """The rows of a table of reports."""
-    for name, script, wanted in scripts(lines):
-        told = wanted.split(" | ")
-        if not re.search("^flow ", script, re.MULTILINE):
-            told = report_of(script, told)
-        yield Row(name, [b"sim"], bytes_of(script), output=bytes_of("".join(f"{line}\n" for line in told)))
-
-
-def causes(lines):
-    """The rows of a table of causes."""
-    for name, script, wanted in scripts(lines):
+def scripts(lines):
+    """The rows of a table of scripts, each with its report or its fault."""
+    for _, name, script, wanted in sides(lines):
+        script = script.replace(" | ", "\n")
+        if script.startswith("examples/"):
+            with open(os.path.join(EXAMPLES, os.path.basename(script)), encoding="utf-8") as file:
+                script = file.read()
+        row = Row(name, [b"sim"], bytes_of(script))
         why, _, cause = wanted.partition(": ")
-        told, log = why, cause
-        if why in ("malformed", "not allowed"):
-            last = script.count("\n") + 1
+        if why in ("malformed", "not allowed", "no world", "script too long"):
+            last = script.rstrip("\n").count("\n") + 1
+            where = f"line {last}: " if why in ("malformed", "not allowed") else ""
             word = f": {cause.split(':')[0]}" if why == "not allowed" else ""
-            told, log = f"line {last}: {why}{word}", f"line {last}: {cause}"
-        output, errors = f"{told}\n".encode(), f"[ERROR relayd] {log}\n".encode()
-        yield Row(name, [b"sim"], bytes_of(script), status=1, output=output, errors=errors)
+            row.status, row.output, row.errors = 1, lines_as_bytes(where + why + word), error(where + cause)
+        elif re.search("^flow ", script, re.MULTILINE):
+            row.output = lines_as_bytes(wanted)
+        else:
+            row.output = lines_as_bytes(report_of(script, wanted.split(" | ")))
+        yield row
+
+
+def with_each_step(row):
+    """The row of a script whose steps are all shown: each has its line, and the report after the last one is shown."""
+    script, report = row.given.decode().split("\n"), row.output.decode().split("\n")
+
+    def will_do(status, wrote, complained):
+        lines = wrote.decode().split("\n")
+        steps = [line[2:] for line in lines if line.startswith("> ")]
+        return (status, steps, complained) == (0, script, b"") and set(report) <= set(lines)
+
+    return replace(row, name=f"each step of {row.name}", words=[b"sim", b"--each"], will_do=will_do)
+
+
+def largest(lines):
+    """The rows of scripts, and those of worlds of which each step is shown."""
+    for row in scripts(lines):
+        yield row
+        if row.status == 0 and row.given.startswith(b"world "):
+            yield with_each_step(row)
 
 
 def numbered(acts):
@@ -215,51 +265,65 @@ def is_told(wanted, status, output, errors):
     return status == 1 and not errors and bool(found) and found.groups() == (whose, record)
 
 
-def recordings(lines, topic):
+def recordings(lines):
     """The rows of a table of recordings."""
-    words = [b"replay", *([b"--rest"] if topic == "rests" else []), b"t.record"]
-    for name, script, wanted in scripts(lines):
-        text = numbered([act for act in script.split("\n") if act])
-        will_do = functools.partial(is_told, wanted)
-        yield Row(name, words, files={"t.record": bytes_of(text)}, will_do=will_do)
+    for mark, name, acts, wanted in sides(lines):
+        words = [b"replay", *([b"--rest"] if mark == "rests" else []), b"t.record"]
+        text = numbered(acts.split(" | "))
+        yield Row(name, words, files={"t.record": bytes_of(text)}, will_do=functools.partial(is_told, wanted))
 
 
-def settings(lines, topic):
-    """The rows of a table of settings texts. Before a fault stands a line with the file, if there is one, and the cause."""
-    for name, text, wanted in sides(lines):
-        if topic == "forward":
-            told, _, cause = wanted.partition(" | ")
-            errors = bytes_of(f"[ERROR relayd] settings: {cause}\nrelayd: {told}\n")
-            yield Row(name, [b"forward", *map(bytes_of, shlex.split(text))], status=2, errors=errors)
-            continue
-        around = AROUND[topic]
-        text = around % (text if around == AROUND["addresses"] else text.rstrip(" ")).replace(" | ", "\n")
-        row = Row(name, [b"check", b"--config", b"t.toml"], files={"t.toml": bytes_of(text)})
-        if re.match("[a-z_]+=", wanted):
-            row.output = printed(wanted)
+def error(cause):
+    """The line by which the log tells a cause."""
+    return f"[ERROR relayd] {cause}\n".encode()
+
+
+def fault(told, cause):
+    """What is told of a fault: a line with its topic and the cause, and the fault."""
+    return error(f"{told.split(':')[0]}: {cause}") + f"relayd: {told}\n".encode()
+
+
+def settings(lines):
+    """The rows of a table of settings texts."""
+    for _, name, text, wanted in sides(lines):
+        row = Row(name, [b"check", b"--config", b"t.toml"], files={"t.toml": lines_as_bytes(text)})
+        told, _, cause = wanted.partition(" | ")
+        if cause:
+            row.status, row.errors = 1, fault(told, f"t.toml: {cause}")
         else:
-            told, _, cause = wanted.partition(" | ")
-            row.status = 1
-            row.errors = bytes_of(f"[ERROR relayd] settings: t.toml: {cause}\n") + f"relayd: {told}\n".encode()
+            row.output = printed(wanted)
         yield row
 
 
-def read(kind, topic):
-    """The rows of a file. One that has none, or a line that is no row, is an error."""
-    with open(os.path.join(HERE, kind, topic), encoding="utf-8") as file:
-        lines = [(number, line) for number, line in enumerate(file.read().split("\n"), 1) if line and line[0] != "#"]
-    if kind in ("settings", "recordings"):
-        rows = list({"settings": settings, "recordings": recordings}[kind](lines, topic))
-    else:
-        rows = list({"transcripts": transcript, "reports": reports, "causes": causes}[kind](lines))
-    if not rows:
-        raise ValueError("it has no row")
+def words(lines):
+    """The rows of a table of words that are refused."""
+    for _, name, text, wanted in sides(lines):
+        row = Row(name, [bytes_of(word) for word in shlex.split(text)], status=2)
+        told, _, cause = wanted.partition(" | ")
+        topic = told.split(":")[0]
+        if topic in ("config", "listen", "record", "settings"):
+            row.status, row.errors = 2 if topic == "settings" else 1, fault(told, cause)
+        else:
+            row.errors = lines_as_bytes(f"error: {wanted} |  | For more information, try '--help'.")
+        yield row
+
+
+# What reads each file.
+READERS = {
+    "transcripts": transcript,
+    "help": transcript,
+    "words": words,
+    "settings": settings,
+    "reports": scripts,
+    "causes": scripts,
+    "recordings": recordings,
+    "largest": largest,
+}
+
+
+def read(name):
+    """The rows of a file. A line that is no row is an error."""
+    rows = list(READERS[name](lines_of(os.path.join(HERE, name))))
     for row in rows:
-        row.name = f"{kind}/{topic}, {row.name}"
+        row.name = f"{name}, {row.name}"
     return rows
-
-
-def files():
-    """Each file with rows: its kind and topic."""
-    for kind in ("transcripts", "reports", "causes", "recordings", "settings"):
-        yield from ((kind, topic) for topic in sorted(os.listdir(os.path.join(HERE, kind))))
