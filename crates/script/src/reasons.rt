@@ -1,9 +1,7 @@
 //! Why a step of one direction is not allowed at that point, by the state before it.
 
 use crate::Transfer;
-use script_text::{
-    Step, end_reason, ended_reason, first_of, read_reason, room_reason, wrote_reason,
-};
+use script_text::{NOT_HERE, Step, end_reason, ended_reason, read_reason, room_reason, wrote_reason};
 
 /// Why a step of a flow is not allowed.
 pub(crate) fn step_reason(transfer: &Transfer, step: &Step) -> &'static str {
@@ -16,10 +14,9 @@ pub(crate) fn step_reason(transfer: &Transfer, step: &Step) -> &'static str {
         Step::Read(count) => read_reason(source, transfer.read_size(), *count),
         Step::End => end_reason(source),
         Step::Wrote(count, _) => wrote_reason(destination, flow.lead_len(), flow.len(), *count),
-        Step::Shut => first_of(&[
-            (!flow.end_seen(), "the end of input was not read"),
-            (!flow.is_drained(), "bytes are in the ring"),
-            (flow.is_shut(), "the destination is shut down"),
-        ]),
+        Step::Shut if !flow.end_seen() => "the end of input was not read",
+        Step::Shut if !flow.is_drained() => "bytes are in the ring",
+        Step::Shut if flow.is_shut() => "the destination is shut down",
+        Step::Shut => NOT_HERE,
     }
 }

@@ -3,59 +3,67 @@
 use kernel_model::End;
 
 /// What is said if no more specific reason is known.
-pub(crate) const NOT_HERE: &str = "it is not possible in this state";
+pub const NOT_HERE: &str = "it is not possible in this state";
 
 pub(crate) const BROKEN: &str = "an error has come to the socket";
 
-/// The first reason that holds, or that it is not possible in this state.
-pub fn first_of(reasons: &[(bool, &'static str)]) -> &'static str {
-    for (holds, reason) in reasons {
-        if *holds {
-            return *reason;
-        }
-    }
-    NOT_HERE
-}
-
 /// Why no bytes, and no end of input, come to an end.
 pub fn ended_reason(end: &End) -> &'static str {
-    first_of(&[
-        (end.has_fin(), "the end of input has come"),
-        (end.has_err(), BROKEN),
-    ])
+    if end.has_fin() {
+        "the end of input has come"
+    } else if end.has_err() {
+        BROKEN
+    } else {
+        NOT_HERE
+    }
 }
 
 /// Why an end does not get room for writes.
 pub fn room_reason(end: &End) -> &'static str {
-    first_of(&[
-        (end.has_room(), "the socket has room"),
-        (end.has_err(), BROKEN),
-    ])
+    if end.has_room() {
+        "the socket has room"
+    } else if end.has_err() {
+        BROKEN
+    } else {
+        NOT_HERE
+    }
 }
 
 /// Why a read of at most `most` bytes does not give this many.
 pub fn read_reason(end: &End, most: usize, count: usize) -> &'static str {
-    first_of(&[
-        (count == 0, "a read gives at least 1 byte"),
-        (end.unread().len() < count, "fewer bytes are unread"),
-        (most < count, "the read asks for fewer bytes"),
-    ])
+    if count == 0 {
+        "a read gives at least 1 byte"
+    } else if end.unread().len() < count {
+        "fewer bytes are unread"
+    } else if most < count {
+        "the read asks for fewer bytes"
+    } else {
+        NOT_HERE
+    }
 }
 
 /// Why a read does not give the end of input.
 pub fn end_reason(end: &End) -> &'static str {
-    first_of(&[
-        (!end.unread().is_empty(), "bytes are unread"),
-        (!end.has_fin(), "the end of input has not come"),
-    ])
+    if !end.unread().is_empty() {
+        "bytes are unread"
+    } else if !end.has_fin() {
+        "the end of input has not come"
+    } else {
+        NOT_HERE
+    }
 }
 
 /// Why a write of what is left of a lead, or if that is nothing, of a ring, does not take this many bytes.
 pub fn wrote_reason(end: &End, lead: usize, ring: usize, count: usize) -> &'static str {
-    first_of(&[
-        (!end.has_room(), "the socket has no room"),
-        (count == 0, "a write takes at least 1 byte"),
-        (0 < lead && lead < count, "the lead has fewer bytes"),
-        (lead == 0 && ring < count, "the ring has fewer bytes"),
-    ])
+    if !end.has_room() {
+        "the socket has no room"
+    } else if count == 0 {
+        "a write takes at least 1 byte"
+    } else if 0 < lead && lead < count {
+        "the lead has fewer bytes"
+    } else if lead == 0 && ring < count {
+        "the ring has fewer bytes"
+    } else {
+        NOT_HERE
+    }
 }

@@ -1,5 +1,5 @@
 ghost use Rattle.std.specs.Prelude.{◌≡◌};
-ghost use Rattle.script_text.specs.Words.{change_word, listening_word, polling_word, act_word, event_word};
+ghost use Rattle.script_text.specs.Words.{event_word};
 
 use crate::Word;
 use world::{Act, Change, Event, Listening, Polling};
@@ -19,62 +19,29 @@ pub fn word_of(event: &Event) -> Word
 {
     match event {
         Event::Tick(_) => Word::Tick,
-        Event::Network(_, _, change) => change_word(change),
+        Event::Network(_, _, Change::Arrive(_)) => Word::Arrive,
+        Event::Network(_, _, Change::Fin) => Word::Fin,
+        Event::Network(_, _, Change::Reset) => Word::Reset,
+        Event::Network(_, _, Change::Room) => Word::Room,
         Event::Spurious(_) => Word::Spurious,
         Event::Vanish(_) => Word::Vanish,
-        Event::Listen(listening) => listening_word(*listening),
-        Event::Poll(polling) => polling_word(polling),
-        Event::Work(_, act) => act_word(*act),
-    }
-}
-
-fn change_word(change: &Change) -> Word
-    ensures { result ≡ change_word change.now }
-{
-    match change {
-        Change::Arrive(_) => Word::Arrive,
-        Change::Fin => Word::Fin,
-        Change::Reset => Word::Reset,
-        Change::Room => Word::Room,
-    }
-}
-
-fn listening_word(listening: Listening) -> Word
-    ensures { result ≡ listening_word listening }
-{
-    match listening {
-        Listening::Connect => Word::Connect,
-        Listening::Accept(_) => Word::Accept,
-        Listening::Drop => Word::Drop,
-    }
-}
-
-fn polling_word(polling: &Polling) -> Word
-    ensures { result ≡ polling_word polling.now }
-{
-    match polling {
-        Polling::Open => Word::Open,
-        Polling::Poll(_) => Word::Poll,
-        Polling::Deliver => Word::Deliver,
-        Polling::Sweep(_) => Word::Sweep,
-        Polling::Put => Word::Put,
-    }
-}
-
-fn act_word(act: Act) -> Word
-    ensures { result ≡ act_word act }
-{
-    match act {
-        Act::Put => Word::Put,
-        Act::Pop => Word::Pop,
-        Act::Claim => Word::Claim,
-        Act::Take => Word::Take,
-        Act::Call(_) => Word::Call,
-        Act::Post => Word::Post,
-        Act::Release => Word::Release,
-        Act::Expire => Word::Idle,
-        Act::Close => Word::Close,
-        Act::Retire => Word::Retire,
-        Act::Free => Word::Free,
+        Event::Listen(Listening::Connect) => Word::Connect,
+        Event::Listen(Listening::Accept(_)) => Word::Accept,
+        Event::Listen(Listening::Drop) => Word::Drop,
+        Event::Poll(Polling::Open) => Word::Open,
+        Event::Poll(Polling::Poll(_)) => Word::Poll,
+        Event::Poll(Polling::Deliver) => Word::Deliver,
+        Event::Poll(Polling::Sweep(_)) => Word::Sweep,
+        Event::Poll(Polling::Put) | Event::Work(_, Act::Put) => Word::Put,
+        Event::Work(_, Act::Pop) => Word::Pop,
+        Event::Work(_, Act::Claim) => Word::Claim,
+        Event::Work(_, Act::Take) => Word::Take,
+        Event::Work(_, Act::Call(_)) => Word::Call,
+        Event::Work(_, Act::Post) => Word::Post,
+        Event::Work(_, Act::Release) => Word::Release,
+        Event::Work(_, Act::Expire) => Word::Idle,
+        Event::Work(_, Act::Close) => Word::Close,
+        Event::Work(_, Act::Retire) => Word::Retire,
+        Event::Work(_, Act::Free) => Word::Free,
     }
 }

@@ -34,7 +34,7 @@ mod word;
 mod wrong;
 
 pub use counts::Counts;
-pub use ends::{end_reason, ended_reason, first_of, read_reason, room_reason, wrote_reason};
+pub use ends::{NOT_HERE, end_reason, ended_reason, read_reason, room_reason, wrote_reason};
 pub use event::{NumberedEvent, word_of};
 pub use event_line::{put_event, put_header};
 pub use events::read_event;

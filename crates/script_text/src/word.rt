@@ -39,37 +39,37 @@ pub enum Word {
     Wrote,
 }
 
-/// All words.
-static WORDS: [Word; 29] = [
-    Word::Accept,
-    Word::Arrive,
-    Word::Call,
-    Word::Claim,
-    Word::Close,
-    Word::Connect,
-    Word::Deliver,
-    Word::Drop,
-    Word::End,
-    Word::Fin,
-    Word::Free,
-    Word::Idle,
-    Word::Open,
-    Word::Poll,
-    Word::Pop,
-    Word::Post,
-    Word::Put,
-    Word::Read,
-    Word::Release,
-    Word::Reset,
-    Word::Retire,
-    Word::Room,
-    Word::Shut,
-    Word::Spurious,
-    Word::Sweep,
-    Word::Take,
-    Word::Tick,
-    Word::Vanish,
-    Word::Wrote,
+/// All words, in the order of the variants, and how each is written in a script.
+static WORDS: [(Word, &str); 29] = [
+    (Word::Accept, "accept"),
+    (Word::Arrive, "arrive"),
+    (Word::Call, "call"),
+    (Word::Claim, "claim"),
+    (Word::Close, "close"),
+    (Word::Connect, "connect"),
+    (Word::Deliver, "deliver"),
+    (Word::Drop, "drop"),
+    (Word::End, "end"),
+    (Word::Fin, "fin"),
+    (Word::Free, "free"),
+    (Word::Idle, "idle"),
+    (Word::Open, "open"),
+    (Word::Poll, "poll"),
+    (Word::Pop, "pop"),
+    (Word::Post, "post"),
+    (Word::Put, "put"),
+    (Word::Read, "read"),
+    (Word::Release, "release"),
+    (Word::Reset, "reset"),
+    (Word::Retire, "retire"),
+    (Word::Room, "room"),
+    (Word::Shut, "shut"),
+    (Word::Spurious, "spurious"),
+    (Word::Sweep, "sweep"),
+    (Word::Take, "take"),
+    (Word::Tick, "tick"),
+    (Word::Vanish, "vanish"),
+    (Word::Wrote, "wrote"),
 ];
 
 impl Word {
@@ -78,7 +78,7 @@ impl Word {
         ensures some { IfSome result (λ word. text.now ≡ word_text word) }
         ensures none { IfNone result ((word : Word) → bytes_eq text.now (word_text word) ≡ false) }
     {
-        for word in &WORDS {
+        for (word, _) in &WORDS {
             if text == word.text().as_bytes() {
                 return Some(*word);
             }
@@ -90,37 +90,7 @@ impl Word {
     pub fn text(self) -> &'static str
         ensures { result.now ≡ word_text self }
     {
-        match self {
-            Word::Accept => "accept",
-            Word::Arrive => "arrive",
-            Word::Call => "call",
-            Word::Claim => "claim",
-            Word::Close => "close",
-            Word::Connect => "connect",
-            Word::Deliver => "deliver",
-            Word::Drop => "drop",
-            Word::End => "end",
-            Word::Fin => "fin",
-            Word::Free => "free",
-            Word::Idle => "idle",
-            Word::Open => "open",
-            Word::Poll => "poll",
-            Word::Pop => "pop",
-            Word::Post => "post",
-            Word::Put => "put",
-            Word::Read => "read",
-            Word::Release => "release",
-            Word::Reset => "reset",
-            Word::Retire => "retire",
-            Word::Room => "room",
-            Word::Shut => "shut",
-            Word::Spurious => "spurious",
-            Word::Sweep => "sweep",
-            Word::Take => "take",
-            Word::Tick => "tick",
-            Word::Vanish => "vanish",
-            Word::Wrote => "wrote",
-        }
+        WORDS[self as usize].1
     }
 }
 
