@@ -92,8 +92,7 @@ impl Counts {
         for ((word, more), count) in NAMES.iter().zip(self.kinds.iter()) {
             let space = if more.is_empty() { "" } else { " " };
             page.put(&[
-                Piece::Text("count "),
-                Piece::Number(*count),
+                Piece::Named("count ", *count),
                 Piece::Text(" "),
                 Piece::Text(*word),
                 Piece::Text(space),
