@@ -124,6 +124,12 @@ tells_refused text (Ok reached) r old new to told is =
     (NoMemory, (leads_may text reached to, IfOk-at_ok (λ (u : Outcome). Tells (Ok reached) u old new) is told))
 tells_refused text (Err fault) r old new to told is = (fault, (to, IfOk-at_ok (λ (u : Outcome). Tells (Err fault) u old new) is told))
 
+-- the line of a fault was written
+pub fault_told : (text : List ℕ) (fault : Fault) (r : Result Outcome ScriptFault) (old new : Option (List ℕ))
+    → LeadsTo text (Err fault) → IfOk r (λ told. (told ≡ Refused) × Appends old new (fault_line fault)) → r ≡ Ok Refused → AnswersFault text old new
+fault_told text fault r old new to told is =
+    (fault, (to, (IfOk-at_ok (λ (u : Outcome). (u ≡ Refused) × Appends old new (fault_line fault)) is told).1))
+
 -- the two laws hold of every text
 pub every_byte : (a : Option (List ℕ)) → IfSome a EveryByte
 every_byte None = tt

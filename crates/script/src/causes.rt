@@ -2,13 +2,12 @@
 //! is not allowed at that point.
 
 use crate::limits::{MAX_BYTES, MAX_SHOWN};
-use crate::reasons::step_reason;
-use crate::{Fault, FlowScript, Script, Transfer, WorldScript, parse};
+use crate::machine::Machine;
+use crate::{Fault, Script, parse};
 use script_text::{
-    Header, Line, Lines, NotRead, Pieces, Wrong, event_reason, read_event, read_header, read_step,
+    Header, Line, Lines, NotRead, Pieces, Wrong, read_event, read_header, read_step,
 };
 use std::alloc::{AllocError, Global};
-use world::World;
 
 /// The cause of a fault, for a person, on one line: which word is malformed and what is expected there, or why the step
 /// is not allowed. `text` is the script that has the fault. None if nothing more is known, or there is no memory for
@@ -134,46 +133,18 @@ fn numbered(mut lines: Lines<'_>, number: u64) -> Option<Line<'_>> {
 /// Why the step of a line is not allowed, given the state before it.
 fn not_allowed(alloc: Global, text: &[u8], number: u64) -> Option<&'static str> {
     match parse(alloc, text).ok()? {
-        Script::Flow(script) => not_in_flow(alloc, &script, number),
-        Script::World(script) => not_in_world(alloc, &script, number),
+        Script::Flow(script) => refused(script.open(alloc).ok()?, script.steps(), number),
+        Script::World(script) => refused(script.open(alloc).ok()?, script.events(), number),
     }
-}
-
-fn not_in_flow(alloc: Global, script: &FlowScript, number: u64) -> Option<&'static str> {
-    let mut transfer = script.open(alloc).ok()?;
-    refused_in_flow(script, &mut transfer, number)
 }
 
 /// Why the step of a line is not allowed, if that is where the steps end.
-fn refused_in_flow(
-    script: &FlowScript,
-    transfer: &mut Transfer,
-    number: u64,
-) -> Option<&'static str> {
-    let Err(Fault::NotAllowed(..)) = script.play(transfer) else {
-        return None;
-    };
-    for numbered in script.steps() {
-        if numbered.line == number {
-            return Some(step_reason(transfer, &numbered.step));
-        }
-    }
-    None
-}
-
-fn not_in_world(alloc: Global, script: &WorldScript, number: u64) -> Option<&'static str> {
-    let mut world = script.open(alloc).ok()?;
-    refused_in_world(script, &mut world, number)
-}
-
-/// Why the event of a line is not allowed, if that is where the events end.
-fn refused_in_world(script: &WorldScript, world: &mut World, number: u64) -> Option<&'static str> {
-    let Err(Fault::NotAllowed(..)) = script.play(world) else {
-        return None;
-    };
-    for numbered in script.events() {
-        if numbered.line == number {
-            return Some(event_reason(world, &numbered.event));
+fn refused<M: Machine>(mut machine: M, steps: &[M::Step], number: u64) -> Option<&'static str> {
+    for step in steps {
+        match machine.make(step) {
+            Ok(()) => {}
+            Err(Fault::NotAllowed(line, _)) if line == number => return Some(machine.reason(step)),
+            Err(_) => return None,
         }
     }
     None

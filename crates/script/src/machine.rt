@@ -3,10 +3,11 @@ ghost use Rattle.std.specs.Prelude.{◌≡◌, ℕ, true, List, Result, IfOk, st
 ghost use Rattle.script.specs.declared.fault.Fault.{Fault};
 ghost use Rattle.script.specs.Faults.{Carries};
 
+use crate::reasons::step_reason;
 use crate::report::print_transfer;
 use crate::world_script::happen;
 use crate::{Fault, Transfer};
-use script_text::{NumberedEvent, NumberedStep, print};
+use script_text::{NumberedEvent, NumberedStep, event_reason, print};
 use std::alloc::{AllocError, Global};
 use world::World;
 
@@ -26,6 +27,9 @@ pub(crate) trait Machine: Drop {
     /// The report of the state. Fails only if memory for it ran out.
     fn report(&self, alloc: Global) -> Result<String, AllocError>
         ensures { IfOk result (λ text. string_bytes text ≡ told self.now) };
+
+    /// Why a step is not allowed in this state, for a person.
+    fn reason(&self, step: &Self::Step) -> &'static str;
 }
 
 impl Machine for Transfer {
@@ -45,6 +49,10 @@ impl Machine for Transfer {
     fn report(&self, alloc: Global) -> Result<String, AllocError> {
         print_transfer(alloc, self)
     }
+
+    fn reason(&self, step: &NumberedStep) -> &'static str {
+        step_reason(self, &step.step)
+    }
 }
 
 impl Machine for World {
@@ -63,5 +71,9 @@ impl Machine for World {
 
     fn report(&self, alloc: Global) -> Result<String, AllocError> {
         print(alloc, self)
+    }
+
+    fn reason(&self, step: &NumberedEvent) -> &'static str {
+        event_reason(self, &step.event)
     }
 }

@@ -52,16 +52,12 @@ fn is_unlimited(world: &World) -> bool {
 
 /// Why that many seconds do not pass.
 fn tick_reason(world: &World, seconds: u64) -> &'static str {
-    if is_unlimited(world) {
-        UNLIMITED
-    } else if seconds == 0 {
-        "at least 1 second passes"
-    } else if 4_294_967_295 < seconds {
-        "at most 4294967295 seconds pass at once"
-    } else if u64::MAX - world.second() < seconds {
-        "the last second is 18446744073709551615"
-    } else {
-        NOT_HERE
+    match seconds {
+        _ if is_unlimited(world) => UNLIMITED,
+        0 => "at least 1 second passes",
+        _ if 4_294_967_295 < seconds => "at most 4294967295 seconds pass at once",
+        _ if u64::MAX - world.second() < seconds => "the last second is 18446744073709551615",
+        _ => NOT_HERE,
     }
 }
 
@@ -110,22 +106,12 @@ fn vanish_reason(world: &World, who: Reported) -> &'static str {
         Reported::Waker if !kernel.is_queued(&Name::Waker) => UNQUEUED,
         Reported::Listener | Reported::Waker => NOT_HERE,
         Reported::End(slot, side) => match end_at(world, slot, side) {
-            Some(open) => quiet_reason(kernel, open),
+            Some(open) if !kernel.is_queued(&Name::End(open.token)) => UNQUEUED,
+            Some(open) if open.socket.is_readable() => READABLE,
+            Some(open) if open.socket.is_writable() => WRITABLE,
+            Some(_) => NOT_HERE,
             None => vacant_reason(world, slot),
         },
-    }
-}
-
-/// Why a report of an end does not vanish.
-fn quiet_reason(kernel: &Kernel, open: &Open) -> &'static str {
-    if !kernel.is_queued(&Name::End(open.token)) {
-        UNQUEUED
-    } else if open.socket.is_readable() {
-        READABLE
-    } else if open.socket.is_writable() {
-        WRITABLE
-    } else {
-        NOT_HERE
     }
 }
 
@@ -257,7 +243,12 @@ fn answer_reason(pair: &Pair, socket: &End, call: Call, reply: Reply) -> &'stati
         (Call::Read(..), Reply::End) => end_reason(socket),
         (Call::Write(_), Reply::Wrote(count, _)) => {
             let direction = call.direction();
-            wrote_reason(socket, pair.lead_len(direction), pair.ring_len(direction), count)
+            wrote_reason(
+                socket,
+                pair.lead_len(direction),
+                pair.ring_len(direction),
+                count,
+            )
         }
         (Call::Join(_), Reply::Joined) if !socket.has_room() => "the socket has no room",
         (Call::Read(..), Reply::Blocked) if socket.is_readable() => READABLE,
@@ -266,7 +257,8 @@ fn answer_reason(pair: &Pair, socket: &End, call: Call, reply: Reply) -> &'stati
         (Call::Read(..) | Call::Join(_) | Call::Shut(_), Reply::Failed(Kind::Zero)) => {
             "only a write can fail with zero"
         }
-        (Call::Join(_), Reply::Joined) | (_, Reply::Blocked | Reply::Interrupted | Reply::Failed(_)) => NOT_HERE,
+        (Call::Join(_), Reply::Joined)
+        | (_, Reply::Blocked | Reply::Interrupted | Reply::Failed(_)) => NOT_HERE,
         (_, _) => other_call(call),
     }
 }

@@ -94,12 +94,6 @@ impl Word {
     }
 }
 
-impl fmt::Debug for Word {
-    fn fmt<W: fmt::Write>(&self, f: &mut fmt::Formatter<W>) -> fmt::Result {
-        f.write_str(self.text())
-    }
-}
-
 impl fmt::Display for Word {
     ghost use Rattle.std.specs.Prelude.{Some};
     ghost use Rattle.script_text.specs.Words.{word_text};
