@@ -1,7 +1,9 @@
 //! Why a step of one direction is not allowed at that point, by the state before it.
 
 use crate::Transfer;
-use script_text::{NOT_HERE, Step, end_reason, ended_reason, read_reason, room_reason, wrote_reason};
+use script_text::{
+    NOT_HERE, Step, end_reason, ended_reason, read_reason, room_reason, wrote_reason,
+};
 
 /// Why a step of a flow is not allowed.
 pub(crate) fn step_reason(transfer: &Transfer, step: &Step) -> &'static str {
