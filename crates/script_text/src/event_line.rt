@@ -1,9 +1,9 @@
 //! The header of a world's script, and the line of an event, as the readers of this crate read them. No clause says what they
 //! are: what is written of a drill or of a recording, `sim` reads back.
 
-use crate::event::word_of;
 use crate::names::put_names;
 use crate::page::{Page, Piece};
+use crate::word::word_of;
 use kernel_model::{Accepting, Reply};
 use token::Side;
 use world::{Act, Change, Event, Limits, Listening, Polling, Reported};

@@ -1,9 +1,10 @@
 ghost use Rattle.std.specs.Prelude.{◌≡◌, false, IfSome, IfNone};
 ghost use Rattle.std.specs.Str.{bytes_eq};
-ghost use Rattle.script_text.specs.Words.{word_text};
+ghost use Rattle.script_text.specs.Words.{word_text, event_word};
 ghost use Rattle.script_text.specs.declared.word.Word.{Word};
 
 use std::fmt;
+use world::{Act, Change, Event, Listening, Polling};
 
 /// The first word of a step or an event, with which a fault names it. A script has it in lower case.
 #[derive(Clone, Copy)]
@@ -102,5 +103,38 @@ impl fmt::Display for Word {
 
     fn fmt<W: fmt::Write>(&self, f: &mut fmt::Formatter<W>) -> fmt::Result {
         f.write_str(self.text())
+    }
+}
+
+/// The first word of the line for an event.
+pub fn word_of(event: &Event) -> Word
+    ensures { result ≡ event_word event.now }
+{
+    match event {
+        Event::Tick(_) => Word::Tick,
+        Event::Network(_, _, Change::Arrive(_)) => Word::Arrive,
+        Event::Network(_, _, Change::Fin) => Word::Fin,
+        Event::Network(_, _, Change::Reset) => Word::Reset,
+        Event::Network(_, _, Change::Room) => Word::Room,
+        Event::Spurious(_) => Word::Spurious,
+        Event::Vanish(_) => Word::Vanish,
+        Event::Listen(Listening::Connect) => Word::Connect,
+        Event::Listen(Listening::Accept(_)) => Word::Accept,
+        Event::Listen(Listening::Drop) => Word::Drop,
+        Event::Poll(Polling::Open) => Word::Open,
+        Event::Poll(Polling::Poll(_)) => Word::Poll,
+        Event::Poll(Polling::Deliver) => Word::Deliver,
+        Event::Poll(Polling::Sweep(_)) => Word::Sweep,
+        Event::Poll(Polling::Put) | Event::Work(_, Act::Put) => Word::Put,
+        Event::Work(_, Act::Pop) => Word::Pop,
+        Event::Work(_, Act::Claim) => Word::Claim,
+        Event::Work(_, Act::Take) => Word::Take,
+        Event::Work(_, Act::Call(_)) => Word::Call,
+        Event::Work(_, Act::Post) => Word::Post,
+        Event::Work(_, Act::Release) => Word::Release,
+        Event::Work(_, Act::Expire) => Word::Idle,
+        Event::Work(_, Act::Close) => Word::Close,
+        Event::Work(_, Act::Retire) => Word::Retire,
+        Event::Work(_, Act::Free) => Word::Free,
     }
 }
