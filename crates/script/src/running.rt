@@ -126,7 +126,7 @@ fn tell_report<W: Write>(
     writer: &mut W,
     reached: &Reached,
 ) -> Result<Outcome, ScriptFault>
-    ensures ok { IfOk result (λ told. Tells (Ok reached.now) told (W.contents writer.old) (W.contents writer.new)) }
+    ensures ok { IfOk result (λ told. Tells reached.now told (W.contents writer.old) (W.contents writer.new)) }
     ensures err { IfErr result (λ fault. fault ≡ ScriptFault.Write) }
 {
     match reached.report(alloc) {

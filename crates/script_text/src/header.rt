@@ -1,5 +1,5 @@
 // The header: the first line of a script that is not skipped.
-ghost use Rattle.std.specs.Prelude.{◌≡◌, ◌≤◌, ◌<◌, [], codes, unwrap_or, IfSome, IfOk, option_and_then};
+ghost use Rattle.std.specs.Prelude.{◌≡◌, ◌≤◌, ◌<◌, [], unwrap_or, IfSome, IfOk, option_and_then};
 ghost use Rattle.world.specs.States.{IsWithinLimits};
 ghost use Rattle.script_text.specs.Reading.{first_as, Reads, Takes};
 ghost use Rattle.script_text.specs.Headers.{size_of, generation_of, ring_of, idle_of, lead_of, short_enough, optional, with_extras, limits_of, lone_ring, header_of, IsRing, IsWithin};
