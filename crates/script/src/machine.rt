@@ -3,11 +3,13 @@ ghost use Rattle.std.specs.Prelude.{◌≡◌, ℕ, true, List, Result, IfOk, st
 ghost use Rattle.script.specs.declared.fault.Fault.{Fault};
 ghost use Rattle.script.specs.Faults.{Carries};
 
-use crate::reasons::step_reason;
 use crate::report::print_transfer;
 use crate::world_script::happen;
 use crate::{Fault, Transfer};
-use script_text::{NumberedEvent, NumberedStep, event_reason, print};
+use script_text::{
+    NOT_HERE, NumberedEvent, NumberedStep, Step, end_reason, ended_reason, event_reason, print,
+    read_reason, room_reason, wrote_reason,
+};
 use std::alloc::{AllocError, Global};
 use world::World;
 
@@ -51,7 +53,21 @@ impl Machine for Transfer {
     }
 
     fn reason(&self, step: &NumberedStep) -> &'static str {
-        step_reason(self, &step.step)
+        let flow = &self.flow;
+        match &step.step {
+            Step::Arrive(_) | Step::Fin => ended_reason(&self.source),
+            Step::Room => room_reason(&self.destination),
+            Step::Read(_) | Step::End if flow.end_seen() => "the end of input was read",
+            Step::Read(count) => read_reason(&self.source, self.read_size(), *count),
+            Step::End => end_reason(&self.source),
+            Step::Wrote(count, _) => {
+                wrote_reason(&self.destination, flow.lead_len(), flow.len(), *count)
+            }
+            Step::Shut if !flow.end_seen() => "the end of input was not read",
+            Step::Shut if !flow.is_drained() => "bytes are in the ring",
+            Step::Shut if flow.is_shut() => "the destination is shut down",
+            Step::Shut => NOT_HERE,
+        }
     }
 }
 
