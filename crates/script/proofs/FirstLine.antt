@@ -10,7 +10,7 @@ use Rattle.script.specs.declared.fault.Fault.TheVariants.{TooLong, NoWorld, Malf
 use Rattle.script_text.specs.declared.header.Header.TheVariants as header
 use Rattle.script.specs.declared.script.Script.{Script}
 use Rattle.script.specs.Plans.{FlowPlan, WorldPlan}
-use Rattle.script_text.specs.declared.event.NumberedEvent.{NumberedEvent}
+use Rattle.script_text.specs.declared.step.NumberedEvent.{NumberedEvent}
 use Rattle.script_text.specs.declared.step.Step.{Step}
 use Rattle.script_text.specs.declared.step.NumberedStep.{NumberedStep}
 use Rattle.script_text.specs.Texts.{NumberedLine, lines_of, telling_lines}

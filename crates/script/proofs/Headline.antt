@@ -4,7 +4,7 @@ use Rattle.std.specs.Prelude.{IfSome}
 use Rattle.world.specs.States.{State, opening}
 use Rattle.world.specs.Steps.{step}
 use Rattle.world.specs.Runs.{run}
-use Rattle.script_text.specs.declared.event.NumberedEvent.{NumberedEvent}
+use Rattle.script_text.specs.declared.step.NumberedEvent.{NumberedEvent}
 use Rattle.script.specs.Faults.{and_then, or_not_allowed, played}
 use Rattle.script.specs.Plans.{events_in}
 use Rattle.script_text.specs.Words.{event_word}

@@ -19,7 +19,7 @@ use Rattle.script.specs.declared.script.Script.TheVariants as kind
 use Rattle.script.specs.declared.script.Reached.{Reached}
 use Rattle.script.specs.declared.script.Reached.TheVariants as reached
 use Rattle.script_text.specs.declared.step.NumberedStep.{NumberedStep}
-use Rattle.script_text.specs.declared.event.NumberedEvent.{NumberedEvent}
+use Rattle.script_text.specs.declared.step.NumberedEvent.{NumberedEvent}
 use Rattle.script.specs.declared.transfer.Transfer.{Transfer}
 use Rattle.script.specs.Plans.{FlowPlan, WorldPlan}
 use Rattle.script_text.specs.Texts.{NumberedLine, lines_of, telling_lines}
@@ -152,12 +152,6 @@ pub stops_shown : {X L : Type 0} (stepped : X → L → Result X Fault) (told : 
 stops_shown stepped told lines x steps i y l fault r old new is came here refused wrote =
     subst (λ (q : Result (Unit {0}) Halt). Shows stepped told lines x steps q old new) (sym (halted r fault is))
     (shown_to stepped told lines x steps i, (inr (y, (record { index = i; line = l; there = here; before = came; refused = refused }, refl)), wrote))
-
--- the line of the fault comes behind what was shown
-pub answers_each : (text : List ℕ) (fault : Fault) (old mid new : Option (List ℕ))
-    → ShowsEach text (Err (Refused fault)) old mid → Appends mid new (fault_line fault) → AnswersEach text old new
-answers_each text fault old mid new (to, (shown, (front, wrote))) told =
-    (fault, (to, (shown, (front, Appends-trans old mid new shown (fault_line fault) wrote told))))
 
 -- what was written for the front that was read is what the whole input has
 each_of_front : (input : List ℕ) (old new : Option (List ℕ)) → WritesEach (take (most_bytes + 1) input) old new → WritesEach input old new

@@ -108,21 +108,25 @@ pub ran_out : (a b old new : Option (List ℕ)) → TakesSome a b → Appends ol
 ran_out None b old new some wrote = tt
 ran_out (Some input) b old new some wrote = inr (some_taken (Some input) b some, wrote)
 
--- what was told of a text's outcome
-pub tells_report : (text : List ℕ) (o : Result Reached Fault) (r : Result Outcome ScriptFault) (old new : Option (List ℕ))
-    → LeadsTo text o → IfOk r (λ told. Tells o told old new) → r ≡ Ok Report → WritesReport text old new
-tells_report text (Ok reached) r old new to told is = (reached, (to, IfOk-at_ok (λ (u : Outcome). Tells (Ok reached) u old new) is told))
-tells_report text (Err fault) r old new to told is = absurd (IfOk-at_ok (λ (u : Outcome). Tells (Err fault) u old new) is told)
+-- what was told of a state
+pub tells_report : (text : List ℕ) (reached : Reached) (r : Result Outcome ScriptFault) (old new : Option (List ℕ))
+    → LeadsTo text (Ok reached) → IfOk r (λ told. Tells reached told old new) → r ≡ Ok Report → WritesReport text old new
+tells_report text reached r old new to told is = (reached, (to, IfOk-at_ok (λ (u : Outcome). Tells reached u old new) is told))
 
 -- there was no memory for the report of a script
 leads_may : (text : List ℕ) (reached : Reached) → LeadsTo text (Ok reached) → TakesMemory text
 leads_may text reached (script, (is, to)) = inl (script, is)
 
-pub tells_refused : (text : List ℕ) (o : Result Reached Fault) (r : Result Outcome ScriptFault) (old new : Option (List ℕ))
-    → LeadsTo text o → IfOk r (λ told. Tells o told old new) → r ≡ Ok Refused → AnswersFault text old new
-tells_refused text (Ok reached) r old new to told is =
-    (NoMemory, (leads_may text reached to, IfOk-at_ok (λ (u : Outcome). Tells (Ok reached) u old new) is told))
-tells_refused text (Err fault) r old new to told is = (fault, (to, IfOk-at_ok (λ (u : Outcome). Tells (Err fault) u old new) is told))
+pub tells_refused : (text : List ℕ) (reached : Reached) (r : Result Outcome ScriptFault) (old new : Option (List ℕ))
+    → LeadsTo text (Ok reached) → IfOk r (λ told. Tells reached told old new) → r ≡ Ok Refused → AnswersFault text old new
+tells_refused text reached r old new to told is =
+    (NoMemory, (leads_may text reached to, IfOk-at_ok (λ (u : Outcome). Tells reached u old new) is told))
+
+-- the line of a fault was written
+pub fault_told : (text : List ℕ) (fault : Fault) (r : Result Outcome ScriptFault) (old new : Option (List ℕ))
+    → LeadsTo text (Err fault) → IfOk r (λ told. (told ≡ Refused) × Appends old new (fault_line fault)) → r ≡ Ok Refused → AnswersFault text old new
+fault_told text fault r old new to told is =
+    (fault, (to, (IfOk-at_ok (λ (u : Outcome). (u ≡ Refused) × Appends old new (fault_line fault)) is told).1))
 
 -- the two laws hold of every text
 pub every_byte : (a : Option (List ℕ)) → IfSome a EveryByte

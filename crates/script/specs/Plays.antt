@@ -9,7 +9,7 @@ use Rattle.script.specs.declared.script.Script.{Script}
 use Rattle.script.specs.declared.script.Script.TheVariants as script
 use Rattle.script.specs.declared.script.Reached.{Reached}
 use Rattle.script.specs.declared.script.Reached.TheVariants as reached
-use Rattle.script_text.specs.declared.event.NumberedEvent.{NumberedEvent}
+use Rattle.script_text.specs.declared.step.NumberedEvent.{NumberedEvent}
 use Rattle.script.specs.Plans.{WorldPlan}
 use Rattle.script_text.specs.Words.{event_word}
 use Rattle.script.specs.Transfers.{run_of}

@@ -46,12 +46,10 @@ AnswersFault text old new = (fault : Fault) × (LeadsTo text (Err fault) × Appe
 abbrev pub WritesFault : List ℕ → Option (List ℕ) → Option (List ℕ) → Type 0
 WritesFault text old new = AnswersFault text old new ⊎ ((text ≢ []) × Appends old new (fault_line NoMemory))
 
--- what was written of an outcome: the report of a state, or that there was no memory for it; the line of a fault
-abbrev pub Tells : Result Reached Fault → Outcome → Option (List ℕ) → Option (List ℕ) → Type 0
-Tells (Ok reached) Report old new = Appends old new (report_of reached)
-Tells (Ok reached) Refused old new = Appends old new (fault_line NoMemory)
-Tells (Err fault) Report old new = ⊥
-Tells (Err fault) Refused old new = Appends old new (fault_line fault)
+-- what was written of a state: its report, or that there was no memory for it
+abbrev pub Tells : Reached → Outcome → Option (List ℕ) → Option (List ℕ) → Type 0
+Tells reached Report old new = Appends old new (report_of reached)
+Tells reached Refused old new = Appends old new (fault_line NoMemory)
 
 -- the two laws, of the script of one direction that a text is
 abbrev pub EveryByte : List ℕ → Type 0

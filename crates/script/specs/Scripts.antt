@@ -8,7 +8,7 @@ use Rattle.script_text.specs.declared.header.Header.TheVariants as header
 use Rattle.script.specs.declared.script.Script.{Script}
 use Rattle.script.specs.declared.script.Script.TheVariants as script
 use Rattle.script_text.specs.declared.step.NumberedStep.{NumberedStep}
-use Rattle.script_text.specs.declared.event.NumberedEvent.{NumberedEvent}
+use Rattle.script_text.specs.declared.step.NumberedEvent.{NumberedEvent}
 use Rattle.script.specs.Plans.{FlowPlan}
 use Rattle.script_text.specs.Texts.{NumberedLine, lines_of, telling_lines}
 use Rattle.script_text.specs.Headers.{header_of}

@@ -2,13 +2,12 @@
 //! is not allowed at that point.
 
 use crate::limits::{MAX_BYTES, MAX_SHOWN};
-use crate::reasons::step_reason;
-use crate::{Fault, FlowScript, Script, Transfer, WorldScript, parse};
+use crate::machine::Machine;
+use crate::{Fault, Script, parse};
 use script_text::{
-    Header, Line, Lines, NotRead, Pieces, Wrong, event_reason, read_event, read_header, read_step,
+    Header, Line, Lines, NotRead, Page, Piece, Pieces, Wrong, read_event, read_header, read_step,
 };
-use std::alloc::{AllocError, Global};
-use world::World;
+use std::alloc::Global;
 
 /// The cause of a fault, for a person, on one line: which word is malformed and what is expected there, or why the step
 /// is not allowed. `text` is the script that has the fault. None if nothing more is known, or there is no memory for
@@ -29,63 +28,40 @@ pub fn cause(alloc: Global, text: &[u8], fault: Fault) -> Option<String> {
 /// Which word of a line is malformed, behind the first one unless that is the wrong one, and what is expected there.
 fn malformed(alloc: Global, text: &[u8], number: u64) -> Option<String> {
     let (line, wrong) = wrong_line(alloc, text, number)?;
-    let mut cause = String::new(alloc);
-    match tell_wrong(&mut cause, number, line, &wrong) {
-        Ok(()) => Some(cause),
-        Err(_) => None,
-    }
-}
-
-/// Appends the number of a line, its first word unless that is the wrong one, the wrong word, and what is expected there.
-fn tell_wrong(
-    cause: &mut String,
-    number: u64,
-    line: &[u8],
-    wrong: &Wrong<'_>,
-) -> Result<(), AllocError> {
-    write!(cause, "line {number}: ")?;
+    let mut cause = Page::new(alloc);
+    cause.put(&[Piece::Named("line ", number), Piece::Text(": ")]);
     if !wrong.is_first {
-        tell_name(cause, Pieces::new(line, b' ').next())?;
+        show(&mut cause, Pieces::new(line, b' ').next().unwrap_or(b""));
+        cause.put(&[Piece::Text(": ")]);
     }
-    tell_word(cause, wrong.word)?;
-    cause.push_str(wrong.wanted)
+    match wrong.word {
+        Some(word) => quote(&mut cause, word),
+        None => cause.put(&[Piece::Text("a word is missing: ")]),
+    }
+    cause.put(&[Piece::Text(wrong.wanted)]);
+    cause.finish().ok()
 }
 
-/// Appends the first word of a line, where it is one that a line begins with.
-fn tell_name(cause: &mut String, name: Option<&[u8]>) -> Result<(), AllocError> {
-    for byte in name.unwrap_or(b"") {
-        show_byte(cause, *byte)?;
-    }
-    cause.push_str(": ")
-}
-
-/// Appends the word that is wrong, or that one is missing.
-fn tell_word(cause: &mut String, word: Option<&[u8]>) -> Result<(), AllocError> {
-    match word {
-        Some(word) => show(cause, word),
-        None => cause.push_str("a word is missing: "),
-    }
-}
-
-/// Appends a word of a script in quotes: bytes that are not printable ASCII are escaped, and whatever follows the 64th
-/// byte is left out.
-fn show(cause: &mut String, word: &[u8]) -> Result<(), AllocError> {
-    cause.push_str("\"")?;
-    for byte in word.iter().take(MAX_SHOWN) {
-        show_byte(cause, *byte)?;
-    }
-    cause.push_str(if word.len() > MAX_SHOWN {
+/// Adds a word of a script in quotes, without what follows the 64th byte.
+fn quote(cause: &mut Page, word: &[u8]) {
+    let end = if word.len() > MAX_SHOWN {
         "..\": "
     } else {
         "\": "
-    })
+    };
+    cause.put(&[Piece::Text("\"")]);
+    show(cause, word);
+    cause.put(&[Piece::Text(end)]);
 }
 
-fn show_byte(cause: &mut String, byte: u8) -> Result<(), AllocError> {
-    if byte.is_ascii_graphic() {
-        cause.push(char::from(byte))
-    } else {
-        write!(cause, "\\x{byte:02x}")
+/// Adds the first 64 bytes of a word, of which those that are not printable ASCII are escaped.
+fn show(cause: &mut Page, word: &[u8]) {
+    for byte in word.iter().take(MAX_SHOWN) {
+        let byte = [*byte];
+        match std::str::from_utf8(&byte) {
+            Ok(text) if byte[0].is_ascii_graphic() => cause.put(&[Piece::Text(text)]),
+            _ => cause.put(&[Piece::Text("\\x"), Piece::Bytes(&byte)]),
+        }
     }
 }
 
@@ -134,46 +110,18 @@ fn numbered(mut lines: Lines<'_>, number: u64) -> Option<Line<'_>> {
 /// Why the step of a line is not allowed, given the state before it.
 fn not_allowed(alloc: Global, text: &[u8], number: u64) -> Option<&'static str> {
     match parse(alloc, text).ok()? {
-        Script::Flow(script) => not_in_flow(alloc, &script, number),
-        Script::World(script) => not_in_world(alloc, &script, number),
+        Script::Flow(script) => refused(script.open(alloc).ok()?, script.steps(), number),
+        Script::World(script) => refused(script.open(alloc).ok()?, script.events(), number),
     }
-}
-
-fn not_in_flow(alloc: Global, script: &FlowScript, number: u64) -> Option<&'static str> {
-    let mut transfer = script.open(alloc).ok()?;
-    refused_in_flow(script, &mut transfer, number)
 }
 
 /// Why the step of a line is not allowed, if that is where the steps end.
-fn refused_in_flow(
-    script: &FlowScript,
-    transfer: &mut Transfer,
-    number: u64,
-) -> Option<&'static str> {
-    let Err(Fault::NotAllowed(..)) = script.play(transfer) else {
-        return None;
-    };
-    for numbered in script.steps() {
-        if numbered.line == number {
-            return Some(step_reason(transfer, &numbered.step));
-        }
-    }
-    None
-}
-
-fn not_in_world(alloc: Global, script: &WorldScript, number: u64) -> Option<&'static str> {
-    let mut world = script.open(alloc).ok()?;
-    refused_in_world(script, &mut world, number)
-}
-
-/// Why the event of a line is not allowed, if that is where the events end.
-fn refused_in_world(script: &WorldScript, world: &mut World, number: u64) -> Option<&'static str> {
-    let Err(Fault::NotAllowed(..)) = script.play(world) else {
-        return None;
-    };
-    for numbered in script.events() {
-        if numbered.line == number {
-            return Some(event_reason(world, &numbered.event));
+fn refused<M: Machine>(mut machine: M, steps: &[M::Step], number: u64) -> Option<&'static str> {
+    for step in steps {
+        match machine.make(step) {
+            Ok(()) => {}
+            Err(Fault::NotAllowed(line, _)) if line == number => return Some(machine.reason(step)),
+            Err(_) => return None,
         }
     }
     None

@@ -2,11 +2,10 @@ ghost use Rattle.std.specs.Prelude.{◌≡◌, Some};
 
 use script_text::Word;
 use std::alloc::{AllocError, AllocFailed};
-use std::error::Error;
 use std::fmt;
 
 /// Why a script has no report. Its text is the line that a run writes in place of the report.
-#[derive(Clone, Copy, Debug)]
+#[derive(Clone, Copy)]
 pub enum Fault {
     /// The text has more than 1,048,576 bytes.
     TooLong,
@@ -35,8 +34,6 @@ impl fmt::Display for Fault {
         }
     }
 }
-
-impl Error for Fault {}
 
 impl From<AllocError> for Fault {
     ghost use Rattle.script.specs.declared.fault.Fault.TheVariants.{NoMemory};

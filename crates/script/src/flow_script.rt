@@ -35,13 +35,6 @@ impl FlowScript {
         FlowScript { ring, steps }
     }
 
-    /// The maximum size of the ring in bytes, 1 to 65,536.
-    pub fn ring(&self) -> usize
-        ensures { result ≡ self.now.ring }
-    {
-        self.ring
-    }
-
     /// The steps, in order.
     pub fn steps(&self) -> &[NumberedStep]
         ensures { result.now ≡ self.now.steps }

@@ -27,7 +27,6 @@ mod laws;
 mod limits;
 mod machine;
 mod parsing;
-mod reasons;
 mod report;
 mod running;
 mod script;

@@ -6,7 +6,10 @@ ghost use Rattle.script.specs.Faults.{Carries};
 use crate::report::print_transfer;
 use crate::world_script::happen;
 use crate::{Fault, Transfer};
-use script_text::{NumberedEvent, NumberedStep, print};
+use script_text::{
+    NOT_HERE, NumberedEvent, NumberedStep, Step, end_reason, ended_reason, event_reason, print,
+    read_reason, room_reason, wrote_reason,
+};
 use std::alloc::{AllocError, Global};
 use world::World;
 
@@ -26,6 +29,9 @@ pub(crate) trait Machine: Drop {
     /// The report of the state. Fails only if memory for it ran out.
     fn report(&self, alloc: Global) -> Result<String, AllocError>
         ensures { IfOk result (λ text. string_bytes text ≡ told self.now) };
+
+    /// Why a step is not allowed in this state, for a person.
+    fn reason(&self, step: &Self::Step) -> &'static str;
 }
 
 impl Machine for Transfer {
@@ -45,6 +51,24 @@ impl Machine for Transfer {
     fn report(&self, alloc: Global) -> Result<String, AllocError> {
         print_transfer(alloc, self)
     }
+
+    fn reason(&self, step: &NumberedStep) -> &'static str {
+        let flow = &self.flow;
+        match &step.step {
+            Step::Arrive(_) | Step::Fin => ended_reason(&self.source),
+            Step::Room => room_reason(&self.destination),
+            Step::Read(_) | Step::End if flow.end_seen() => "the end of input was read",
+            Step::Read(count) => read_reason(&self.source, self.read_size(), *count),
+            Step::End => end_reason(&self.source),
+            Step::Wrote(count, _) => {
+                wrote_reason(&self.destination, flow.lead_len(), flow.len(), *count)
+            }
+            Step::Shut if !flow.end_seen() => "the end of input was not read",
+            Step::Shut if !flow.is_drained() => "bytes are in the ring",
+            Step::Shut if flow.is_shut() => "the destination is shut down",
+            Step::Shut => NOT_HERE,
+        }
+    }
 }
 
 impl Machine for World {
@@ -63,5 +87,9 @@ impl Machine for World {
 
     fn report(&self, alloc: Global) -> Result<String, AllocError> {
         print(alloc, self)
+    }
+
+    fn reason(&self, step: &NumberedEvent) -> &'static str {
+        event_reason(self, &step.event)
     }
 }

@@ -69,21 +69,7 @@ pub fn run<R: Read, W: Write, X: Explain>(
     ensures every_run { IfSome (R.remaining reader.old) EveryRun }
 {
     every_run_is_sound();
-    read_and_answer(alloc, reader, writer, explain)
-}
-
-/// Reads a script, of which one byte too many is enough to know that it is too long, and answers it.
-fn read_and_answer<R: Read, W: Write, X: Explain>(
-    alloc: Global,
-    reader: &mut R,
-    writer: &mut W,
-    explain: &X,
-) -> Result<Outcome, ScriptFault>
-    ensures report { result ≡ Ok Outcome.Report → IfSome (R.remaining reader.old) (λ text. WritesReport text (W.contents writer.old) (W.contents writer.new)) }
-    ensures refused { result ≡ Ok Outcome.Refused → IfSome (R.remaining reader.old) (λ text. WritesFault text (W.contents writer.old) (W.contents writer.new)) }
-    ensures unread { result ≡ Err ScriptFault.Read → writer.new ≡ writer.old }
-    ensures taken { TakesAtMost (most_bytes + 1) (R.remaining reader.old) (R.remaining reader.new) }
-{
+    // One byte too many is enough to know that a script is too long.
     match input::read_at_most(alloc, reader, MAX_BYTES + 1) {
         Ok(text) => answer(alloc, text.as_slice(), writer, explain),
         Err(fault) => answer_unread(writer, fault),
@@ -118,19 +104,13 @@ pub fn answer<W: Write, X: Explain>(
     ensures refused { result ≡ Ok Outcome.Refused → AnswersFault text.now (W.contents writer.old) (W.contents writer.new) }
     ensures err { IfErr result (λ fault. fault ≡ ScriptFault.Write) }
 {
-    let outcome = explained(alloc, text, explain);
-    tell(alloc, writer, outcome)
-}
-
-/// The state after the script that a text stands for, or its fault, which `explain` is told.
-fn explained<X: Explain>(alloc: Global, text: &[u8], explain: &X) -> Result<Reached, Fault>
-    ensures { LeadsTo text.now result }
-{
-    let outcome = compute(alloc, text);
-    if let Err(fault) = &outcome {
-        explain.explain(text, *fault);
+    match compute(alloc, text) {
+        Ok(reached) => tell_report(alloc, writer, &reached),
+        Err(fault) => {
+            explain.explain(text, fault);
+            tell_fault(writer, fault)
+        }
     }
-    outcome
 }
 
 /// The state after the script that a text stands for, or its fault.
@@ -140,28 +120,13 @@ fn compute(alloc: Global, text: &[u8]) -> Result<Reached, Fault>
     parse(alloc, text)?.carry_out(alloc)
 }
 
-/// Writes the report of a state, or the line of a fault.
-fn tell<W: Write>(
-    alloc: Global,
-    writer: &mut W,
-    outcome: Result<Reached, Fault>,
-) -> Result<Outcome, ScriptFault>
-    ensures ok { IfOk result (λ told. Tells outcome told (W.contents writer.old) (W.contents writer.new)) }
-    ensures err { IfErr result (λ fault. fault ≡ ScriptFault.Write) }
-{
-    match outcome {
-        Ok(reached) => tell_state(alloc, writer, &reached),
-        Err(fault) => tell_fault(writer, fault),
-    }
-}
-
 /// Writes the report of a state, or that there was no memory for it.
-fn tell_state<W: Write>(
+fn tell_report<W: Write>(
     alloc: Global,
     writer: &mut W,
     reached: &Reached,
 ) -> Result<Outcome, ScriptFault>
-    ensures ok { IfOk result (λ told. Tells (Ok reached.now) told (W.contents writer.old) (W.contents writer.new)) }
+    ensures ok { IfOk result (λ told. Tells reached.now told (W.contents writer.old) (W.contents writer.new)) }
     ensures err { IfErr result (λ fault. fault ≡ ScriptFault.Write) }
 {
     match reached.report(alloc) {

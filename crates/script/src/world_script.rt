@@ -37,13 +37,6 @@ impl WorldScript {
         WorldScript { limits, events }
     }
 
-    /// The sizes of the world.
-    pub fn limits(&self) -> Limits
-        ensures { result ≡ self.now.limits }
-    {
-        self.limits
-    }
-
     /// The events, in order.
     pub fn events(&self) -> &[NumberedEvent]
         ensures { result.now ≡ self.now.events }

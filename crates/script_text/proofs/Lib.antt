@@ -1,4 +1,3 @@
-pub mod AllWords
 pub mod Cuts
 pub mod Digits
 pub mod FirstWords

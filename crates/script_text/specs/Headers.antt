@@ -4,7 +4,6 @@ use Rattle.std.specs.Prelude.{ℕ, ◌≤◌, nat_lt, nat_le, ◌&&◌, if◌the
 use Rattle.std.specs.Str.{bytes_eq}
 use Rattle.world.specs.declared.limits.Limits.{Limits}
 use Rattle.world.specs.States.{IsWithinLimits}
-use Rattle.script_text.specs.declared.header.Extras.{Extras}
 use Rattle.script_text.specs.declared.header.Header.{Header}
 use Rattle.script_text.specs.declared.header.Header.TheVariants.{Flow, World}
 use Rattle.script_text.specs.Texts.{words_of, value_after, bytes_after}
@@ -54,19 +53,19 @@ optional read otherwise (word ∷ words) = found_or otherwise word words (read w
 
 -- What may stand behind the sizes, each at most once and in this order: ` gen=G`, the generation that the slots have had,
 -- 0 where it is not given; ` idle=L`, the idle limit, 0 for none; ` lead=HEX`, the lead, empty for none.
-abbrev pub extras_of : List (List ℕ) → Option Extras
-extras_of words =
+abbrev pub with_extras : Limits → List (List ℕ) → Option Limits
+with_extras sizes words =
     let generation = optional generation_of 0 words in
     let idle = optional idle_of 0 generation.words in
     let lead = optional lead_of [] idle.words in
-    if_last (record { generation = generation.value; idle = idle.value; lead = lead.value }) lead.words
+    if_last (record sizes { generation = generation.value; idle = idle.value; lead = lead.value }) lead.words
 
 -- `slots=S workers=W ring=R budget=B`, with what stands behind
 abbrev pub limits_of : List (List ℕ) → Option Limits
 limits_of =
     word_then (size_of (codes "slots=") 64) (λ slots. word_then (size_of (codes "workers=") 16) (λ workers.
-    word_then ring_of (λ ring. word_then (size_of (codes "budget=") 1024) (λ budget words.
-    option_map (λ extras. record { slots = slots; workers = workers; ring = ring; budget = budget; generation = extras.generation; idle = extras.idle; lead = extras.lead }) (extras_of words)))))
+    word_then ring_of (λ ring. word_then (size_of (codes "budget=") 1024) (λ budget.
+    with_extras (record { slots = slots; workers = workers; ring = ring; budget = budget; generation = 0; idle = 0; lead = [] })))))
 
 abbrev pub lone_ring : List (List ℕ) → Option ℕ
 lone_ring = word_then ring_of (λ ring. if_last ring)

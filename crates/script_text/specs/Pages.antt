@@ -4,7 +4,7 @@ use Rattle.std.specs.Fmt.{decimal}
 use Rattle.hex.specs.Hex.{encode_lower}
 use Rattle.kernel_model.specs.Ends.{is_nonempty}
 use Rattle.script_text.specs.declared.page.Piece.{Piece}
-use Rattle.script_text.specs.declared.page.Piece.TheVariants.{Text, Number, Bytes}
+use Rattle.script_text.specs.declared.page.Piece.TheVariants.{Text, Number, Named, Bytes}
 
 abbrev pub newline : List ℕ
 newline = 10 ∷ []
@@ -16,6 +16,7 @@ shown_bytes bytes = if is_nonempty bytes then encode_lower bytes else codes "-"
 abbrev pub piece_text : Piece → List ℕ
 piece_text (Text text) = text.now
 piece_text (Number number) = decimal number
+piece_text (Named name number) = name.now ++ decimal number
 piece_text (Bytes bytes) = shown_bytes bytes.now
 
 -- the texts of all pieces, in order

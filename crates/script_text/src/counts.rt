@@ -62,10 +62,10 @@ impl Counts {
 
     /// Counts an event.
     pub fn count(&mut self, event: &Event) {
-        let kind = kind_of(event);
-        for (name, count) in NAMES.iter().zip(self.kinds.iter_mut()) {
-            if *name == kind {
-                *count = count.saturating_add(1);
+        let (word, more) = kind_of(event);
+        for kind in 0..KINDS {
+            if NAMES[kind].0 == word && NAMES[kind].1 == more {
+                self.kinds[kind] = self.kinds[kind].saturating_add(1);
                 return;
             }
         }
@@ -73,8 +73,8 @@ impl Counts {
 
     /// Adds what was counted elsewhere.
     pub fn add(&mut self, more: &Counts) {
-        for (count, more) in self.kinds.iter_mut().zip(more.kinds.iter()) {
-            *count = count.saturating_add(*more);
+        for kind in 0..KINDS {
+            self.kinds[kind] = self.kinds[kind].saturating_add(more.kinds[kind]);
         }
     }
 
@@ -89,15 +89,14 @@ impl Counts {
 
     /// Adds a line for each kind: `count N KIND`.
     pub fn put_lines(&self, page: &mut Page) {
-        for ((word, more), count) in NAMES.iter().zip(self.kinds.iter()) {
-            let space = if more.is_empty() { "" } else { " " };
+        for kind in 0..KINDS {
+            let (word, more) = NAMES[kind];
             page.put(&[
-                Piece::Text("count "),
-                Piece::Number(*count),
+                Piece::Named("count ", self.kinds[kind]),
                 Piece::Text(" "),
-                Piece::Text(*word),
-                Piece::Text(space),
-                Piece::Text(*more),
+                Piece::Text(word),
+                Piece::Text(if more.is_empty() { "" } else { " " }),
+                Piece::Text(more),
                 Piece::Text("\n"),
             ]);
         }

@@ -1,18 +1,24 @@
 //! The header of a world's script, and the line of an event, as the readers of this crate read them. No clause says what they
 //! are: what is written of a drill or of a recording, `sim` reads back.
 
-use crate::event::word_of;
 use crate::names::put_names;
 use crate::page::{Page, Piece};
+use crate::word::word_of;
 use kernel_model::{Accepting, Reply};
 use token::Side;
 use world::{Act, Change, Event, Limits, Listening, Polling, Reported};
 
 /// Adds the header of a world with these limits, with its end.
 pub fn put_header(page: &mut Page, limits: &Limits) {
-    put_sizes(page, limits);
+    page.put(&[
+        Piece::Named("world slots=", limits.slots as u64),
+        Piece::Named(" workers=", limits.workers as u64),
+        Piece::Named(" ring=", limits.ring as u64),
+        Piece::Named(" budget=", limits.budget as u64),
+        Piece::Named(" gen=", limits.generation),
+    ]);
     if limits.idle > 0 {
-        page.put(&[Piece::Text(" idle="), Piece::Number(limits.idle)]);
+        page.put(&[Piece::Named(" idle=", limits.idle)]);
     }
     let lead = limits.lead.as_slice();
     if !lead.is_empty() {
@@ -21,37 +27,21 @@ pub fn put_header(page: &mut Page, limits: &Limits) {
     page.put(&[Piece::Text("\n")]);
 }
 
-fn put_sizes(page: &mut Page, limits: &Limits) {
-    page.put(&[
-        Piece::Text("world slots="),
-        Piece::Number(limits.slots as u64),
-        Piece::Text(" workers="),
-        Piece::Number(limits.workers as u64),
-        Piece::Text(" ring="),
-        Piece::Number(limits.ring as u64),
-        Piece::Text(" budget="),
-        Piece::Number(limits.budget as u64),
-        Piece::Text(" gen="),
-        Piece::Number(limits.generation),
-    ]);
-}
-
 /// Adds the line of an event, without its end.
 pub fn put_event(page: &mut Page, event: &Event) {
-    put_first(page, event);
+    page.put(&[Piece::Text(word_of(event).text())]);
     match event {
         Event::Tick(seconds) => put_number(page, *seconds),
         Event::Network(slot, side, change) => put_change(page, *slot, *side, change),
         Event::Spurious(who) | Event::Vanish(who) => put_reported(page, *who),
         Event::Listen(Listening::Accept(answer)) => put_word(page, accepting_word(*answer)),
-        Event::Listen(_) => {}
-        Event::Poll(polling) => put_polling(page, polling),
-        Event::Work(worker, act) => put_act(page, *worker, *act),
+        Event::Poll(Polling::Poll(names)) => put_names(page, names.as_slice()),
+        Event::Poll(Polling::Sweep(slot)) => put_number(page, *slot as u64),
+        Event::Poll(Polling::Put) => put_word(page, "poller"),
+        Event::Listen(_) | Event::Poll(_) => {}
+        Event::Work(worker, Act::Call(reply)) => put_call(page, *worker, *reply),
+        Event::Work(worker, _) => put_number(page, *worker as u64),
     }
-}
-
-fn put_first(page: &mut Page, event: &Event) {
-    page.put(&[Piece::Text(word_of(event).text())]);
 }
 
 fn put_word(page: &mut Page, word: &str) {
@@ -59,7 +49,7 @@ fn put_word(page: &mut Page, word: &str) {
 }
 
 fn put_number(page: &mut Page, number: u64) {
-    page.put(&[Piece::Text(" "), Piece::Number(number)]);
+    page.put(&[Piece::Named(" ", number)]);
 }
 
 fn put_end(page: &mut Page, slot: usize, side: Side) {
@@ -82,42 +72,26 @@ fn put_reported(page: &mut Page, who: Reported) {
     }
 }
 
+/// What a worker's call gave.
+fn put_call(page: &mut Page, worker: usize, reply: Reply) {
+    put_number(page, worker as u64);
+    put_word(page, reply_word(reply));
+    match reply {
+        Reply::Bytes(count) | Reply::Wrote(count, _) => put_number(page, count as u64),
+        Reply::Failed(kind) => put_word(page, kind.name()),
+        _ => {}
+    }
+    if let Reply::Wrote(_, true) = reply {
+        put_word(page, "full");
+    }
+}
+
 fn accepting_word(answer: Accepting) -> &'static str {
     match answer {
         Accepting::Accepted => "ok",
         Accepting::Blocked => "blocked",
         Accepting::Again => "again",
         Accepting::Starved => "starved",
-    }
-}
-
-fn put_polling(page: &mut Page, polling: &Polling) {
-    match polling {
-        Polling::Poll(names) => put_names(page, names.as_slice()),
-        Polling::Sweep(slot) => put_number(page, *slot as u64),
-        Polling::Put => put_word(page, "poller"),
-        Polling::Open | Polling::Deliver => {}
-    }
-}
-
-fn put_act(page: &mut Page, worker: usize, act: Act) {
-    put_number(page, worker as u64);
-    if let Act::Call(reply) = act {
-        put_reply(page, reply);
-    }
-}
-
-/// What a call gave.
-fn put_reply(page: &mut Page, reply: Reply) {
-    put_word(page, reply_word(reply));
-    match reply {
-        Reply::Bytes(count) | Reply::Wrote(count, false) => put_number(page, count as u64),
-        Reply::Wrote(count, true) => {
-            put_number(page, count as u64);
-            put_word(page, "full");
-        }
-        Reply::Failed(kind) => put_word(page, kind.name()),
-        _ => {}
     }
 }
 

@@ -7,12 +7,12 @@ ghost use Rattle.token.specs.Kinds.{kind_named};
 
 use crate::limits::MAX_SLOTS;
 use crate::lines::Pieces;
-use crate::readers::{count, is_full, kind, last, said, side, word};
+use crate::readers::{count, is_full, last, said, side, word};
 use crate::values::{is, number, number_below};
 use crate::wrong::{NotRead, Wrong};
 use kernel_model::{MAX_POLLED, Reply};
 use std::alloc::{AllocError, Global};
-use token::{MAX_GENERATION, Name, Side, Token};
+use token::{Kind, MAX_GENERATION, Name, Side, Token};
 use world::Reported;
 
 /// The generation in a name, 1 to 2^47 - 1.
@@ -198,6 +198,9 @@ fn wrote(mut words: Pieces<'_>) -> Result<Reply, Wrong<'_>>
 fn failed(mut words: Pieces<'_>) -> Result<Reply, Wrong<'_>>
     ensures { Reads (word_then kind_named (λ kind. if_last (Reply.Failed kind)) words.entry) result }
 {
-    let kind = kind(&mut words)?;
+    let wanted =
+        "one of aborted, notconnected, other, pipe, refused, reset, timedout and zero is wanted";
+    let word = word(&mut words, wanted)?;
+    let kind = said(Kind::named(word), word, wanted)?;
     last(Reply::Failed(kind), words)
 }

@@ -1,5 +1,5 @@
 // The events in a script of a world.
-ghost use Rattle.std.specs.Prelude.{option_map};
+ghost use Rattle.std.specs.Prelude.{◌≡◌};
 ghost use Rattle.script_text.specs.Words.{word_text};
 ghost use Rattle.script_text.specs.Texts.{number_of};
 ghost use Rattle.script_text.specs.Reading.{word_then, if_last, Reads, ReadsBy};
@@ -9,11 +9,10 @@ use crate::Word;
 use crate::event_parts::{names, reply, reported};
 use crate::limits::MAX_WORKERS;
 use crate::lines::Pieces;
-use crate::readers::{
-    accepting, count, first_word, last, last_bytes, said, side, slot, word, worker,
-};
+use crate::readers::{count, first_word, last, last_bytes, said, side, slot, word, worker};
 use crate::values::{is, number_below};
 use crate::wrong::{NotRead, Wrong};
+use kernel_model::Accepting;
 use std::alloc::Global;
 use world::{Act, Change, Event, Listening, Polling};
 
@@ -85,11 +84,30 @@ fn tick(mut words: Pieces<'_>) -> Result<Event, Wrong<'_>>
     last(Event::Tick(seconds as u64), words)
 }
 
+/// What accept(2) is answered.
 fn accept(mut words: Pieces<'_>) -> Result<Event, Wrong<'_>>
     ensures { Reads (word_then accepting_of (λ answer. if_last (Event.Listen (Listening.Accept answer))) words.entry) result }
 {
-    let answer = accepting(&mut words)?;
+    let wanted = "one of again, blocked, ok and starved is wanted";
+    let word = word(&mut words, wanted)?;
+    let answer = said(accepting_named(word), word, wanted)?;
     last(Event::Listen(Listening::Accept(answer)), words)
+}
+
+fn accepting_named(word: &[u8]) -> Option<Accepting>
+    ensures { result ≡ accepting_of word.now }
+{
+    if is(word, "ok") {
+        Some(Accepting::Accepted)
+    } else if is(word, "blocked") {
+        Some(Accepting::Blocked)
+    } else if is(word, "again") {
+        Some(Accepting::Again)
+    } else if is(word, "starved") {
+        Some(Accepting::Starved)
+    } else {
+        None
+    }
 }
 
 /// What the network does to an end.

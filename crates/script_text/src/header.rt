@@ -1,8 +1,8 @@
 // The header: the first line of a script that is not skipped.
-ghost use Rattle.std.specs.Prelude.{◌≡◌, ◌≤◌, ◌<◌, [], codes, unwrap_or, IfSome, IfOk, option_and_then};
+ghost use Rattle.std.specs.Prelude.{◌≡◌, ◌≤◌, ◌<◌, [], unwrap_or, IfSome, IfOk, option_and_then};
 ghost use Rattle.world.specs.States.{IsWithinLimits};
 ghost use Rattle.script_text.specs.Reading.{first_as, Reads, Takes};
-ghost use Rattle.script_text.specs.Headers.{size_of, generation_of, ring_of, idle_of, lead_of, short_enough, optional, extras_of, limits_of, lone_ring, header_of, IsRing, IsWithin};
+ghost use Rattle.script_text.specs.Headers.{size_of, generation_of, ring_of, idle_of, lead_of, short_enough, optional, with_extras, limits_of, lone_ring, header_of, IsRing, IsWithin};
 ghost use Rattle.script_text.specs.Texts.{bytes_of};
 
 use crate::limits::{MAX_BUDGET, MAX_IDLE, MAX_SLOTS, MAX_WORKERS};
@@ -21,17 +21,6 @@ pub enum Header {
     Flow(usize),
     /// A world with these sizes.
     World(Limits),
-}
-
-/// What may stand behind the sizes of a world.
-#[derive(Clone, Copy)]
-struct Extras {
-    /// The generation at which every slot starts; 0 if it is not given.
-    generation: u64,
-    /// The idle limit in seconds; 0 for none.
-    idle: u64,
-    /// What each target is sent first; empty for nothing.
-    lead: Lead,
 }
 
 /// The header that a line stands for, or what is wrong with it: the first such word from the left. Allocates no memory.
@@ -87,33 +76,33 @@ fn limits(mut words: Pieces<'_>) -> Result<Limits, Wrong<'_>>
         MAX_BUDGET,
         "budget=1 to budget=1024 is wanted",
     )?;
-    match read_extras(words) {
-        Ok(extras) => Ok(Limits {
-            slots,
-            workers,
-            ring,
-            budget,
-            generation: extras.generation,
-            idle: extras.idle,
-            lead: extras.lead,
-        }),
-        Err(wrong) => Err(wrong),
-    }
+    let sizes = Limits {
+        slots,
+        workers,
+        ring,
+        budget,
+        generation: 0,
+        idle: 0,
+        lead: Lead::NONE,
+    };
+    with_extras(sizes, words)
 }
 
-/// What stands behind the sizes: `gen=G`, `idle=L` and `lead=HEX` in this order, each of which may be left out.
-fn read_extras(mut words: Pieces<'_>) -> Result<Extras, Wrong<'_>>
-    ensures value { Reads (extras_of words.entry) result }
-    ensures range { IfOk result (λ extras. extras.generation < 140737488355327) }
+/// Sizes with what stands behind them: `gen=G`, `idle=L` and `lead=HEX` in this order, each of which may be left out.
+fn with_extras(sizes: Limits, mut words: Pieces<'_>) -> Result<Limits, Wrong<'_>>
+    requires { IsWithinLimits sizes }
+    ensures value { Reads (with_extras sizes words.entry) result }
+    ensures range { IfOk result IsWithinLimits }
 {
-    let generation = optional_generation(&mut words);
-    let idle = optional_idle(&mut words);
-    let lead = optional_lead(&mut words);
+    let generation = generation(&mut words);
+    let idle = idle(&mut words);
+    let lead = lead(&mut words);
     end_or(words, behind(generation, idle, lead.is_some()))?;
-    Ok(Extras {
+    Ok(Limits {
         generation: generation.unwrap_or(0),
         idle: idle.unwrap_or(0),
         lead: lead.unwrap_or(Lead::NONE),
+        ..sizes
     })
 }
 
@@ -130,30 +119,33 @@ fn behind(generation: Option<u64>, idle: Option<u64>, has_lead: bool) -> &'stati
     }
 }
 
-/// The generation that the first word says, or none, and the word stays.
-fn optional_generation(words: &mut Pieces) -> Option<u64>
+/// The generation that `gen=G` says as the first word, 0 to 2^47 - 2; or none, and the word stays.
+fn generation(words: &mut Pieces<'_>) -> Option<u64>
     ensures value { optional generation_of 0 words.old ≡ record { value = unwrap_or result 0; words = words.new } }
     ensures range { IfSome result (λ generation. generation < 140737488355327) }
 {
-    let generation = words.peek().and_then(generation)?;
+    let generation = value_after(b"gen=", words.peek()?)?;
+    if generation >= MAX_GENERATION as usize {
+        return None;
+    }
     words.next();
-    Some(generation)
+    Some(generation as u64)
 }
 
-/// The idle limit that the first word says, or none, and the word stays.
-fn optional_idle(words: &mut Pieces) -> Option<u64>
+/// The idle limit that `idle=L` says as the first word, 1 to 86,400 seconds; or none, and the word stays.
+fn idle(words: &mut Pieces<'_>) -> Option<u64>
     ensures { optional idle_of 0 words.old ≡ record { value = unwrap_or result 0; words = words.new } }
 {
-    let idle = words.peek().and_then(idle)?;
+    let idle = size_said(b"idle=", MAX_IDLE, words.peek()?)?;
     words.next();
-    Some(idle)
+    Some(idle as u64)
 }
 
-/// The lead that the first word says, or none, and the word stays.
-fn optional_lead(words: &mut Pieces) -> Option<Lead>
+/// The lead that `lead=HEX` says as the first word, 1 to 107 bytes; or none, and the word stays.
+fn lead(words: &mut Pieces<'_>) -> Option<Lead>
     ensures { optional lead_of [] words.old ≡ record { value = unwrap_or result []; words = words.new } }
 {
-    let lead = words.peek().and_then(lead)?;
+    let lead = short_bytes(words.peek()?.strip_prefix(b"lead=")?)?;
     words.next();
     Some(lead)
 }
@@ -190,34 +182,6 @@ fn size_said(key: &[u8], most: usize, word: &[u8]) -> Option<usize>
     } else {
         None
     }
-}
-
-/// `gen=G`, 0 to 2^47 - 2.
-fn generation(word: &[u8]) -> Option<u64>
-    ensures value { result ≡ generation_of word.now }
-    ensures range { IfSome result (λ generation. generation < 140737488355327) }
-{
-    let generation = value_after(b"gen=", word)?;
-    if generation < MAX_GENERATION as usize {
-        Some(generation as u64)
-    } else {
-        None
-    }
-}
-
-/// `idle=L`, 1 to 86,400 seconds.
-fn idle(word: &[u8]) -> Option<u64>
-    ensures { result ≡ idle_of word.now }
-{
-    let idle = size_said(b"idle=", MAX_IDLE, word)?;
-    Some(idle as u64)
-}
-
-/// `lead=HEX`, 1 to 107 bytes.
-fn lead(word: &[u8]) -> Option<Lead>
-    ensures { result ≡ lead_of word.now }
-{
-    short_bytes(word.strip_prefix(b"lead=")?)
 }
 
 /// The lead whose bytes a text stands for in lower-case hexadecimal.

@@ -14,7 +14,6 @@
 
 mod counts;
 mod ends;
-mod event;
 mod event_line;
 mod event_parts;
 mod events;
@@ -34,8 +33,7 @@ mod word;
 mod wrong;
 
 pub use counts::Counts;
-pub use ends::{end_reason, ended_reason, first_of, read_reason, room_reason, wrote_reason};
-pub use event::{NumberedEvent, word_of};
+pub use ends::{NOT_HERE, end_reason, ended_reason, read_reason, room_reason, wrote_reason};
 pub use event_line::{put_event, put_header};
 pub use events::read_event;
 pub use header::{Header, read_header};
@@ -45,7 +43,7 @@ pub use page::{Page, Piece};
 pub use reasons::event_reason;
 pub use report::print;
 pub use shown::put_stream;
-pub use step::{Bytes, NumberedStep, Step};
+pub use step::{Bytes, NumberedEvent, NumberedStep, Step};
 pub use steps::read_step;
-pub use word::Word;
+pub use word::{Word, word_of};
 pub use wrong::{NotRead, Wrong};

@@ -24,10 +24,8 @@ fn put_name(page: &mut Page, name: &Name)
         Name::Listener => page.put(&[Piece::Text(" listener")]),
         Name::Waker => page.put(&[Piece::Text(" waker")]),
         Name::End(token) => page.put(&[
-            Piece::Text(" "),
-            Piece::Number(token.slot() as u64),
-            Piece::Text("."),
-            Piece::Number(token.generation()),
+            Piece::Named(" ", token.slot() as u64),
+            Piece::Named(".", token.generation()),
             Piece::Text("."),
             Piece::Text(token.side().name()),
         ]),
@@ -40,10 +38,8 @@ pub(crate) fn put_tickets(page: &mut Page, tickets: &[Ticket])
 {
     for ticket in tickets {
         page.put(&[
-            Piece::Text(" "),
-            Piece::Number(ticket.slot as u64),
-            Piece::Text("."),
-            Piece::Number(ticket.generation),
+            Piece::Named(" ", ticket.slot as u64),
+            Piece::Named(".", ticket.generation),
         ]);
     }
 }
@@ -53,6 +49,6 @@ pub(crate) fn put_numbers(page: &mut Page, numbers: &[usize])
     ensures { Adds page.old page.new (spaced decimal numbers.now) }
 {
     for number in numbers {
-        page.put(&[Piece::Text(" "), Piece::Number(*number as u64)]);
+        page.put(&[Piece::Named(" ", *number as u64)]);
     }
 }

@@ -11,6 +11,8 @@ pub enum Piece<'a> {
     Text(&'a str),
     /// A number in decimal digits.
     Number(u64),
+    /// The name of a number, and the number right behind it.
+    Named(&'a str, u64),
     /// Bytes in lower-case hexadecimal, `-` for none.
     Bytes(&'a [u8]),
 }
@@ -74,6 +76,7 @@ impl Page {
             Piece::Bytes([]) => self.text.push_str("-"),
             Piece::Text(text) => self.text.push_str(text),
             Piece::Number(number) => write!(self.text, "{number}"),
+            Piece::Named(name, number) => write!(self.text, "{name}{number}"),
             Piece::Bytes(bytes) => {
                 let digits = hex::encode(self.alloc, bytes)?;
                 self.text.push_str(digits.as_str())

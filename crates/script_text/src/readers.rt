@@ -2,20 +2,18 @@
 //! row of `tests/program/causes` tries each text with the last word that is taken and the first that is not.
 ghost use Rattle.std.specs.Prelude.{◌≡◌, ◌∷◌, [], MatchResult};
 ghost use Rattle.token.specs.Sides.{side_named};
-ghost use Rattle.token.specs.Kinds.{kind_named};
 ghost use Rattle.script_text.specs.Words.{word_text, BeginsOtherwise};
 ghost use Rattle.script_text.specs.Texts.{number_of, bytes_of};
 ghost use Rattle.script_text.specs.Reading.{first_as, word_then, line_end, if_last, full_of, Reads, ReadsBy, Takes};
-ghost use Rattle.script_text.specs.Events.{slot_of, worker_of, accepting_of};
+ghost use Rattle.script_text.specs.Events.{slot_of, worker_of};
 
 use crate::limits::{MAX_SLOTS, MAX_WORKERS};
 use crate::lines::Pieces;
 use crate::values::{bytes, is, number, number_below};
 use crate::wrong::{NotRead, Wrong};
 use crate::{Bytes, Word};
-use kernel_model::Accepting;
 use std::alloc::Global;
-use token::{Kind, Side};
+use token::Side;
 
 /// The next word, whatever it is.
 pub(crate) fn word<'a>(words: &mut Pieces<'a>, wanted: &'static str) -> Result<&'a [u8], Wrong<'a>>
@@ -55,6 +53,9 @@ pub(crate) fn said<'a, T>(
     }
 }
 
+/// What is wanted where a line goes on that should end.
+const END: &str = "the line should end before this word";
+
 /// The end of the line, where something else may stand too.
 pub(crate) fn end_or<'a>(mut words: Pieces<'a>, wanted: &'static str) -> Result<(), Wrong<'a>>
     ensures { Reads (line_end words.entry) result }
@@ -65,18 +66,11 @@ pub(crate) fn end_or<'a>(mut words: Pieces<'a>, wanted: &'static str) -> Result<
     }
 }
 
-/// The end of the line.
-pub(crate) fn end(words: Pieces<'_>) -> Result<(), Wrong<'_>>
-    ensures { Reads (line_end words.entry) result }
-{
-    end_or(words, "the line should end before this word")
-}
-
 /// A value, if the line ends.
 pub(crate) fn last<'a, T: Drop>(value: T, words: Pieces<'a>) -> Result<T, Wrong<'a>>
     ensures { Reads (if_last value words.entry) result }
 {
-    end(words)?;
+    end_or(words, END)?;
     Ok(value)
 }
 
@@ -116,41 +110,6 @@ pub(crate) fn count<'a>(words: &mut Pieces<'a>) -> Result<usize, Wrong<'a>>
     said(number(word), word, wanted)
 }
 
-/// A kind of failure.
-pub(crate) fn kind<'a>(words: &mut Pieces<'a>) -> Result<Kind, Wrong<'a>>
-    ensures { Takes (first_as kind_named words.old) result words.new }
-{
-    let wanted =
-        "one of aborted, notconnected, other, pipe, refused, reset, timedout and zero is wanted";
-    let word = word(words, wanted)?;
-    said(Kind::named(word), word, wanted)
-}
-
-/// What accept(2) is answered.
-pub(crate) fn accepting<'a>(words: &mut Pieces<'a>) -> Result<Accepting, Wrong<'a>>
-    ensures { Takes (first_as accepting_of words.old) result words.new }
-{
-    let wanted = "one of again, blocked, ok and starved is wanted";
-    let word = word(words, wanted)?;
-    said(accepting_named(word), word, wanted)
-}
-
-fn accepting_named(word: &[u8]) -> Option<Accepting>
-    ensures { result ≡ accepting_of word.now }
-{
-    if is(word, "ok") {
-        Some(Accepting::Accepted)
-    } else if is(word, "blocked") {
-        Some(Accepting::Blocked)
-    } else if is(word, "again") {
-        Some(Accepting::Again)
-    } else if is(word, "starved") {
-        Some(Accepting::Starved)
-    } else {
-        None
-    }
-}
-
 /// Bytes in hexadecimal, behind which the line ends. A line that goes on is malformed, even if there is no memory.
 pub(crate) fn last_bytes<'a>(alloc: Global, mut words: Pieces<'a>) -> Result<Bytes, NotRead<'a>>
     ensures { ReadsBy (λ bytes. bytes) (word_then bytes_of if_last words.entry) result }
@@ -160,7 +119,7 @@ pub(crate) fn last_bytes<'a>(alloc: Global, mut words: Pieces<'a>) -> Result<Byt
     match bytes(alloc, word) {
         Ok(bytes) => Ok(last(said(bytes, word, wanted)?, words)?),
         Err(error) => {
-            end(words)?;
+            end_or(words, END)?;
             Err(NotRead::from(error))
         }
     }

@@ -1,10 +1,10 @@
-//! Why an event is not allowed at that point, by the world before it.
+//! Why an event is not allowed at that point, by the world before it. Where more than one reason holds, the first is told.
 
 use crate::ends::{
-    BROKEN, NOT_HERE, end_reason, ended_reason, first_of, read_reason, room_reason, wrote_reason,
+    BROKEN, NOT_HERE, end_reason, ended_reason, read_reason, room_reason, wrote_reason,
 };
-use kernel_model::{Accepting, Kernel, MAX_BACKLOG, Open, Reply};
-use relay_core::{Call, Verdict};
+use kernel_model::{Accepting, End, Kernel, MAX_BACKLOG, Open, Reply};
+use relay_core::{Call, Pair, Verdict};
 use token::{Kind, Name, Side};
 use world::{
     Act, Change, Connection, Doing, Event, Listening, Polling, Reported, Slot, Worker, World,
@@ -15,6 +15,18 @@ const UNQUEUED: &str = "no report of it is in the queue";
 const UNLIMITED: &str = "the world has no idle limit";
 
 const UNACCEPTED: &str = "the poller has no accepted connection";
+
+const UNFREE: &str = "no slot is free";
+
+const WAITING: &str = "a connection waits at the listener";
+
+const NO_SLOT: &str = "there is no such slot";
+
+const VACANT: &str = "the slot has no connection";
+
+const READABLE: &str = "the socket is readable";
+
+const WRITABLE: &str = "the socket is writable";
 
 /// Why an event is not allowed in a world, for a person. No clause says it: rows of scripts that are refused show it.
 pub fn event_reason(world: &World, event: &Event) -> &'static str {
@@ -33,43 +45,39 @@ pub fn event_reason(world: &World, event: &Event) -> &'static str {
     }
 }
 
+/// Whether no connection can be idle for too long.
+fn is_unlimited(world: &World) -> bool {
+    world.limits().idle == 0
+}
+
 /// Why that many seconds do not pass.
 fn tick_reason(world: &World, seconds: u64) -> &'static str {
-    first_of(&[
-        (world.limits().idle == 0, UNLIMITED),
-        (seconds == 0, "at least 1 second passes"),
-        (
-            4_294_967_295 < seconds,
-            "at most 4294967295 seconds pass at once",
-        ),
-        (
-            u64::MAX - world.second() < seconds,
-            "the last second is 18446744073709551615",
-        ),
-    ])
+    match seconds {
+        _ if is_unlimited(world) => UNLIMITED,
+        0 => "at least 1 second passes",
+        _ if 4_294_967_295 < seconds => "at most 4294967295 seconds pass at once",
+        _ if u64::MAX - world.second() < seconds => "the last second is 18446744073709551615",
+        _ => NOT_HERE,
+    }
 }
 
 /// Why the poller does not post to a slot.
 fn sweep_reason(world: &World, slot: usize) -> &'static str {
-    first_of(&[
-        (world.limits().idle == 0, UNLIMITED),
-        (world.slots().len() <= slot, "there is no such slot"),
-        (
-            world.table_entry(slot) == Some(0),
-            "the slot was never opened",
-        ),
-    ])
+    match world.table_entry(slot) {
+        _ if is_unlimited(world) => UNLIMITED,
+        _ if world.slots().len() <= slot => NO_SLOT,
+        Some(0) => "the slot was never opened",
+        _ => NOT_HERE,
+    }
 }
 
 /// Why a slot has no ends.
 fn vacant_reason(world: &World, slot: usize) -> &'static str {
-    first_of(&[
-        (world.slots().len() <= slot, "there is no such slot"),
-        (
-            world.connection(slot).is_none(),
-            "the slot has no connection",
-        ),
-    ])
+    match world.slots().get(slot) {
+        None => NO_SLOT,
+        Some(slot) if slot.connection().is_none() => VACANT,
+        Some(_) => NOT_HERE,
+    }
 }
 
 /// One end of the connection in a slot.
@@ -84,7 +92,8 @@ fn network_reason(world: &World, slot: usize, side: Side, change: &Change) -> &'
     };
     match change {
         Change::Arrive(_) | Change::Fin => ended_reason(&open.socket),
-        Change::Reset => first_of(&[(open.socket.has_err(), BROKEN)]),
+        Change::Reset if open.socket.has_err() => BROKEN,
+        Change::Reset => NOT_HERE,
         Change::Room => room_reason(&open.socket),
     }
 }
@@ -92,17 +101,15 @@ fn network_reason(world: &World, slot: usize, side: Side, change: &Change) -> &'
 fn vanish_reason(world: &World, who: Reported) -> &'static str {
     let kernel = world.kernel();
     match who {
-        Reported::Listener => first_of(&[
-            (!kernel.is_queued(&Name::Listener), UNQUEUED),
-            (0 < kernel.backlog(), "a connection waits at the listener"),
-        ]),
-        Reported::Waker => first_of(&[(!kernel.is_queued(&Name::Waker), UNQUEUED)]),
+        Reported::Listener if !kernel.is_queued(&Name::Listener) => UNQUEUED,
+        Reported::Listener if 0 < kernel.backlog() => WAITING,
+        Reported::Waker if !kernel.is_queued(&Name::Waker) => UNQUEUED,
+        Reported::Listener | Reported::Waker => NOT_HERE,
         Reported::End(slot, side) => match end_at(world, slot, side) {
-            Some(open) => first_of(&[
-                (!kernel.is_queued(&Name::End(open.token)), UNQUEUED),
-                (open.socket.is_readable(), "the socket is readable"),
-                (open.socket.is_writable(), "the socket is writable"),
-            ]),
+            Some(open) if !kernel.is_queued(&Name::End(open.token)) => UNQUEUED,
+            Some(open) if open.socket.is_readable() => READABLE,
+            Some(open) if open.socket.is_writable() => WRITABLE,
+            Some(_) => NOT_HERE,
             None => vacant_reason(world, slot),
         },
     }
@@ -111,81 +118,62 @@ fn vanish_reason(world: &World, who: Reported) -> &'static str {
 fn listen_reason(world: &World, listening: Listening) -> &'static str {
     let backlog = world.kernel().backlog();
     match listening {
-        Listening::Connect => first_of(&[(
-            MAX_BACKLOG <= backlog,
-            "no more connections can wait at the listener",
-        )]),
-        Listening::Accept(reply) => first_of(&[
-            (!world.accept_flag(), "the accept flag is down"),
-            (
-                world.has_accepted(),
-                "the poller has an accepted connection",
-            ),
-            (world.free_slots().is_empty(), "no slot is free"),
-            (
-                reply == Accepting::Accepted && backlog == 0,
-                "no connection waits at the listener",
-            ),
-            (
-                reply == Accepting::Blocked && 0 < backlog,
-                "a connection waits at the listener",
-            ),
-        ]),
-        Listening::Drop => first_of(&[(!world.has_accepted(), UNACCEPTED)]),
+        Listening::Connect if MAX_BACKLOG <= backlog => {
+            "no more connections can wait at the listener"
+        }
+        Listening::Accept(_) if !world.accept_flag() => "the accept flag is down",
+        Listening::Accept(_) if world.has_accepted() => "the poller has an accepted connection",
+        Listening::Accept(_) if world.free_slots().is_empty() => UNFREE,
+        Listening::Accept(Accepting::Accepted) if backlog == 0 => {
+            "no connection waits at the listener"
+        }
+        Listening::Accept(Accepting::Blocked) if 0 < backlog => WAITING,
+        Listening::Drop if !world.has_accepted() => UNACCEPTED,
+        _ => NOT_HERE,
     }
 }
 
 fn poll_reason(world: &World, polling: &Polling) -> &'static str {
     match polling {
-        Polling::Open => first_of(&[
-            (!world.has_accepted(), UNACCEPTED),
-            (world.free_slots().is_empty(), "no slot is free"),
-        ]),
-        Polling::Poll(names) => first_of(&[
-            (!world.batch().is_empty(), "the batch is not empty"),
-            (
-                !are_queued(world.kernel(), names.as_slice()),
-                "a name is not in the queue",
-            ),
-            (
-                !world.kernel().may_poll(names.as_slice()),
-                "a name is listed twice",
-            ),
-        ]),
-        Polling::Deliver => first_of(&[(world.batch().is_empty(), "the batch is empty")]),
+        Polling::Open if !world.has_accepted() => UNACCEPTED,
+        Polling::Open if world.free_slots().is_empty() => UNFREE,
+        Polling::Poll(_) if !world.batch().is_empty() => "the batch is not empty",
+        Polling::Poll(names) => names_reason(world.kernel(), names.as_slice()),
+        Polling::Deliver if world.batch().is_empty() => "the batch is empty",
         Polling::Sweep(slot) => sweep_reason(world, *slot),
-        Polling::Put => first_of(&[(
-            world.poller_hand().is_empty(),
-            "the poller has no ticket to put",
-        )]),
+        Polling::Put if world.poller_hand().is_empty() => "the poller has no ticket to put",
+        _ => NOT_HERE,
     }
 }
 
-/// Whether each name is in the queue.
-fn are_queued(kernel: &Kernel, names: &[Name]) -> bool {
+/// Why a poll does not give these names.
+fn names_reason(kernel: &Kernel, names: &[Name]) -> &'static str {
     for name in names {
         if !kernel.is_queued(name) {
-            return false;
+            return "a name is not in the queue";
         }
     }
-    true
+    if kernel.may_poll(names) {
+        NOT_HERE
+    } else {
+        "a name is listed twice"
+    }
 }
 
 fn work_reason(world: &World, worker: &Worker, act: Act) -> &'static str {
     match (act, worker.doing()) {
-        (Act::Expire, _) if world.limits().idle == 0 => UNLIMITED,
-        (Act::Put, _) => first_of(&[(worker.hand().is_empty(), "the worker has no ticket to put")]),
-        (Act::Pop, Doing::Idle) => first_of(&[
-            (
-                !worker.hand().is_empty(),
-                "the worker has a ticket to put first",
-            ),
-            (world.ready().is_empty(), "the ready queue is empty"),
-        ]),
-        (Act::Pop, _) => "the worker is not idle",
-        (Act::Claim, Doing::Tries(_))
+        (Act::Expire, _) if is_unlimited(world) => UNLIMITED,
+        (Act::Put, _) if worker.hand().is_empty() => "the worker has no ticket to put",
+        (Act::Pop, Doing::Idle) if !worker.hand().is_empty() => {
+            "the worker has a ticket to put first"
+        }
+        (Act::Pop, Doing::Idle) if world.ready().is_empty() => "the ready queue is empty",
+        (Act::Put, _)
+        | (Act::Pop, Doing::Idle)
+        | (Act::Claim, Doing::Tries(_))
         | (Act::Retire, Doing::Closed(_))
         | (Act::Free, Doing::Retired(_)) => NOT_HERE,
+        (Act::Pop, _) => "the worker is not idle",
         (Act::Claim, _) => "the worker has no ticket to claim a slot with",
         (Act::Retire, _) => "the worker has closed no connection",
         (Act::Free, _) => "the worker has retired no slot",
@@ -200,21 +188,18 @@ fn work_reason(world: &World, worker: &Worker, act: Act) -> &'static str {
 /// Why a worker cannot do this with the slot that it holds, with `left` calls left.
 fn holder_reason(kernel: &Kernel, slot: &Slot, left: usize, act: Act) -> &'static str {
     let Some(connection) = slot.connection() else {
-        return "the slot has no connection";
+        return VACANT;
     };
     let verdict = connection.pair.verdict();
-    match act {
-        Act::Call(_) if left == 0 => "no calls are left",
-        Act::Call(reply) => call_reason(kernel, connection, reply),
-        Act::Post => over_reason(verdict),
-        Act::Release | Act::Expire if verdict != Verdict::Live => over_reason(verdict),
-        Act::Expire => first_of(&[
-            (connection.pair.next().is_some(), "there is a next call"),
-            (true, "the connection moved within the idle limit"),
-        ]),
-        Act::Release => release_reason(slot, connection, left),
-        Act::Close => first_of(&[(verdict == Verdict::Live, "the connection is live")]),
-        _ => NOT_HERE,
+    match (act, verdict) {
+        (Act::Call(_), _) if left == 0 => "no calls are left",
+        (Act::Call(reply), _) => call_reason(kernel, connection, reply),
+        (Act::Close, Verdict::Live) => "the connection is live",
+        (Act::Expire, Verdict::Live) if connection.pair.next().is_some() => "there is a next call",
+        (Act::Expire, Verdict::Live) => "the connection moved within the idle limit",
+        (Act::Release, Verdict::Live) => release_reason(slot, connection, left),
+        (Act::Post | Act::Release | Act::Expire, _) => over_reason(verdict),
+        (_, _) => NOT_HERE,
     }
 }
 
@@ -238,40 +223,42 @@ fn release_reason(slot: &Slot, connection: &Connection, left: usize) -> &'static
 
 /// Why the next call of a connection is not answered so.
 fn call_reason(kernel: &Kernel, connection: &Connection, reply: Reply) -> &'static str {
-    let Some(call) = connection.pair.next() else {
-        return match connection.pair.verdict() {
+    let pair = &connection.pair;
+    let Some(call) = pair.next() else {
+        return match pair.verdict() {
             Verdict::Live => "there is no next call",
             over => over_reason(over),
         };
     };
-    let Some(open) = kernel.end(connection.descriptor(call.side())) else {
-        return NOT_HERE;
-    };
-    let socket = &open.socket;
+    match kernel.end(connection.descriptor(call.side())) {
+        Some(open) => answer_reason(pair, &open.socket, call, reply),
+        None => NOT_HERE,
+    }
+}
+
+/// Why a call on this socket is not answered so.
+fn answer_reason(pair: &Pair, socket: &End, call: Call, reply: Reply) -> &'static str {
     match (call, reply) {
         (Call::Read(_, most), Reply::Bytes(count)) => read_reason(socket, most, count),
         (Call::Read(..), Reply::End) => end_reason(socket),
-        (Call::Read(..), Reply::Blocked) => {
-            first_of(&[(socket.is_readable(), "the socket is readable")])
+        (Call::Write(_), Reply::Wrote(count, _)) => {
+            let direction = call.direction();
+            wrote_reason(
+                socket,
+                pair.lead_len(direction),
+                pair.ring_len(direction),
+                count,
+            )
         }
-        (Call::Write(_), Reply::Wrote(count, _)) => wrote_reason(
-            socket,
-            connection.pair.lead_len(call.direction()),
-            connection.pair.ring_len(call.direction()),
-            count,
-        ),
-        (Call::Join(_), Reply::Joined) => first_of(&[(
-            !socket.has_room(),
-            "the socket has no room",
-        )]),
-        (Call::Write(_) | Call::Join(_), Reply::Blocked) => {
-            first_of(&[(socket.is_writable(), "the socket is writable")])
-        }
+        (Call::Join(_), Reply::Joined) if !socket.has_room() => "the socket has no room",
+        (Call::Read(..), Reply::Blocked) if socket.is_readable() => READABLE,
+        (Call::Write(_) | Call::Join(_), Reply::Blocked) if socket.is_writable() => WRITABLE,
         (Call::Shut(_), Reply::Blocked) => "a shutdown never blocks",
         (Call::Read(..) | Call::Join(_) | Call::Shut(_), Reply::Failed(Kind::Zero)) => {
             "only a write can fail with zero"
         }
-        (_, Reply::Interrupted | Reply::Failed(_)) => NOT_HERE,
+        (Call::Join(_), Reply::Joined)
+        | (_, Reply::Blocked | Reply::Interrupted | Reply::Failed(_)) => NOT_HERE,
         (_, _) => other_call(call),
     }
 }

@@ -1,5 +1,5 @@
 // How what is on its way is shown.
-ghost use Rattle.std.specs.Prelude.{◌≡◌};
+ghost use Rattle.std.specs.Prelude.{◌≡◌, if◌then◌else◌};
 ghost use Rattle.script_text.specs.Pages.{Adds};
 ghost use Rattle.script_text.specs.Shown.{stream_text, yes_or_no};
 
@@ -28,4 +28,11 @@ pub(crate) fn yes_or_no(is_so: bool) -> &'static str
     ensures { result.now ≡ yes_or_no is_so }
 {
     if is_so { "yes" } else { "no" }
+}
+
+/// One of two words.
+pub(crate) fn one_of(is_first: bool, first: &'static str, second: &'static str) -> &'static str
+    ensures { result.now ≡ (if is_first then first.now else second.now) }
+{
+    if is_first { first } else { second }
 }

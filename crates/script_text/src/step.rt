@@ -3,6 +3,7 @@ ghost use Rattle.script_text.specs.Steps.{word_of};
 
 use crate::Word;
 use std::marker::Model;
+use world::Event;
 
 /// The bytes that a step brings.
 #[derive(Drop)]
@@ -67,6 +68,15 @@ pub struct NumberedStep {
     pub line: u64,
     /// What the line says.
     pub step: Step,
+}
+
+/// An event of a world, and its line number in the text, from 1.
+#[derive(Drop)]
+pub struct NumberedEvent {
+    /// The line number; skipped lines count.
+    pub line: u64,
+    /// What the line says.
+    pub event: Event,
 }
 
 impl Step {

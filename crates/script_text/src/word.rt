@@ -1,9 +1,10 @@
 ghost use Rattle.std.specs.Prelude.{◌≡◌, false, IfSome, IfNone};
 ghost use Rattle.std.specs.Str.{bytes_eq};
-ghost use Rattle.script_text.specs.Words.{word_text};
+ghost use Rattle.script_text.specs.Words.{word_text, event_word};
 ghost use Rattle.script_text.specs.declared.word.Word.{Word};
 
 use std::fmt;
+use world::{Act, Change, Event, Listening, Polling};
 
 /// The first word of a step or an event, with which a fault names it. A script has it in lower case.
 #[derive(Clone, Copy)]
@@ -39,37 +40,37 @@ pub enum Word {
     Wrote,
 }
 
-/// All words.
-static WORDS: [Word; 29] = [
-    Word::Accept,
-    Word::Arrive,
-    Word::Call,
-    Word::Claim,
-    Word::Close,
-    Word::Connect,
-    Word::Deliver,
-    Word::Drop,
-    Word::End,
-    Word::Fin,
-    Word::Free,
-    Word::Idle,
-    Word::Open,
-    Word::Poll,
-    Word::Pop,
-    Word::Post,
-    Word::Put,
-    Word::Read,
-    Word::Release,
-    Word::Reset,
-    Word::Retire,
-    Word::Room,
-    Word::Shut,
-    Word::Spurious,
-    Word::Sweep,
-    Word::Take,
-    Word::Tick,
-    Word::Vanish,
-    Word::Wrote,
+/// All words, in the order of the variants, and how each is written in a script.
+static WORDS: [(Word, &str); 29] = [
+    (Word::Accept, "accept"),
+    (Word::Arrive, "arrive"),
+    (Word::Call, "call"),
+    (Word::Claim, "claim"),
+    (Word::Close, "close"),
+    (Word::Connect, "connect"),
+    (Word::Deliver, "deliver"),
+    (Word::Drop, "drop"),
+    (Word::End, "end"),
+    (Word::Fin, "fin"),
+    (Word::Free, "free"),
+    (Word::Idle, "idle"),
+    (Word::Open, "open"),
+    (Word::Poll, "poll"),
+    (Word::Pop, "pop"),
+    (Word::Post, "post"),
+    (Word::Put, "put"),
+    (Word::Read, "read"),
+    (Word::Release, "release"),
+    (Word::Reset, "reset"),
+    (Word::Retire, "retire"),
+    (Word::Room, "room"),
+    (Word::Shut, "shut"),
+    (Word::Spurious, "spurious"),
+    (Word::Sweep, "sweep"),
+    (Word::Take, "take"),
+    (Word::Tick, "tick"),
+    (Word::Vanish, "vanish"),
+    (Word::Wrote, "wrote"),
 ];
 
 impl Word {
@@ -78,7 +79,7 @@ impl Word {
         ensures some { IfSome result (λ word. text.now ≡ word_text word) }
         ensures none { IfNone result ((word : Word) → bytes_eq text.now (word_text word) ≡ false) }
     {
-        for word in &WORDS {
+        for (word, _) in &WORDS {
             if text == word.text().as_bytes() {
                 return Some(*word);
             }
@@ -90,43 +91,7 @@ impl Word {
     pub fn text(self) -> &'static str
         ensures { result.now ≡ word_text self }
     {
-        match self {
-            Word::Accept => "accept",
-            Word::Arrive => "arrive",
-            Word::Call => "call",
-            Word::Claim => "claim",
-            Word::Close => "close",
-            Word::Connect => "connect",
-            Word::Deliver => "deliver",
-            Word::Drop => "drop",
-            Word::End => "end",
-            Word::Fin => "fin",
-            Word::Free => "free",
-            Word::Idle => "idle",
-            Word::Open => "open",
-            Word::Poll => "poll",
-            Word::Pop => "pop",
-            Word::Post => "post",
-            Word::Put => "put",
-            Word::Read => "read",
-            Word::Release => "release",
-            Word::Reset => "reset",
-            Word::Retire => "retire",
-            Word::Room => "room",
-            Word::Shut => "shut",
-            Word::Spurious => "spurious",
-            Word::Sweep => "sweep",
-            Word::Take => "take",
-            Word::Tick => "tick",
-            Word::Vanish => "vanish",
-            Word::Wrote => "wrote",
-        }
-    }
-}
-
-impl fmt::Debug for Word {
-    fn fmt<W: fmt::Write>(&self, f: &mut fmt::Formatter<W>) -> fmt::Result {
-        f.write_str(self.text())
+        WORDS[self as usize].1
     }
 }
 
@@ -138,5 +103,38 @@ impl fmt::Display for Word {
 
     fn fmt<W: fmt::Write>(&self, f: &mut fmt::Formatter<W>) -> fmt::Result {
         f.write_str(self.text())
+    }
+}
+
+/// The first word of the line for an event.
+pub fn word_of(event: &Event) -> Word
+    ensures { result ≡ event_word event.now }
+{
+    match event {
+        Event::Tick(_) => Word::Tick,
+        Event::Network(_, _, Change::Arrive(_)) => Word::Arrive,
+        Event::Network(_, _, Change::Fin) => Word::Fin,
+        Event::Network(_, _, Change::Reset) => Word::Reset,
+        Event::Network(_, _, Change::Room) => Word::Room,
+        Event::Spurious(_) => Word::Spurious,
+        Event::Vanish(_) => Word::Vanish,
+        Event::Listen(Listening::Connect) => Word::Connect,
+        Event::Listen(Listening::Accept(_)) => Word::Accept,
+        Event::Listen(Listening::Drop) => Word::Drop,
+        Event::Poll(Polling::Open) => Word::Open,
+        Event::Poll(Polling::Poll(_)) => Word::Poll,
+        Event::Poll(Polling::Deliver) => Word::Deliver,
+        Event::Poll(Polling::Sweep(_)) => Word::Sweep,
+        Event::Poll(Polling::Put) | Event::Work(_, Act::Put) => Word::Put,
+        Event::Work(_, Act::Pop) => Word::Pop,
+        Event::Work(_, Act::Claim) => Word::Claim,
+        Event::Work(_, Act::Take) => Word::Take,
+        Event::Work(_, Act::Call(_)) => Word::Call,
+        Event::Work(_, Act::Post) => Word::Post,
+        Event::Work(_, Act::Release) => Word::Release,
+        Event::Work(_, Act::Expire) => Word::Idle,
+        Event::Work(_, Act::Close) => Word::Close,
+        Event::Work(_, Act::Retire) => Word::Retire,
+        Event::Work(_, Act::Free) => Word::Free,
     }
 }

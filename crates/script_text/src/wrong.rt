@@ -1,7 +1,7 @@
 //! Why a line of a script is not read.
 ghost use Rattle.std.specs.Prelude.{◌≡◌};
 
-use std::alloc::{AllocError, AllocFailed};
+use std::alloc::AllocError;
 
 /// The word of a line that is wrong, and what is expected there: the first such word from the left.
 #[derive(Drop)]
@@ -68,16 +68,6 @@ impl<'a> From<AllocError> for NotRead<'a> {
     ghost from_gives = { λ _ not_read. not_read ≡ NoMemory };
 
     fn from(_error: AllocError) -> NotRead<'a> {
-        NotRead::NoMemory
-    }
-}
-
-impl<'a, T: Drop> From<AllocFailed<T>> for NotRead<'a> {
-    ghost use Rattle.script_text.specs.declared.wrong.NotRead.TheVariants.{NoMemory};
-
-    ghost from_gives = { λ _ not_read. not_read ≡ NoMemory };
-
-    fn from(_error: AllocFailed<T>) -> NotRead<'a> {
         NotRead::NoMemory
     }
 }

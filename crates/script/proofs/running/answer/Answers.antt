@@ -1,8 +1,11 @@
-use Rattle.script.proofs.Telling.{tells_report, tells_refused}
+use Rattle.script.proofs.Telling.{tells_report, tells_refused, fault_told}
 use Rattle.script.proofs.running.answer.Goals as goal
 
-pub returns-clause-report : goal.returns-clause-report
-returns-clause-report g c = tells_report c.args.text.now c.explained-outcome.result _ _ _ c.explained-outcome.ensures c.tell.ensures.ok
+pub returns-in-Ok-clause-report : goal.returns-in-Ok-clause-report
+returns-in-Ok-clause-report g c = tells_report c.args.text.now c.in-Ok.reached _ _ _ c.in-Ok.ensures c.tell_report.ensures.ok
 
-pub returns-clause-refused : goal.returns-clause-refused
-returns-clause-refused g c = tells_refused c.args.text.now c.explained-outcome.result _ _ _ c.explained-outcome.ensures c.tell.ensures.ok
+pub returns-in-Ok-clause-refused : goal.returns-in-Ok-clause-refused
+returns-in-Ok-clause-refused g c = tells_refused c.args.text.now c.in-Ok.reached _ _ _ c.in-Ok.ensures c.tell_report.ensures.ok
+
+pub returns-in-Err-clause-refused : goal.returns-in-Err-clause-refused
+returns-in-Err-clause-refused g c = fault_told c.args.text.now c.in-Err.fault _ _ _ c.in-Err.ensures c.tell_fault.ensures.ok

@@ -1,4 +1,4 @@
-use Rattle.std.proofs.Common.{◌≡◌, false, ℕ, ◌<◌, get_or}
+use Rattle.std.proofs.Common.{◌≡◌, false, ℕ, ◌<◌, get_or, []}
 use Rattle.std.specs.Str.{bytes_eq}
 use Rattle.script_text.specs.Words.{word_text}
 use Rattle.script_text.specs.declared.word.Word.TheVariants.{Accept}
@@ -6,4 +6,4 @@ use Rattle.script_text.proofs.word.Word.named.Given as goal
 
 -- the text is none of the words so far
 abbrev pub invariant-loop-word : goal.invariant-loop-word
-invariant-loop-word l = (k : ℕ) → k < l.word-index → bytes_eq l.text (word_text (get_or l.word-items k Accept)) ≡ false
+invariant-loop-word l = (k : ℕ) → k < l.word-index → bytes_eq l.text (word_text (get_or l.word-items k (Accept, record { ref_ptr = (0, 0); now = [] })).0) ≡ false
