@@ -61,8 +61,7 @@ def library(folder):
 
 @contextlib.contextmanager
 def settings_file(settings):
-    """A file with these settings, beside addresses on loopback, for a while."""
-    settings = {"listen": "127.0.0.1:0", "target": "127.0.0.1:1", **settings}
+    """A file with these settings, for a while."""
     with tempfile.NamedTemporaryFile("w", suffix=".toml") as file:
         file.write("".join(f"{key} = {json.dumps(value)}\n" for key, value in settings.items()))
         file.flush()
@@ -131,15 +130,15 @@ class Relay:
         self.come_to_rest()
         self.rests = True
         self.process.terminate()
-        return self.ended()[1]
+        return self.ended(status=None)
 
-    def ended(self, within=WAIT):
-        """The status and the log lines of a relay that ends."""
+    def ended(self, status=0, within=WAIT):
+        """The log lines of a relay that ends, with this status if one is given."""
         self.is_over = not self.rests
         wrote, complained = self.process.communicate(timeout=within)
-        assert not wrote
+        assert not wrote and status in (None, self.process.returncode)
         self.told = (complained or "").splitlines()
-        return self.process.returncode, self.told
+        return self.told
 
     def come_to_rest(self):
         """Waits until a relay has done nothing for a while but wait for reports, as far as its recording is written."""
