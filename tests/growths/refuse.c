@@ -5,8 +5,7 @@
  * but with GROWTHS_OF_ALL. The count stands in the 8 bytes of the file GROWTHS_COUNT, also where the program ends by a
  * signal.
  *
- * With MOST_THREADS so many threads can be started, and no more. With ONE_BYTE a socket takes one byte at a time. With
- * TIMES_FASTER clocks go so many times as fast. */
+ * With MOST_THREADS so many threads can be started, and no more. With TIMES_FASTER clocks go so many times as fast. */
 #define _GNU_SOURCE
 #include <dlfcn.h>
 #include <errno.h>
@@ -85,10 +84,6 @@ int pthread_create(pthread_t *thread, const pthread_attr_t *attributes, void *(*
   if (!most || started++ < atoi(most)) return create(thread, attributes, run, argument);
   usleep(100000); /* the others sleep by the time that this is told */
   return EAGAIN;
-}
-
-ssize_t send(int socket, const void *bytes, size_t size, int flags) {
-  return syscall(SYS_sendto, socket, bytes, size > 1 && getenv("ONE_BYTE") ? 1 : size, flags, NULL, 0);
 }
 
 int clock_gettime(clockid_t clock, struct timespec *time) {
