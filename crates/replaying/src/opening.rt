@@ -33,7 +33,11 @@ impl Player<'_> {
             self.state.void = generation;
             return Ok(());
         }
-        let Some(limits) = limits_of(&self.score.recording.header, generation, self.lead(generation)) else {
+        let Some(limits) = limits_of(
+            &self.score.recording.header,
+            generation,
+            self.lead(generation),
+        ) else {
             return Err(Flaw::Because("no connection has such a generation"));
         };
         let tape = Tape::new(self.stage.alloc, limits)?;

@@ -109,12 +109,7 @@ fn opening_of(act: &Act) -> Option<(u64, Opening)> {
 
 impl<'a> Player<'a> {
     /// A slot that is to be played, whose first act is this one.
-    pub(crate) fn new(
-        score: Score<'a>,
-        slot: usize,
-        first: Numbered,
-        stage: Stage,
-    ) -> Player<'a> {
+    pub(crate) fn new(score: Score<'a>, slot: usize, first: Numbered, stage: Stage) -> Player<'a> {
         let poller = score.recording.opener(slot).unwrap_or(usize::MAX);
         let posted = first;
         Player {

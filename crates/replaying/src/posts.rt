@@ -127,7 +127,12 @@ impl Player<'_> {
     /// While the slot is held for the last time, whatever can have been reported of its connection is.
     pub(crate) fn note_while_held(&mut self) -> Result<(), Flaw> {
         for _post in 0..self.posts.reports.0.len() {
-            if self.posts.reports.first(&self.state, self.state.taken_by).is_none() {
+            if self
+                .posts
+                .reports
+                .first(&self.state, self.state.taken_by)
+                .is_none()
+            {
                 break;
             }
             if let Some(post) = self.posts.reports.take() {

@@ -40,7 +40,11 @@ pub(crate) fn read<R: Read>(alloc: Global, reader: &mut R) -> Result<Recording, 
             cut: if is_cut { Some(number) } else { None },
             ..recording
         }),
-        None => Err(broken(alloc, number, wanted("a recording begins with relayd recording 1"))),
+        None => Err(broken(
+            alloc,
+            number,
+            wanted("a recording begins with relayd recording 1"),
+        )),
     }
 }
 

@@ -35,7 +35,10 @@ pub(crate) struct Recording {
 impl Recording {
     /// The recording of a relay of these sizes, without any record.
     pub(crate) fn new(alloc: Global, header: Header) -> Result<Recording, AllocError> {
-        let count = header.slots.saturating_add(header.pollers).saturating_add(1);
+        let count = header
+            .slots
+            .saturating_add(header.pollers)
+            .saturating_add(1);
         Ok(Recording {
             header,
             lists: lists(alloc, count)?,

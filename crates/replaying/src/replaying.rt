@@ -95,19 +95,19 @@ fn play_poller(
 }
 
 /// Plays what happened at a slot.
-fn play_slot(
-    alloc: Global,
-    score: Score<'_>,
-    told: &mut Told,
-    slot: usize,
-) -> Result<(), Flaw> {
+fn play_slot(alloc: Global, score: Score<'_>, told: &mut Told, slot: usize) -> Result<(), Flaw> {
     let Some(first) = score.recording.slot(slot).first() else {
         return Ok(());
     };
     let stage = Stage::new(alloc, Stage::LIMITS)?;
     let mut player = Player::new(score, slot, *first, stage);
     let result = player.play(told);
-    let Player { state, last, stage, .. } = player;
+    let Player {
+        state,
+        last,
+        stage,
+        ..
+    } = player;
     match result {
         Ok(()) => told.take(slot, stage.tape),
         Err(flaw) => told.end(flaw, Whose::Slot(slot, state.generation), last, stage),

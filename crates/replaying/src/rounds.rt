@@ -99,7 +99,12 @@ impl Rounds<'_> {
 
     /// The count before the next act of the poller that is no report of this poll.
     fn next_count(&self, place: usize, poll: u64) -> u64 {
-        for next in self.recording.poller(self.poller).get(place..).unwrap_or(&[]) {
+        for next in self
+            .recording
+            .poller(self.poller)
+            .get(place..)
+            .unwrap_or(&[])
+        {
             if next.record.before > poll {
                 return next.record.before;
             }

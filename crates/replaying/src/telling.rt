@@ -100,7 +100,11 @@ fn put_totals(page: &mut Page, told: &Told) {
 /// Adds what is not played, if anything.
 fn put_left_out(page: &mut Page, cut: Option<u64>, left_out: usize) {
     if let Some(line) = cut {
-        page.put(&[Piece::Text("line "), Piece::Number(line), Piece::Text(" is cut off\n")]);
+        page.put(&[
+            Piece::Text("line "),
+            Piece::Number(line),
+            Piece::Text(" is cut off\n"),
+        ]);
     }
     if left_out > 0 {
         page.put(&[
@@ -154,6 +158,7 @@ fn first_line(alloc: Global, flawed: &Flawed, flaw: Flaw, record: &str) -> Page 
     put_reason(&mut page, flaw, &flawed.stage);
     page
 }
+
 fn text_of(alloc: Global, record: Record) -> Result<String, AllocError> {
     format!(in alloc; "{record}")
 }

@@ -144,7 +144,10 @@ impl Told {
         let [_, _, down, up] = became.moved;
         match became.verdict {
             Verdict::Live => {
-                writeln!(self.ends, "live s={slot} g={generation} up={up} down={down}")
+                writeln!(
+                    self.ends,
+                    "live s={slot} g={generation} up={up} down={down}"
+                )
             }
             Verdict::Done => {
                 let done = Done {
