@@ -4,7 +4,7 @@ use crate::flaw::Flaw;
 use crate::order::put_in_order;
 use crate::player::{Player, Score};
 use crate::reading::read;
-use crate::recording::Last;
+use crate::recording::{Last, Recording};
 use crate::rounds::play_rounds;
 use crate::stage::Stage;
 use crate::telling::{tell, tell_flaw};
@@ -36,30 +36,53 @@ impl Replay for OnMachine {
     ) -> Result<Outcome, ReplayFault> {
         let mut recording = read(alloc, input)?;
         let left_out = put_in_order(alloc, &mut recording)?;
-        let clock = Clock::new(alloc, recording.others())?;
-        let posts = play_rounds(alloc, &recording, &clock)?;
-        let score = Score {
-            recording: &recording,
-            clock: &clock,
-            posts: posts.as_slice(),
-            rests: recording.last == Last::Ended || rests && left_out == 0,
-        };
-        let mut told = Told::new(alloc, wanted);
-        let result = play(alloc, score, &mut told);
-        let outcome = match (result, &told.flawed) {
-            (Err(Flaw::NoMemory), _) | (Err(_), None) => return Err(ReplayFault::NoMemory),
-            (Ok(()), _) => {
-                tell(alloc, output, &told, &recording, left_out)?;
-                Outcome::Run
-            }
-            (Err(flaw), Some(flawed)) => {
-                tell_flaw(alloc, output, flawed, flaw)?;
-                Outcome::NoRun
-            }
-        };
+        let rests = recording.last == Last::Ended || rests && left_out == 0;
+        let outcome = deal(alloc, &recording, wanted, rests, left_out, output)?;
         match output.flush() {
             Ok(()) => Ok(outcome),
             Err(_) => Err(ReplayFault::Write),
+        }
+    }
+}
+
+/// Finds out what was posted when, and plays the recording.
+fn deal<W: Write>(
+    alloc: Global,
+    recording: &Recording,
+    wanted: Wanted,
+    rests: bool,
+    left_out: usize,
+    output: &mut W,
+) -> Result<Outcome, ReplayFault> {
+    let clock = Clock::new(alloc, recording.others())?;
+    let posts = play_rounds(alloc, recording, &clock)?;
+    let score = Score {
+        recording,
+        clock: &clock,
+        posts: posts.as_slice(),
+        rests,
+    };
+    play_and_tell(alloc, score, wanted, left_out, output)
+}
+
+fn play_and_tell<W: Write>(
+    alloc: Global,
+    score: Score<'_>,
+    wanted: Wanted,
+    left_out: usize,
+    output: &mut W,
+) -> Result<Outcome, ReplayFault> {
+    let mut told = Told::new(alloc, wanted);
+    let result = play(alloc, score, &mut told);
+    match (result, &told.flawed) {
+        (Err(Flaw::NoMemory), _) | (Err(_), None) => Err(ReplayFault::NoMemory),
+        (Ok(()), _) => {
+            tell(alloc, output, &told, score.recording, left_out)?;
+            Ok(Outcome::Run)
+        }
+        (Err(flaw), Some(flawed)) => {
+            tell_flaw(alloc, output, flawed, flaw)?;
+            Ok(Outcome::NoRun)
         }
     }
 }
