@@ -1,181 +1,179 @@
 //! The calls of a turn, and what the network did before them. That is told as late as can be: bytes and ends arrive just
 //! before the call that shows them, and room comes just before the write that takes it.
-use crate::acts::{polling_of, wire_of};
-use crate::flaw::{Halt, Why};
-use crate::player::Player;
+use crate::flaw::Flaw;
+use crate::player::{Phase, Player};
+use crate::recording::Numbered;
+use crate::stage::Stage;
 use kernel_model::{End, Reply};
-use records::{Answer, Made};
+use records::{Act as Recorded, Answer, Made};
 use relay_core::{Call, Pair};
 use std::alloc::{AllocError, Global};
-use token::{Kind, Side, Token};
-use world::{Act, Change, Event};
+use token::{Kind, Side};
+use world::{Act, Change};
 
 /// The most bytes that arrive at once.
 const MAX_ARRIVAL: usize = 1_024;
 
+/// A call, and how many bytes it asks for or offers.
+#[derive(Clone, Copy)]
+pub(crate) struct Asked {
+    pub call: Call,
+    pub bytes: usize,
+}
+
 impl Player<'_> {
     /// A call was made at an end, and got this answer.
-    pub(crate) fn call(&mut self, token: Token, made: Made) -> Result<(), Halt> {
-        self.check_generation(token)?;
-        self.count_call()?;
-        let side = token.side();
-        let reply = match made {
-            Made::Read(most, answer) => {
-                self.expect(Call::Read(side, most), None)?;
-                self.read(side, most, answer)?
-            }
-            Made::Write(length, answer) => {
-                self.expect(Call::Write(side), Some(length))?;
-                self.write(side, answer)?
-            }
-            Made::Join(answer) => {
-                self.expect(Call::Join(side), None)?;
-                self.join(side, answer)?
-            }
-            Made::Shut(answer) => {
-                self.expect(Call::Shut(side), None)?;
-                self.shut(side, answer)?
-            }
-            Made::Settle | Made::Drop => return Ok(()),
+    pub(crate) fn call(&mut self, side: Side, made: Made) -> Result<(), Flaw> {
+        let Phase::Calling(calls) = self.state.phase else {
+            return Err(Flaw::Because("no turn is in progress"));
         };
-        self.put(Event::Work(0, Act::Call(reply)))?;
+        self.state.phase = Phase::Calling(calls.saturating_add(1));
+        let Some((asked, answer)) = asked_by(side, made) else {
+            return Ok(());
+        };
+        if !self.stage.is_next(asked) {
+            return Err(Flaw::NextCall);
+        }
+        let reply = match answer {
+            Answer::Moved(count) => moved(asked.call, count, self.next),
+            _ => unmoved(answer),
+        };
+        self.stage.bring(asked, reply)?;
+        self.stage.work(&[Act::Call(reply)])?;
         if moves(reply) {
-            self.moved = self.latest;
+            self.state.moved = self.state.latest;
         }
         Ok(())
     }
+}
 
-    /// The connection's next call is this one. A write offers so many bytes.
-    fn expect(&self, call: Call, offered: Option<usize>) -> Result<(), Halt> {
-        let Some(connection) = self.world().and_then(|world| world.connection(0)) else {
-            return Err(Halt::because("no connection is open in the slot"));
+/// Which call was made, and its answer.
+fn asked_by(side: Side, made: Made) -> Option<(Asked, Answer)> {
+    let (call, bytes, answer) = match made {
+        Made::Read(most, answer) => (Call::Read(side, most), most, answer),
+        Made::Write(length, answer) => (Call::Write(side), length, answer),
+        Made::Join(answer) => (Call::Join(side), 0, answer),
+        Made::Shut(answer) => (Call::Shut(side), 0, answer),
+        Made::Settle | Made::Drop => return None,
+    };
+    Some((Asked { call, bytes }, answer))
+}
+
+/// What a read or a write gave that moved so many bytes.
+fn moved(call: Call, count: usize, next: &[Numbered]) -> Reply {
+    match call {
+        Call::Read(_, _) => Reply::Bytes(count),
+        _ if count == 0 => Reply::Failed(Kind::Zero),
+        _ => Reply::Wrote(count, blocks_next(next, call.side())),
+    }
+}
+
+/// What any other call gave. The world refuses what is no answer of its call.
+fn unmoved(answer: Answer) -> Reply {
+    match answer {
+        Answer::Moved(count) => Reply::Bytes(count),
+        Answer::End => Reply::End,
+        Answer::Joined => Reply::Joined,
+        Answer::Shut => Reply::Shut,
+        Answer::Blocked => Reply::Blocked,
+        Answer::Interrupted => Reply::Interrupted,
+        Answer::Failed(kind) => Reply::Failed(kind),
+    }
+}
+
+/// Whether the next write to an end, or the next question whether it is connected, would block.
+fn blocks_next(next: &[Numbered], side: Side) -> bool {
+    for numbered in next {
+        match numbered.record.act {
+            Recorded::Poller(_, _) => return false,
+            Recorded::Wire(token, Made::Write(_, answer) | Made::Join(answer)) => {
+                if token.side() == side && answer != Answer::Interrupted {
+                    return answer == Answer::Blocked;
+                }
+            }
+            _ => {}
+        }
+    }
+    false
+}
+
+/// Whether a reply moves a connection.
+fn moves(reply: Reply) -> bool {
+    !matches!(
+        reply,
+        Reply::Blocked | Reply::Interrupted | Reply::Failed(_)
+    )
+}
+
+impl Stage {
+    /// The connection's next call.
+    pub(crate) fn next_call(&self) -> Option<Asked> {
+        let pair = self.pair()?;
+        let call = pair.next()?;
+        let bytes = match call {
+            Call::Read(_, most) => most,
+            Call::Write(_) => offer_of(pair, call),
+            Call::Join(_) | Call::Shut(_) => 0,
         };
-        let pair = &connection.pair;
-        let is_next = pair.next() == Some(call);
-        if is_next && offered.is_none_or(|length| length == offer_of(pair, call)) {
-            Ok(())
-        } else {
-            Err(Halt::Flawed(None, Why::NextCall))
+        Some(Asked { call, bytes })
+    }
+
+    fn is_next(&self, asked: Asked) -> bool {
+        match self.next_call() {
+            Some(next) => next.call == asked.call && next.bytes == asked.bytes,
+            None => false,
         }
     }
 
-    fn read(&mut self, side: Side, most: usize, answer: Answer) -> Result<Reply, Halt> {
-        match answer {
-            Answer::Moved(count) => {
-                if count <= most {
-                    self.arrive(side, count)?;
-                }
-                Ok(Reply::Bytes(count))
-            }
-            Answer::End => {
-                if !self.end_of(side).is_some_and(|end| end.has_fin()) {
-                    self.change(side, Change::Fin)?;
-                }
-                Ok(Reply::End)
-            }
-            _ => self.unmoved(side, answer),
-        }
-    }
-
-    fn write(&mut self, side: Side, answer: Answer) -> Result<Reply, Halt> {
-        match answer {
-            Answer::Moved(0) => Ok(Reply::Failed(Kind::Zero)),
-            Answer::Moved(count) => {
-                self.make_room(side)?;
-                Ok(Reply::Wrote(count, self.blocks_next(side)))
-            }
-            _ => self.unmoved(side, answer),
-        }
-    }
-
-    fn join(&mut self, side: Side, answer: Answer) -> Result<Reply, Halt> {
-        match answer {
-            Answer::Joined => {
-                self.make_room(side)?;
-                Ok(Reply::Joined)
-            }
-            _ => self.unmoved(side, answer),
-        }
-    }
-
-    fn shut(&mut self, side: Side, answer: Answer) -> Result<Reply, Halt> {
-        match answer {
-            Answer::Shut => Ok(Reply::Shut),
-            _ => self.unmoved(side, answer),
-        }
-    }
-
-    /// A call that would block, was interrupted or failed. An error is at the end before it shows.
-    fn unmoved(&mut self, side: Side, answer: Answer) -> Result<Reply, Halt> {
-        match answer {
-            Answer::Blocked => Ok(Reply::Blocked),
-            Answer::Interrupted => Ok(Reply::Interrupted),
-            Answer::Failed(kind) => {
-                let has_err = self.end_of(side).is_some_and(|end| end.has_err());
-                if kind != Kind::Zero && !has_err {
-                    self.change(side, Change::Reset)?;
-                }
-                Ok(Reply::Failed(kind))
-            }
-            _ => Err(Halt::because("the call has no such answer")),
-        }
-    }
-
-    /// Bytes arrive at an end, so that this many are unread.
-    fn arrive(&mut self, side: Side, count: usize) -> Result<(), Halt> {
-        let (arrived, unread) = match self.end_of(side) {
-            Some(end) => (end.arrived().len(), end.unread().len()),
+    /// The network does what a reply to a call shows: bytes arrive, or an end of input, an error or room is there.
+    fn bring(&mut self, asked: Asked, reply: Reply) -> Result<(), Flaw> {
+        let side = asked.call.side();
+        let (bytes, change) = match self.end(side) {
+            Some(end) => (bytes_missing(end, asked, reply), missing(end, reply)),
             None => return Ok(()),
         };
-        let mut first = arrived;
-        let mut left = count.saturating_sub(unread);
-        for _piece in 0..left / MAX_ARRIVAL + 1 {
+        if let Some(change) = change {
+            return self.change(side, change);
+        }
+        self.arrive(side, bytes)
+    }
+
+    /// So many bytes arrive at an end.
+    fn arrive(&mut self, side: Side, count: usize) -> Result<(), Flaw> {
+        let mut left = count;
+        for _piece in 0..count / MAX_ARRIVAL + 1 {
             let length = left.min(MAX_ARRIVAL);
-            if length > 0 {
-                let bytes = stand_ins(self.alloc, first, length)?;
-                self.change(side, Change::Arrive(bytes))?;
-            }
-            first = first.saturating_add(length);
+            self.arrive_at_once(side, length)?;
             left -= length;
         }
         Ok(())
     }
 
-    fn make_room(&mut self, side: Side) -> Result<(), Halt> {
-        if self.end_of(side).is_some_and(|end| end.has_room()) {
-            return Ok(());
-        }
-        self.change(side, Change::Room)
+    fn arrive_at_once(&mut self, side: Side, length: usize) -> Result<(), Flaw> {
+        let first = match self.end(side) {
+            Some(end) if length > 0 => end.arrived().len(),
+            _ => return Ok(()),
+        };
+        let bytes = stand_ins(self.alloc, first, length)?;
+        self.change(side, Change::Arrive(bytes))
     }
+}
 
-    fn change(&mut self, side: Side, change: Change) -> Result<(), Halt> {
-        self.put(Event::Network(0, side, change))
+/// How many bytes a read gives beside those that are unread. One that gives more than it asks for gets none of them.
+fn bytes_missing(end: &End, asked: Asked, reply: Reply) -> usize {
+    match reply {
+        Reply::Bytes(count) if count <= asked.bytes => count.saturating_sub(end.unread().len()),
+        _ => 0,
     }
+}
 
-    /// Whether the next write to an end, or the next question whether it is connected, would block.
-    fn blocks_next(&self, side: Side) -> bool {
-        for place in self.place.saturating_add(1)..self.score.plan.acts.len() {
-            let Some((_, record)) = self.at(place) else {
-                return false;
-            };
-            if polling_of(&record.act).is_some() {
-                return false;
-            }
-            if let Some((token, made)) = wire_of(&record.act) {
-                if let (true, Some(blocked)) = (token.side() == side, would_block(made)) {
-                    return blocked;
-                }
-            }
-        }
-        false
-    }
-
-    /// The end of the open connection on a side.
-    fn end_of(&self, side: Side) -> Option<&End> {
-        let world = self.world()?;
-        let connection = world.connection(0)?;
-        let open = world.kernel().end(connection.descriptor(side))?;
-        Some(&open.socket)
+/// What else an end lacks that a reply shows.
+fn missing(end: &End, reply: Reply) -> Option<Change> {
+    match reply {
+        Reply::End if !end.has_fin() => Some(Change::Fin),
+        Reply::Wrote(_, _) | Reply::Joined if !end.has_room() => Some(Change::Room),
+        Reply::Failed(kind) if kind != Kind::Zero && !end.has_err() => Some(Change::Reset),
+        _ => None,
     }
 }
 
@@ -186,24 +184,6 @@ fn offer_of(pair: &Pair, call: Call) -> usize {
         0 => pair.ring_len(direction),
         length => length,
     }
-}
-
-/// Whether a write, or the question whether an end is connected, would block. None for what says nothing of that.
-fn would_block(made: Made) -> Option<bool> {
-    match made {
-        Made::Write(_, answer) | Made::Join(answer) if answer != Answer::Interrupted => {
-            Some(answer == Answer::Blocked)
-        }
-        _ => None,
-    }
-}
-
-/// Whether a reply moves a connection.
-fn moves(reply: Reply) -> bool {
-    !matches!(
-        reply,
-        Reply::Blocked | Reply::Interrupted | Reply::Failed(_)
-    )
 }
 
 /// Bytes that stand for those of a place, each told by that.

@@ -14,18 +14,25 @@ pub(crate) struct Clock {
 impl Clock {
     /// The readings of these records, which rise by the count before them.
     pub(crate) fn new(alloc: Global, records: &[Numbered]) -> Result<Clock, AllocError> {
-        let mut before = Vec::new(alloc);
-        let mut after = Vec::new(alloc);
+        let mut clock = Clock {
+            before: Vec::new(alloc),
+            after: Vec::new(alloc),
+        };
+        clock.take(records)?;
+        Ok(clock)
+    }
+
+    fn take(&mut self, records: &[Numbered]) -> Result<(), AllocError> {
         for numbered in records {
             if let Act::Second(second) = numbered.record.act {
-                before.push((numbered.record.before, second))?;
-                after.push((numbered.record.after, second))?;
+                self.before.push((numbered.record.before, second))?;
+                self.after.push((numbered.record.after, second))?;
             }
         }
-        after.sort()?;
-        rise(before.as_mut_slice());
-        rise(after.as_mut_slice());
-        Ok(Clock { before, after })
+        self.after.sort()?;
+        rise(self.before.as_mut_slice());
+        rise(self.after.as_mut_slice());
+        Ok(())
     }
 
     /// The earliest and the latest second of a reading between these two counts, which was made by a thread of which nothing

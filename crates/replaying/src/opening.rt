@@ -2,14 +2,15 @@
 ghost use Rattle.std.specs.Prelude.{◌≤◌, IfSome};
 ghost use Rattle.world.specs.States.{IsWithinLimits};
 
-use crate::acts::{polling_of, wire_of};
-use crate::flaw::Halt;
-use crate::plan::Placed;
-use crate::player::{Phase, Player};
-use kernel_model::Accepting;
-use records::{Header, Made, Opening, Record};
-use token::{MAX_GENERATION, Side, Token};
-use world::{Event, Lead, Limits, Listening, Polling, Tape};
+use crate::flaw::Flaw;
+use crate::player::{Phase, Player, State};
+use crate::recording::Numbered;
+use crate::rounds::polled;
+use crate::told::Told;
+use records::{Act, Header, Made, Opening, Record};
+use std::mem;
+use token::{MAX_GENERATION, Side};
+use world::{Event, Lead, Limits, Polling as Polled, Tape};
 
 /// The lengths that a line about a client has.
 const LEAST_LEAD: usize = 32;
@@ -20,97 +21,112 @@ impl Player<'_> {
     /// The front was asked to open a connection here.
     pub(crate) fn open(
         &mut self,
-        placed: Placed,
+        told: &mut Told,
         record: Record,
         generation: u64,
         opening: Opening,
-    ) -> Result<(), Halt> {
-        if !matches!(self.phase, Phase::Free) {
-            return Err(Halt::because("the slot is not free"));
+    ) -> Result<(), Flaw> {
+        if let Some(why) = self.state.unopened(generation) {
+            return Err(Flaw::Because(why));
         }
-        if self.generation > 0 && generation != self.generation.saturating_add(1) {
-            return Err(Halt::because("the generation is not the slot's next one"));
-        }
-        if opening != Opening::Opened || self.is_void(generation) {
-            self.void = generation;
+        if opening != Opening::Opened || is_void(self.next, generation) {
+            self.state.void = generation;
             return Ok(());
         }
-        let Some(limits) = limits_of(&self.score.header, generation, self.lead(generation)) else {
-            return Err(Halt::because("no connection has such a generation"));
+        let Some(limits) = limits_of(
+            &self.score.recording.header,
+            generation,
+            self.lead(generation),
+        ) else {
+            return Err(Flaw::Because("no connection has such a generation"));
         };
-        self.finish()?;
-        self.tape = Some(Tape::new(self.alloc, limits)?);
-        self.generation = generation;
-        self.phase = Phase::Open;
-        self.enter(placed, record);
-        self.put(Event::Listen(Listening::Connect))?;
-        self.put(Event::Listen(Listening::Accept(Accepting::Accepted)))?;
-        self.put(Event::Poll(Polling::Open))
+        let tape = Tape::new(self.stage.alloc, limits)?;
+        told.take(self.slot, mem::replace(&mut self.stage.tape, tape))?;
+        self.enter(record, generation);
+        self.stage.come_in()?;
+        self.stage.put(Event::Poll(Polled::Open))
     }
 
-    /// Whether an end of the connection is dropped before its first turn: then it was never open.
-    fn is_void(&self, generation: u64) -> bool {
-        match self.next_wire() {
-            Some((token, Made::Drop)) => token.generation() == generation,
-            _ => false,
+    /// Time begins at the second of the poller's round.
+    fn enter(&mut self, record: Record, generation: u64) {
+        let since = self.polled_before(record.before);
+        let (earliest, latest) = self.score.clock.between(since, record.before);
+        self.posted = self.last;
+        self.state = State {
+            phase: Phase::Open,
+            generation,
+            void: self.state.void,
+            taken_from: record.after,
+            taken_by: record.after,
+            free_from: record.after,
+            base: earliest,
+            latest,
+            moved: latest,
+        };
+    }
+
+    /// The count when the last poll of the slot's poller before this count had ended.
+    fn polled_before(&self, count: u64) -> u64 {
+        let acts = self.score.recording.poller(self.poller);
+        let place = acts.partition_point(|own| own.record.before < count);
+        for own in acts.get(..place).unwrap_or(&[]).iter().rev() {
+            if polled(&own.record.act).is_some() {
+                return own.record.after;
+            }
         }
-    }
-
-    /// What was posted before is gone, and time begins at the second of the poller's round.
-    fn enter(&mut self, placed: Placed, record: Record) {
-        let (earliest, latest) = self.score.clock.between(placed.since, record.before);
-        self.base = earliest;
-        self.latest = latest;
-        self.moved = self.latest;
-        self.posted = placed.index;
-        self.free_from = record.after;
-        self.taken_from = record.after;
-        self.taken_by = record.after;
-        self.pending.clear();
+        0
     }
 
     /// Stand-ins for what the target of a connection is sent first. Its length shows by the first write there.
     fn lead(&self, generation: u64) -> Lead {
-        if !self.score.header.proxy {
+        if !self.score.recording.header.proxy {
             return Lead::NONE;
         }
-        let length = self.first_offer(generation);
         let bytes = [b'-'; MOST_LEAD];
-        Lead::new(&bytes[..length]).unwrap_or(Lead::NONE)
+        Lead::new(&bytes[..first_offer(self.next, generation)]).unwrap_or(Lead::NONE)
     }
+}
 
-    /// How many bytes the first write to the target of this generation offers, if that can be such a line.
-    fn first_offer(&self, generation: u64) -> usize
-        ensures { result ≤ MOST_LEAD }
-    {
-        for place in self.place.saturating_add(1)..self.score.plan.acts.len() {
-            let Some((_, record)) = self.at(place) else {
-                return LEAST_LEAD;
-            };
-            if polling_of(&record.act).is_some() {
-                return LEAST_LEAD;
-            }
-            if let Some((token, made)) = wire_of(&record.act) {
-                if let (true, Some(length)) = (is_target(token, generation), offered(made)) {
+impl State {
+    /// Why no connection of this generation can be opened now, if that is so.
+    fn unopened(&self, generation: u64) -> Option<&'static str> {
+        if !matches!(self.phase, Phase::Free) {
+            return Some("the slot is not free");
+        }
+        if self.generation > 0 && generation != self.generation.saturating_add(1) {
+            return Some("the generation is not the slot's next one");
+        }
+        None
+    }
+}
+
+/// Whether an end of the connection is dropped before its first turn: then it was never open.
+fn is_void(next: &[Numbered], generation: u64) -> bool {
+    match next.first() {
+        Some(first) => match first.record.act {
+            Act::Wire(token, Made::Drop) => token.generation() == generation,
+            _ => false,
+        },
+        None => false,
+    }
+}
+
+/// How many bytes the first write to the target of this generation offers, if that can be such a line.
+fn first_offer(next: &[Numbered], generation: u64) -> usize
+    ensures { result ≤ MOST_LEAD }
+{
+    for numbered in next {
+        match numbered.record.act {
+            Act::Poller(_, _) => break,
+            Act::Wire(token, Made::Write(length, _)) => {
+                if token.side() == Side::Target && token.generation() == generation {
                     return length.max(LEAST_LEAD).min(MOST_LEAD);
                 }
             }
+            _ => {}
         }
-        LEAST_LEAD
     }
-}
-
-/// How many bytes a write offers.
-fn offered(made: Made) -> Option<usize> {
-    match made {
-        Made::Write(length, _) => Some(length),
-        _ => None,
-    }
-}
-
-/// Whether this is the target's end of a connection of this generation.
-fn is_target(token: Token, generation: u64) -> bool {
-    token.side() == Side::Target && token.generation() == generation
+    LEAST_LEAD
 }
 
 /// The limits of the world of one slot, which begins before this generation.

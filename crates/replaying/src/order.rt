@@ -1,56 +1,75 @@
 //! Puts records in order, and finds out where a recording is no longer complete.
-use crate::acts::{begun_at, ended_at, polling_of, wire_of};
-use crate::recording::{Last, Numbered, Recording};
-use records::{Act, Polling, Record, ReplayFault};
+use crate::recording::{Last, Numbered, Recording, is_twice};
+use records::{Act, Made, Polling, ReplayFault};
 use std::alloc::{AllocError, Global};
 
-/// Puts the records of a recording in the order of the counts before them. Refuses with `Broken` if two acts have the same
+/// Puts the lists of a recording in the order of the counts before the records. Refuses with `Broken` if two acts have the same
 /// count, or if a recording that says it is complete is not.
 ///
 /// Where a recording was stopped, threads lost what they had not handed over: then only the records before the first lost
 /// one are left. Answers how many were left out.
 pub(crate) fn put_in_order(alloc: Global, recording: &mut Recording) -> Result<usize, ReplayFault> {
-    recording
-        .records
-        .sort_by_key(|numbered: &Numbered| numbered.record.before)?;
-    let counts = counts_of(alloc, recording.records.as_slice())?;
+    sort(recording)?;
+    let wrong = match first_gap(alloc, recording)? {
+        Gap::None => return Ok(0),
+        Gap::Lost(lost) if recording.last != Last::Ended => return Ok(leave_out(recording, lost)),
+        Gap::Lost(lost) => format!(in alloc; "the record with the count {lost} is missing")?,
+        Gap::Twice(count) => format!(in alloc; "two acts have the count {count}")?,
+    };
+    Err(ReplayFault::Broken(wrong))
+}
+
+/// What is wrong with the counts, at the first such place.
+#[derive(Clone, Copy)]
+enum Gap {
+    None,
+    /// Two acts have this count.
+    Twice(u64),
+    /// This count is of no record.
+    Lost(u64),
+}
+
+fn sort(recording: &mut Recording) -> Result<(), AllocError> {
+    for list in recording.lists.iter_mut() {
+        list.sort_by_key(|numbered: &Numbered| numbered.record.before)?;
+    }
+    Ok(())
+}
+
+fn first_gap(alloc: Global, recording: &Recording) -> Result<Gap, AllocError> {
+    let counts = counts_of(alloc, recording)?;
     if let Some(count) = first_twice(counts.as_slice()) {
-        let text = format!(in alloc; "two acts have the count {count}")?;
-        return Err(ReplayFault::Broken(text));
+        return Ok(Gap::Twice(count));
     }
-    let begun = match recording.last {
-        Last::Ended => Vec::new(alloc),
-        Last::Stopped => begun(alloc, recording)?,
-    };
-    let Some(lost) = first_lost(counts.as_slice(), begun.as_slice()) else {
-        return Ok(0);
-    };
-    if recording.last == Last::Ended {
-        let text = format!(in alloc; "the record with the count {lost} is missing")?;
-        return Err(ReplayFault::Broken(text));
+    let begun = begun(alloc, recording)?;
+    match first_lost(counts.as_slice(), begun.as_slice()) {
+        Some(lost) => Ok(Gap::Lost(lost)),
+        None => Ok(Gap::None),
     }
-    let all = recording.records.len();
-    let kept = recording
-        .records
-        .partition_point(|numbered| numbered.record.before < lost);
-    recording.records.truncate(kept);
-    Ok(all.saturating_sub(kept))
 }
 
 /// All counts, in order. Reports have those of their poll.
-fn counts_of(alloc: Global, records: &[Numbered]) -> Result<Vec<u64>, AllocError> {
+fn counts_of(alloc: Global, recording: &Recording) -> Result<Vec<u64>, AllocError> {
     let mut counts = Vec::new(alloc);
-    for numbered in records {
-        if !is_report(numbered.record.act) {
-            counts.push(numbered.record.before)?;
-            counts.push(numbered.record.after)?;
-        }
+    for (at, list) in recording.lists.iter().enumerate() {
+        add_counts(&mut counts, list.as_slice(), at < recording.header.slots)?;
     }
     counts.sort_unstable();
     Ok(counts)
 }
 
-fn is_report(act: Act) -> bool {
+fn add_counts(counts: &mut Vec<u64>, list: &[Numbered], of_slot: bool) -> Result<(), AllocError> {
+    for numbered in list {
+        let record = &numbered.record;
+        if !is_twice(of_slot, &record.act) && !is_report(&record.act) {
+            counts.push(record.before)?;
+            counts.push(record.after)?;
+        }
+    }
+    Ok(())
+}
+
+fn is_report(act: &Act) -> bool {
     matches!(act, Act::Poller(_, Polling::Reported(_)))
 }
 
@@ -66,48 +85,35 @@ fn first_twice(counts: &[u64]) -> Option<u64> {
     None
 }
 
-/// For each act that may have been begun and not ended when the relay was stopped, a count that is below its own: the last
-/// one of each poller, which may have been waiting for reports, and the last one of each turn that has not ended.
+/// For each act that may have been begun and not ended when the relay was stopped, a count that is below its own, in order.
 fn begun(alloc: Global, recording: &Recording) -> Result<Vec<u64>, AllocError> {
-    let mut pollers = vec![in alloc; 0u64; recording.header.pollers]?;
-    let mut turns = vec![in alloc; None; recording.header.slots]?;
-    for numbered in &recording.records {
-        note_last(
-            &numbered.record,
-            pollers.as_mut_slice(),
-            turns.as_mut_slice(),
-        );
-    }
-    for turn in &turns {
-        if let Some(count) = turn {
-            pollers.push(*count)?;
+    let mut begun = vec![in alloc; u64::MAX; recording.lists.len()]?;
+    if recording.last != Last::Ended {
+        for (at, count) in begun.iter_mut().enumerate() {
+            *count = last_begun(recording, at);
         }
     }
-    pollers.sort_unstable();
-    Ok(pollers)
+    begun.sort_unstable();
+    Ok(begun)
 }
 
-/// Notes the last count of a poller, or of a turn.
-fn note_last(record: &Record, pollers: &mut [u64], turns: &mut [Option<u64>]) {
-    let after = record.after;
-    if let Some((poller, _)) = polling_of(&record.act) {
-        if let Some(last) = pollers.get_mut(poller) {
-            *last = after;
-        }
-    } else if let Some((token, _)) = wire_of(&record.act) {
-        if let Some(Some(last)) = turns.get_mut(token.slot()) {
-            *last = after;
-        }
-    } else if let Some(slot) = begun_at(&record.act) {
-        set(turns, slot, Some(after));
-    } else if let Some(slot) = ended_at(&record.act) {
-        set(turns, slot, None);
+/// The last count of a poller, which may have been waiting for reports, or that of a turn which has not ended, or else no count
+/// that is below any.
+fn last_begun(recording: &Recording, at: usize) -> u64 {
+    let is_poller = at >= recording.header.slots && at < recording.lists.len().saturating_sub(1);
+    match recording.list(at).last() {
+        Some(last) if is_poller || is_of_turn(&last.record.act) => last.record.after,
+        None if is_poller => 0,
+        _ => u64::MAX,
     }
 }
 
-fn set(turns: &mut [Option<u64>], slot: usize, last: Option<u64>) {
-    if let Some(turn) = turns.get_mut(slot) {
-        *turn = last;
+/// Whether this is the beginning of a turn or one of its calls.
+fn is_of_turn(act: &Act) -> bool {
+    match act {
+        Act::Begin(_) => true,
+        Act::Wire(_, made) => !matches!(made, Made::Settle | Made::Drop),
+        _ => false,
     }
 }
 
@@ -126,4 +132,28 @@ fn first_lost(counts: &[u64], begun: &[u64]) -> Option<u64> {
         next = count.saturating_add(1);
     }
     None
+}
+
+/// Leaves out the records from this count on, and answers how many those are.
+fn leave_out(recording: &mut Recording, lost: u64) -> usize {
+    let slots = recording.header.slots;
+    let mut left_out: usize = 0;
+    for (at, list) in recording.lists.iter_mut().enumerate() {
+        left_out = left_out.saturating_add(leave_out_of(list, at < slots, lost));
+    }
+    left_out
+}
+
+fn leave_out_of(list: &mut Vec<Numbered>, of_slot: bool, lost: u64) -> usize {
+    let mut kept: usize = 0;
+    let mut left_out: usize = 0;
+    for numbered in list.as_slice() {
+        if numbered.record.before < lost {
+            kept = kept.saturating_add(1);
+        } else if !is_twice(of_slot, &numbered.record.act) {
+            left_out = left_out.saturating_add(1);
+        }
+    }
+    list.truncate(kept);
+    left_out
 }

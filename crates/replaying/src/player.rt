@@ -1,14 +1,22 @@
 //! One slot is played, act by act.
-use crate::acts::{begun_at, polling_of, wire_of};
 use crate::clock::Clock;
-use crate::flaw::Halt;
-use crate::plan::{Placed, Post, SlotPlan, Sweep};
-use crate::recording::Numbered;
-use crate::totals::{Became, Totals};
-use records::{Header, Made, Polling, Record};
-use std::alloc::Global;
+use crate::flaw::Flaw;
+use crate::posts::{Post, Posts, posts_at};
+use crate::recording::{Numbered, Recording};
+use crate::stage::Stage;
+use crate::told::Told;
+use records::{Act, Made, Opening, Polling, Record};
 use token::{Side, Token};
-use world::{Event, Tape, World};
+
+/// What slots are played by.
+#[derive(Clone, Copy)]
+pub(crate) struct Score<'a> {
+    pub recording: &'a Recording,
+    pub clock: &'a Clock,
+    pub posts: &'a [Vec<Post>],
+    /// Whether all came to rest.
+    pub rests: bool,
+}
 
 /// Where the play of a slot stands.
 #[derive(Clone, Copy)]
@@ -25,165 +33,143 @@ pub(crate) enum Phase {
     Closing(Option<Side>),
 }
 
-/// What a slot is played by.
+/// What is known of the connection in a slot, or of the last one there.
 #[derive(Clone, Copy)]
-pub(crate) struct Score<'a> {
-    pub header: Header,
-    pub records: &'a [Numbered],
-    pub clock: &'a Clock,
-    pub plan: &'a SlotPlan,
-    /// Those of the slot's poller.
-    pub sweeps: &'a [Sweep],
-    /// Whether all came to rest.
-    pub rests: bool,
-}
-
-/// A slot that is played.
-#[derive(Drop)]
-pub(crate) struct Player<'a> {
-    pub alloc: Global,
-    pub score: Score<'a>,
-    /// The place of the act at hand.
-    pub place: usize,
+pub(crate) struct State {
     pub phase: Phase,
-    /// The world of the last connection. It begins with the slot free, as the one before left it.
-    pub tape: Option<Tape>,
-    /// The generation of the last connection, or of the last opening that came to nothing.
+    /// Its generation, 0 before the first one, and that of the last opening that came to nothing.
     pub generation: u64,
     pub void: u64,
-    /// The reports that may have been posted, and how many more are looked at already.
-    pub pending: Vec<Post>,
-    pub reports: usize,
-    pub sweeps: usize,
-    /// The index of the last act that posted, and of the last one at the slot.
-    pub posted: usize,
-    pub last: usize,
     /// Between these two counts the last turn took its notes.
     pub taken_from: u64,
     pub taken_by: u64,
     /// From this count on the slot was released.
     pub free_from: u64,
-    /// The second at which the world began, and the latest ones of the turn in progress and of the last movement.
+    /// The second at which its world began, and the latest ones of the turn in progress and of the last movement.
     pub base: u64,
     pub latest: u64,
     pub moved: u64,
-    pub totals: Totals,
-    /// What became of each connection.
-    pub became: Vec<Became>,
-    /// The generation of the connection whose script is wanted, or 0, and its tape.
-    pub wanted: u64,
-    pub kept: Option<Tape>,
+}
+
+/// A slot that is played.
+#[derive(Drop)]
+pub(crate) struct Player<'a> {
+    pub score: Score<'a>,
+    pub slot: usize,
+    pub poller: usize,
+    /// The acts that follow the one at hand.
+    pub next: &'a [Numbered],
+    pub posts: Posts<'a>,
+    pub state: State,
+    /// The record at hand, and the last one that posted.
+    pub last: Numbered,
+    pub posted: Numbered,
+    /// The world of the connection. It begins with the slot free, as the one before left it.
+    pub stage: Stage,
+}
+
+impl State {
+    /// That of a slot in which nothing was opened yet.
+    const NEW: State = State {
+        phase: Phase::Free,
+        generation: 0,
+        void: 0,
+        taken_from: 0,
+        taken_by: 0,
+        free_from: 0,
+        base: 0,
+        latest: 0,
+        moved: 0,
+    };
+
+    /// Whether this is an end of the connection in the slot.
+    fn has(&self, token: Token) -> bool {
+        token.generation() == self.generation && !matches!(self.phase, Phase::Free)
+    }
+
+    /// Whether this is an end of a connection that came to nothing.
+    fn had(&self, token: Token) -> bool {
+        token.generation() == self.void && matches!(self.phase, Phase::Free)
+    }
+}
+
+fn wire_of(act: &Act) -> Option<(Token, Made)> {
+    match act {
+        Act::Wire(token, made) => Some((*token, *made)),
+        _ => None,
+    }
+}
+
+fn opening_of(act: &Act) -> Option<(u64, Opening)> {
+    match act {
+        Act::Poller(_, Polling::Open(_, generation, opening)) => Some((*generation, *opening)),
+        _ => None,
+    }
 }
 
 impl<'a> Player<'a> {
-    pub(crate) fn new(alloc: Global, score: Score<'a>, wanted: u64) -> Player<'a> {
+    /// A slot that is to be played, whose first act is this one.
+    pub(crate) fn new(score: Score<'a>, slot: usize, first: Numbered, stage: Stage) -> Player<'a> {
+        let poller = score.recording.opener(slot).unwrap_or(usize::MAX);
+        let posted = first;
         Player {
-            alloc,
             score,
-            place: 0,
-            phase: Phase::Free,
-            tape: None,
-            generation: 0,
-            void: 0,
-            pending: Vec::new(alloc),
-            reports: 0,
-            sweeps: 0,
-            posted: 0,
-            last: 0,
-            taken_from: 0,
-            taken_by: 0,
-            free_from: 0,
-            base: 0,
-            latest: 0,
-            moved: 0,
-            totals: Totals::NONE,
-            became: Vec::new(alloc),
-            wanted,
-            kept: None,
+            slot,
+            poller,
+            next: score.recording.slot(slot),
+            posts: Posts {
+                reports: posts_at(score.posts, slot),
+                sweeps: posts_at(score.posts, score.recording.at_poller(poller)),
+            },
+            state: State::NEW,
+            last: first,
+            posted,
+            stage,
         }
     }
 
     /// Plays all acts of the slot.
-    pub(crate) fn play(&mut self) -> Result<(), Halt> {
-        for place in 0..self.score.plan.acts.len() {
-            self.place = place;
-            if let Some((placed, record)) = self.at(place) {
-                self.last = placed.index;
-                self.act(placed, record)?;
-            }
+    pub(crate) fn play(&mut self, told: &mut Told) -> Result<(), Flaw> {
+        for _act in 0..self.next.len() {
+            let Some((first, next)) = self.next.split_first() else {
+                break;
+            };
+            self.last = *first;
+            self.next = next;
+            self.act(first.record, told)?;
         }
         if self.score.rests {
-            self.rest()?;
+            return self.rest();
         }
-        self.finish()
+        Ok(())
     }
 
-    /// The act at a place, with its record.
-    pub(crate) fn at(&self, place: usize) -> Option<(Placed, Record)> {
-        let placed = *self.score.plan.acts.get(place)?;
-        let numbered = self.score.records.get(placed.index)?;
-        Some((placed, numbered.record))
-    }
-
-    /// What was done with a wire behind the act at hand.
-    pub(crate) fn next_wire(&self) -> Option<(Token, Made)> {
-        match self.at(self.place.saturating_add(1)) {
-            Some((_, record)) => wire_of(&record.act),
-            None => None,
-        }
-    }
-
-    fn act(&mut self, placed: Placed, record: Record) -> Result<(), Halt> {
+    fn act(&mut self, record: Record, told: &mut Told) -> Result<(), Flaw> {
         if let Some((token, made)) = wire_of(&record.act) {
             return self.wire(record, token, made);
         }
-        match polling_of(&record.act) {
-            Some((_, Polling::Open(_, generation, opening))) => {
-                self.open(placed, record, generation, opening)
-            }
-            Some(_) => Ok(()),
-            None if begun_at(&record.act).is_some() => self.begin(record),
-            None => self.end(record),
+        if let Some((generation, opening)) = opening_of(&record.act) {
+            return self.open(told, record, generation, opening);
+        }
+        if matches!(record.act, Act::Begin(_)) {
+            self.begin(record)
+        } else {
+            self.end(record)
         }
     }
 
     /// Something was done with a wire.
-    fn wire(&mut self, record: Record, token: Token, made: Made) -> Result<(), Halt> {
+    fn wire(&mut self, record: Record, token: Token, made: Made) -> Result<(), Flaw> {
+        if !self.state.has(token) {
+            if matches!(made, Made::Drop) && self.state.had(token) {
+                return Ok(());
+            }
+            return Err(Flaw::Because("it is no end of the connection in the slot"));
+        }
         match made {
-            Made::Settle => self.settle(token, record),
-            Made::Drop => self.drop_end(token, record),
-            made => self.call(token, made),
+            Made::Settle => self.settle(token.side(), record),
+            Made::Drop => self.drop_end(token.side(), record),
+            made => self.call(token.side(), made),
         }
-    }
-
-    /// The world.
-    pub(crate) fn world(&self) -> Option<&World> {
-        match &self.tape {
-            Some(tape) => Some(tape.world()),
-            None => None,
-        }
-    }
-
-    /// An event happens.
-    pub(crate) fn put(&mut self, event: Event) -> Result<(), Halt> {
-        match &mut self.tape {
-            Some(tape) => tape.put(event).map_err(Halt::refused),
-            None => Err(Halt::because("no connection was opened in the slot")),
-        }
-    }
-
-    /// The last connection is played to its end, or as far as the recording goes.
-    pub(crate) fn finish(&mut self) -> Result<(), Halt> {
-        let Some(tape) = self.tape.take() else {
-            return Ok(());
-        };
-        self.totals.add(&tape);
-        if let Some(became) = Became::of(tape.world()) {
-            self.became.push(became)?;
-        }
-        if self.wanted > 0 && self.wanted == self.generation {
-            self.kept = Some(tape);
-        }
-        Ok(())
     }
 }

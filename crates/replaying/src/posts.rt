@@ -1,140 +1,141 @@
 //! The notes of a slot: what its poller was told becomes a note where a turn needs one, and before the last moment at which
 //! it can have been posted.
-use crate::acts::{polling_of, reported};
-use crate::flaw::Halt;
-use crate::plan::Post;
-use crate::player::Player;
-use token::{Name, Token};
+use crate::flaw::Flaw;
+use crate::player::{Player, State};
+use records::{Act, Polling};
+use token::{Name, Side, Token};
 use world::{Event, Polling as Polled, Reported};
+
+/// What a poller may have posted: by a report, or by the sweep of the round behind a poll.
+#[derive(Clone, Copy)]
+pub(crate) struct Post {
+    /// The place of the report or of the poll among what the poller did.
+    pub place: usize,
+    /// The generation of which an end was reported. None for a sweep.
+    pub generation: Option<u64>,
+    /// The count when the poll had ended, and the one before the next thing that the poller did: it was made between these.
+    pub from: u64,
+    pub to: u64,
+    /// Whether it is certain that it was made: a sweep, where the seconds leave no doubt.
+    pub is_certain: bool,
+}
+
+/// Posts in the order in which they were made, without those that are played.
+#[derive(Clone, Copy)]
+pub(crate) struct Queue<'a>(pub &'a [Post]);
+
+/// What the poller of a slot may have posted there.
+#[derive(Clone, Copy)]
+pub(crate) struct Posts<'a> {
+    pub reports: Queue<'a>,
+    pub sweeps: Queue<'a>,
+}
+
+impl Post {
+    /// Whether it can be for the connection, and came after the last turn took its notes or was put off then.
+    fn is_of(&self, state: &State) -> bool {
+        match self.generation {
+            Some(generation) => generation == state.generation,
+            None => self.to > state.taken_from,
+        }
+    }
+}
+
+/// The posts of a list of lists.
+pub(crate) fn posts_at(lists: &[Vec<Post>], at: usize) -> Queue<'_> {
+    match lists.get(at) {
+        Some(list) => Queue(list.as_slice()),
+        None => Queue(&[]),
+    }
+}
+
+impl Queue<'_> {
+    /// Until when the first post was made that can be for the connection, if it can have come before this count. What is before
+    /// it never can.
+    fn first(&mut self, state: &State, before: u64) -> Option<u64> {
+        for _post in 0..self.0.len() {
+            let (first, next) = self.0.split_first()?;
+            if first.from >= before {
+                return None;
+            }
+            if first.is_of(state) {
+                return Some(first.to);
+            }
+            self.0 = next;
+        }
+        None
+    }
+
+    /// Takes the first post.
+    fn take(&mut self) -> Option<Post> {
+        let (first, next) = self.0.split_first()?;
+        self.0 = next;
+        Some(*first)
+    }
+
+    /// The first post that was made for certain after the last turn took its notes.
+    fn first_behind(&self, state: &State) -> Option<Post> {
+        for post in self.0 {
+            if post.is_certain && post.from >= state.taken_by && post.is_of(state) {
+                return Some(*post);
+            }
+        }
+        None
+    }
+}
+
+impl Posts<'_> {
+    /// The next post before a turn that begins before this count: one that came while the slot was held; or where the slot has no
+    /// note, of what can have come by now the report or the sweep that must have come first.
+    fn next(&mut self, state: &State, before: u64, has_notes: bool) -> Option<Post> {
+        let report = self.reports.first(state, before);
+        match report {
+            Some(to) if to <= state.free_from => return self.reports.take(),
+            _ if has_notes => return None,
+            _ => {}
+        }
+        match (report, self.sweeps.first(state, before)) {
+            (None, None) => None,
+            (Some(report), Some(sweep)) if sweep < report => self.sweeps.take(),
+            (None, Some(_)) => self.sweeps.take(),
+            (Some(_), _) => self.reports.take(),
+        }
+    }
+}
 
 impl Player<'_> {
     /// A turn begins before this count, so the slot has a note by then. Answers from which count on the turn has its ticket.
-    pub(crate) fn gather_notes(&mut self, before: u64) -> Result<u64, Halt> {
-        self.look_at_reports(before)?;
-        let mut since = None;
-        for _post in 0..self.pending.len() {
-            match self.pending.first().copied() {
-                Some(post) if post.to <= self.free_from => {
-                    self.note_first(post, &mut since)?;
-                }
-                _ => break,
-            }
-        }
-        if !self.has_note() {
-            self.note_one(before, &mut since)?;
-        }
-        Ok(since.unwrap_or(0).max(self.free_from))
-    }
-
-    /// The first of the posts that are looked at is made.
-    fn note_first(&mut self, post: Post, since: &mut Option<u64>) -> Result<(), Halt> {
-        if !self.pending.is_empty() {
-            self.pending.remove(0);
-        }
-        if !self.has_note() {
-            *since = Some(post.from);
-        }
-        self.note(post)
-    }
-
-    /// Some post is made that can have come by now: the report or the sweep that must have come first.
-    fn note_one(&mut self, before: u64, since: &mut Option<u64>) -> Result<(), Halt> {
-        let report = self.pending.first().copied();
-        match (report, self.next_sweep(before)) {
-            (Some(post), Some(sweep)) if sweep.to < post.to => self.take_sweep(sweep, since),
-            (Some(post), _) => self.note_first(post, since),
-            (None, Some(sweep)) => self.take_sweep(sweep, since),
-            (None, None) => Err(Halt::because("no note is left for this turn")),
-        }
-    }
-
-    /// The reports that the poller was given before this count, and that name the connection.
-    fn look_at_reports(&mut self, before: u64) -> Result<(), Halt> {
-        for place in self.reports..self.score.plan.reports.len() {
-            let Some(post) = self.score.plan.reports.get(place).copied() else {
+    pub(crate) fn gather_notes(&mut self, before: u64) -> Result<u64, Flaw> {
+        let mut since = self.state.free_from;
+        for _post in 0..self.posts.reports.0.len().saturating_add(1) {
+            let has_notes = self.stage.has_notes();
+            let Some(post) = self.posts.next(&self.state, before, has_notes) else {
                 break;
             };
-            if post.from >= before {
-                break;
+            if !has_notes {
+                since = since.max(post.from);
             }
-            self.reports = place.saturating_add(1);
-            if self.names_connection(post) {
-                self.pending.push(post)?;
-            }
+            self.note(post)?;
         }
-        Ok(())
-    }
-
-    /// The end that a report names.
-    fn reported(&self, post: Post) -> Option<Token> {
-        let (_, did) = polling_of(&self.score.records.get(post.index)?.record.act)?;
-        reported(&did)
-    }
-
-    fn names_connection(&self, post: Post) -> bool {
-        match self.reported(post) {
-            Some(token) => token.generation() == self.generation,
-            None => false,
+        if self.stage.has_notes() {
+            Ok(since)
+        } else {
+            Err(Flaw::Because("no note is left for this turn"))
         }
-    }
-
-    fn has_note(&self) -> bool {
-        match self.world() {
-            Some(world) => world.slots().iter().any(|slot| slot.has_notes()),
-            None => false,
-        }
-    }
-
-    /// A report is polled and delivered. Where none is queued, it is one without cause.
-    fn note(&mut self, post: Post) -> Result<(), Halt> {
-        let Some(token) = self.reported(post) else {
-            return Ok(());
-        };
-        let Ok(own) = Token::pack(0, token.side(), token.generation()) else {
-            return Ok(());
-        };
-        let name = Name::End(own);
-        self.posted = post.index;
-        let is_queued = match self.world() {
-            Some(world) => world.kernel().is_queued(&name),
-            None => false,
-        };
-        if !is_queued {
-            self.put(Event::Spurious(Reported::End(0, token.side())))?;
-        }
-        let mut names = Vec::new(self.alloc);
-        names.push(name)?;
-        self.put(Event::Poll(Polled::Poll(names)))?;
-        self.put(Event::Poll(Polled::Deliver))
-    }
-
-    /// The next sweep that can have come after the last turn took its notes, and before this count.
-    fn next_sweep(&self, before: u64) -> Option<Post> {
-        let taken_from = self.taken_from;
-        let sweeps = self.score.sweeps;
-        let first = sweeps.partition_point(|sweep| sweep.post.to <= taken_from);
-        let post = sweeps.get(first.max(self.sweeps))?.post;
-        if post.from < before { Some(post) } else { None }
-    }
-
-    /// A sweep makes the note of a turn. It makes no other one here.
-    fn take_sweep(&mut self, post: Post, since: &mut Option<u64>) -> Result<(), Halt> {
-        *since = Some(post.from);
-        let sweeps = self.score.sweeps;
-        self.sweeps = sweeps.partition_point(|sweep| sweep.post.from <= post.from);
-        self.sweep(post)
-    }
-
-    fn sweep(&mut self, post: Post) -> Result<(), Halt> {
-        self.posted = post.index;
-        self.put(Event::Poll(Polled::Sweep(0)))
     }
 
     /// While the slot is held for the last time, whatever can have been reported of its connection is.
-    pub(crate) fn note_while_held(&mut self) -> Result<(), Halt> {
-        self.look_at_reports(self.taken_by)?;
-        for _post in 0..self.pending.len() {
-            if let Some(post) = self.pending.pop() {
+    pub(crate) fn note_while_held(&mut self) -> Result<(), Flaw> {
+        for _post in 0..self.posts.reports.0.len() {
+            if self
+                .posts
+                .reports
+                .first(&self.state, self.state.taken_by)
+                .is_none()
+            {
+                break;
+            }
+            if let Some(post) = self.posts.reports.take() {
                 self.note(post)?;
             }
         }
@@ -142,20 +143,34 @@ impl Player<'_> {
     }
 
     /// Whatever was reported after the last turn took its notes was posted by the end, and so was each sweep.
-    pub(crate) fn note_the_rest(&mut self) -> Result<(), Halt> {
-        self.pending.clear();
-        self.look_at_reports(u64::MAX)?;
-        if let Some(post) = self.pending.first().copied() {
-            return self.note(post);
+    pub(crate) fn note_the_rest(&mut self) -> Result<(), Flaw> {
+        let report = self.posts.reports.first_behind(&self.state);
+        match report.or(self.posts.sweeps.first_behind(&self.state)) {
+            Some(post) => self.note(post),
+            None => Ok(()),
         }
-        let taken_by = self.taken_by;
-        let sweeps = self.score.sweeps;
-        let first = sweeps.partition_point(|sweep| sweep.post.from < taken_by);
-        for sweep in sweeps.get(first..).unwrap_or(&[]) {
-            if sweep.is_certain {
-                return self.sweep(sweep.post);
-            }
+    }
+
+    /// The post is made: a report is heard, or the slot is swept.
+    fn note(&mut self, post: Post) -> Result<(), Flaw> {
+        let Some(told) = self.score.recording.poller(self.poller).get(post.place) else {
+            return Ok(());
+        };
+        self.posted = *told;
+        match end_reported(&told.record.act) {
+            Some((own, side)) => self.stage.hear(Name::End(own), Reported::End(0, side)),
+            None => self.stage.put(Event::Poll(Polled::Sweep(0))),
         }
-        Ok(())
+    }
+}
+
+/// The end that was reported, as it is called in the world of its slot.
+fn end_reported(act: &Act) -> Option<(Token, Side)> {
+    let Act::Poller(_, Polling::Reported(Name::End(token))) = act else {
+        return None;
+    };
+    match Token::pack(0, token.side(), token.generation()) {
+        Ok(own) => Some((own, token.side())),
+        Err(_) => None,
     }
 }

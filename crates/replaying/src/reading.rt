@@ -1,11 +1,11 @@
 //! A recording is read line by line, so that its text is never all in memory.
-use crate::acts::{begun_at, ended_at, polling_of, reported, wire_of};
-use crate::recording::{Last, Numbered, Recording};
+use crate::recording::{Last, Recording};
 use records::{
     Act, Header, MAX_RECORD, Polling, Record, ReplayFault, Wrong, read_header, read_line,
 };
 use std::alloc::{AllocError, Global};
 use std::io::Read;
+use token::Name;
 
 /// The most bytes that are read at once.
 const CHUNK: usize = 65_536;
@@ -20,11 +20,8 @@ const MAX_SHOWN: usize = 64;
 #[derive(Drop)]
 struct Lines {
     alloc: Global,
-    header: Option<Header>,
-    records: Vec<Numbered>,
-    last: Option<Last>,
-    /// The line in progress, and its number.
-    line: Vec<u8>,
+    recording: Option<Recording>,
+    /// The number of the next line.
     number: u64,
 }
 
@@ -32,127 +29,135 @@ struct Lines {
 pub(crate) fn read<R: Read>(alloc: Global, reader: &mut R) -> Result<Recording, ReplayFault> {
     let mut lines = Lines {
         alloc,
-        header: None,
-        records: Vec::new(alloc),
-        last: None,
-        line: Vec::with_capacity(alloc, MAX_LINE)?,
+        recording: None,
         number: 1,
     };
     let mut buffer = vec![in alloc; 0u8; CHUNK]?;
-    for _reads in 0..u64::MAX {
-        let count = match reader.read(buffer.as_mut_slice()) {
-            Ok(count) => count,
-            Err(_) => return Err(ReplayFault::Read),
-        };
-        if count == 0 {
-            break;
-        }
-        lines.take(&buffer[..count])?;
+    let is_cut = lines.take_all(reader, buffer.as_mut_slice(), &mut Vec::new(alloc))?;
+    let number = lines.number;
+    match lines.recording {
+        Some(recording) => Ok(Recording {
+            cut: if is_cut { Some(number) } else { None },
+            ..recording
+        }),
+        None => Err(broken(
+            alloc,
+            number,
+            wanted("a recording begins with relayd recording 1"),
+        )),
     }
-    lines.finish()
 }
 
 impl Lines {
-    /// Takes the next bytes of the file.
-    fn take(&mut self, bytes: &[u8]) -> Result<(), ReplayFault> {
-        let mut rest = bytes;
-        for _line in 0..bytes.len() {
-            let Some(at) = rest.iter().position(|byte| *byte == b'\n') else {
-                break;
-            };
-            self.extend(&rest[..at])?;
-            self.end_line()?;
-            rest = &rest[at + 1..];
+    /// Takes all that a reader gives. Answers whether the last line has no end.
+    fn take_all<R: Read>(
+        &mut self,
+        reader: &mut R,
+        buffer: &mut [u8],
+        line: &mut Vec<u8>,
+    ) -> Result<bool, ReplayFault> {
+        for _reads in 0..u64::MAX {
+            match reader.read(buffer) {
+                Ok(0) => break,
+                Ok(count) => self.take(&buffer[..count], line)?,
+                Err(_) => return Err(ReplayFault::Read),
+            }
         }
-        self.extend(rest)
+        Ok(!line.is_empty())
     }
 
-    /// Adds bytes to the line in progress.
-    fn extend(&mut self, bytes: &[u8]) -> Result<(), ReplayFault> {
-        if bytes.len() > MAX_LINE.saturating_sub(self.line.len()) {
-            return Err(self.broken(None, "a line of a recording is shorter")?);
+    /// Takes the next bytes. `line` is the line in progress.
+    fn take(&mut self, bytes: &[u8], line: &mut Vec<u8>) -> Result<(), ReplayFault> {
+        for byte in bytes {
+            if *byte == b'\n' {
+                self.end_line(line.as_slice())?;
+                line.clear();
+            } else if line.len() < MAX_LINE {
+                line.push(*byte)?;
+            } else {
+                let wrong = wanted("a line of a recording is shorter");
+                return Err(broken(self.alloc, self.number, wrong));
+            }
         }
-        self.line.extend_from_slice(bytes)?;
         Ok(())
     }
 
-    /// The line in progress is complete.
-    fn end_line(&mut self) -> Result<(), ReplayFault> {
-        if self.last.is_some() {
-            return Err(self.broken(None, "nothing is behind the record end or full")?);
-        }
-        let line = self.line.as_slice().to_vec(self.alloc)?;
-        match self.header {
-            None => match read_header(line.as_slice()) {
-                Ok(header) => self.header = Some(header),
-                Err(wrong) => return Err(self.wrong(wrong)?),
+    /// A line is complete.
+    fn end_line(&mut self, line: &[u8]) -> Result<(), ReplayFault> {
+        let (alloc, number) = (self.alloc, self.number);
+        match &mut self.recording {
+            None => match read_header(line) {
+                Ok(header) => self.recording = Some(Recording::new(alloc, header)?),
+                Err(wrong) => return Err(broken(alloc, number, wrong)),
             },
-            Some(header) => match read_line(line.as_slice()) {
-                Ok(record) => self.add(&header, record)?,
-                Err(wrong) => return Err(self.wrong(wrong)?),
+            Some(recording) => match record_of(recording, line) {
+                Ok(record) => recording.add(number, record)?,
+                Err(wrong) => return Err(broken(alloc, number, wrong)),
             },
         }
-        self.line.clear();
-        self.number = self.number.saturating_add(1);
+        self.number = number.saturating_add(1);
         Ok(())
-    }
-
-    /// Adds a record.
-    fn add(&mut self, header: &Header, record: Record) -> Result<(), ReplayFault> {
-        if record.before >= record.after {
-            return Err(self.broken(None, "the count before an act is below the one after it")?);
-        }
-        if let Some(wanted) = outside(header, &record.act) {
-            return Err(self.broken(None, wanted)?);
-        }
-        match record.act {
-            Act::Ended => self.last = Some(Last::Ended),
-            Act::Full => self.last = Some(Last::Stopped),
-            _ => {}
-        }
-        self.records.push(Numbered {
-            line: self.number,
-            record,
-        })?;
-        Ok(())
-    }
-
-    /// The file has ended.
-    fn finish(self) -> Result<Recording, ReplayFault> {
-        let Some(header) = self.header else {
-            return Err(self.broken(None, "a recording begins with relayd recording 1")?);
-        };
-        let cut = if self.line.is_empty() {
-            None
-        } else {
-            Some(self.number)
-        };
-        Ok(Recording {
-            header,
-            records: self.records,
-            last: self.last.unwrap_or(Last::Stopped),
-            cut,
-        })
-    }
-
-    /// The fault of the line in progress.
-    fn wrong(&self, wrong: Wrong<'_>) -> Result<ReplayFault, AllocError> {
-        self.broken(wrong.word, wrong.wanted)
-    }
-
-    fn broken(&self, word: Option<&[u8]>, wanted: &str) -> Result<ReplayFault, AllocError> {
-        let number = self.number;
-        let mut text = String::new(self.alloc);
-        write!(text, "line {number}: ")?;
-        if let Some(word) = word {
-            show(&mut text, word)?;
-        }
-        text.push_str(wanted)?;
-        Ok(ReplayFault::Broken(text))
     }
 }
 
-/// Appends a word in quotes: bytes that are not printable ASCII are escaped, and what follows the 64th is left out.
+/// The record of the next line.
+fn record_of<'a>(recording: &Recording, line: &'a [u8]) -> Result<Record, Wrong<'a>> {
+    if recording.last != Last::Stopped {
+        return Err(wanted("nothing is behind the record end or full"));
+    }
+    let record = match read_line(line) {
+        Ok(record) => record,
+        Err(wrong) => return Err(wrong),
+    };
+    if record.before >= record.after {
+        return Err(wanted("the count before an act is below the one after it"));
+    }
+    match outside(&recording.header, &record.act) {
+        Some(text) => Err(wanted(text)),
+        None => Ok(record),
+    }
+}
+
+/// This is wanted of a line whose words are right.
+pub(crate) fn wanted<'a>(wanted: &'static str) -> Wrong<'a> {
+    Wrong { word: None, wanted }
+}
+
+/// What is wanted of a record that names what this relay does not have.
+fn outside(header: &Header, act: &Act) -> Option<&'static str> {
+    let slot = match *act {
+        Act::Poller(poller, _) if poller >= header.pollers => {
+            return Some("a poller of this relay is wanted");
+        }
+        Act::Poller(_, Polling::Open(slot, _, _)) | Act::Begin(slot) | Act::End(slot) => slot,
+        Act::Poller(_, Polling::Reported(Name::End(token))) | Act::Wire(token, _) => token.slot(),
+        _ => return None,
+    };
+    if slot < header.slots {
+        None
+    } else {
+        Some("a slot of this relay is wanted")
+    }
+}
+
+/// The fault of the line with this number.
+pub(crate) fn broken(alloc: Global, number: u64, wrong: Wrong<'_>) -> ReplayFault {
+    match cause(alloc, number, wrong) {
+        Ok(text) => ReplayFault::Broken(text),
+        Err(error) => ReplayFault::from(error),
+    }
+}
+
+fn cause(alloc: Global, number: u64, wrong: Wrong<'_>) -> Result<String, AllocError> {
+    let mut text = format!(in alloc; "line {number}: ")?;
+    if let Some(word) = wrong.word {
+        show(&mut text, word)?;
+    }
+    text.push_str(wrong.wanted)?;
+    Ok(text)
+}
+
+/// Adds a word in quotes: bytes that are not printable ASCII are escaped, and what follows the 64th is left out.
 fn show(text: &mut String, word: &[u8]) -> Result<(), AllocError> {
     text.push_str("\"")?;
     for byte in word.iter().take(MAX_SHOWN) {
@@ -163,39 +168,4 @@ fn show(text: &mut String, word: &[u8]) -> Result<(), AllocError> {
         }
     }
     text.push_str("\": ")
-}
-
-/// What is wanted of a record that names what this relay does not have.
-fn outside(header: &Header, act: &Act) -> Option<&'static str> {
-    if let Some((poller, _)) = polling_of(act) {
-        if poller >= header.pollers {
-            return Some("a poller of this relay is wanted");
-        }
-    }
-    match slot_of(act) {
-        Some(slot) if slot >= header.slots => Some("a slot of this relay is wanted"),
-        _ => None,
-    }
-}
-
-/// The slot that a record names.
-fn slot_of(act: &Act) -> Option<usize> {
-    if let Some((token, _)) = wire_of(act) {
-        return Some(token.slot());
-    }
-    if let Some((_, did)) = polling_of(act) {
-        return slot_told(&did);
-    }
-    begun_at(act).or(ended_at(act))
-}
-
-/// The slot that a poller's act names.
-fn slot_told(did: &Polling) -> Option<usize> {
-    match did {
-        Polling::Open(slot, _, _) => Some(*slot),
-        _ => match reported(did) {
-            Some(token) => Some(token.slot()),
-            None => None,
-        },
-    }
 }

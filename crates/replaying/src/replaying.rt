@@ -1,33 +1,20 @@
 //! A whole recording.
 use crate::clock::Clock;
-use crate::flaw::{Halt, Why};
-use crate::listener::Listener;
+use crate::flaw::Flaw;
 use crate::order::put_in_order;
-use crate::plan::{Plan, PollerPlan, SlotPlan};
 use crate::player::{Player, Score};
 use crate::reading::read;
 use crate::recording::{Last, Recording};
-use crate::telling::{tell_ends, tell_flaw, tell_left_out, tell_script, tell_totals};
-use crate::totals::Totals;
+use crate::rounds::play_rounds;
+use crate::stage::Stage;
+use crate::telling::{tell, tell_flaw};
+use crate::told::{Flawed, Told, Whose};
 use records::{Outcome, Replay, ReplayFault, Wanted};
 use std::alloc::Global;
 use std::io::{Read, Write};
-use world::Tape;
-
-/// A recording that is played.
-#[derive(Drop)]
-struct Playing<'a> {
-    alloc: Global,
-    recording: &'a Recording,
-    plan: &'a Plan,
-    clock: &'a Clock,
-    wanted: Wanted,
-    rests: bool,
-    totals: Totals,
-}
 
 /// The machine on which recordings are played: what each slot and each poller's listener did, on a world of its own, event by
-/// event. What is told of a slot is read off that world, whose events all happened there ([`Tape`]).
+/// event. What is told of a slot is read off that world, whose events all happened there ([`world::Tape`]).
 pub struct OnMachine;
 
 impl Replay for OnMachine {
@@ -49,25 +36,8 @@ impl Replay for OnMachine {
     ) -> Result<Outcome, ReplayFault> {
         let mut recording = read(alloc, input)?;
         let left_out = put_in_order(alloc, &mut recording)?;
-        let clock = Clock::new(alloc, recording.records.as_slice())?;
-        let plan = Plan::new(alloc, &recording, &clock)?;
-        let mut replay = Playing {
-            alloc,
-            recording: &recording,
-            plan: &plan,
-            clock: &clock,
-            wanted,
-            rests: recording.last == Last::Ended || rests && left_out == 0,
-            totals: Totals::NONE,
-        };
-        let outcome = match wanted {
-            Wanted::Script(slot, generation) => replay.script(output, slot, generation)?,
-            Wanted::Totals | Wanted::Ends => replay.all(output)?,
-        };
-        if wanted == Wanted::Totals && outcome == Outcome::Run {
-            tell_totals(alloc, output, &replay.totals)?;
-            tell_left_out(alloc, output, &recording, left_out)?;
-        }
+        let rests = recording.last == Last::Ended || rests && left_out == 0;
+        let outcome = deal(alloc, &recording, wanted, rests, left_out, output)?;
         match output.flush() {
             Ok(()) => Ok(outcome),
             Err(_) => Err(ReplayFault::Write),
@@ -75,141 +45,94 @@ impl Replay for OnMachine {
     }
 }
 
-impl<'a> Playing<'a> {
-    /// Plays all pollers and all slots, up to the first that is no run.
-    fn all<W: Write>(&mut self, output: &mut W) -> Result<Outcome, ReplayFault> {
-        let plan = self.plan;
-        for (poller, own) in plan.pollers.iter().enumerate() {
-            if self.poller(output, poller, own)? == Outcome::NoRun {
-                return Ok(Outcome::NoRun);
-            }
-        }
-        for (slot, own) in plan.slots.iter().enumerate() {
-            if self.slot(output, slot, own)? == Outcome::NoRun {
-                return Ok(Outcome::NoRun);
-            }
-        }
-        Ok(Outcome::Run)
-    }
+/// Finds out what was posted when, and plays the recording.
+fn deal<W: Write>(
+    alloc: Global,
+    recording: &Recording,
+    wanted: Wanted,
+    rests: bool,
+    left_out: usize,
+    output: &mut W,
+) -> Result<Outcome, ReplayFault> {
+    let clock = Clock::new(alloc, recording.others())?;
+    let posts = play_rounds(alloc, recording, &clock)?;
+    let score = Score {
+        recording,
+        clock: &clock,
+        posts: posts.as_slice(),
+        rests,
+    };
+    play_and_tell(alloc, score, wanted, left_out, output)
+}
 
-    /// Plays what a poller did at the listener.
-    fn poller<W: Write>(
-        &mut self,
-        output: &mut W,
-        poller: usize,
-        own: &PollerPlan,
-    ) -> Result<Outcome, ReplayFault> {
-        let mut listener = Listener::new(self.alloc)?;
-        for index in &own.acts {
-            let Some(numbered) = self.recording.records.get(*index).copied() else {
-                continue;
-            };
-            match listener.act(numbered) {
-                Ok(()) => {}
-                Err(Halt::NoMemory) => return Err(ReplayFault::NoMemory),
-                Err(Halt::Flawed(_, why)) => {
-                    let whose = format!(in self.alloc; "p{poller}")?;
-                    return self.flaw(output, whose.as_str(), *index, &why, Some(&listener.tape));
-                }
-            }
+fn play_and_tell<W: Write>(
+    alloc: Global,
+    score: Score<'_>,
+    wanted: Wanted,
+    left_out: usize,
+    output: &mut W,
+) -> Result<Outcome, ReplayFault> {
+    let mut told = Told::new(alloc, wanted);
+    let result = play(alloc, score, &mut told);
+    match (result, &told.flawed) {
+        (Err(Flaw::NoMemory), _) | (Err(_), None) => Err(ReplayFault::NoMemory),
+        (Ok(()), _) => {
+            tell(alloc, output, &told, score.recording, left_out)?;
+            Ok(Outcome::Run)
         }
-        self.totals.add(&listener.tape);
-        Ok(Outcome::Run)
-    }
-
-    /// Plays what happened at a slot.
-    fn slot<W: Write>(
-        &mut self,
-        output: &mut W,
-        slot: usize,
-        own: &'a SlotPlan,
-    ) -> Result<Outcome, ReplayFault> {
-        let mut player = self.player(own, 0);
-        if let Err(halt) = player.play() {
-            return self.halt(output, slot, &player, halt);
-        }
-        self.totals.add_all(&player.totals);
-        if self.wanted == Wanted::Ends {
-            tell_ends(self.alloc, output, slot, player.became.as_slice())?;
-        }
-        Ok(Outcome::Run)
-    }
-
-    /// Plays what happened at a slot, and writes the script of one of its connections.
-    fn script<W: Write>(
-        &mut self,
-        output: &mut W,
-        slot: usize,
-        generation: u64,
-    ) -> Result<Outcome, ReplayFault> {
-        let plan = self.plan;
-        let Some(own) = plan.slots.get(slot) else {
-            return Err(ReplayFault::Unknown);
-        };
-        let mut player = self.player(own, generation);
-        if let Err(halt) = player.play() {
-            return self.halt(output, slot, &player, halt);
-        }
-        match &player.kept {
-            Some(tape) => {
-                tell_script(self.alloc, output, tape)?;
-                Ok(Outcome::Run)
-            }
-            None => Err(ReplayFault::Unknown),
+        (Err(flaw), Some(flawed)) => {
+            tell_flaw(alloc, output, flawed, flaw)?;
+            Ok(Outcome::NoRun)
         }
     }
+}
 
-    fn player(&self, own: &'a SlotPlan, wanted: u64) -> Player<'a> {
-        let plan = self.plan;
-        let sweeps = match own.poller {
-            Some(poller) => match plan.pollers.get(poller) {
-                Some(poller) => poller.sweeps.as_slice(),
-                None => &[],
-            },
-            None => &[],
-        };
-        let score = Score {
-            header: self.recording.header,
-            records: self.recording.records.as_slice(),
-            clock: self.clock,
-            plan: own,
-            sweeps,
-            rests: self.rests,
-        };
-        Player::new(self.alloc, score, wanted)
+/// Plays what is wanted, up to the first that is no run.
+fn play(alloc: Global, score: Score<'_>, told: &mut Told) -> Result<(), Flaw> {
+    if let Wanted::Script(slot, _) = told.wanted {
+        return play_slot(alloc, score, told, slot);
     }
+    for poller in 0..score.recording.header.pollers {
+        play_poller(alloc, score, told, poller)?;
+    }
+    for slot in 0..score.recording.header.slots {
+        play_slot(alloc, score, told, slot)?;
+    }
+    Ok(())
+}
 
-    /// The play of a slot does not go on.
-    fn halt<W: Write>(
-        &self,
-        output: &mut W,
-        slot: usize,
-        player: &Player<'_>,
-        halt: Halt,
-    ) -> Result<Outcome, ReplayFault> {
-        match halt {
-            Halt::NoMemory => Err(ReplayFault::NoMemory),
-            Halt::Flawed(index, why) => {
-                let generation = player.generation;
-                let whose = format!(in self.alloc; "{slot}.{generation}")?;
-                let index = index.unwrap_or(player.last);
-                self.flaw(output, whose.as_str(), index, &why, player.tape.as_ref())
-            }
+/// Plays what a poller did at the listener.
+fn play_poller(
+    alloc: Global,
+    score: Score<'_>,
+    told: &mut Told,
+    poller: usize,
+) -> Result<(), Flaw> {
+    let mut stage = Stage::new(alloc, Stage::LIMITS)?;
+    for numbered in score.recording.poller(poller) {
+        if let Err(flaw) = stage.listen(&numbered.record.act) {
+            return told.end(flaw, Whose::Poller(poller), *numbered, stage);
         }
     }
+    told.take(0, stage.tape)
+}
 
-    /// The record with this index can stand at no place.
-    fn flaw<W: Write>(
-        &self,
-        output: &mut W,
-        whose: &str,
-        index: usize,
-        why: &Why,
-        tape: Option<&Tape>,
-    ) -> Result<Outcome, ReplayFault> {
-        if let Some(numbered) = self.recording.records.get(index).copied() {
-            tell_flaw(self.alloc, output, whose, numbered, why, tape)?;
-        }
-        Ok(Outcome::NoRun)
+/// Plays what happened at a slot.
+fn play_slot(alloc: Global, score: Score<'_>, told: &mut Told, slot: usize) -> Result<(), Flaw> {
+    let Some(first) = score.recording.slot(slot).first() else {
+        return Ok(());
+    };
+    let stage = Stage::new(alloc, Stage::LIMITS)?;
+    let mut player = Player::new(score, slot, *first, stage);
+    let result = player.play(told);
+    let Player {
+        state,
+        last,
+        stage,
+        ..
+    } = player;
+    match result {
+        Ok(()) => told.take(slot, stage.tape),
+        Err(flaw) => told.end(flaw, Whose::Slot(slot, state.generation), last, stage),
     }
 }

@@ -1,10 +1,9 @@
-//! What a poller was told in its rounds, and when it may have posted that.
-use crate::acts::polling_of;
+//! What the pollers were told in their rounds, and when they may have posted that.
 use crate::clock::Clock;
-use crate::plan::{Post, SlotPlan, Sweep};
-use crate::recording::{Last, Numbered, Recording};
-use records::Polling::{self, Gave, Interrupted, Open, Reported};
-use records::{Record, ReplayFault};
+use crate::posts::Post;
+use crate::reading::{broken, wanted};
+use crate::recording::{Last, Numbered, Recording, lists};
+use records::{Act, Polling, ReplayFault};
 use std::alloc::{AllocError, Global};
 use token::Name;
 
@@ -12,203 +11,173 @@ use token::Name;
 const MAX_REPORTS: usize = 256;
 
 /// The rounds of a poller, one after the other.
-#[derive(Drop)]
-pub(crate) struct Rounds<'a> {
-    alloc: Global,
+#[derive(Clone, Copy)]
+struct Rounds<'a> {
     recording: &'a Recording,
     clock: &'a Clock,
     poller: usize,
-    /// What the last poll told may have been posted then.
-    window: Option<Post>,
-    /// How many of its reports are missing.
+    /// The last poll, and how many of its reports are missing.
+    poll: Option<Post>,
     missing: usize,
     /// The earliest and the latest second of the last sweep, at first of the thread's beginning.
     swept: Option<(u64, u64)>,
-    sweeps: Vec<Sweep>,
 }
 
-/// A record and its index.
-#[derive(Clone, Copy)]
-struct Own {
-    index: usize,
-    numbered: Numbered,
-}
-
-impl<'a> Rounds<'a> {
-    pub(crate) fn new(
-        alloc: Global,
-        recording: &'a Recording,
-        clock: &'a Clock,
-        poller: usize,
-    ) -> Rounds<'a> {
-        Rounds {
-            alloc,
+/// What was posted in the rounds of a recording: a list for each slot, of the reports that its poller was given, and behind
+/// them one for each poller, of its sweeps. Each of these posted to each slot in which the poller had opened a connection.
+///
+/// Refuses with `Broken` for a poll with other reports than it gave.
+pub(crate) fn play_rounds(
+    alloc: Global,
+    recording: &Recording,
+    clock: &Clock,
+) -> Result<Vec<Vec<Post>>, ReplayFault> {
+    let mut posts = lists(alloc, recording.lists.len())?;
+    for poller in 0..recording.header.pollers {
+        let mut rounds = Rounds {
             recording,
             clock,
             poller,
-            window: None,
+            poll: None,
             missing: 0,
             swept: None,
-            sweeps: Vec::new(alloc),
-        }
-    }
-
-    /// The act at a place among those of the poller.
-    pub(crate) fn deal(
-        &mut self,
-        acts: &[usize],
-        place: usize,
-        slots: &mut [SlotPlan],
-    ) -> Result<(), ReplayFault> {
-        let Some(index) = acts.get(place).copied() else {
-            return Ok(());
         };
-        let Some(numbered) = self.recording.records.get(index).copied() else {
-            return Ok(());
-        };
-        match polling_of(&numbered.record.act) {
-            Some((_, did)) => self.did(acts, place, Own { index, numbered }, did, slots),
-            None => Ok(()),
-        }
-    }
-
-    /// The poller did this, by its record.
-    fn did(
-        &mut self,
-        acts: &[usize],
-        place: usize,
-        own: Own,
-        did: Polling,
-        slots: &mut [SlotPlan],
-    ) -> Result<(), ReplayFault> {
-        let Own { index, numbered } = own;
-        if let Reported(name) = did {
-            return self.report(index, numbered, name, slots);
-        }
-        if self.missing > 0 {
-            return Err(self.broken(numbered, "reports of the poll before it are wanted")?);
-        }
-        match did {
-            Gave(_) | Interrupted => {
-                let to = self.next_count(acts, place, numbered.record);
-                self.poll(index, numbered, did, to)
-            }
-            Open(slot, _, _) => {
-                set_since(slots, slot, index, self.window);
-                Ok(())
-            }
-            _ => Ok(()),
-        }
-    }
-
-    /// The sweeps of all rounds.
-    pub(crate) fn finish(self) -> Result<Vec<Sweep>, ReplayFault> {
-        if self.missing > 0 && self.recording.last == Last::Ended {
-            let text = format!(in self.alloc; "reports of the last poll are missing")?;
+        rounds.play(alloc, &mut posts)?;
+        if rounds.missing > 0 && recording.last == Last::Ended {
+            let text = String::from_str(alloc, "reports of the last poll are missing")?;
             return Err(ReplayFault::Broken(text));
         }
-        Ok(self.sweeps)
+    }
+    Ok(posts)
+}
+
+impl Rounds<'_> {
+    fn play(&mut self, alloc: Global, posts: &mut Vec<Vec<Post>>) -> Result<(), ReplayFault> {
+        for (place, numbered) in self.recording.poller(self.poller).iter().enumerate() {
+            match self.act(place, numbered) {
+                Ok(Some((at, post))) => add(posts, at, post)?,
+                Ok(None) => {}
+                Err(why) => return Err(broken(alloc, numbered.line, wanted(why))),
+            }
+        }
+        Ok(())
+    }
+
+    /// The act at a place among those of the poller. Answers to which list it adds what.
+    fn act(
+        &mut self,
+        place: usize,
+        numbered: &Numbered,
+    ) -> Result<Option<(usize, Post)>, &'static str> {
+        if let Some(name) = reported(&numbered.record.act) {
+            return self.report(place, numbered.record.after, name);
+        }
+        if self.missing > 0 {
+            return Err("reports of the poll before it are wanted");
+        }
+        let Some(count) = polled(&numbered.record.act) else {
+            return Ok(None);
+        };
+        if count > MAX_REPORTS {
+            return Err("a poll gives 256 reports at most");
+        }
+        self.missing = count;
+        let poll = Post {
+            place,
+            generation: None,
+            from: numbered.record.after,
+            to: self.next_count(place, numbered.record.before),
+            is_certain: true,
+        };
+        let sweep = self.sweep(numbered.record.before, &poll);
+        self.poll = Some(poll);
+        match sweep {
+            Some(sweep) => Ok(Some((self.recording.at_poller(self.poller), sweep))),
+            None => Ok(None),
+        }
     }
 
     /// The count before the next act of the poller that is no report of this poll.
-    fn next_count(&self, acts: &[usize], place: usize, poll: Record) -> u64 {
-        for index in acts.get(place..).unwrap_or(&[]) {
-            if let Some(numbered) = self.recording.records.get(*index) {
-                if numbered.record.before > poll.before {
-                    return numbered.record.before;
-                }
+    fn next_count(&self, place: usize, poll: u64) -> u64 {
+        for next in self
+            .recording
+            .poller(self.poller)
+            .get(place..)
+            .unwrap_or(&[])
+        {
+            if next.record.before > poll {
+                return next.record.before;
             }
         }
         u64::MAX
     }
 
-    /// A wait for reports has ended.
-    fn poll(
-        &mut self,
-        index: usize,
-        numbered: Numbered,
-        did: Polling,
-        to: u64,
-    ) -> Result<(), ReplayFault> {
-        let post = Post {
-            index,
-            from: numbered.record.after,
-            to,
-        };
-        self.window = Some(post);
-        if let Gave(count) = did {
-            if count > MAX_REPORTS {
-                return Err(self.broken(numbered, "a poll gives 256 reports at most")?);
-            }
-            self.missing = count;
-        }
-        if self.swept.is_none() {
-            self.swept = Some(self.clock.between(0, numbered.record.before));
-        }
-        self.sweep(post)
-    }
-
     /// The round behind a poll may have made a sweep. Where the second is in doubt, it may or may not.
-    fn sweep(&mut self, post: Post) -> Result<(), ReplayFault> {
+    fn sweep(&mut self, before: u64, poll: &Post) -> Option<Post> {
         let limit = self.recording.header.idle;
-        let Some((first, last)) = self.swept else {
-            return Ok(());
+        let (first, last) = match self.swept {
+            Some(seconds) => seconds,
+            None => self.clock.between(0, before),
         };
-        let (least, most) = self.clock.between(post.from, post.to);
+        self.swept = Some((first, last));
+        let (least, most) = self.clock.between(poll.from, poll.to);
         if limit == 0 || most.saturating_sub(first) < limit {
-            return Ok(());
+            return None;
         }
         let is_certain = least.saturating_sub(last) >= limit;
-        self.swept = Some(if is_certain {
-            (least, most)
-        } else {
-            (first, most)
-        });
-        self.sweeps.push(Sweep { post, is_certain })?;
-        Ok(())
+        self.swept = Some((if is_certain { least } else { first }, most));
+        Some(Post {
+            is_certain,
+            ..*poll
+        })
     }
 
-    /// The last poll reported this.
+    /// The last poll reported this. Answers to which slot the poller may have posted that.
     fn report(
         &mut self,
-        index: usize,
-        numbered: Numbered,
+        place: usize,
+        after: u64,
         name: Name,
-        slots: &mut [SlotPlan],
-    ) -> Result<(), ReplayFault> {
-        let poll = match self.window {
-            Some(poll) if self.missing > 0 && poll.from == numbered.record.after => poll,
-            _ => return Err(self.broken(numbered, "its poll is wanted before it")?),
+    ) -> Result<Option<(usize, Post)>, &'static str> {
+        let (poll, missing) = (self.poll, self.missing);
+        let poll = match poll {
+            Some(poll) if missing > 0 && poll.from == after => poll,
+            _ => return Err("its poll is wanted before it"),
         };
-        self.missing = self.missing.saturating_sub(1);
-        let Name::End(token) = name else {
-            return Ok(());
-        };
-        if let Some(slot) = slots.get_mut(token.slot()) {
-            if slot.poller == Some(self.poller) {
-                slot.reports.push(Post { index, ..poll })?;
+        self.missing = missing.saturating_sub(1);
+        match name {
+            Name::End(token) if self.recording.opener(token.slot()) == Some(self.poller) => {
+                let report = Post {
+                    place,
+                    generation: Some(token.generation()),
+                    ..poll
+                };
+                Ok(Some((token.slot(), report)))
             }
+            _ => Ok(None),
         }
-        Ok(())
-    }
-
-    fn broken(&self, numbered: Numbered, wanted: &str) -> Result<ReplayFault, AllocError> {
-        let line = numbered.line;
-        let text = format!(in self.alloc; "line {line}: {wanted}")?;
-        Ok(ReplayFault::Broken(text))
     }
 }
 
-/// Notes when the poll before an opening had ended.
-fn set_since(slots: &mut [SlotPlan], slot: usize, index: usize, window: Option<Post>) {
-    let Some(own) = slots.get_mut(slot) else {
-        return;
-    };
-    let Some(poll) = window else {
-        return;
-    };
-    let place = own.acts.partition_point(|act| act.index < index);
-    if let Some(act) = own.acts.get_mut(place) {
-        act.since = poll.from;
+fn reported(act: &Act) -> Option<Name> {
+    match act {
+        Act::Poller(_, Polling::Reported(name)) => Some(*name),
+        _ => None,
+    }
+}
+
+/// How many reports a poll gave.
+pub(crate) fn polled(act: &Act) -> Option<usize> {
+    match act {
+        Act::Poller(_, Polling::Gave(count)) => Some(*count),
+        Act::Poller(_, Polling::Interrupted) => Some(0),
+        _ => None,
+    }
+}
+
+fn add(lists: &mut Vec<Vec<Post>>, at: usize, post: Post) -> Result<(), AllocError> {
+    match lists.get_mut(at) {
+        Some(list) => Ok(list.push(post)?),
+        None => Ok(()),
     }
 }

@@ -1,194 +1,201 @@
-//! What is told of a recording.
-use crate::flaw::Why;
-use crate::recording::{Numbered, Recording};
-use crate::totals::{Became, Totals};
-use records::ReplayFault;
-use relay_core::{Call, Verdict};
-use relay_log::{Done, Failed};
+//! What is written of a recording.
+use crate::flaw::Flaw;
+use crate::recording::Recording;
+use crate::stage::Stage;
+use crate::told::{Flawed, Told, Whose};
+use records::{Record, ReplayFault, Wanted};
 use script_text::{Page, Piece, event_reason, put_event, put_header};
 use std::alloc::{AllocError, Global};
 use std::io::Write;
-use world::{Event, Tape, World};
+use world::{Event, Tape};
 
 /// How many events are written at once.
 const AT_ONCE: usize = 256;
 
-/// Writes a text.
-pub(crate) fn write<W: Write>(output: &mut W, text: &str) -> Result<(), ReplayFault> {
-    match output.write_all(text.as_bytes()) {
-        Ok(()) => Ok(()),
-        Err(_) => Err(ReplayFault::Write),
-    }
-}
-
-/// Writes that all is a run, and what that came to.
-pub(crate) fn tell_totals<W: Write>(
+/// Writes what is wanted of a recording of runs.
+pub(crate) fn tell<W: Write>(
     alloc: Global,
     output: &mut W,
-    totals: &Totals,
-) -> Result<(), ReplayFault> {
-    let (client, target) = (totals.client, totals.target);
-    let mut page = Page::new(alloc);
-    page.put(&[
-        Piece::Number(totals.connections),
-        Piece::Text(" connections, "),
-        Piece::Number(totals.counts.sum()),
-        Piece::Text(" events: each is a run of the machine\n"),
-    ]);
-    totals.counts.put_lines(&mut page);
-    page.put(&[
-        Piece::Text("read client="),
-        Piece::Number(client.read),
-        Piece::Text(" target="),
-        Piece::Number(target.read),
-        Piece::Text(" written client="),
-        Piece::Number(client.written),
-        Piece::Text(" target="),
-        Piece::Number(target.written),
-        Piece::Text("\n"),
-    ]);
-    write(output, page.finish()?.as_str())
-}
-
-/// Writes what is not played, if anything.
-pub(crate) fn tell_left_out<W: Write>(
-    alloc: Global,
-    output: &mut W,
+    told: &Told,
     recording: &Recording,
     left_out: usize,
 ) -> Result<(), ReplayFault> {
-    let mut text = String::new(alloc);
-    if let Some(line) = recording.cut {
-        writeln!(text, "line {line} is cut off")?;
+    match (told.wanted, &told.script) {
+        (Wanted::Totals, _) => write(output, totals(alloc, told, recording.cut, left_out)),
+        (Wanted::Ends, _) => write_text(output, told.ends.as_str()),
+        (_, Some(tape)) => tell_script(alloc, output, tape),
+        (_, None) => Err(ReplayFault::Unknown),
     }
-    if left_out > 0 {
-        writeln!(
-            text,
-            "{left_out} records behind the first lost one are left out"
-        )?;
-    }
-    write(output, text.as_str())
-}
-
-/// Writes what became of each connection of a slot, as the log says it, and of those that are open.
-pub(crate) fn tell_ends<W: Write>(
-    alloc: Global,
-    output: &mut W,
-    slot: usize,
-    became: &[Became],
-) -> Result<(), ReplayFault> {
-    for one in became {
-        let generation = one.generation;
-        let (up, down) = (one.target.written, one.client.written);
-        let line = match one.verdict {
-            Verdict::Live => format!(in alloc;
-                "live s={slot} g={generation} up={up} down={down}\n"
-            )?,
-            Verdict::Done => {
-                let done = Done {
-                    slot,
-                    generation,
-                    up,
-                    down,
-                };
-                format!(in alloc; "{done}\n")?
-            }
-            Verdict::Failed(fault) => {
-                let failed = Failed {
-                    slot,
-                    generation,
-                    fault,
-                };
-                format!(in alloc; "{failed}\n")?
-            }
-        };
-        write(output, line.as_str())?;
-    }
-    Ok(())
-}
-
-/// Writes the script of a world: its header, and a line for each event.
-pub(crate) fn tell_script<W: Write>(
-    alloc: Global,
-    output: &mut W,
-    tape: &Tape,
-) -> Result<(), ReplayFault> {
-    let mut page = Page::new(alloc);
-    put_header(&mut page, &tape.limits());
-    write(output, page.finish()?.as_str())?;
-    for events in tape.events().chunks(AT_ONCE) {
-        let mut page = Page::new(alloc);
-        for event in events {
-            put_event(&mut page, event);
-            page.put(&[Piece::Text("\n")]);
-        }
-        write(output, page.finish()?.as_str())?;
-    }
-    Ok(())
 }
 
 /// Writes which record can stand at no place and why, and the script that leads there.
 pub(crate) fn tell_flaw<W: Write>(
     alloc: Global,
     output: &mut W,
-    whose: &str,
-    numbered: Numbered,
-    why: &Why,
-    tape: Option<&Tape>,
+    flawed: &Flawed,
+    flaw: Flaw,
 ) -> Result<(), ReplayFault> {
-    let (line, record) = (numbered.line, numbered.record);
-    let reason = reason_of(alloc, why, tape)?;
-    let text = format!(in alloc; "# {whose}: line {line}: {record}: {reason}\n")?;
-    write(output, text.as_str())?;
-    let Some(tape) = tape else {
+    let record = text_of(alloc, flawed.numbered.record)?;
+    write(output, first_line(alloc, flawed, flaw, record.as_str()))?;
+    if let Whose::Slot(_, 0) = flawed.whose {
         return Ok(());
-    };
-    tell_script(alloc, output, tape)?;
-    if let Why::Refused(event) = why {
-        let refused = line_of(alloc, event)?;
-        write(output, refused.as_str())?;
-        write(output, "\n")?;
+    }
+    tell_script(alloc, output, &flawed.stage.tape)?;
+    write(output, refused(alloc, &flawed.stage))
+}
+
+/// Writes the script of a world: its header, and a line for each event.
+fn tell_script<W: Write>(alloc: Global, output: &mut W, tape: &Tape) -> Result<(), ReplayFault> {
+    write(output, header(alloc, tape))?;
+    for events in tape.events().chunks(AT_ONCE) {
+        write(output, script_of(alloc, events))?;
     }
     Ok(())
 }
 
-/// Why a record can stand at no place.
-fn reason_of(alloc: Global, why: &Why, tape: Option<&Tape>) -> Result<String, AllocError> {
-    match (why, tape) {
-        (Why::Text(text), _) => String::from_str(alloc, text),
-        (Why::NextCall, Some(tape)) => next_call(alloc, tape.world()),
-        (Why::Refused(event), Some(tape)) => {
-            let line = line_of(alloc, event)?;
-            let reason = event_reason(tape.world(), event);
-            format!(in alloc; "{line}: {reason}")
-        }
-        (_, None) => String::from_str(alloc, "nothing was opened"),
+fn write<W: Write>(output: &mut W, page: Page) -> Result<(), ReplayFault> {
+    match page.finish() {
+        Ok(text) => write_text(output, text.as_str()),
+        Err(error) => Err(ReplayFault::from(error)),
     }
 }
 
-/// Which call comes next.
-fn next_call(alloc: Global, world: &World) -> Result<String, AllocError> {
-    let Some(connection) = world.connection(0) else {
-        return String::from_str(alloc, "there is no connection");
-    };
-    let pair = &connection.pair;
-    let Some(call) = pair.next() else {
-        return String::from_str(alloc, "no call comes next");
-    };
-    let (side, name) = (call.side().name(), call.kind().name());
-    let direction = call.direction();
-    let (lead, ring) = (pair.lead_len(direction), pair.ring_len(direction));
-    match call {
-        Call::Read(_, most) => format!(in alloc; "{side} {name} {most} comes next"),
-        Call::Write(_) if lead > 0 => format!(in alloc; "{side} {name} {lead} comes next"),
-        Call::Write(_) => format!(in alloc; "{side} {name} {ring} comes next"),
-        Call::Join(_) | Call::Shut(_) => format!(in alloc; "{side} {name} comes next"),
+fn write_text<W: Write>(output: &mut W, text: &str) -> Result<(), ReplayFault> {
+    match output.write_all(text.as_bytes()) {
+        Ok(()) => Ok(()),
+        Err(_) => Err(ReplayFault::Write),
     }
 }
 
-/// The line of an event.
-fn line_of(alloc: Global, event: &Event) -> Result<String, AllocError> {
+/// That all is a run, what that came to, and what is not played.
+fn totals(alloc: Global, told: &Told, cut: Option<u64>, left_out: usize) -> Page {
     let mut page = Page::new(alloc);
-    put_event(&mut page, event);
-    page.finish()
+    put_totals(&mut page, told);
+    put_left_out(&mut page, cut, left_out);
+    page
+}
+
+fn put_totals(page: &mut Page, told: &Told) {
+    page.put(&[
+        Piece::Number(told.connections),
+        Piece::Text(" connections, "),
+        Piece::Number(told.counts.sum()),
+        Piece::Text(" events: each is a run of the machine\n"),
+    ]);
+    told.counts.put_lines(page);
+    let [client_read, target_read, client_written, target_written] = told.moved;
+    page.put(&[
+        Piece::Text("read client="),
+        Piece::Number(client_read),
+        Piece::Text(" target="),
+        Piece::Number(target_read),
+        Piece::Text(" written client="),
+        Piece::Number(client_written),
+        Piece::Text(" target="),
+        Piece::Number(target_written),
+        Piece::Text("\n"),
+    ]);
+}
+
+/// Adds what is not played, if anything.
+fn put_left_out(page: &mut Page, cut: Option<u64>, left_out: usize) {
+    if let Some(line) = cut {
+        page.put(&[
+            Piece::Text("line "),
+            Piece::Number(line),
+            Piece::Text(" is cut off\n"),
+        ]);
+    }
+    if left_out > 0 {
+        page.put(&[
+            Piece::Number(left_out as u64),
+            Piece::Text(" records behind the first lost one are left out\n"),
+        ]);
+    }
+}
+
+/// The header of a world's script.
+fn header(alloc: Global, tape: &Tape) -> Page {
+    let mut page = Page::new(alloc);
+    put_header(&mut page, &tape.limits());
+    page
+}
+
+/// A line for each of these events.
+fn script_of(alloc: Global, events: &[Event]) -> Page {
+    let mut page = Page::new(alloc);
+    for event in events {
+        put_line(&mut page, event);
+    }
+    page
+}
+
+/// The same for the event that was refused, if one was.
+fn refused(alloc: Global, stage: &Stage) -> Page {
+    let mut page = Page::new(alloc);
+    if let Some(event) = &stage.refused {
+        put_line(&mut page, event);
+    }
+    page
+}
+
+fn put_line(page: &mut Page, event: &Event) {
+    put_event(page, event);
+    page.put(&[Piece::Text("\n")]);
+}
+
+/// Which record can stand at no place, and why.
+fn first_line(alloc: Global, flawed: &Flawed, flaw: Flaw, record: &str) -> Page {
+    let mut page = Page::new(alloc);
+    put_whose(&mut page, flawed.whose);
+    page.put(&[
+        Piece::Text(": line "),
+        Piece::Number(flawed.numbered.line),
+        Piece::Text(": "),
+        Piece::Text(record),
+        Piece::Text(": "),
+    ]);
+    put_reason(&mut page, flaw, &flawed.stage);
+    page
+}
+
+fn text_of(alloc: Global, record: Record) -> Result<String, AllocError> {
+    format!(in alloc; "{record}")
+}
+
+fn put_whose(page: &mut Page, whose: Whose) {
+    match whose {
+        Whose::Poller(poller) => page.put(&[Piece::Text("# p"), Piece::Number(poller as u64)]),
+        Whose::Slot(slot, generation) => page.put(&[
+            Piece::Text("# "),
+            Piece::Number(slot as u64),
+            Piece::Text("."),
+            Piece::Number(generation),
+        ]),
+    }
+}
+
+/// Adds why a record can stand at no place, and ends its line.
+fn put_reason(page: &mut Page, flaw: Flaw, stage: &Stage) {
+    match (flaw, &stage.refused) {
+        (Flaw::Because(why), _) => page.put(&[Piece::Text(why), Piece::Text("\n")]),
+        (Flaw::Refused, Some(event)) => {
+            put_event(page, event);
+            let reason = event_reason(stage.world(), event);
+            page.put(&[Piece::Text(": "), Piece::Text(reason), Piece::Text("\n")]);
+        }
+        _ => put_next_call(page, stage),
+    }
+}
+
+fn put_next_call(page: &mut Page, stage: &Stage) {
+    let Some(next) = stage.next_call() else {
+        return page.put(&[Piece::Text("no call comes next\n")]);
+    };
+    let (side, name) = (next.call.side().name(), next.call.kind().name());
+    page.put(&[Piece::Text(side), Piece::Text(" "), Piece::Text(name)]);
+    if next.bytes > 0 {
+        page.put(&[Piece::Text(" "), Piece::Number(next.bytes as u64)]);
+    }
+    page.put(&[Piece::Text(" comes next\n")]);
 }

@@ -1,203 +1,148 @@
 //! The turns of a slot's connection.
-use crate::flaw::{Halt, Why};
+use crate::flaw::Flaw;
 use crate::player::{Phase, Player};
-use records::{Made, Record};
+use crate::recording::Numbered;
+use records::{Act as Recorded, Made, Record};
 use relay_core::Verdict;
-use token::{Side, Token};
-use world::{Act, Event, Polling};
+use token::Side;
+use world::{Act, Event};
 
 /// The most calls of a turn that a poller's own thread runs.
 const OWN_BUDGET: usize = 8;
 
 impl Player<'_> {
-    /// A turn begins: its ticket is put and taken, the slot is claimed, and its notes are taken.
-    pub(crate) fn begin(&mut self, record: Record) -> Result<(), Halt> {
-        match self.phase {
+    /// A turn begins: it has a note by then.
+    pub(crate) fn begin(&mut self, record: Record) -> Result<(), Flaw> {
+        match self.state.phase {
             Phase::Open => {}
-            Phase::Free => return Err(Halt::because("no connection is open in the slot")),
-            _ => return Err(Halt::because("the turn before has not ended")),
+            Phase::Free => return Err(Flaw::Because("no connection is open in the slot")),
+            _ => return Err(Flaw::Because("the turn before has not ended")),
         }
         let since = self.gather_notes(record.before)?;
         let (earliest, latest) = self.score.clock.between(since, record.before);
-        self.latest = latest;
         self.pass_to(earliest)?;
-        self.claim()?;
-        self.taken_from = since;
-        self.taken_by = record.before;
-        self.phase = Phase::Calling(0);
-        Ok(())
-    }
-
-    /// The ticket is put and taken, wherever it is, the slot is claimed, and its notes are taken.
-    fn claim(&mut self) -> Result<(), Halt> {
-        let with_poller = match self.world() {
-            Some(world) => !world.poller_hand().is_empty(),
-            None => false,
-        };
-        if with_poller {
-            self.put(Event::Poll(Polling::Put))?;
-        } else {
-            self.put(Event::Work(0, Act::Put))?;
-        }
-        for act in [Act::Pop, Act::Claim, Act::Take] {
-            self.put(Event::Work(0, act))?;
-        }
+        self.stage.claim()?;
+        let state = &mut self.state;
+        state.latest = latest;
+        state.taken_from = since;
+        state.taken_by = record.before;
+        state.phase = Phase::Calling(0);
         Ok(())
     }
 
     /// Time passes up to this second, if it counts and is later.
-    pub(crate) fn pass_to(&mut self, second: u64) -> Result<(), Halt> {
-        let Some(world) = self.world() else {
-            return Ok(());
-        };
-        let now = self.base.saturating_add(world.second());
-        if world.limits().idle == 0 || second <= now {
+    fn pass_to(&mut self, second: u64) -> Result<(), Flaw> {
+        let now = self.now();
+        if self.score.recording.header.idle == 0 || second <= now {
             return Ok(());
         }
-        self.put(Event::Tick(second - now))
+        self.stage.put(Event::Tick(second - now))
+    }
+
+    /// The second that it is in the world.
+    fn now(&self) -> u64 {
+        self.state.base.saturating_add(self.stage.world().second())
     }
 
     /// A turn has made its calls.
-    pub(crate) fn end(&mut self, record: Record) -> Result<(), Halt> {
-        let Phase::Calling(calls) = self.phase else {
-            return Err(Halt::because("no turn is in progress"));
+    pub(crate) fn end(&mut self, record: Record) -> Result<(), Flaw> {
+        let Phase::Calling(calls) = self.state.phase else {
+            return Err(Flaw::Because("no turn is in progress"));
         };
-        self.free_from = record.after;
-        let Some(connection) = self.world().and_then(|world| world.connection(0)) else {
-            return Err(Halt::because("no connection is open in the slot"));
-        };
-        let (verdict, is_due) = (connection.pair.verdict(), connection.pair.next().is_some());
-        if !matches!(verdict, Verdict::Live) {
-            self.phase = Phase::Closing(None);
+        self.state.free_from = record.after;
+        if self.stage.is_over() {
+            self.state.phase = Phase::Closing(None);
             return Ok(());
         }
-        if is_due {
+        if self.stage.next_call().is_some() {
             return self.end_due(calls);
         }
-        if matches!(self.next_wire(), Some((_, Made::Drop))) {
-            self.pass_to(self.latest)?;
-            self.put(Event::Work(0, Act::Expire))?;
-            self.phase = Phase::Closing(None);
-            return Ok(());
+        if is_dropped(self.next) {
+            self.pass_to(self.state.latest)?;
+            self.state.phase = Phase::Closing(None);
+            return self.stage.work(&[Act::Expire]);
         }
-        self.check_idle()?;
-        self.phase = Phase::Settling;
-        Ok(())
+        self.state.phase = Phase::Settling;
+        self.check_idle()
     }
 
     /// A turn ends with a call left. Then it has made as many as it may, and posts a note for the next turn.
-    fn end_due(&mut self, calls: usize) -> Result<(), Halt> {
-        let budget = self.score.header.budget;
+    fn end_due(&mut self, calls: usize) -> Result<(), Flaw> {
+        let budget = self.score.recording.header.budget;
         if calls != budget && calls != OWN_BUDGET.min(budget) {
-            return Err(Halt::because("a call is left, and the budget is not spent"));
+            return Err(Flaw::Because("a call is left, and the budget is not spent"));
         }
-        self.put(Event::Work(0, Act::Post))?;
         self.posted = self.last;
-        self.release()
-    }
-
-    fn release(&mut self) -> Result<(), Halt> {
-        self.put(Event::Work(0, Act::Release))?;
-        self.phase = Phase::Open;
-        Ok(())
+        self.state.phase = Phase::Open;
+        self.stage.work(&[Act::Post, Act::Release])
     }
 
     /// A turn that ends without a call leaves no connection that is past the idle limit.
-    fn check_idle(&self) -> Result<(), Halt> {
-        let (limit, Some(world)) = (self.score.header.idle, self.world()) else {
-            return Ok(());
-        };
-        let now = self.base.saturating_add(world.second());
-        if limit > 0 && now.saturating_sub(self.moved) >= limit {
-            return Err(Halt::because("the connection is past the idle limit, and is left open"));
+    fn check_idle(&self) -> Result<(), Flaw> {
+        let limit = self.score.recording.header.idle;
+        if limit > 0 && self.now().saturating_sub(self.state.moved) >= limit {
+            return Err(Flaw::Because("the connection is past the idle limit, and is left open"));
         }
         Ok(())
     }
 
     /// The target's end, the last of the two, was told that a turn has ended quiet. Behind that the slot is released.
-    pub(crate) fn settle(&mut self, token: Token, record: Record) -> Result<(), Halt> {
-        self.check_generation(token)?;
-        if !matches!(self.phase, Phase::Settling) {
-            return Err(Halt::because("no turn has ended quiet"));
+    pub(crate) fn settle(&mut self, side: Side, record: Record) -> Result<(), Flaw> {
+        if !matches!(self.state.phase, Phase::Settling) {
+            return Err(Flaw::Because("no turn has ended quiet"));
         }
-        if token.side() != Side::Target {
-            return Err(Halt::because("that the client's end is told is not recorded"));
+        if side != Side::Target {
+            return Err(Flaw::Because("that the client's end is told is not recorded"));
         }
-        self.free_from = record.after;
-        self.release()
+        self.state.free_from = record.after;
+        self.state.phase = Phase::Open;
+        self.stage.work(&[Act::Release])
     }
 
     /// An end is dropped. Behind the second one the slot is free.
-    pub(crate) fn drop_end(&mut self, token: Token, record: Record) -> Result<(), Halt> {
-        if matches!(self.phase, Phase::Free) && token.generation() == self.void {
-            return Ok(());
-        }
-        self.check_generation(token)?;
-        let Phase::Closing(dropped) = self.phase else {
-            return Err(Halt::because("the connection has not ended"));
-        };
-        match dropped {
-            None => {
-                self.phase = Phase::Closing(Some(token.side()));
-                self.taken_by = record.before;
+    pub(crate) fn drop_end(&mut self, side: Side, record: Record) -> Result<(), Flaw> {
+        let phase = self.state.phase;
+        match phase {
+            Phase::Closing(None) => {
+                self.state.phase = Phase::Closing(Some(side));
+                self.state.taken_by = record.before;
                 Ok(())
             }
-            Some(side) if side != token.side() => self.close(),
-            Some(_) => Err(Halt::because("the same end is dropped twice")),
-        }
-    }
-
-    fn close(&mut self) -> Result<(), Halt> {
-        self.note_while_held()?;
-        for act in [Act::Close, Act::Retire, Act::Free] {
-            self.put(Event::Work(0, act))?;
-        }
-        self.phase = Phase::Free;
-        Ok(())
-    }
-
-    /// The wire is one of the connection in the slot.
-    pub(crate) fn check_generation(&self, token: Token) -> Result<(), Halt> {
-        if token.generation() == self.generation && !matches!(self.phase, Phase::Free) {
-            Ok(())
-        } else {
-            Err(Halt::because("it is no end of the connection in the slot"))
-        }
-    }
-
-    /// The side of the turn in progress, and its connection's next call, may be made.
-    pub(crate) fn count_call(&mut self) -> Result<(), Halt> {
-        match self.phase {
-            Phase::Calling(calls) => {
-                self.phase = Phase::Calling(calls.saturating_add(1));
-                Ok(())
+            Phase::Closing(Some(other)) if side == other => {
+                Err(Flaw::Because("the same end is dropped twice"))
             }
-            _ => Err(Halt::because("no turn is in progress")),
+            Phase::Closing(_) => {
+                self.note_while_held()?;
+                self.state.phase = Phase::Free;
+                self.stage.work(&[Act::Close, Act::Retire, Act::Free])
+            }
+            _ => Err(Flaw::Because("the connection has not ended")),
         }
     }
 
-    /// Nothing is left to do in the slot.
-    pub(crate) fn rest(&mut self) -> Result<(), Halt> {
-        if matches!(self.phase, Phase::Free) {
-            return Ok(());
-        }
-        if !matches!(self.phase, Phase::Open) {
-            return Err(Halt::Flawed(Some(self.last), Why::Text("its turn has not ended")));
+    /// Nothing is left to do in the slot. What is left is told of the record that it came from.
+    pub(crate) fn rest(&mut self) -> Result<(), Flaw> {
+        match self.state.phase {
+            Phase::Free => return Ok(()),
+            Phase::Open => {}
+            _ => return Err(Flaw::Because("its turn has not ended")),
         }
         self.note_the_rest()?;
-        let Some(world) = self.world() else {
-            return Ok(());
-        };
-        let has_notes = world.slots().iter().any(|slot| slot.has_notes());
-        if has_notes || world.movable(0) {
-            let why = if has_notes {
-                "no turn took the note of this"
-            } else {
-                "the connection could move"
-            };
-            let index = if has_notes { self.posted } else { self.last };
-            return Err(Halt::Flawed(Some(index), Why::Text(why)));
+        if self.stage.has_notes() {
+            self.last = self.posted;
+            return Err(Flaw::Because("no turn took the note of this"));
+        }
+        if self.stage.world().movable(0) {
+            return Err(Flaw::Because("the connection could move"));
         }
         Ok(())
+    }
+}
+
+/// Whether the next act drops an end.
+fn is_dropped(next: &[Numbered]) -> bool {
+    match next.first() {
+        Some(first) => matches!(first.record.act, Recorded::Wire(_, Made::Drop)),
+        None => false,
     }
 }

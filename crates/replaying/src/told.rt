@@ -1,0 +1,171 @@
+//! What is told of the worlds that were played.
+use crate::flaw::Flaw;
+use crate::recording::Numbered;
+use crate::stage::Stage;
+use kernel_model::End;
+use records::Wanted;
+use relay_core::Verdict;
+use relay_log::{Done, Failed};
+use script_text::Counts;
+use std::alloc::{AllocError, Global};
+use world::{Tape, World};
+
+/// Bytes that were read at clients and at targets, and bytes that were written there.
+pub(crate) type Moved = [u64; 4];
+
+/// What became of a connection.
+#[derive(Clone, Copy)]
+struct Became {
+    generation: u64,
+    verdict: Verdict,
+    moved: Moved,
+}
+
+/// Whose act it was.
+#[derive(Clone, Copy)]
+pub(crate) enum Whose {
+    Poller(usize),
+    /// That of a slot and a generation, which is 0 where nothing was opened.
+    Slot(usize, u64),
+}
+
+/// A record that can stand at no place, and the world in which it should have happened.
+#[derive(Drop)]
+pub(crate) struct Flawed {
+    pub whose: Whose,
+    pub numbered: Numbered,
+    pub stage: Stage,
+}
+
+/// What is told of the worlds that were played.
+#[derive(Drop)]
+pub(crate) struct Told {
+    pub wanted: Wanted,
+    /// How many connections there were, how many events of each kind, and what moved.
+    pub connections: u64,
+    pub counts: Counts,
+    pub moved: Moved,
+    /// A line for each connection: what became of it, as the log says that, or that it is open.
+    pub ends: String,
+    /// The world of the connection whose script is wanted.
+    pub script: Option<Tape>,
+    /// Where a play did not go on.
+    pub flawed: Option<Flawed>,
+}
+
+fn moved(client: &End, target: &End) -> Moved {
+    [
+        client.arrived().len().saturating_sub(client.unread().len()) as u64,
+        target.arrived().len().saturating_sub(target.unread().len()) as u64,
+        client.taken().len() as u64,
+        target.taken().len() as u64,
+    ]
+}
+
+impl Became {
+    /// What became of the connection of a slot's world, if one was opened there.
+    fn of(world: &World) -> Option<Became> {
+        if let Some(connection) = world.connection(0) {
+            let client = world.kernel().end(connection.ends.client)?;
+            let target = world.kernel().end(connection.ends.target)?;
+            return Some(Became {
+                generation: connection.pair.generation(),
+                verdict: connection.pair.verdict(),
+                moved: moved(&client.socket, &target.socket),
+            });
+        }
+        let past = world.past().last()?;
+        Some(Became {
+            generation: past.generation,
+            verdict: past.verdict,
+            moved: moved(&past.ends.client, &past.ends.target),
+        })
+    }
+}
+
+impl Told {
+    pub(crate) fn new(alloc: Global, wanted: Wanted) -> Told {
+        Told {
+            wanted,
+            connections: 0,
+            counts: Counts::NONE,
+            moved: [0; 4],
+            ends: String::new(alloc),
+            script: None,
+            flawed: None,
+        }
+    }
+
+    /// A play does not go on from this record.
+    pub(crate) fn end(
+        &mut self,
+        flaw: Flaw,
+        whose: Whose,
+        numbered: Numbered,
+        stage: Stage,
+    ) -> Result<(), Flaw> {
+        self.flawed = Some(Flawed {
+            whose,
+            numbered,
+            stage,
+        });
+        Err(flaw)
+    }
+
+    /// The world of a slot or of a listener was played to its end, or as far as the recording goes.
+    pub(crate) fn take(&mut self, slot: usize, tape: Tape) -> Result<(), Flaw> {
+        for event in tape.events() {
+            self.counts.count(event);
+        }
+        let became = Became::of(tape.world());
+        if self.add(slot, &became)? {
+            self.script = Some(tape);
+        }
+        Ok(())
+    }
+
+    /// Adds what became of a connection, if one was opened. Answers whether its script is wanted.
+    fn add(&mut self, slot: usize, became: &Option<Became>) -> Result<bool, AllocError> {
+        let Some(became) = became else {
+            return Ok(false);
+        };
+        self.connections = self.connections.saturating_add(1);
+        for (sum, more) in self.moved.iter_mut().zip(became.moved.iter()) {
+            *sum = sum.saturating_add(*more);
+        }
+        if let Wanted::Ends = self.wanted {
+            self.add_end(slot, became)?;
+        }
+        Ok(self.wanted == Wanted::Script(slot, became.generation))
+    }
+
+    fn add_end(&mut self, slot: usize, became: &Became) -> Result<(), AllocError> {
+        let generation = became.generation;
+        let [_, _, down, up] = became.moved;
+        match became.verdict {
+            Verdict::Live => {
+                writeln!(
+                    self.ends,
+                    "live s={slot} g={generation} up={up} down={down}"
+                )
+            }
+            Verdict::Done => {
+                let done = Done {
+                    slot,
+                    generation,
+                    up,
+                    down,
+                };
+                writeln!(self.ends, "{done}")
+            }
+            Verdict::Failed(fault) => {
+                let failed = Failed {
+                    slot,
+                    generation,
+                    fault,
+                };
+                writeln!(self.ends, "{failed}")
+            }
+        }
+    }
+}
