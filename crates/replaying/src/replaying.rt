@@ -65,6 +65,7 @@ fn deal<W: Write>(
     play_and_tell(alloc, score, wanted, left_out, output)
 }
 
+/// Plays what is wanted, and writes what that comes to.
 fn play_and_tell<W: Write>(
     alloc: Global,
     score: Score<'_>,
@@ -73,14 +74,35 @@ fn play_and_tell<W: Write>(
     output: &mut W,
 ) -> Result<Outcome, ReplayFault> {
     let mut told = Told::new(alloc, wanted);
-    let result = play(alloc, score, &mut told);
-    match (result, &told.flawed) {
-        (Err(Flaw::NoMemory), _) | (Err(_), None) => Err(ReplayFault::NoMemory),
-        (Ok(()), _) => {
-            tell(alloc, output, &told, score.recording, left_out)?;
+    tell_played(alloc, score, left_out, output, &mut told)
+}
+
+fn tell_played<W: Write>(
+    alloc: Global,
+    score: Score<'_>,
+    left_out: usize,
+    output: &mut W,
+    told: &mut Told,
+) -> Result<Outcome, ReplayFault> {
+    match play(alloc, score, told) {
+        Ok(()) => {
+            tell(alloc, output, told, score.recording, left_out)?;
             Ok(Outcome::Run)
         }
-        (Err(flaw), Some(flawed)) => {
+        Err(flaw) => tell_end(alloc, output, told, flaw),
+    }
+}
+
+/// Writes where the play did not go on.
+fn tell_end<W: Write>(
+    alloc: Global,
+    output: &mut W,
+    told: &Told,
+    flaw: Flaw,
+) -> Result<Outcome, ReplayFault> {
+    match (flaw, &told.flawed) {
+        (Flaw::NoMemory, _) | (_, None) => Err(ReplayFault::NoMemory),
+        (flaw, Some(flawed)) => {
             tell_flaw(alloc, output, flawed, flaw)?;
             Ok(Outcome::NoRun)
         }
