@@ -1,30 +1,23 @@
 // What a refused change and an error leave of an end's arms, which no report shows.
-use kernel_model::{End, Refusal, Reply};
-use std::alloc::Global;
+use crate::passing::all_well;
+use kernel_model::{End, Reply};
+use std::alloc::{AllocError, Global};
 use std::test::Fail;
 use token::Side;
 
-/// An end on which a read and a write would have blocked.
-fn armed(alloc: Global) -> Result<End, Refusal> {
+/// Whether an arrival that is refused leaves both arms, and an error neither. A read and a write would have blocked before.
+fn an_error_alone_clears(alloc: Global) -> Result<bool, AllocError> {
     let mut end = End::new(alloc, Side::Target);
-    end.read(4, Reply::Blocked)?;
-    end.write(b"a", Reply::Blocked)?;
-    Ok(end)
-}
-
-/// Whether the next thing to read is to be reported, and room: after an arrival that is refused, and then after an error.
-fn arms(end: &mut End) -> [bool; 4] {
+    let blocked = end.read(4, Reply::Blocked).is_ok() && end.write(b"a", Reply::Blocked).is_ok();
     let _refused = end.arrive(b"");
-    let (read, write) = (end.is_read_armed(), end.is_write_armed());
+    let armed = end.is_read_armed() && end.is_write_armed();
     let _told = end.reset();
-    [read, write, end.is_read_armed(), end.is_write_armed()]
+    Ok(blocked && armed && !end.is_read_armed() && !end.is_write_armed())
 }
 
 // refuses refused_arrival_clears_the_arm: a refused arrival clears the arm for reads
 // refuses reset_leaves_an_arm: an error leaves the arm for writes
 #[test]
 fn an_error_clears_both_arms(rt: HostRuntime) -> Result<(), Fail> {
-    let mut end = armed(rt.alloc())?;
-    assert_eq!(rt; arms(&mut end), [true, true, false, false]);
-    Ok(())
+    all_well(an_error_alone_clears(rt.alloc()))
 }

@@ -7,24 +7,26 @@
 #[cfg(test)]
 mod arms;
 #[cfg(test)]
-mod lines;
+mod counts;
 #[cfg(test)]
 mod messages;
 #[cfg(test)]
 mod numbers;
 #[cfg(test)]
+mod passing;
+#[cfg(test)]
 mod proxy;
+#[cfg(test)]
+mod queues;
+#[cfg(test)]
+mod records;
 #[cfg(test)]
 mod replays;
 #[cfg(test)]
 mod reports;
 #[cfg(test)]
-mod rings;
-#[cfg(test)]
 mod session;
 #[cfg(test)]
 mod threads;
-#[cfg(test)]
-mod wires;
 #[cfg(test)]
 mod words;

@@ -1,25 +1,21 @@
 // What a log is handed, at each level. The texts are promised by clauses; the calls promise nothing of what they log.
-use log::sink::Memory;
+use crate::passing::all_well;
+use log::sink::{Lines, Memory};
 use log::{Level, Log, Logged};
-use relay_core::{CallKind, Fault, Kind, Side, Verdict};
+use log_queue::LogLine;
+use relay_core::{CallKind, Fault, Kind, Side};
 use relay_log::{
     Cause, done_text, drop_text, fail_text, log_all_taken, log_done, log_drop, log_drops, log_fail,
     log_open, log_peer, open_text,
 };
-use statistics::{Event, Statistics};
 use std::alloc::{AllocError, Global};
 use std::cell::Cell;
-use std::fmt;
+use std::fmt::{self, Write};
 use std::test::Fail;
 
 const SLOT: usize = 32_767;
 
 const GENERATION: u64 = 140_737_488_355_327;
-
-/// More bytes than 32 bits count, and the most that are counted.
-const UP: u64 = 4_294_967_296;
-
-const DOWN: u64 = u64::MAX;
 
 const FAULT: Fault = Fault::Broken {
     side: Side::Target,
@@ -27,7 +23,7 @@ const FAULT: Fault = Fault::Broken {
     kind: Kind::Pipe,
 };
 
-/// Each message, after its level.
+/// Each message, after its level. The counts of the third are more than 32 bits count, and the most that are counted.
 static LINES: [&str; 7] = [
     "[DEBUG relayd] peer s=32767 g=140737488355327 from=192.0.2.7:50000",
     "[INFO  relayd] open s=32767 g=140737488355327",
@@ -38,92 +34,14 @@ static LINES: [&str; 7] = [
     "[WARN  relayd] slots: all 4096 are taken; further clients wait",
 ];
 
-fn log_each(log: &impl Log) {
-    log_peer(log, SLOT, GENERATION, &"192.0.2.7:50000");
-    log_open(log, SLOT, GENERATION);
-    log_done(log, SLOT, GENERATION, UP, DOWN);
-    log_fail(log, SLOT, GENERATION, FAULT);
-    log_drop(log, Cause::Register);
-    log_drops(log, Cause::Connect, u64::MAX);
-    log_all_taken(log, 4_096);
-}
-
-// refuses done_swaps_the_counts: the counts of the two directions are exchanged
-// refuses fail_names_the_other_side: a failure names the other side
-// refuses peer_without_generation: a message names the slot in place of the generation
-// refuses drop_by_another_word: a cause is told by another word
-// A message is handed over whole, or left out where a growth is refused. At most one growth is, under
-// `rt try --test --fail-alloc N`, and none otherwise: so of all messages at most one is missing.
-#[test]
-fn levels(rt: HostRuntime) {
-    let mut missing = 0usize;
-    for (level, first) in [
-        (Level::Trace, 0),
-        (Level::Debug, 0),
-        (Level::Info, 1),
-        (Level::Warn, 3),
-        (Level::Error, 7),
-    ] {
-        let sink = Memory::new(rt.alloc());
-        log_each(&Logged::new(&rt, level, &sink));
-        let lines = sink.into_lines();
-        let mut lines = lines.as_slice().iter().peekable();
-        for text in LINES.iter().skip(first) {
-            if lines.next_if(|line| line.as_str() == *text).is_none() {
-                missing = missing.saturating_add(1);
-            }
-        }
-        assert!(rt; lines.next().is_none(), "another line at {level:?}");
-    }
-    assert!(rt; missing <= 1, "{missing} messages are missing");
-}
-
-/// The four messages of which there are texts, one below the other.
-fn texts(alloc: Global) -> Result<String, AllocError> {
-    let opened = open_text(alloc, 3, 1)?;
-    let done = done_text(alloc, 3, 1, 120, 400)?;
-    let failed = fail_text(alloc, 3, 1, Fault::Idle)?;
-    let dropped = drop_text(alloc, Cause::Memory)?;
-    format!(in alloc; "{opened}\n{done}\n{failed}\n{dropped}")
-}
-
-// refuses idle_told_as_reset: a connection that moved nothing is told as one that was reset
-#[test]
-fn texts_are_made(rt: HostRuntime) -> Result<(), Fail> {
-    assert_eq!(rt;
-        texts(rt.alloc())?.as_str(),
-        "open s=3 g=1\ndone s=3 g=1 up=120 down=400\nfail s=3 g=1 idle\ndrop kind=memory"
-    );
-    Ok(())
-}
-
-// refuses counts_of_32_bits: a count goes round at 2^32
-// refuses last_slot_is_not_summed: the last slot's counts are not in the sums
-// refuses two_slots_in_one_place: two slots are counted in one place
-// Two connections at each of all slots, of which the second is open.
-#[test]
-fn statistics_of_each_slot(rt: HostRuntime) -> Result<(), Fail> {
-    let statistics = Statistics::new(rt.alloc(), 2)?;
-    for slot in 0..2 {
-        statistics.count(slot, Event::Opened);
-        statistics.count(slot, Event::Moved { up: 3, down: 5 });
-        statistics.count(
-            slot,
-            Event::Ended {
-                verdict: Verdict::Done,
-                up: UP,
-                down: 7,
-            },
-        );
-        statistics.count(slot, Event::Opened);
-        statistics.count(slot, Event::Moved { up: 1, down: 2 });
-    }
-    assert_eq!(rt;
-        format!(in rt.alloc(); "{}", statistics.totals())?.as_str(),
-        "stats open=2 slots=2 opened=4 done=2 failed=0 dropped=0 client=0 target=0 refused=0 reset=0 timedout=0 idle=0 up=8589934594 down=18"
-    );
-    Ok(())
-}
+/// The levels, and the first message that is logged at each.
+static LEVELS: [(Level, usize); 5] = [
+    (Level::Trace, 0),
+    (Level::Debug, 0),
+    (Level::Info, 1),
+    (Level::Warn, 3),
+    (Level::Error, 7),
+];
 
 /// An address that notes that it is printed.
 #[derive(Drop)]
@@ -136,16 +54,92 @@ impl fmt::Display for Noting {
     }
 }
 
-// No text is made at a level that is off. Where one is made and a growth is refused, the next one is made.
-#[test]
-fn prints_no_address_at_a_level_that_is_off(rt: HostRuntime) {
+fn log_each(log: &impl Log, from: &Noting) {
+    log_peer(log, SLOT, GENERATION, from);
+    log_open(log, SLOT, GENERATION);
+    log_done(log, SLOT, GENERATION, 4_294_967_296, u64::MAX);
+    log_fail(log, SLOT, GENERATION, FAULT);
+    log_drop(log, Cause::Register);
+    log_drops(log, Cause::Connect, u64::MAX);
+    log_all_taken(log, 4_096);
+}
+
+/// How many messages of these are missing among the lines, if there is no other line.
+fn missing(lines: &Lines, wanted: &[&str]) -> Option<usize> {
+    let mut lines = lines.as_slice().iter().peekable();
+    let mut missing = 0usize;
+    for text in wanted {
+        if lines.next_if(|line| line.as_str() == *text).is_none() {
+            missing = missing.saturating_add(1);
+        }
+    }
+    lines.next().is_none().then_some(missing)
+}
+
+/// How many messages are missing at a level, if no other is logged, and no address is printed at a level that has none.
+fn missing_at(rt: &HostRuntime, level: Level, first: usize) -> Option<usize> {
     let from = Noting(Cell::new(false));
     let sink = Memory::new(rt.alloc());
-    let logged = Logged::new(&rt, Level::Info, &sink);
-    log_peer(&logged, 3, 1, &from);
-    assert!(rt; !from.0.get());
-    for _ in 0..2 {
-        log_peer(&Logged::new(&rt, Level::Debug, &sink), 3, 1, &from);
+    log_each(&Logged::new(rt, level, &sink), &from);
+    if from.0.get() && first > 0 {
+        return None;
     }
-    assert!(rt; from.0.get());
+    missing(&sink.into_lines(), &LINES[first % 8..])
+}
+
+/// How many messages are missing at all levels.
+fn all_missing(rt: &HostRuntime) -> Option<usize> {
+    let mut all = 0usize;
+    for (level, first) in LEVELS {
+        all = all.saturating_add(missing_at(rt, level, first)?);
+    }
+    Some(all)
+}
+
+// refuses done_swaps_the_counts: the counts of the two directions are exchanged
+// refuses fail_names_the_other_side: a failure names the other side
+// refuses peer_without_generation: a message names the slot in place of the generation
+// refuses drop_by_another_word: a cause is told by another word
+// A message is handed over whole, or left out where a growth is refused. At most one growth is, under
+// `rt try --test --fail-alloc N`, and none otherwise: so of all messages at most one is missing.
+#[test]
+fn levels(rt: HostRuntime) -> Result<(), Fail> {
+    all_well(Ok(matches!(all_missing(&rt), Some(0 | 1))))
+}
+
+fn is(text: Result<String, AllocError>, wanted: &str) -> Result<bool, AllocError> {
+    Ok(text?.as_str() == wanted)
+}
+
+/// Whether each message of which there are texts has its own.
+fn are_texts(alloc: Global) -> Result<bool, AllocError> {
+    Ok(
+        is(open_text(alloc, 3, 1), "open s=3 g=1")?
+            && is(done_text(alloc, 3, 1, 12, 4), "done s=3 g=1 up=12 down=4")?
+            && is(fail_text(alloc, 3, 1, Fault::Idle), "fail s=3 g=1 idle")?
+            && is(drop_text(alloc, Cause::Memory), "drop kind=memory")?,
+    )
+}
+
+// refuses idle_told_as_reset: a connection that moved nothing is told as one that was reset
+#[test]
+fn texts_are_made(rt: HostRuntime) -> Result<(), Fail> {
+    all_well(are_texts(rt.alloc()))
+}
+
+/// Whether a line that is longer than any that the program prints is cut where it is full.
+fn is_cut(alloc: Global) -> Result<bool, AllocError> {
+    let mut line = LogLine::new();
+    for _ in 0..40 {
+        let _added = line.write_str("1234567");
+    }
+    let text = format!(in alloc; "{line}")?;
+    Ok(text.len() == 243 && text.ends_with("712..."))
+}
+
+// refuses line_is_cut_too_early: a long line is cut before it is full
+// refuses printed_text_is_lost: what is printed into a line is lost
+#[test]
+fn a_line_is_cut_where_it_is_full(rt: HostRuntime) -> Result<(), Fail> {
+    all_well(is_cut(rt.alloc()))
 }

@@ -1,4 +1,5 @@
 // Numbers of ends at the edges of their parts.
+use crate::passing::all_well;
 use std::test::Fail;
 use token::{Name, Side, Token, TokenFault, next_gen, unpack};
 
@@ -18,23 +19,35 @@ static FAULTS: [(usize, u64, TokenFault); 3] = [
     (32_768, 0, TokenFault::SlotRange),
 ];
 
+/// Whether an end has this number, and the number is of that end.
+fn is_number(slot: usize, side: Side, generation: u64, number: u64) -> bool {
+    match Token::pack(slot, side, generation) {
+        Ok(token) => token.value() == number && unpack(number) == Some(Name::End(token)),
+        Err(_) => false,
+    }
+}
+
+fn are_numbers() -> bool {
+    let mut all = true;
+    for (slot, side, generation, number) in ENDS {
+        all = all && is_number(slot, side, generation, number);
+    }
+    all
+}
+
+fn are_refused() -> bool {
+    let mut all = next_gen(LAST).is_none();
+    for (slot, generation, fault) in FAULTS {
+        all = all && Token::pack(slot, Side::Client, generation) == Err(fault);
+    }
+    all && unpack(2).is_none() && unpack(9_223_372_036_854_775_808).is_none()
+}
+
 // refuses next_gen_goes_round: the generation after the last one is the first
 // refuses pack_looks_at_generation_first: a bad generation is told before a bad slot
 // refuses unpack_ignores_side: each end that a number names is the client's
 // refuses value_with_narrow_slot: the numbers of two slots' ends overlap
 #[test]
-fn numbers(rt: HostRuntime) -> Result<(), Fail> {
-    for (slot, side, generation, number) in &ENDS {
-        let token = Token::pack(*slot, *side, *generation)?;
-        assert_eq!(rt; token.value(), *number);
-        assert!(rt; unpack(*number) == Some(Name::End(token)), "of {number}");
-    }
-    for number in [2, 9_223_372_036_854_775_808] {
-        assert!(rt; unpack(number).is_none(), "of {number}");
-    }
-    for (slot, generation, fault) in &FAULTS {
-        assert!(rt; Token::pack(*slot, Side::Client, *generation) == Err(*fault));
-    }
-    assert!(rt; next_gen(LAST).is_none());
-    Ok(())
+fn numbers(_rt: HostRuntime) -> Result<(), Fail> {
+    all_well(Ok(are_numbers() && are_refused()))
 }

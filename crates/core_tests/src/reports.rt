@@ -1,28 +1,32 @@
 // What a look answers: no clause can say what a word holds.
+use crate::passing::all_well;
 use readiness::{Reports, Told};
+use std::alloc::{AllocError, Global};
 use std::test::Fail;
 use token::Side;
 
-/// A slot and a side, and what two looks find there once the target's end of slot 1 was told of.
-static HEARD: [(usize, Side, [bool; 2]); 3] = [
-    (1, Side::Client, [false, false]),
-    (0, Side::Target, [false, false]),
-    (1, Side::Target, [true, false]),
-];
-
 /// What two looks find.
-fn looks(reports: &Reports, slot: usize, side: Side) -> Option<[bool; 2]> {
-    let told = Told::new(reports, slot, side).ok()??;
-    Some([told.take(), told.take()])
+fn looks(reports: &Reports, slot: usize, side: Side) -> Result<[bool; 2], AllocError> {
+    match Told::new(reports, slot, side)? {
+        Some(told) => Ok([told.take(), told.take()]),
+        None => Ok([true, true]),
+    }
+}
+
+/// Whether what is told of the target's end of slot 1 is found there once, and nowhere else.
+fn is_taken_once(alloc: Global) -> Result<bool, AllocError> {
+    let reports = Reports::new(alloc, 2)?;
+    let before = looks(&reports, 1, Side::Target)?;
+    let _heard = reports.tell(1, Side::Target);
+    Ok(
+        before == [false, false]
+            && looks(&reports, 1, Side::Client)? == [false, false]
+            && looks(&reports, 0, Side::Target)? == [false, false]
+            && looks(&reports, 1, Side::Target)? == [true, false],
+    )
 }
 
 #[test]
 fn what_is_told_is_taken_once_and_there_alone(rt: HostRuntime) -> Result<(), Fail> {
-    let reports = Reports::new(rt.alloc(), 2)?;
-    assert_eq!(rt; looks(&reports, 1, Side::Target), Some([false, false]));
-    let _heard = reports.tell(1, Side::Target);
-    for (slot, side, wanted) in &HEARD {
-        assert_eq!(rt; looks(&reports, *slot, *side), Some(*wanted));
-    }
-    Ok(())
+    all_well(is_taken_once(rt.alloc()))
 }

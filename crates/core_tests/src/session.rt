@@ -2,10 +2,11 @@
 // what the other side gave; the target is not known to be connected at first.
 ghost use Rattle.std.specs.Prelude.{◌≤◌};
 
+use crate::passing::{all_well, no_row};
 use engine::{Play, PlayList, ScriptWire, Turn, Wire, turn};
 use relay_core::{CallKind, Fault, Kind, Pair, Side, Verdict};
 use std::alloc::{AllocError, Global};
-use std::process::Abort;
+use std::io::ErrorKind;
 use std::test::Fail;
 
 /// A call of the session: its side and kind, the place of the play that answers it, and how many bytes had been sent each
@@ -24,38 +25,22 @@ static CALLS: [Point; 8] = [
     (Side::Client, CallKind::Shut, PlayList::Closings, 0, (3, 2)),
 ];
 
-/// What is seen of a session in the end: its first turn and its last, what the pair tells, and on both wires how many
-/// plays are left and how many faults were counted.
-#[derive(Clone, Copy, Debug, PartialEq, Eq)]
-struct Ended {
-    turns: (Turn, Turn),
-    verdict: Verdict,
-    sent: (u64, u64),
-    left: usize,
-    faults: (u64, u64),
-}
+/// What is seen of a session in the end: its first turn and its last, what the pair tells, how many bytes were sent each way, and
+/// on both wires how many plays are left and how many faults were counted.
+type Ended = (Turn, Turn, Verdict, (u64, u64), usize, (u64, u64));
 
 /// It is done, and every play was used.
 fn done(first: Turn) -> Ended {
-    Ended {
-        turns: (first, Turn::Done),
-        verdict: Verdict::Done,
-        sent: (3, 2),
-        left: 0,
-        faults: (0, 0),
-    }
+    (first, Turn::Done, Verdict::Done, (3, 2), 0, (0, 0))
 }
 
 /// It failed at this call by this kind, and the plays from there on are left.
 fn failed(number: usize, kind: Kind) -> Ended {
     let (side, call, _, _, sent) = CALLS[number % 8];
-    Ended {
-        turns: (Turn::Failed, Turn::Failed),
-        verdict: Verdict::Failed(Fault::Broken { side, call, kind }),
-        sent,
-        left: 8 - number % 8,
-        faults: if side == Side::Client { (1, 0) } else { (0, 1) },
-    }
+    let faults = if side == Side::Client { (1, 0) } else { (0, 1) };
+    let verdict = Verdict::Failed(Fault::Broken { side, call, kind });
+    let (ended, left) = (Turn::Failed, 8 - number % 8);
+    (ended, ended, verdict, sent, left, faults)
 }
 
 /// A pair with rings of four bytes, and a wire on each side.
@@ -85,41 +70,33 @@ impl Session {
         }
     }
 
-    /// What is seen of it after these turns.
-    fn seen(&self, turns: (Turn, Turn)) -> Ended {
-        Ended {
-            turns,
-            verdict: self.pair.verdict(),
-            sent: self.pair.counts(),
-            left: self.client.left().saturating_add(self.target.left()),
-            faults: (self.client.faults(), self.target.faults()),
-        }
-    }
-
-    /// Whether each side was given what the other side gave, as far as it was sent.
-    fn was_given(&self) -> bool {
+    /// Whether this is seen of it after a turn of so many calls, a report, and a second turn, and each side was given what
+    /// the other side gave, as far as it was sent.
+    fn goes(&mut self, budget: usize, wanted: Ended) -> bool
+        requires least { 1 ≤ budget }
+        requires most { budget ≤ 1024 }
+    {
+        let first = self.turn(budget);
+        self.pair.note();
+        let last = self.turn(64);
         let (up, down) = self.pair.counts();
-        self.client.written() == &b"xy"[..(down as usize).min(2)]
+        let left = self.client.left().saturating_add(self.target.left());
+        let faults = (self.client.faults(), self.target.faults());
+        let seen = (first, last, self.pair.verdict(), (up, down), left, faults);
+        seen == wanted
+            && self.client.written() == &b"xy"[..(down as usize).min(2)]
             && self.target.written() == &b"abc"[..(up as usize).min(3)]
     }
 }
 
-/// A play of these bytes.
-fn bytes(alloc: Global, bytes: &[u8]) -> Result<Play, AllocError> {
-    Ok(Play::Bytes(bytes.to_vec(alloc)?))
-}
-
 /// A list of these plays.
-pub(crate) fn plays<const N: usize>(
-    alloc: Global,
-    plays: [Play; N],
-) -> Result<Vec<Play>, AllocError> {
+fn plays<const N: usize>(alloc: Global, plays: [Play; N]) -> Result<Vec<Play>, AllocError> {
     Ok(Vec::from_array(alloc, plays)?)
 }
 
 /// One side of the session: it gives these bytes and its end, and takes so many.
 fn wire(alloc: Global, joined: bool, gives: &[u8], takes: usize) -> Result<ScriptWire, AllocError> {
-    let reads = plays(alloc, [bytes(alloc, gives)?, Play::End])?;
+    let reads = plays(alloc, [Play::Bytes(gives.to_vec(alloc)?), Play::End])?;
     let writes = plays(alloc, [Play::Take(takes)])?;
     ScriptWire::new(alloc, joined, reads, writes, plays(alloc, [Play::Shut])?)
 }
@@ -133,83 +110,132 @@ fn session_of(alloc: Global, up: &[u8], down: &[u8]) -> Result<Session, AllocErr
     })
 }
 
-/// Puts a play before a call, and takes a turn, a report, and a second turn.
-fn played(session: &mut Session, number: usize, play: Play) -> Result<Ended, AllocError> {
-    session.disturb(number, play)?;
-    let first = session.turn(64);
-    session.pair.note();
-    let turns = (first, session.turn(64));
-    Ok(session.seen(turns))
-}
-
-/// Plays the session with one play more before a call.
-fn check(
-    rt: &impl Abort,
-    alloc: Global,
-    number: usize,
-    play: Play,
-    wanted: Ended,
-) -> Result<(), AllocError> {
-    let mut session = session_of(alloc, b"abc", b"xy")?;
-    assert_eq!(rt; played(&mut session, number, play)?, wanted);
-    assert!(rt; session.was_given());
-    Ok(())
-}
-
-// refuses offers_less: a write offers one byte of what waits
-#[test]
-fn is_done_after_eight_calls(rt: HostRuntime) -> Result<(), Fail> {
-    let mut session = session_of(rt.alloc(), b"abc", b"xy")?;
-    let turns = (session.turn(7), session.turn(1));
-    assert_eq!(rt; session.seen(turns), done(Turn::Again));
-    assert!(rt; session.was_given());
-    Ok(())
-}
-
-// A shutdown never has to wait: an answer that it would is a failure. A write may take one byte at first, or none, which is
-// one, too. Before the target gave its first byte its connect may not have ended yet; after that it can't be so.
-// refuses interruption_counts: an interruption is counted as a fault
-// refuses none_taken_is_blocked: a write that took nothing is counted as one that would block
-#[test]
-fn goes_on_waits_or_fails_at_each_call(rt: HostRuntime) -> Result<(), Fail> {
-    let alloc = rt.alloc();
-    for call in 0..8 {
-        let reset = Play::Fault(Kind::Reset);
-        check(&rt, alloc, call, Play::Interrupted, done(Turn::Done))?;
-        check(&rt, alloc, call, reset, failed(call, Kind::Reset))?;
-    }
-    for call in 0..6 {
-        check(&rt, alloc, call, Play::Blocked, done(Turn::Quiet))?;
-    }
-    for call in 6..8 {
-        check(&rt, alloc, call, Play::Blocked, failed(call, Kind::Other))?;
-    }
-    for call in 2..4 {
-        check(&rt, alloc, call, Play::Take(1), done(Turn::Done))?;
-        check(&rt, alloc, call, Play::Zero, failed(call, Kind::Zero))?;
-    }
-    for (call, wanted) in [(1, done(Turn::Quiet)), (5, failed(5, Kind::NotConnected))] {
-        let unconnected = Play::Fault(Kind::NotConnected);
-        check(&rt, alloc, call, unconnected, wanted)?;
-    }
-    Ok(())
-}
-
-/// The first byte of a side's, the rest of what each side gives, the read before which it comes, and the write.
-static PIECES: [(&[u8], &[u8], &[u8], usize, usize); 2] = [
-    (b"a", b"bc", b"xy", 0, 2),
-    (b"x", b"abc", b"y", 1, 3),
+/// The first of these calls and the one behind the last, the number of the play that comes before each of them, and how
+/// the session goes then: it is done behind such a first turn, or fails by such a kind at that call.
+///
+/// A shutdown never has to wait: an answer that it would is a failure. A write may take one byte at first, or none, which is
+/// one, too. Before the target gave its first byte its connect may not have ended yet; after that it can't be so.
+static ROWS: [(usize, usize, u8, Result<Turn, Kind>); 8] = [
+    (0, 8, 0, Ok(Turn::Done)),
+    (0, 8, 1, Err(Kind::Reset)),
+    (0, 6, 2, Ok(Turn::Quiet)),
+    (6, 8, 2, Err(Kind::Other)),
+    (2, 4, 3, Ok(Turn::Done)),
+    (2, 4, 4, Err(Kind::Zero)),
+    (1, 2, 5, Ok(Turn::Quiet)),
+    (5, 6, 5, Err(Kind::NotConnected)),
 ];
 
-// What a read brought first, a write takes alone.
+/// The play of a number.
+fn play(number: u8) -> Play {
+    match number {
+        0 => Play::Interrupted,
+        1 => Play::Fault(Kind::Reset),
+        2 => Play::Blocked,
+        3 => Play::Take(1),
+        4 => Play::Zero,
+        _ => Play::Fault(Kind::NotConnected),
+    }
+}
+
+/// The session with one play more before a call.
+fn disturbed(
+    alloc: Global,
+    (up, down): (&[u8], &[u8]),
+    call: usize,
+    play: Play,
+) -> Result<Session, AllocError> {
+    let mut session = session_of(alloc, up, down)?;
+    session.disturb(call, play)?;
+    Ok(session)
+}
+
+/// Whether the session goes as the row says with its play before a call. The turn that ends it makes nine calls.
+fn goes(
+    alloc: Global,
+    call: usize,
+    number: u8,
+    goes_on: Result<Turn, Kind>,
+) -> Result<bool, AllocError> {
+    let wanted = match goes_on {
+        Ok(turn) => done(turn),
+        Err(kind) => failed(call, kind),
+    };
+    let mut session = disturbed(alloc, (b"abc", b"xy"), call, play(number))?;
+    Ok(session.goes(9, wanted))
+}
+
+/// The first row that goes otherwise.
+fn first_wrong(alloc: Global) -> Result<Option<usize>, AllocError> {
+    for (row, (first, end, number, goes_on)) in ROWS.iter().enumerate() {
+        for call in *first..*end {
+            if !goes(alloc, call, *number, *goes_on)? {
+                return Ok(Some(row));
+            }
+        }
+    }
+    Ok(None)
+}
+
+// refuses interruption_counts: an interruption is counted as a fault
+// refuses none_taken_is_blocked: a write that took nothing is counted as one that would block
+// refuses offers_less: a write offers one byte of what waits
+#[test]
+fn goes_on_waits_or_fails_at_each_call(rt: HostRuntime) -> Result<(), Fail> {
+    no_row(&rt, first_wrong(rt.alloc()))
+}
+
+/// Whether a byte that comes first in a read goes on alone in the write of this number. It takes a call more each.
+fn goes_bytewise(
+    alloc: Global,
+    first: &[u8],
+    rest: (&[u8], &[u8]),
+    read: usize,
+    write: usize,
+) -> Result<bool, AllocError> {
+    let mut session = disturbed(alloc, rest, read, Play::Bytes(first.to_vec(alloc)?))?;
+    session.disturb(write, Play::Take(1))?;
+    Ok(session.goes(10, done(Turn::Done)))
+}
+
 #[test]
 fn reads_one_byte_at_first(rt: HostRuntime) -> Result<(), Fail> {
-    for (first, up, down, read, write) in PIECES {
-        let mut session = session_of(rt.alloc(), up, down)?;
-        session.disturb(read, bytes(rt.alloc(), first)?)?;
-        let ended = played(&mut session, write, Play::Take(1))?;
-        assert_eq!(rt; ended, done(Turn::Done));
-        assert!(rt; session.was_given());
-    }
-    Ok(())
+    all_well(goes_bytewise(rt.alloc(), b"a", (b"bc", b"xy"), 0, 2))?;
+    all_well(goes_bytewise(rt.alloc(), b"x", (b"abc", b"y"), 1, 3))
+}
+
+/// A wire of which the first play for each call does not fit it.
+fn unfit(alloc: Global) -> Result<ScriptWire, AllocError> {
+    let unconnected = Play::Fault(Kind::NotConnected);
+    let reads = plays(alloc, [Play::Take(1), Play::Blocked, unconnected])?;
+    let writes = plays(alloc, [Play::End])?;
+    let closings = [Play::Take(1), Play::Joined, Play::Blocked, Play::Shut];
+    ScriptWire::new(alloc, false, reads, writes, plays(alloc, closings)?)
+}
+
+/// Why each call fails: a read, a write, a join, and a shutdown.
+fn errors(wire: &mut ScriptWire) -> [Option<ErrorKind>; 4] {
+    [
+        wire.read(&mut [0]).map_err(|error| error.kind()).err(),
+        wire.write(b"a").map_err(|error| error.kind()).err(),
+        wire.joined().map_err(|error| error.kind()).err(),
+        wire.shut_write().map_err(|error| error.kind()).err(),
+    ]
+}
+
+/// Whether a play that does not fit is a fault, and connects nothing. Without a play a call would block, but a shutdown
+/// succeeds. Until the wire is connected, the error that it is not counts as "would block".
+fn answers(wire: &mut ScriptWire) -> bool {
+    let (other, blocked) = (Some(ErrorKind::Other), Some(ErrorKind::WouldBlock));
+    let unconnected = Some(ErrorKind::NotConnected);
+    errors(wire) == [other; 4]
+        && errors(wire) == [blocked, blocked, blocked, None]
+        && errors(wire) == [unconnected, blocked, blocked, None]
+        && (wire.faults(), wire.blocks(), wire.left()) == (4, 6, 0)
+}
+
+#[test]
+fn answers_without_a_play_that_fits(rt: HostRuntime) -> Result<(), Fail> {
+    let mut wire = unfit(rt.alloc())?;
+    all_well(Ok(answers(&mut wire)))
 }

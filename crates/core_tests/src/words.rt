@@ -1,9 +1,10 @@
 // One word, from an opening to the next.
-ghost use Rattle.std.specs.Prelude.{◌≡◌, ◌<◌, IfOk, All};
+ghost use Rattle.std.specs.Prelude.{◌≡◌, ◌<◌};
 
 use self::Call::{Adopt, Claim, Post, Release, Retire, Take};
-use claims::{Adopted, ClaimSeat, Claimed, Claims, OpenFault, Posted, Released};
-use std::alloc::Global;
+use crate::passing::all_well;
+use claims::{Adopted, ClaimSeat, Claimed, Claims, Posted, Released};
+use std::alloc::{AllocError, Global};
 use std::test::Fail;
 
 /// A call, and its answer.
@@ -58,33 +59,39 @@ fn is_answered(claims: &Claims, seat: &mut ClaimSeat, call: Call) -> bool
     }
 }
 
-/// The first row that does not go so.
-fn first_wrong(claims: &Claims, first: &mut ClaimSeat, second: &mut ClaimSeat) -> Option<usize>
+/// Whether each row goes so.
+fn go(claims: &Claims, first: &mut ClaimSeat, second: &mut ClaimSeat) -> bool
     requires first { first.old.table ≡ claims.now }
     requires second { second.old.table ≡ claims.now }
     requires inside { 0 < claims.now.words }
 {
-    for (row, (by_another, call, word)) in ROWS.iter().enumerate() {
+    for (by_another, call, word) in &ROWS {
         let answered = if *by_another {
             is_answered(claims, second, *call)
         } else {
             is_answered(claims, first, *call)
         };
         if !answered || claims.peek(0) != *word {
-            return Some(row);
+            return false;
         }
     }
-    None
+    true
 }
 
-/// Two slots and three seats, which are asked for once more where memory ran out.
-fn opened(alloc: Global) -> Result<(Claims, Vec<ClaimSeat>), OpenFault>
-    ensures { IfOk result (λ made. (made.0.words ≡ 2) × All (λ seat. seat.table ≡ made.0) made.1.items) }
-{
-    match Claims::open(alloc, 2, 3) {
-        Err(OpenFault::NoMemory) => Claims::open(alloc, 2, 3),
-        told => told,
-    }
+/// Whether the rows go so at the first of two slots, with two of three seats, and the other slot stays free.
+fn goes_through_its_row(alloc: Global) -> Result<bool, AllocError> {
+    let Ok((claims, mut seats)) = Claims::open(alloc, 2, 3) else {
+        return Err(AllocError);
+    };
+    let (Some(mut first), Some(mut second)) = (seats.pop(), seats.pop()) else {
+        return Ok(false);
+    };
+    Ok(
+        claims.slots() == 2
+            && claims.peek(0) == 3
+            && go(&claims, &mut first, &mut second)
+            && claims.peek(1) == 3,
+    )
 }
 
 // refuses retire_sets_nothing: a retired slot is not marked as free
@@ -92,12 +99,5 @@ fn opened(alloc: Global) -> Result<(Claims, Vec<ClaimSeat>), OpenFault>
 // refuses slots_counts_values: the number of slots is told as the number of values of the table
 #[test]
 fn one_word_goes_through_its_row(rt: HostRuntime) -> Result<(), Fail> {
-    let (claims, mut seats) = opened(rt.alloc())?;
-    let (Some(mut first), Some(mut second)) = (seats.pop(), seats.pop()) else {
-        panic!(rt; "there are not two seats")
-    };
-    assert!(rt; claims.slots() == 2 && claims.peek(0) == 3);
-    assert_eq!(rt; first_wrong(&claims, &mut first, &mut second), None);
-    assert_eq!(rt; claims.peek(1), 3);
-    Ok(())
+    all_well(goes_through_its_row(rt.alloc()))
 }

@@ -139,14 +139,4 @@ impl End {
     pub(crate) fn close(&self) {
         self.shared.ends.close();
     }
-
-    #[cfg(test)]
-    pub(crate) fn idle(&self) -> &IdleEnds {
-        &self.shared.ends
-    }
-
-    #[cfg(test)]
-    pub(crate) fn sleeper(&self) -> &Sleeper {
-        &self.sleeper
-    }
 }

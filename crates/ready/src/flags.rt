@@ -1,9 +1,11 @@
 // The words that the ends of a queue of tickets share, and all the atomic steps on them. Each step is sequentially
 // consistent, as are those of the queue: all threads see them in one order. A comment at each step names the step that
 // it pairs with.
-ghost use Rattle.std.specs.Prelude.{◌≡◌, ◌≢◌, ◌<◌, ◌↔◌, ℕ, IsSome, true, not};
+ghost use Rattle.std.specs.Prelude.{◌≡◌, ◌≢◌, ◌<◌, ◌↔◌, ℕ, IsSome, IsTrue, None, true, not};
 ghost use Rattle.ready.specs.Steps.{BitStep, ReadBits, SetBits, ClearedBits, bit_of, has_bit};
 
+use crate::idle::IdleEnds;
+use crate::ticket::Ticket;
 use std::sync::atomic::Ordering::SeqCst;
 use std::sync::atomic::{AtomicBool, AtomicU64};
 
@@ -65,6 +67,25 @@ pub(crate) struct Announced {
     ghost few: { end < 32 },
 }
 
+/// Another thread has woken an end that had announced itself. Only [`IdleBits::withdraw`] makes one, and it cannot be dropped: an
+/// end that found nothing takes the wake itself, and another one passes it on.
+pub(crate) struct SpentWake(());
+
+impl SpentWake {
+    /// The end that was woken has found nothing, and goes on to look.
+    pub(crate) fn take(self, _found: &Option<Ticket>)
+        requires { _found.now ≡ None }
+    {
+        let SpentWake(()) = self;
+    }
+
+    /// The wake is for the end with the lowest number that is still idle, if any is.
+    pub(crate) fn pass_on(self, idle: &IdleEnds) {
+        let SpentWake(()) = self;
+        idle.wake_one();
+    }
+}
+
 impl IdleBits {
     pub(crate) fn new() -> IdleBits {
         IdleBits(AtomicU64::new(0))
@@ -86,16 +107,18 @@ impl<W: Bits> IdleBits<W> {
         Announced { end }
     }
 
-    /// Clears the bit of an end that has announced itself. Whether another thread had cleared it before.
-    pub(crate) fn withdraw(&self, announced: Announced) -> bool
-        ensures cleared { (before : ℕ) × W.did (ClearedBits (bit_of announced.end) before) self.now.0 × (result ≡ not (has_bit announced.end before)) }
+    /// Clears the bit of an end that has announced itself. The wake that another thread spent on it, if that had cleared it
+    /// before.
+    pub(crate) fn withdraw(&self, announced: Announced) -> Option<SpentWake>
+        ensures cleared { (before : ℕ) × W.did (ClearedBits (bit_of announced.end) before) self.now.0 × (IsSome result ↔ IsTrue (not (has_bit announced.end before))) }
     {
         // Pairs with `wake`: only one of the two finds the bit. With a load and then a store, both could find it, and
         // nobody would pass that wake on: the other put's ticket would wait until this end comes back, while a third
         // end sleeps.
         let Announced { end } = announced;
         let bit = 1u64 << end;
-        self.0.clear(bit) & bit == 0
+        let was_woken = self.0.clear(bit) & bit == 0;
+        if was_woken { Some(SpentWake(())) } else { None }
     }
 
     /// Clears the bit of an end that is to be woken. Whether it was this call that cleared it.

@@ -45,9 +45,11 @@ impl IdleEnds {
     pub(crate) fn withdraw(&self, awake: Awake, found: Option<Ticket>) -> Option<Ticket>
         ensures { result ≡ found }
     {
-        let was_woken = awake.withdraw(&self.idle);
-        if found.is_some() && was_woken {
-            self.wake_one();
+        if let Some(wake) = awake.withdraw(&self.idle) {
+            match found {
+                Some(_) => wake.pass_on(self),
+                None => wake.take(&found),
+            }
         }
         found
     }
@@ -86,19 +88,5 @@ impl IdleEnds {
         for unparker in self.unparkers.iter() {
             unparker.unpark();
         }
-    }
-
-    /// Announces an end that has not looked, for tests.
-    #[cfg(test)]
-    pub(crate) fn announce_unlooked(&self, sleeper: &Sleeper, seen: MarkSeen) -> Awake
-        requires open { seen.closed ≢ true }
-    {
-        Awake::unlooked(sleeper, seen, &self.idle)
-    }
-
-    /// How many ends are idle, for tests.
-    #[cfg(test)]
-    pub(crate) fn count(&self) -> u32 {
-        self.idle.read().count_ones()
     }
 }

@@ -46,8 +46,6 @@ mod idle;
 mod queue;
 mod rule;
 mod sleeper;
-#[cfg(test)]
-mod tests;
 mod ticket;
 
 pub use flags::AllBusy;

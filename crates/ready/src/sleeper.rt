@@ -4,7 +4,7 @@ ghost use Rattle.std.specs.Prelude.{◌≡◌, ◌≢◌, ◌<◌, true, IfOk, I
 ghost use Rattle.crossbeam_queue.specs.Passes.{view, IsPassOf, IsSamePass};
 ghost use Rattle.ready.specs.Steps.{HeldOnce, TookOne};
 
-use crate::flags::{Announced, IdleBits, MarkSeen};
+use crate::flags::{Announced, IdleBits, MarkSeen, SpentWake};
 use crate::rule::{Line, LinePass, pop};
 use crate::ticket::Ticket;
 use crossbeam_utils::sync::Parker;
@@ -99,32 +99,12 @@ impl Sleeper {
         let LookedInVain(announced) = looked;
         Awake(announced)
     }
-
-    #[cfg(test)]
-    pub(crate) fn number(&self) -> usize
-        ensures { result < 32 }
-    {
-        self.number
-    }
-
-    #[cfg(test)]
-    pub(crate) fn parker(&self) -> &Parker {
-        &self.parker
-    }
 }
 
 impl Awake {
-    /// Withdraws the announcement. Whether another thread had woken this end.
-    pub(crate) fn withdraw(self, idle: &IdleBits) -> bool {
+    /// Withdraws the announcement. The wake that another thread spent on this end, if one did.
+    pub(crate) fn withdraw(self, idle: &IdleBits) -> Option<SpentWake> {
         let Awake(announced) = self;
         idle.withdraw(announced)
-    }
-
-    /// Passes over both looks, for tests.
-    #[cfg(test)]
-    pub(crate) fn unlooked(sleeper: &Sleeper, seen: MarkSeen, idle: &IdleBits) -> Awake
-        requires open { seen.closed ≢ true }
-    {
-        Awake(sleeper.announce(idle, FoundEmpty(seen)))
     }
 }

@@ -15,8 +15,6 @@ mod names;
 mod printing;
 mod reading;
 mod replay;
-#[cfg(test)]
-mod tests;
 mod words;
 
 pub use act::{Accepted, Act, Answer, Made, Opening, Polling, Record};

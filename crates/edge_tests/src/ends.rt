@@ -3,40 +3,28 @@
 use std::alloc::{AllocError, Global};
 use std::io::{self, ErrorKind, IsTerminal, Read, Write};
 
-/// A reader over bytes: it hands them over in pieces of at most so many. In one place it may fail, and
-/// goes on with the rest if it is read again.
+/// A reader over bytes: it hands over a byte a read. One read may fail, and it goes on with the rest if it is read again.
 #[derive(Drop)]
 pub(crate) struct Source<'a> {
     rest: &'a [u8],
-    most: usize,
-    // The bytes before the read that fails, and its error.
-    fault: Option<(usize, ErrorKind)>,
     reads: usize,
+    fails: usize,
+    kind: ErrorKind,
 }
 
 impl<'a> Source<'a> {
     /// All bytes, and then the end.
     pub(crate) fn whole(bytes: &'a [u8]) -> Source<'a> {
-        Source::in_pieces(bytes, usize::MAX)
+        Source::failing_once(bytes, usize::MAX, ErrorKind::Other)
     }
 
-    /// All bytes, at most so many a read, and then the end.
-    pub(crate) fn in_pieces(bytes: &'a [u8], most: usize) -> Source<'a> {
-        Source {
-            rest: bytes,
-            most,
-            fault: None,
-            reads: 0,
-        }
-    }
-
-    /// The first bytes, so many, a byte a read; then one error; and then the rest.
+    /// The first bytes, so many; then one error; and then the rest.
     pub(crate) fn failing_once(bytes: &'a [u8], length: usize, kind: ErrorKind) -> Source<'a> {
         Source {
             rest: bytes,
-            most: 1,
-            fault: Some((length, kind)),
             reads: 0,
+            fails: length,
+            kind,
         }
     }
 
@@ -48,22 +36,15 @@ impl<'a> Source<'a> {
 
 impl Read for Source<'_> {
     fn read(&mut self, buffer: &mut [u8]) -> io::Result<usize> {
-        self.reads = self.reads.wrapping_add(1);
-        let mut most = self.most;
-        if let Some((before, kind)) = self.fault {
-            if before == 0 {
-                self.fault = None;
-                return Err(io::Error::from(kind));
-            }
-            most = most.min(before);
+        let read = self.reads;
+        self.reads = read.wrapping_add(1);
+        if read == self.fails {
+            return Err(io::Error::from(self.kind));
         }
-        let count = self.rest.len().min(most).min(buffer.len());
+        let count = self.rest.len().min(buffer.len()).min(1);
         let (piece, rest) = self.rest.split_at(count);
         buffer[..count].copy_from_slice(piece);
         self.rest = rest;
-        if let Some((before, kind)) = self.fault {
-            self.fault = Some((before.saturating_sub(count), kind));
-        }
         Ok(count)
     }
 }
@@ -74,12 +55,12 @@ impl IsTerminal for Source<'_> {
     }
 }
 
-/// A writer into memory that fails after this many bytes, or at its flush. It has the memory for them from the start.
+/// A writer into memory that fails once it took so many bytes: at its flush, or where it is to take more. It has the memory for
+/// them from the start.
 #[derive(Drop)]
 pub(crate) struct Sink {
     taken: Vec<u8>,
     left: usize,
-    is_flushed: bool,
 }
 
 impl Sink {
@@ -88,16 +69,6 @@ impl Sink {
         Ok(Sink {
             taken: Vec::with_capacity(alloc, length)?,
             left: length,
-            is_flushed: true,
-        })
-    }
-
-    /// Takes this many bytes, and fails when they are to be flushed.
-    pub(crate) fn failing_at_its_flush(alloc: Global, length: usize) -> Result<Sink, AllocError> {
-        Ok(Sink {
-            taken: Vec::with_capacity(alloc, length)?,
-            left: length,
-            is_flushed: false,
         })
     }
 
@@ -119,10 +90,9 @@ impl Write for Sink {
     }
 
     fn flush(&mut self) -> io::Result<()> {
-        if self.is_flushed {
-            Ok(())
-        } else {
-            Err(io::Error::from(ErrorKind::StorageFull))
+        if self.left == 0 {
+            return Err(io::Error::from(ErrorKind::StorageFull));
         }
+        Ok(())
     }
 }
