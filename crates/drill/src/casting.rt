@@ -1,10 +1,13 @@
 // The threads of the server of a script, made from its settings as the product makes them.
 ghost use Rattle.std.specs.Prelude.{◌≤◌, ◌≡◌, length};
-ghost use Rattle.drill_outside.specs.Sizes.{IsServerSize};
+ghost use Rattle.drill.specs.Sizes.{IsServerSize};
 
+use crate::front::KernelFront;
+use crate::outside::OutsideCell;
+use crate::sizes::Sizes;
 use crate::stage::{Player, Stage};
+use crate::ticks::Ticks;
 use dispatch::{Poller, ServerFault};
-use drill_outside::{KernelFront, Outside, Sizes, Ticks};
 use server::build;
 use settings::{Settings, parse};
 use std::alloc::{AllocError, Global};
@@ -18,7 +21,7 @@ use threads::{Cast, Ending, Rest, Server, divide};
 pub fn stage_of<R: Wait>(
     rt: &R,
     alloc: Global,
-    outside: Rc<RefCell<Outside>>,
+    outside: OutsideCell,
     clock: Rc<Ticks>,
     sizes: Sizes,
 ) -> Result<Stage, ServerFault>
@@ -48,7 +51,7 @@ fn players<T: Drop>(alloc: Global, mut threads: Vec<T>) -> Result<Vec<Player<T>>
         if let Some(thread) = threads.pop() {
             players.push(Player {
                 thread: RefCell::new(thread),
-                ended: Cell::new(false),
+                has_ended: Cell::new(false),
             })?;
         }
     }
@@ -70,7 +73,7 @@ fn settings_of(alloc: Global, sizes: Sizes) -> Result<Settings, AllocError> {
 fn cast_of<R: Wait>(
     rt: &R,
     alloc: Global,
-    outside: &Rc<RefCell<Outside>>,
+    outside: &OutsideCell,
     settings: &Settings,
     sizes: Sizes,
 ) -> Result<Cast<KernelFront>, ServerFault>
@@ -81,7 +84,7 @@ fn cast_of<R: Wait>(
     if fronts.len() != split.pollers() || split.slots() != settings.slots {
         return Err(ServerFault::NoMemory);
     }
-    let server = build(rt, alloc, settings, split, fronts, outside.clone()?)?;
+    let server = build(rt, alloc, settings, split, fronts, outside.share()?)?;
     let Server {
         shared,
         parts,
@@ -98,12 +101,12 @@ fn cast_of<R: Wait>(
 /// So many fronts.
 fn fronts_of(
     alloc: Global,
-    outside: &Rc<RefCell<Outside>>,
+    outside: &OutsideCell,
     pollers: usize,
 ) -> Result<Vec<KernelFront>, AllocError> {
     let mut fronts = Vec::with_capacity(alloc, pollers)?;
     for poller in 0..pollers {
-        fronts.push(KernelFront::new(alloc, outside.clone()?, poller)?)?;
+        fronts.push(KernelFront::new(alloc, outside.share()?, poller)?)?;
     }
     Ok(fronts)
 }

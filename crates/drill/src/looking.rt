@@ -1,5 +1,5 @@
 // What queues and hands contain: everything is taken out and put back in the same order.
-use dispatch::Hand;
+use dispatch::{Hand, Own};
 use ready::{FreeQueue, ReadyQueue, Ticket};
 use std::alloc::{AllocError, Global};
 use std::sync::Wait;
@@ -26,32 +26,45 @@ pub fn tickets_of(
     Ok(tickets)
 }
 
-/// The tickets in a hand, in order.
-pub fn in_hand(alloc: Global, hand: &mut Hand) -> Result<Vec<Ticket>, AllocError> {
-    let mut tickets = Vec::with_capacity(alloc, hand.tickets())?;
+/// The tickets in the ready queue, and behind them those in a poller's hand.
+pub fn all_tickets(
+    rt: &impl Wait,
+    alloc: Global,
+    own: &mut Own,
+) -> Result<Vec<Ticket>, AllocError> {
+    let mut tickets = tickets_of(rt, alloc, &mut own.ready)?;
+    add_held(&mut tickets, &mut own.hand)?;
+    Ok(tickets)
+}
+
+fn add_held(tickets: &mut Vec<Ticket>, hand: &mut Hand) -> Result<(), AllocError> {
     for _ticket in 0..hand.tickets() {
         if let Some(ticket) = hand.take_ticket() {
             hand.keep_ticket(ticket);
             tickets.push(ticket)?;
         }
     }
-    Ok(tickets)
+    Ok(())
 }
 
 /// The free slots of a poller, in order: those in hand, and those in its queue.
-pub fn slots_of(
-    rt: &impl Wait,
-    alloc: Global,
-    hand: &mut Hand,
-    free: &mut FreeQueue,
-) -> Result<Vec<usize>, AllocError> {
+pub fn free_slots(rt: &impl Wait, alloc: Global, own: &mut Own) -> Result<Vec<usize>, AllocError> {
     let mut slots = Vec::with_capacity(alloc, MOST)?;
-    for _slot in 0..hand.slots() {
-        if let Some(slot) = hand.take_slot() {
-            hand.keep_slot(slot);
+    for _slot in 0..own.hand.slots() {
+        if let Some(slot) = own.hand.take_slot() {
+            own.hand.keep_slot(slot);
             slots.push(slot)?;
         }
     }
+    add_queued(rt, &mut slots, &mut own.free)?;
+    Ok(slots)
+}
+
+fn add_queued(
+    rt: &impl Wait,
+    slots: &mut Vec<usize>,
+    free: &mut FreeQueue,
+) -> Result<(), AllocError> {
     let held = slots.len();
     for _slot in 0..MOST {
         let Some(slot) = free.try_take(rt) else {
@@ -62,5 +75,5 @@ pub fn slots_of(
     for slot in slots.iter().skip(held) {
         let _ = free.give(rt, *slot);
     }
-    Ok(slots)
+    Ok(())
 }

@@ -1,16 +1,17 @@
 // The scripts of the input, one after the other.
-ghost use Rattle.drill_outside.specs.Sizes.{IsServerSize};
+ghost use Rattle.drill.specs.Sizes.{IsServerSize};
 
 use crate::casting::stage_of;
 use crate::diary::Diary;
-use crate::header::read_sizes;
-use crate::play::play_line;
+use crate::outside::{Outside, OutsideCell};
+use crate::play::{Played, play_line};
+use crate::sizes::{Sizes, read_sizes};
 use crate::source::Source;
 use crate::stage::Stage;
-use drill_outside::{Outside, Sizes, Ticks, Totals};
+use crate::ticks::Ticks;
+use crate::totals::Totals;
 use log::{Level, Log, Logged};
 use std::alloc::Global;
-use std::cell::RefCell;
 use std::io::{self, BufRead, ErrorKind};
 use std::rc::Rc;
 use std::sync::Wait;
@@ -51,39 +52,35 @@ fn play_script<R: Wait + AllocGlobal + Print, B: BufRead>(
 {
     let alloc = rt.alloc();
     let clock = Rc::new(alloc, Ticks::new())?;
-    let outside = Outside::new(alloc, sizes, clock.clone()?, *totals)?;
-    let outside = Rc::new(alloc, RefCell::new(outside))?;
+    let outside = Outside::new(alloc, sizes, clock.clone()?)?;
+    let outside = OutsideCell::new(alloc, outside)?;
     let diary = Diary {
         alloc,
-        outside: outside.clone()?,
+        outside: outside.share()?,
     };
     let log = Logged::new(rt, Level::Debug, diary);
-    let (agreed, played) = play_server(&log, alloc, outside, clock, sizes, source)?;
-    *totals = played;
-    Ok(agreed)
+    play_server(&log, alloc, outside, clock, sizes, source, totals)
 }
 
-/// Plays the lines up to the next header on a server over this cell and by this clock. Answers whether the two agreed, and what
-/// was played in all.
+/// Plays the lines up to the next header on a server over this cell and by this clock. Answers whether the two agreed.
 fn play_server<R: Wait + Log + Print, B: BufRead>(
     rt: &R,
     alloc: Global,
-    outside: Rc<RefCell<Outside>>,
+    outside: OutsideCell,
     clock: Rc<Ticks>,
     sizes: Sizes,
     source: &mut Source<B>,
-) -> io::Result<(bool, Totals)>
+    totals: &mut Totals,
+) -> io::Result<bool>
     requires { IsServerSize sizes }
 {
     let Ok(stage) = stage_of(rt, alloc, outside, clock, sizes) else {
         return Err(io::Error::from(ErrorKind::OutOfMemory));
     };
     stage.begin(rt, alloc);
-    let agreed = play_lines(rt, alloc, &stage, source)?;
-    match stage.outside.try_borrow() {
-        Ok(outside) => Ok((agreed, outside.played())),
-        Err(_) => Err(io::Error::from(ErrorKind::Other)),
-    }
+    let agreed = play_lines(rt, alloc, &stage, source, totals)?;
+    stage.outside.with((), |outside| totals.add(outside));
+    Ok(agreed)
 }
 
 /// Plays the lines up to the next header.
@@ -92,6 +89,7 @@ fn play_lines<R: Wait + Log + Print, B: BufRead>(
     alloc: Global,
     stage: &Stage,
     source: &mut Source<B>,
+    totals: &mut Totals,
 ) -> io::Result<bool> {
     for _line in 0..u64::MAX {
         let Some(line) = source.next()? else {
@@ -101,10 +99,14 @@ fn play_lines<R: Wait + Log + Print, B: BufRead>(
             source.kept = Some(line);
             return Ok(true);
         }
-        let number = source.number;
-        if let Some(fault) = play_line(rt, alloc, stage, line.as_str())? {
-            println!(rt; "line {number}: {fault}: {line}")?;
-            return Ok(false);
+        match play_line(rt, alloc, stage, line.as_str())? {
+            Played::Nothing => {}
+            Played::Agreed => totals.steps = totals.steps.saturating_add(1),
+            Played::Wrong(fault) => {
+                let number = source.number;
+                println!(rt; "line {number}: {fault}: {line}")?;
+                return Ok(false);
+            }
         }
     }
     Ok(true)

@@ -1,5 +1,4 @@
-// The steps of a script that are not its program's alone.
-use dispatch::Unopened;
+// What a script may tell, but for the steps that its program makes alone.
 use kernel_model::Accepting;
 use token::Kind;
 use world::Event;
@@ -35,30 +34,14 @@ pub enum Later {
     Before(Inner),
     /// This is done after the last call of a turn.
     After(Inner),
-    /// This poller's round gets this.
-    Round(usize, Fronted),
-}
-
-/// What the calls of a round get.
-#[derive(Drop)]
-pub enum Fronted {
-    /// accept(2) gets this; `Accepted` and `Blocked` stand for what the kernel has.
-    Accept(Accepting),
-    /// An opening fails so, or cannot tell this address of the connection.
-    Open(Result<Option<Untold>, Unopened>),
-    /// A poll gives its names so.
-    Poll(Polled),
-    /// This happens between a poll and the delivery of its names.
-    Polled(Outer),
-}
-
-/// An address of a connection that cannot be told.
-#[derive(Clone, Copy)]
-pub enum Untold {
-    /// The client's own.
-    Client,
-    /// That on which the connection was accepted.
-    Accepted,
+    /// This poller's accept(2) gets this; `Accepted` and `Blocked` stand for what the kernel has.
+    Accept(usize, Accepting),
+    /// This becomes of a connection that this poller opens.
+    Open(usize, Opening),
+    /// This poller's poll gives its names so.
+    Poll(usize, Polled),
+    /// This happens between a poll of this poller and the delivery of its names.
+    Polled(usize, Outer),
 }
 
 /// What a call of a turn gets, as far as it may.
@@ -76,14 +59,28 @@ pub enum Wanted {
     Failed(Kind),
 }
 
+/// What becomes of a connection that was accepted.
+#[derive(Clone, Copy)]
+pub enum Opening {
+    /// It is opened.
+    Plain,
+    /// The target cannot be connected to, or an end cannot be registered.
+    Connect,
+    Register,
+    /// The client's own address cannot be told, or that on which it was accepted.
+    NoClient,
+    NoAccepted,
+}
+
 /// How a poll gives the names that are queued.
-#[derive(Clone, Copy, PartialEq, Eq)]
+#[derive(Clone, Copy)]
 pub enum Polled {
     /// Not at all, since a signal came first.
     Interrupted,
     /// At most this many of them.
     First(usize),
-    /// All, newest first.
+    /// All, oldest or newest first.
+    All,
     Backwards,
     /// It fails, which is a fault of the poller's thread.
     Failed,

@@ -1,0 +1,40 @@
+// What was played in all.
+use crate::outside::Outside;
+use script_text::{Counts, Page};
+use std::io;
+
+/// How many scripts and steps were played, and the events of each kind to which that came.
+#[derive(Clone, Copy)]
+pub struct Totals {
+    pub scripts: u64,
+    pub steps: u64,
+    counts: Counts,
+}
+
+impl Totals {
+    pub fn new() -> Totals {
+        Totals {
+            scripts: 0,
+            steps: 0,
+            counts: Counts::NONE,
+        }
+    }
+
+    /// Adds the events of a script.
+    pub fn add(&mut self, outside: &Outside) {
+        for station in &outside.stations {
+            station.tape.count(&mut self.counts);
+        }
+        for tape in &outside.tapes {
+            tape.count(&mut self.counts);
+        }
+    }
+
+    /// A line for each kind of event, and one for the scripts and the steps.
+    pub fn print<R: Print + AllocGlobal>(&self, rt: &R) -> io::Result<()> {
+        let mut page = Page::new(rt.alloc());
+        self.counts.put_lines(&mut page);
+        let (lines, scripts, steps) = (page.finish()?, self.scripts, self.steps);
+        println!(rt; "{lines}{scripts} scripts, {steps} steps")
+    }
+}
