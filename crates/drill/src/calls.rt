@@ -1,6 +1,6 @@
 // The calls of a turn on the modelled kernel.
 use crate::outside::Outside;
-use crate::step::Wanted;
+use crate::step::{Call, Inner, Planned, Wanted};
 use engine::error_of;
 use kernel_model::{End, Kernel, MAX_POLLED, Refusal, Reply};
 use std::io::ErrorKind;
@@ -51,9 +51,10 @@ impl Outside {
     /// What happens before the next call of a turn, and then what that call gets.
     fn next_wanted(&mut self) -> Wanted {
         for _event in 0..MAX_POLLED {
-            match self.plan.next_call() {
-                Ok(outer) => self.happen(outer),
-                Err(wanted) => return wanted,
+            match self.plan.next(Call::InTurn) {
+                Some(Planned::Step(Inner::Outside(outer))) => self.happen(outer),
+                Some(Planned::Call(wanted)) => return wanted,
+                _ => return Wanted::Plain,
             }
         }
         Wanted::Plain

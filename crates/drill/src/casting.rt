@@ -3,7 +3,7 @@ ghost use Rattle.std.specs.Prelude.{◌≤◌, ◌≡◌, length};
 ghost use Rattle.drill.specs.Sizes.{IsServerSize};
 
 use crate::front::KernelFront;
-use crate::outside::OutsideCell;
+use crate::outside::{Outside, OutsideCell};
 use crate::sizes::Sizes;
 use crate::stage::{Player, Stage};
 use crate::ticks::Ticks;
@@ -17,16 +17,12 @@ use std::sync::atomic::AtomicBool;
 use std::sync::{Arc, Wait};
 use threads::{Cast, Ending, Rest, Server, divide};
 
-/// A server of these sizes over this cell and by this clock.
-pub fn stage_of<R: Wait>(
-    rt: &R,
-    alloc: Global,
-    outside: OutsideCell,
-    clock: Rc<Ticks>,
-    sizes: Sizes,
-) -> Result<Stage, ServerFault>
+/// A server of these sizes.
+pub fn stage_of<R: Wait>(rt: &R, alloc: Global, sizes: Sizes) -> Result<Stage, ServerFault>
     requires { IsServerSize sizes }
 {
+    let clock = Rc::new(alloc, Ticks::new())?;
+    let outside = OutsideCell::new(alloc, Outside::new(alloc, sizes, clock.clone()?)?)?;
     let settings = settings_of(alloc, sizes)?;
     let Cast {
         pollers,
@@ -34,6 +30,7 @@ pub fn stage_of<R: Wait>(
     } = cast_of(rt, alloc, &outside, &settings, sizes)?;
     workers.reverse();
     Ok(Stage {
+        alloc,
         sizes,
         outside,
         clock,

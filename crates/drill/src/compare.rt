@@ -3,7 +3,7 @@ use crate::front::KernelFront;
 use crate::likeness::{Difference, alike, both, pairs_agree, same, sockets_agree};
 use crate::looking::{all_tickets, free_slots};
 use crate::outside::Outside;
-use crate::stage::Stage;
+use crate::stage::{Stage, word_of};
 use crate::station::{Station, descriptor};
 use crate::tape::Tape;
 use crate::ticks::START;
@@ -30,16 +30,16 @@ pub enum Differs {
 }
 
 /// The server is as the machines are. Refused is the first thing that differs.
-pub fn compare<R: Wait>(
-    rt: &R,
-    alloc: Global,
-    stage: &Stage,
-    outside: &mut Outside,
-) -> Result<(), Differs> {
+pub fn compare<R: Wait>(rt: &R, stage: &Stage, outside: &mut Outside) -> Result<(), Differs> {
     outside.book.check();
     if outside.book.wrong.is_some() {
         return Err(Differs::Server);
     }
+    all_agree(rt, stage, outside)
+}
+
+/// The pollers and their slots.
+fn all_agree<R: Wait>(rt: &R, stage: &Stage, outside: &Outside) -> Result<(), Differs> {
     for (poller, player) in stage.pollers.iter().enumerate() {
         let (Ok(mut thread), Some(station)) = (
             player.thread.try_borrow_mut(),
@@ -47,44 +47,53 @@ pub fn compare<R: Wait>(
         ) else {
             return Err(Differs::Server);
         };
-        let hears = thread.poller.is_accepting() || outside.hears(poller);
-        let agrees = poller_agrees(rt, alloc, station, &mut thread, hears);
-        agrees.map_err(|difference| Differs::Poller(poller, difference))?;
-        slots_agree(rt, alloc, station, outside.tapes.as_slice(), &mut thread)?;
+        if let Err(difference) = poller_agrees(rt, outside.alloc, station, &mut thread) {
+            return Err(Differs::Poller(poller, difference));
+        }
+        slots_agree(rt, outside, station, &mut thread)?;
     }
     Ok(())
 }
 
-/// A poller, but for its slots. It has to hear of a client who waits.
+/// A poller, but for its slots.
 fn poller_agrees<R: Wait>(
     rt: &R,
     alloc: Global,
     station: &Station,
     thread: &mut PollerThread<KernelFront>,
-    hears: bool,
 ) -> Result<(), Difference> {
+    stands(station, thread.poller.is_accepting())?;
+    match free_slots(rt, alloc, &mut thread.own) {
+        Ok(free) => free_agree(station, free.as_slice()),
+        Err(_) => alike("memory", 0, 1),
+    }
+}
+
+static POLLER: [&str; 4] = [
+    "refusal of its world",
+    "refusal of its kernel",
+    "accept flag",
+    "listening front",
+];
+
+/// A poller with this accept flag, and what is reported of it itself.
+fn stands(station: &Station, accepting: bool) -> Result<(), Difference> {
     let (standing, world) = (station.standing, station.tape.world());
     both(
+        &POLLER,
         &[
-            "client heard of",
-            "refusal of its world",
-            "refusal of its kernel",
+            station.tape.is_wrong,
+            standing.is_refused,
+            accepting,
+            standing.listens,
         ],
-        &[hears, station.tape.is_wrong, standing.is_refused],
-        &[true, false, false],
-    )?;
-    both(
-        &["accept flag", "listening front"],
-        &[thread.poller.is_accepting(), standing.listens],
-        &[world.accept_flag(), standing.may_listen],
+        &[false, false, world.accept_flag(), standing.may_listen],
     )?;
     both(
         &REPORTS,
         &reports_of(&station.kernel),
         &reports_of(world.kernel()),
-    )?;
-    let free = free_slots(rt, alloc, &mut thread.own)?;
-    free_agree(station, free.as_slice())
+    )
 }
 
 static REPORTS: [&str; 3] = ["armed listener", "queued listener", "queued waker"];
@@ -110,15 +119,14 @@ fn free_agree(station: &Station, free: &[usize]) -> Result<(), Difference> {
 /// The slots of a poller.
 fn slots_agree<R: Wait>(
     rt: &R,
-    alloc: Global,
+    outside: &Outside,
     station: &Station,
-    tapes: &[Tape],
     thread: &mut PollerThread<KernelFront>,
 ) -> Result<(), Differs> {
-    let Ok(tickets) = all_tickets(rt, alloc, &mut thread.own) else {
+    let Ok(tickets) = all_tickets(rt, outside.alloc, &mut thread.own) else {
         return Err(Differs::Server);
     };
-    for (slot, tape) in tapes.iter().enumerate() {
+    for (slot, tape) in outside.tapes.iter().enumerate() {
         if station.part.has(slot) {
             let agrees = slot_agrees(rt, (station, tape), thread, slot, tickets.as_slice());
             agrees.map_err(|difference| Differs::Slot(slot, difference))?;
@@ -135,12 +143,7 @@ fn slot_agrees<R: Wait>(
     slot: usize,
     tickets: &[Ticket],
 ) -> Result<(), Difference> {
-    let claims = &thread.shared.claims;
-    let word = if slot < claims.slots() {
-        claims.peek(slot)
-    } else {
-        2
-    };
+    let word = word_of(thread, slot).unwrap_or(2);
     if let Some(before) = tape.lost {
         let queued = tickets.iter().any(|ticket| ticket.slot == slot);
         let wanted = if queued { before } else { 0 };

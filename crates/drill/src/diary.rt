@@ -8,12 +8,12 @@ use std::fmt::Display;
 
 /// Passes each line on.
 #[derive(Drop)]
-pub struct Diary {
+pub struct Diary<'a> {
     pub alloc: Global,
-    pub outside: OutsideCell,
+    pub outside: &'a OutsideCell,
 }
 
-impl Log for Diary {
+impl Log for Diary<'_> {
     fn enabled(&self, _metadata: &Metadata<'_>) -> bool {
         true
     }

@@ -1,37 +1,18 @@
 // Whether a connection of the server is that of the machine.
 use kernel_model::End;
 use relay_core::Pair;
-use std::alloc::AllocError;
 use token::{Direction, Side};
 
-/// What differs, as two numbers: a count, a byte, or 1 for yes and up.
-#[derive(Clone, Copy)]
-pub struct Difference {
-    pub what: &'static str,
-    pub server: u64,
-    pub machine: u64,
-}
-
-impl From<AllocError> for Difference {
-    fn from(_error: AllocError) -> Difference {
-        Difference {
-            what: "memory",
-            server: 0,
-            machine: 1,
-        }
-    }
-}
+/// What differs, as two numbers of the server and of the machine: a count, a byte, or 1 for yes and up.
+pub type Difference = (&'static str, u64, u64);
 
 /// Such a number is the same on both sides.
 pub fn alike(what: &'static str, server: u64, machine: u64) -> Result<(), Difference> {
     if server == machine {
-        return Ok(());
+        Ok(())
+    } else {
+        Err((what, server, machine))
     }
-    Err(Difference {
-        what,
-        server,
-        machine,
-    })
 }
 
 /// These numbers are the same on both sides, each of which has a name. Refused is the first that differs.

@@ -12,7 +12,7 @@
 //! What the server's calls get in place of a system is in `outside.rt`: for each poller a station (`station.rt`, `standing.rt`), with a
 //! modelled kernel and what its next calls get (`plan.rt`), and for each slot and each listener a `tape.rt`, the world with its events.
 //! `front.rt` is a poller's front over its kernel, `wire.rt` one end of a connection, `ticks.rt` the clock, and `diary.rt` the log.
-//! `rounds.rt` says to which events a poller's round amounts, `calls.rt` the calls of a turn, `turn.rt` what has to be of turns, and
+//! `round.rt` says to which events a poller's round amounts, `calls.rt` the calls of a turn, `turn.rt` what has to be of turns, and
 //! `book.rt` what the log has to say.
 #![tactic(auto)]
 
@@ -30,10 +30,9 @@ mod outside;
 mod plan;
 mod play;
 mod reading;
-mod rounds;
+mod round;
 mod session;
 mod sizes;
-mod source;
 mod stage;
 mod standing;
 mod station;
@@ -44,11 +43,10 @@ mod totals;
 mod turn;
 mod wire;
 
-use std::io::BufReader;
 use std::process::ExitCode;
 
 fn main(rt: HostRuntime) -> std::io::Result<ExitCode> {
-    let reader = BufReader::new(rt.alloc(), rt.reader())?;
-    let agreed = session::play_all(&rt, reader)?;
+    let text = std::io::read_to_string(rt.alloc(), rt.reader())?;
+    let agreed = session::play_all(&rt, text.as_str())?;
     Ok(ExitCode::from(if agreed { 0 } else { 1 }))
 }

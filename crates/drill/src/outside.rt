@@ -3,10 +3,10 @@
 ghost use Rattle.drill.specs.Sizes.{IsServerSize};
 
 use crate::book::Book;
-use crate::plan::TurnPlan;
+use crate::plan::Plan;
 use crate::sizes::Sizes;
 use crate::station::Station;
-use crate::step::{Later, Outer};
+use crate::step::Outer;
 use crate::tape::Tape;
 use crate::ticks::Ticks;
 use crate::turn::Acting;
@@ -27,7 +27,7 @@ pub struct Outside {
     pub stations: Vec<Station>,
     /// What is each slot's.
     pub tapes: Vec<Tape>,
-    pub plan: TurnPlan,
+    pub plan: Plan,
     pub acting: Acting,
     pub book: Book,
     pub state: State,
@@ -87,7 +87,7 @@ impl Outside {
             clock,
             stations: stations_of(alloc, sizes)?,
             tapes: tapes_of(alloc, sizes)?,
-            plan: TurnPlan::new(alloc),
+            plan: Plan::new(alloc),
             acting: Acting::NONE,
             book: Book::new(alloc),
             state: State {
@@ -97,20 +97,6 @@ impl Outside {
                 is_stopped: false,
             },
         })
-    }
-
-    /// Adds what a later call gets.
-    pub fn add(&mut self, later: Later) -> Result<(), AllocError> {
-        match &later {
-            Later::Accept(poller, _)
-            | Later::Open(poller, _)
-            | Later::Poll(poller, _)
-            | Later::Polled(poller, _) => match self.stations.get_mut(*poller) {
-                Some(station) => station.plan.add(later),
-                None => Ok(()),
-            },
-            _ => self.plan.add(later),
-        }
     }
 
     /// An event has happened in the world of this slot.
@@ -143,12 +129,12 @@ impl Outside {
     }
 
     /// The log gets this line. Whose connection it was that did not end well, and why, is compared by `tests/relay` alone: here no
-    /// error has a number. That each client who is closed unopened is counted and told is shown by clauses, and how by rows.
+    /// error has a number. What a poller tells of itself is shown by rows.
     pub fn log(&mut self, level: Level, text: &str) {
         if text.starts_with("gone ") {
             return;
         }
-        if text.starts_with("drop") {
+        if !text.contains(" s=") {
             return self.book.add(text);
         }
         if self.book.is_complete() {

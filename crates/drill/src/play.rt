@@ -1,12 +1,12 @@
-// One script: the server's steps, and the comparison after each of them.
+// One line of a script: the server's step, and the comparison after it.
 use crate::compare::{Differs, compare};
-use crate::gate::Planned;
+use crate::gate::Open;
 use crate::outside::Outside;
 use crate::reading::{Step, read_step};
 use crate::stage::Stage;
 use crate::tape::Tape;
 use log::{Level, Log};
-use std::alloc::{AllocError, Global};
+use std::alloc::AllocError;
 use std::io;
 use std::sync::Wait;
 
@@ -17,120 +17,108 @@ pub enum Played {
     Nothing,
     /// The server and the machines agree after it.
     Agreed,
-    /// They differ, or it is no step.
-    Wrong(&'static str),
+    /// They differ after it.
+    Differs,
+    /// It is no step, or its script has no header.
+    Malformed,
 }
 
 /// Plays one line of a script.
-pub fn play_line<R: Wait + Log + Print>(
-    rt: &R,
-    alloc: Global,
-    stage: &Stage,
-    line: &str,
-) -> io::Result<Played> {
-    match read_step(alloc, line) {
-        Some(step) => play(rt, alloc, stage, step),
-        None => Ok(Played::Wrong("malformed")),
+pub fn play_line<R: Wait + Log + Print>(rt: &R, stage: &Stage, line: &str) -> io::Result<Played> {
+    if line.starts_with("world ") {
+        stage.begin(rt);
+        return Ok(Played::Nothing);
+    }
+    match read_step(stage.alloc, line) {
+        Some(step) => play(rt, stage, step),
+        None => Ok(Played::Malformed),
     }
 }
 
-fn play<R: Wait + Log + Print>(
-    rt: &R,
-    alloc: Global,
-    stage: &Stage,
-    step: Step,
-) -> io::Result<Played> {
+fn play<R: Wait + Log + Print>(rt: &R, stage: &Stage, step: Step) -> io::Result<Played> {
     match step {
-        Step::Now(step) => stage.make(rt, alloc, step, &Planned { rt, alloc, stage }),
-        Step::Ticket(ticket) => stage.take_made_up(rt, alloc, ticket),
+        Step::Now(step) => stage.make(rt, step, &Open { rt, stage }),
+        Step::Ticket(ticket) => stage.take_made_up(rt, ticket),
         Step::Lose(slot) => stage.lose(rt, slot),
         Step::Stop => stage.stop(),
+        Step::Show => {
+            return stage
+                .outside
+                .with(Ok(Played::Nothing), |outside| show(rt, outside));
+        }
         step => {
             stage
                 .outside
-                .with(Ok(()), |outside| prepare(rt, alloc, outside, step))?;
+                .with(Ok(()), |outside| prepare(outside, step))?;
             return Ok(Played::Nothing);
         }
     }
-    let agrees = stage
+    stage
         .outside
-        .with(Ok(true), |outside| agrees(rt, alloc, stage, outside))?;
-    Ok(if agrees {
-        Played::Agreed
-    } else {
-        Played::Wrong("they differ after")
-    })
+        .with(Ok(Played::Nothing), |outside| agree(rt, stage, outside))
 }
 
-/// Makes a step after which nothing is compared yet. Some change the machine's side alone.
-fn prepare<R: Print>(rt: &R, alloc: Global, outside: &mut Outside, step: Step) -> io::Result<()> {
+/// Makes a step after which nothing is compared yet.
+fn prepare(outside: &mut Outside, step: Step) -> Result<(), AllocError> {
     match step {
-        Step::Later(later) => outside.add(later)?,
+        Step::Later(call, planned) => outside.plan.add(call, planned)?,
         Step::Line(line) => outside.book.expect(Level::Info, Ok(line)),
-        Step::Machine(slot, event) => outside.record(slot, event),
-        Step::Listener(poller, event) => outside.record_at_poller(poller, event),
-        Step::ForgetSlot(poller) => forget_slot(outside, poller),
-        Step::Show => show(rt, alloc, outside)?,
-        _ => {}
+        step => mislead(outside, step),
     }
     Ok(())
 }
 
-fn forget_slot(outside: &mut Outside, poller: usize) {
-    if let Some(station) = outside.stations.get_mut(poller) {
-        let _ = station.free.pop_front();
+/// Changes the machine's side alone.
+fn mislead(outside: &mut Outside, step: Step) {
+    match step {
+        Step::Machine(slot, event) => outside.record(slot, event),
+        Step::Listener(poller, event) => outside.record_at_poller(poller, event),
+        Step::ForgetSlot(poller) => {
+            if let Some(station) = outside.stations.get_mut(poller) {
+                let _ = station.free.pop_front();
+            }
+        }
+        _ => {}
     }
 }
 
 /// Prints for each slot the script of its world, and its report, and then the log.
-fn show<R: Print>(rt: &R, alloc: Global, outside: &Outside) -> io::Result<()> {
+fn show<R: Print>(rt: &R, outside: &Outside) -> io::Result<Played> {
     for (slot, tape) in outside.tapes.iter().enumerate() {
         println!(rt; "slot {slot}")?;
-        show_tape(rt, alloc, tape)?;
+        show_tape(rt, tape)?;
     }
     let log = outside.book.text.as_str();
-    print!(rt; "log\n{log}end\n")
+    print!(rt; "log\n{log}end\n")?;
+    Ok(Played::Nothing)
 }
 
-fn show_tape<R: Print>(rt: &R, alloc: Global, tape: &Tape) -> io::Result<()> {
-    let script = tape.script(alloc)?;
-    let report = script_text::print(alloc, tape.world())?;
+fn show_tape<R: Print>(rt: &R, tape: &Tape) -> io::Result<()> {
+    let script = tape.script()?;
+    let report = script_text::print(tape.alloc, tape.world())?;
     print!(rt; "script\n{script}report\n{report}end\n")
 }
 
-/// Whether the server and the machines agree. The first difference is printed.
-fn agrees<R: Wait + Print>(
-    rt: &R,
-    alloc: Global,
-    stage: &Stage,
-    outside: &mut Outside,
-) -> io::Result<bool> {
-    match compare(rt, alloc, stage, outside) {
-        Ok(()) => Ok(true),
-        Err(differs) => {
-            tell(rt, alloc, outside, differs)?;
-            Ok(false)
-        }
-    }
-}
-
-/// Prints a difference, and the script and report of the world that differs.
-fn tell<R: Print>(rt: &R, alloc: Global, outside: &Outside, differs: Differs) -> io::Result<()> {
-    let (place, number, fact, tape) = match differs {
-        Differs::Server => {
+/// Compares the server and the machines. The first difference is printed, and the script and report of the world that differs.
+fn agree<R: Wait + Print>(rt: &R, stage: &Stage, outside: &mut Outside) -> io::Result<Played> {
+    match compare(rt, stage, outside) {
+        Ok(()) => return Ok(Played::Agreed),
+        Err(Differs::Server) => {
             let text = outside.book.wrong.as_ref().map_or("", |text| text.as_str());
-            return println!(rt; "differs: {text}");
+            println!(rt; "differs: {text}")?;
         }
-        Differs::Poller(poller, fact) => {
-            let tape = outside.stations.get(poller).map(|station| &station.tape);
-            ("poller", poller, fact, tape)
+        Err(Differs::Poller(poller, (what, server, machine))) => {
+            println!(rt; "differs: poller {poller}: {what}: server {server}, machine {machine}")?;
+            if let Some(station) = outside.stations.get(poller) {
+                show_tape(rt, &station.tape)?;
+            }
         }
-        Differs::Slot(slot, fact) => ("slot", slot, fact, outside.tapes.get(slot)),
-    };
-    let (what, server, machine) = (fact.what, fact.server, fact.machine);
-    println!(rt; "differs: {place} {number}: {what}: server {server}, machine {machine}")?;
-    match tape {
-        Some(tape) => show_tape(rt, alloc, tape),
-        None => Ok(()),
+        Err(Differs::Slot(slot, (what, server, machine))) => {
+            println!(rt; "differs: slot {slot}: {what}: server {server}, machine {machine}")?;
+            if let Some(tape) = outside.tapes.get(slot) {
+                show_tape(rt, tape)?;
+            }
+        }
     }
+    Ok(Played::Differs)
 }

@@ -1,5 +1,5 @@
 // The steps of a script, from its lines.
-use crate::step::{Inner, Later, Opening, Outer, Polled, Wanted};
+use crate::step::{Call, Inner, Opening, Outer, Planned, Polled, Wanted};
 use kernel_model::Accepting;
 use ready::Ticket;
 use script_text::read_event;
@@ -13,7 +13,7 @@ pub enum Step {
     /// A step that is made at once.
     Now(Inner),
     /// What one of the next calls gets, or what happens between two of them.
-    Later(Later),
+    Later(Call, Planned),
     /// A worker takes this ticket, which nobody made.
     Ticket(Ticket),
     /// The connection in this slot is taken away.
@@ -42,8 +42,11 @@ pub fn read_step(alloc: Global, line: &str) -> Option<Step> {
         "ticket" => Some(Step::Ticket(ticket(rest)?)),
         "lose" => Some(Step::Lose(number(rest)?)),
         "machine" | "listener" | "forget" => wrong(alloc, word, rest),
-        "call" | "meanwhile" | "before" | "after" => Some(Step::Later(in_turn(alloc, word, rest)?)),
-        "accept" | "open" | "poll" | "polled" => Some(Step::Later(in_round(alloc, word, rest)?)),
+        "call" => Some(Step::Later(Call::InTurn, Planned::Call(wanted(rest)?))),
+        "meanwhile" => later(Call::InTurn, Inner::Outside(outside(alloc, rest)?)),
+        "before" => later(Call::BeforeTurn, inner(alloc, rest)?),
+        "after" => later(Call::AfterTurn, inner(alloc, rest)?),
+        "accept" | "open" | "poll" | "polled" => in_round(alloc, word, rest),
         _ => Some(Step::Now(inner(alloc, line)?)),
     }
 }
@@ -78,26 +81,24 @@ fn wrong(alloc: Global, word: &str, rest: &str) -> Option<Step> {
     }
 }
 
-/// What a turn gets.
-fn in_turn(alloc: Global, word: &str, rest: &str) -> Option<Later> {
-    match word {
-        "call" => Some(Later::Call(wanted(rest)?)),
-        "meanwhile" => Some(Later::Meanwhile(outside(alloc, rest)?)),
-        "before" => Some(Later::Before(inner(alloc, rest)?)),
-        _ => Some(Later::After(inner(alloc, rest)?)),
-    }
+fn later(call: Call, step: Inner) -> Option<Step> {
+    Some(Step::Later(call, Planned::Step(step)))
 }
 
 /// What a round gets of the poller whose number stands in front of that, or of the first one.
-fn in_round(alloc: Global, word: &str, rest: &str) -> Option<Later> {
+fn in_round(alloc: Global, word: &str, rest: &str) -> Option<Step> {
     let (first, behind) = cut(rest);
     let (poller, rest) = number(first).map_or((0, rest), |poller| (poller, behind));
-    match word {
-        "accept" => Some(Later::Accept(poller, named(&ACCEPTS, rest)?)),
-        "open" => Some(Later::Open(poller, named(&OPENINGS, rest)?)),
-        "poll" => Some(Later::Poll(poller, polled(rest)?)),
-        _ => Some(Later::Polled(poller, outside(alloc, rest)?)),
-    }
+    let (call, planned) = match word {
+        "accept" => (
+            Call::Accept(poller),
+            Planned::Accept(named(&ACCEPTS, rest)?),
+        ),
+        "open" => (Call::Open(poller), Planned::Open(named(&OPENINGS, rest)?)),
+        "poll" => (Call::Poll(poller), Planned::Poll(polled(rest)?)),
+        _ => return later(Call::Polled(poller), Inner::Outside(outside(alloc, rest)?)),
+    };
+    Some(Step::Later(call, planned))
 }
 
 /// A step that may be made inside a turn.

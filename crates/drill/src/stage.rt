@@ -29,6 +29,7 @@ pub struct Player<T> {
 /// The threads of the server, and what is outside of it.
 #[derive(Drop)]
 pub struct Stage {
+    pub alloc: Global,
     pub sizes: Sizes,
     pub outside: OutsideCell,
     pub clock: Rc<Ticks>,
@@ -40,9 +41,9 @@ pub struct Stage {
 
 impl Stage {
     /// The threads begin.
-    pub fn begin<R: Wait + Log>(&self, rt: &R, alloc: Global) {
+    pub fn begin<R: Wait + Log>(&self, rt: &R) {
         let gate = self.nested();
-        let crew = self.crew(rt, alloc, &gate);
+        let crew = self.crew(rt, &gate);
         for player in &self.pollers {
             if let Ok(mut thread) = player.thread.try_borrow_mut() {
                 thread.begin(&crew);
@@ -58,8 +59,8 @@ impl Stage {
     }
 
     /// A step is made, on its own or inside a turn.
-    pub fn make<G: Gate, R: Wait + Log>(&self, rt: &R, alloc: Global, step: Inner, gate: &G) {
-        let crew = self.crew(rt, alloc, gate);
+    pub fn make<G: Gate, R: Wait + Log>(&self, rt: &R, step: Inner, gate: &G) {
+        let crew = self.crew(rt, gate);
         match step {
             Inner::Outside(outer) => self.outside.with((), |outside| outside.happen(outer)),
             Inner::Round(poller) => self.round(&crew, poller),
@@ -68,10 +69,10 @@ impl Stage {
     }
 
     /// What a thread is handed for a step.
-    fn crew<'a, G, R>(&'a self, rt: &'a R, alloc: Global, gate: &'a G) -> Crew<'a, G, Ticks, R> {
+    fn crew<'a, G, R>(&'a self, rt: &'a R, gate: &'a G) -> Crew<'a, G, Ticks, R> {
         Crew {
             rt,
-            alloc,
+            alloc: self.alloc,
             gate,
             timing: Timing {
                 clock: &self.clock,
@@ -149,27 +150,17 @@ impl Stage {
 
     /// The first worker takes this ticket, which nobody made, if no other is queued and the ticket is for no slot, for a free
     /// one, or for another connection than that of a slot without notes.
-    pub fn take_made_up<R: Wait + Log>(&self, rt: &R, alloc: Global, ticket: Ticket) {
+    pub fn take_made_up<R: Wait + Log>(&self, rt: &R, ticket: Ticket) {
         let generation = self
             .outside
             .with(0, |outside| outside.generation(ticket.slot));
-        let is_harmless = match self.word_of(ticket.slot) {
+        let is_harmless = match self.word_at(ticket.slot) {
             Some(word) => word % 4 == 3 || word == 0 && generation != ticket.generation,
             None => true,
         };
         if is_harmless {
             let gate = self.nested();
-            self.turn(&self.crew(rt, alloc, &gate), 0, Some(ticket));
-        }
-    }
-
-    /// The claim word of a slot.
-    fn word_of(&self, slot: usize) -> Option<u64> {
-        let thread = self.pollers.first()?.thread.try_borrow().ok()?;
-        if slot < thread.shared.claims.slots() {
-            Some(thread.shared.claims.peek(slot))
-        } else {
-            None
+            self.turn(&self.crew(rt, &gate), 0, Some(ticket));
         }
     }
 
@@ -182,7 +173,7 @@ impl Stage {
 
     /// The connection in this slot is taken away, if there is one and no idle limit, by which a lost slot would get notes.
     pub fn lose<R: Wait>(&self, rt: &R, slot: usize) {
-        let (Some(word), Some(player)) = (self.word_of(slot), self.pollers.first()) else {
+        let (Some(word), Some(player)) = (self.word_at(slot), self.pollers.first()) else {
             return;
         };
         let Ok(mut thread) = player.thread.try_borrow_mut() else {
@@ -192,6 +183,10 @@ impl Stage {
             self.outside.with((), |outside| outside.lose(slot, word));
             take_away(rt, &mut thread, slot);
         }
+    }
+
+    fn word_at(&self, slot: usize) -> Option<u64> {
+        word_of(&*self.pollers.first()?.thread.try_borrow().ok()?, slot)
     }
 
     fn blame(&self, text: &str) {
@@ -229,6 +224,15 @@ fn step_worker<G: Gate, R: Wait + Log>(
             worker.finish(crew, fault);
             true
         }
+    }
+}
+
+/// The claim word of a slot.
+pub fn word_of(thread: &PollerThread<KernelFront>, slot: usize) -> Option<u64> {
+    if slot < thread.shared.claims.slots() {
+        Some(thread.shared.claims.peek(slot))
+    } else {
+        None
     }
 }
 

@@ -1,6 +1,5 @@
 // How a poller stands, by a reckoning of its own, so that the server is not asked.
 use crate::ticks::START;
-use kernel_model::Accepting;
 
 /// How a poller stands.
 #[derive(Clone, Copy)]
@@ -22,10 +21,6 @@ pub struct Standing {
     pub is_over: bool,
     /// Whether its poll has failed.
     pub has_failed: bool,
-    /// Whether the log was told that accept(2) is starved, since a connection was opened.
-    told_starved: bool,
-    /// Whether clients wait for a slot, or it is one of those that found so.
-    pub is_full: bool,
 }
 
 impl Standing {
@@ -41,8 +36,6 @@ impl Standing {
             in_round: false,
             is_over: false,
             has_failed: false,
-            told_starved: false,
-            is_full: false,
         }
     }
 
@@ -58,7 +51,10 @@ impl Standing {
         self.left == 0
     }
 
-    /// It opens no more connections.
+    pub fn open(&mut self) {
+        self.left = self.left.saturating_sub(1);
+    }
+
     pub fn stop_opening(&mut self) {
         self.left = 0;
     }
@@ -70,22 +66,6 @@ impl Standing {
             self.swept = second;
         }
         is_due
-    }
-
-    /// accept(2) was answered so. Answers whether the log has to tell a lack.
-    pub fn accept(&mut self, reply: Accepting) -> bool {
-        let is_starved = reply == Accepting::Starved;
-        let has_to_tell = is_starved && !self.told_starved;
-        self.told_starved = self.told_starved || is_starved;
-        self.has_accepted = reply == Accepting::Accepted;
-        self.is_full = self.is_full && reply != Accepting::Blocked;
-        has_to_tell
-    }
-
-    /// It has opened a connection.
-    pub fn open(&mut self) {
-        self.left = self.left.saturating_sub(1);
-        self.told_starved = false;
     }
 
     /// Its round has ended, behind which all its slots are free, or not.

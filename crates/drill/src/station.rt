@@ -3,7 +3,6 @@ ghost use Rattle.std.specs.Prelude.{◌<◌};
 ghost use Rattle.dispatch.specs.Splits.{parts_of};
 ghost use Rattle.drill.specs.Sizes.{IsServerSize};
 
-use crate::plan::PollerPlan;
 use crate::sizes::Sizes;
 use crate::standing::Standing;
 use crate::step::Polled;
@@ -25,8 +24,6 @@ pub struct Station {
     pub kernel: Kernel,
     /// The world of its listener and its waker, in which nothing is ever opened.
     pub tape: Tape,
-    /// What the calls of its next rounds get.
-    pub plan: PollerPlan,
     /// Its slots, and which of them are free, in the order in which they are to be used.
     pub part: Part,
     pub free: VecDeque<usize>,
@@ -42,7 +39,6 @@ impl Station {
         Ok(Station {
             kernel: Kernel::new(alloc),
             tape: Tape::new(alloc, sizes, Lead::NONE)?,
-            plan: PollerPlan::new(alloc),
             part,
             free: slots_of(alloc, part)?,
             standing: Standing::at_first(sizes.share_of(poller)),
@@ -71,13 +67,8 @@ impl Station {
         self.standing.must(woken);
     }
 
-    /// Whether the listener is reported, and not polled yet.
-    pub fn is_told_of_clients(&self) -> bool {
-        self.kernel.is_queued(&Name::Listener)
-    }
-
     /// A poll takes these names.
-    pub fn poll(&mut self, alloc: Global, polled: Polled) -> Result<Vec<Name>, AllocError> {
+    pub fn poll(&mut self, alloc: Global, polled: Option<Polled>) -> Result<Vec<Name>, AllocError> {
         let names = chosen(alloc, self.kernel.queue(), polled)?;
         let taken = self.kernel.poll(names.as_slice());
         self.standing.must(taken);
@@ -87,28 +78,26 @@ impl Station {
         Ok(names)
     }
 
-    /// accept(2) gets this, if it may: a client waits, or not. One that waited outside of the kernel comes in and is accepted at once.
-    /// If it is reported on the way, the report is withdrawn: this poller was told of it when it came, or did not have to be.
-    pub fn accept(&mut self, waits: bool) -> Accepting {
-        let reply = match self.plan.next_accept() {
-            Some(Accepting::Again) => Accepting::Again,
-            Some(Accepting::Starved) => Accepting::Starved,
-            _ if waits => return self.let_in(),
-            _ => Accepting::Blocked,
-        };
-        self.answer(reply);
-        reply
+    /// accept(2) gets this.
+    pub fn accept(&mut self, reply: Accepting) {
+        self.standing.has_accepted = reply == Accepting::Accepted;
+        if self.standing.has_accepted {
+            self.let_in();
+        } else {
+            self.answer(reply);
+        }
     }
 
-    fn let_in(&mut self) -> Accepting {
-        let was_queued = self.is_told_of_clients();
+    /// A client that waited outside of the kernel comes in and is accepted at once. If it is reported on the way, the report is
+    /// withdrawn: this poller was told of it when it came, or did not have to be.
+    fn let_in(&mut self) {
+        let was_queued = self.kernel.is_queued(&Name::Listener);
         self.happen(Event::Listen(Listening::Connect));
         self.answer(Accepting::Accepted);
         self.tape.put(Event::Listen(Listening::Drop));
         if !was_queued {
             self.happen(Event::Vanish(Reported::Listener));
         }
-        Accepting::Accepted
     }
 
     fn answer(&mut self, reply: Accepting) {
@@ -119,7 +108,7 @@ impl Station {
 
     /// Its front no longer listens. A report of the listener goes with it.
     pub fn stop_listening(&mut self) {
-        if self.standing.listens && self.is_told_of_clients() {
+        if self.standing.listens && self.kernel.is_queued(&Name::Listener) {
             self.happen(Event::Vanish(Reported::Listener));
         }
         self.standing.listens = false;
@@ -132,14 +121,6 @@ impl Station {
             self.standing.is_refused = true;
         }
         ends
-    }
-
-    /// The listener is reported to it. Answers whether it becomes full by that: it may open more, and has no free slot.
-    pub fn becomes_full(&mut self) -> bool {
-        let is_full = self.free.is_empty() && !self.standing.has_opened_all();
-        let becomes = is_full && !self.standing.is_full;
-        self.standing.is_full = self.standing.is_full || becomes;
-        becomes
     }
 
     /// It has opened a connection in its first free slot.
@@ -228,16 +209,16 @@ pub fn descriptor(kernel: &Kernel, slot: usize, side: Side) -> Result<usize, Ref
 }
 
 /// The names that a poll gives of those that are queued.
-fn chosen(alloc: Global, queue: &[Name], polled: Polled) -> Result<Vec<Name>, AllocError> {
+fn chosen(alloc: Global, queue: &[Name], polled: Option<Polled>) -> Result<Vec<Name>, AllocError> {
+    let most = match polled {
+        Some(Polled::Interrupted) => 0,
+        Some(Polled::First(most)) => most.min(MAX_POLLED),
+        _ => MAX_POLLED,
+    };
     let mut names = queue.to_vec(alloc)?;
-    match polled {
-        Polled::Interrupted => names.clear(),
-        Polled::First(most) => names.truncate(most.min(MAX_POLLED)),
-        Polled::Backwards => {
-            names.truncate(MAX_POLLED);
-            names.reverse();
-        }
-        Polled::All | Polled::Failed => names.truncate(MAX_POLLED),
+    names.truncate(most);
+    if matches!(polled, Some(Polled::Backwards)) {
+        names.reverse();
     }
     Ok(names)
 }

@@ -22,29 +22,33 @@ pub struct Outer {
     pub event: Event,
 }
 
-/// What the next calls get. Each kind of call takes those that are meant for it in order, and without one it gets what
-/// the kernel has for it.
-#[derive(Drop)]
-pub enum Later {
-    /// A call of a turn gets this.
-    Call(Wanted),
-    /// This happens just before the next call of a turn.
-    Meanwhile(Outer),
-    /// This is done before the first call of a turn.
-    Before(Inner),
-    /// This is done after the last call of a turn.
-    After(Inner),
-    /// This poller's accept(2) gets this; `Accepted` and `Blocked` stand for what the kernel has.
-    Accept(usize, Accepting),
-    /// This becomes of a connection that this poller opens.
-    Open(usize, Opening),
-    /// This poller's poll gives its names so.
-    Poll(usize, Polled),
-    /// This happens between a poll of this poller and the delivery of its names.
-    Polled(usize, Outer),
+/// A call of the server, or a place between two of them.
+#[derive(Clone, Copy, PartialEq, Eq)]
+pub enum Call {
+    /// A call of a turn, before its first one, and after its last one.
+    InTurn,
+    BeforeTurn,
+    AfterTurn,
+    /// Calls of this poller's round.
+    Accept(usize),
+    Open(usize),
+    Poll(usize),
+    /// Between a poll of this poller and the delivery of its names.
+    Polled(usize),
 }
 
-/// What a call of a turn gets, as far as it may.
+/// What a call gets, as far as it may, or what happens before it.
+#[derive(Drop)]
+pub enum Planned {
+    Step(Inner),
+    Call(Wanted),
+    /// `Accepted` and `Blocked` stand for what the kernel has.
+    Accept(Accepting),
+    Open(Opening),
+    Poll(Polled),
+}
+
+/// What a call of a turn gets.
 #[derive(Clone, Copy)]
 pub enum Wanted {
     /// What the kernel has.
@@ -79,8 +83,7 @@ pub enum Polled {
     Interrupted,
     /// At most this many of them.
     First(usize),
-    /// All, oldest or newest first.
-    All,
+    /// All, newest first.
     Backwards,
     /// It fails, which is a fault of the poller's thread.
     Failed,

@@ -11,6 +11,7 @@ use world::{Act, Event, Lead, Limits, Polling, Reported, World};
 /// A world of one slot that makes each event at once.
 #[derive(Drop)]
 pub struct Tape {
+    pub alloc: Global,
     made: world::Tape,
     /// Whether the world refused an event, or made one that the kernel did not allow. From then on none is made.
     pub is_wrong: bool,
@@ -44,6 +45,7 @@ impl Tape {
             ..sizes.limits
         };
         Ok(Tape {
+            alloc,
             made: world::Tape::new(alloc, limits)?,
             is_wrong: false,
             refused: None,
@@ -138,8 +140,8 @@ impl Tape {
     }
 
     /// The script of the events. Behind them stands the one that the world refused.
-    pub fn script(&self, alloc: Global) -> Result<String, AllocError> {
-        let mut page = Page::new(alloc);
+    pub fn script(&self) -> Result<String, AllocError> {
+        let mut page = Page::new(self.alloc);
         put_header(&mut page, &self.made.limits());
         for event in self.made.events() {
             put_line(&mut page, event);

@@ -1,12 +1,13 @@
 // What was played in all.
 use crate::outside::Outside;
+use crate::stage::Stage;
 use script_text::{Counts, Page};
 use std::io;
 
 /// How many scripts and steps were played, and the events of each kind to which that came.
 #[derive(Clone, Copy)]
 pub struct Totals {
-    pub scripts: u64,
+    scripts: u64,
     pub steps: u64,
     counts: Counts,
 }
@@ -20,13 +21,13 @@ impl Totals {
         }
     }
 
-    /// Adds the events of a script.
-    pub fn add(&mut self, outside: &Outside) {
-        for station in &outside.stations {
-            station.tape.count(&mut self.counts);
-        }
-        for tape in &outside.tapes {
-            tape.count(&mut self.counts);
+    /// Adds a script that was played.
+    pub fn add(&mut self, stage: &Option<Stage>) {
+        if let Some(stage) = stage {
+            self.scripts = self.scripts.saturating_add(1);
+            stage
+                .outside
+                .with((), |outside| count(&mut self.counts, outside));
         }
     }
 
@@ -36,5 +37,15 @@ impl Totals {
         self.counts.put_lines(&mut page);
         let (lines, scripts, steps) = (page.finish()?, self.scripts, self.steps);
         println!(rt; "{lines}{scripts} scripts, {steps} steps")
+    }
+}
+
+/// Counts the events of a script.
+fn count(counts: &mut Counts, outside: &Outside) {
+    for station in &outside.stations {
+        station.tape.count(counts);
+    }
+    for tape in &outside.tapes {
+        tape.count(counts);
     }
 }

@@ -1,7 +1,7 @@
 // What a poller's round gets, and to what it amounts.
 use crate::addresses::{peer_of, route_of};
 use crate::outside::Outside;
-use crate::step::{Opening, Polled};
+use crate::step::{Call, Inner, Opening, Planned, Polled};
 use dispatch::{Clock, Part, Route, Unopened};
 use kernel_model::{Accepting, Descriptors, MAX_POLLED};
 use log::Level;
@@ -23,26 +23,21 @@ impl Outside {
         if station.standing.in_round {
             self.book.blame("a second poll in a round");
         }
-        let polled = station.plan.next_poll();
-        if matches!(polled, Polled::Failed) {
-            station.standing.has_failed = true;
-            return Err(self.fail_poll());
-        }
+        let polled = match self.plan.next(Call::Poll(poller)) {
+            Some(Planned::Poll(Polled::Failed)) => {
+                station.standing.has_failed = true;
+                self.state.is_faulty = true;
+                return Err(io::Error::from(ErrorKind::PermissionDenied));
+            }
+            Some(Planned::Poll(polled)) => Some(polled),
+            _ => None,
+        };
         let names = station.poll(self.alloc, polled)?;
         self.report_names(poller, names.as_slice())?;
         match polled {
-            Polled::Interrupted => Err(io::Error::from(ErrorKind::Interrupted)),
+            Some(Polled::Interrupted) => Err(io::Error::from(ErrorKind::Interrupted)),
             _ => Ok(names),
         }
-    }
-
-    /// A poll fails, which the log has to say. Then the poller's thread ends.
-    fn fail_poll(&mut self) -> io::Error {
-        self.state.is_faulty = true;
-        let error = io::Error::from(ErrorKind::PermissionDenied);
-        let text = format!(in self.alloc; "poll: {error}");
-        self.book.expect(Level::Error, text);
-        error
     }
 
     /// The worlds of the slots take a poll's names from their queues. After what happens in between, a poller delivers them, and
@@ -59,23 +54,16 @@ impl Outside {
             self.deliver(poller, *name);
         }
         self.sweep_if_due(poller);
-        if names.iter().any(|name| matches!(name, Name::Listener)) {
-            self.expect_full(poller);
-        }
         Ok(())
     }
 
     /// What happens between a poll and the delivery of its names.
     fn happen_polled(&mut self, poller: usize) {
         for _event in 0..MAX_POLLED {
-            let outer = match self.stations.get_mut(poller) {
-                Some(station) => station.plan.next_polled(),
-                None => None,
-            };
-            let Some(outer) = outer else {
-                return;
-            };
-            self.happen(outer);
+            match self.plan.next_step(Call::Polled(poller)) {
+                Some(Inner::Outside(outer)) => self.happen(outer),
+                _ => return,
+            }
         }
     }
 
@@ -108,20 +96,7 @@ impl Outside {
         }
     }
 
-    /// The listener is reported to a poller. If that becomes full, the log has to say so once all are.
-    fn expect_full(&mut self, poller: usize) {
-        let becomes_full = match self.stations.get_mut(poller) {
-            Some(station) => station.becomes_full(),
-            None => false,
-        };
-        if becomes_full && self.stations.iter().all(|station| station.standing.is_full) {
-            let slots = self.sizes.limits.slots;
-            let text = format!(in self.alloc; "slots: all {slots} are taken; further clients wait");
-            self.book.expect(Level::Warn, text);
-        }
-    }
-
-    /// What a poller's accept(2) is answered.
+    /// What a poller's accept(2) is answered: what is planned, or else a client, if one waits.
     pub fn accept(&mut self, poller: usize) -> Accepting {
         let Some(station) = self.stations.get_mut(poller) else {
             return Accepting::Starved;
@@ -131,27 +106,17 @@ impl Outside {
                 "accept(2) before anything became of the last client, or behind a poller's last connection",
             );
         }
-        let reply = station.accept(self.state.waiting > 0);
-        let has_to_tell = station.standing.accept(reply);
+        let reply = match self.plan.next(Call::Accept(poller)) {
+            Some(Planned::Accept(Accepting::Again)) => Accepting::Again,
+            Some(Planned::Accept(Accepting::Starved)) => Accepting::Starved,
+            _ if self.state.waiting > 0 => Accepting::Accepted,
+            _ => Accepting::Blocked,
+        };
+        station.accept(reply);
         if reply == Accepting::Accepted {
             self.state.waiting = self.state.waiting.saturating_sub(1);
         }
-        if has_to_tell {
-            let error = io::Error::from(ErrorKind::Other);
-            let text = format!(in self.alloc; "accept: {error}");
-            self.book.expect(Level::Error, text);
-        }
         reply
-    }
-
-    /// Whether no client waits that this poller could accept, or else its next poll tells of the listener.
-    pub fn hears(&self, poller: usize) -> bool {
-        match self.stations.get(poller) {
-            Some(station) => {
-                self.state.waiting == 0 || !station.standing.listens || station.is_told_of_clients()
-            }
-            None => false,
-        }
     }
 
     /// A poller's front no longer listens, which it may do only once that poller has opened all that it may. Behind the last
@@ -185,7 +150,10 @@ impl Outside {
             self.book.blame("a target without an accepted client");
         }
         station.standing.has_accepted = false;
-        let opening = station.plan.next_opening();
+        let opening = match self.plan.next(Call::Open(poller)) {
+            Some(Planned::Open(opening)) => opening,
+            _ => Opening::Plain,
+        };
         let route = route_of(poller, opening)?;
         if self.sizes.proxy && !matches!(opening, Opening::Plain) {
             return Ok((None, route));
