@@ -4,7 +4,7 @@ use crate::likeness::{Difference, alike, both, pairs_agree, same, sockets_agree}
 use crate::looking::{all_tickets, free_slots};
 use crate::outside::Outside;
 use crate::stage::{Stage, word_of};
-use crate::station::{Station, descriptor};
+use crate::station::Station;
 use crate::tape::Tape;
 use crate::ticks::START;
 use crate::wire::EndWire;
@@ -186,22 +186,17 @@ fn tickets_agree(tape: &Tape, slot: usize, tickets: &[Ticket]) -> Result<(), Dif
     alike("tickets", count, tape.tickets() as u64)
 }
 
-/// The queued reports of a slot's ends, and whether they are open.
+/// The queued reports of a slot's ends.
 fn names_agree(
     kernel: &Kernel,
     world: &World,
     slot: usize,
     generation: u64,
 ) -> Result<(), Difference> {
-    let is_open = world.connection(0).is_some();
     for side in [Side::Client, Side::Target] {
         let queued = is_queued(kernel, slot, side, generation);
         let wanted = is_queued(world.kernel(), 0, side, generation);
-        both(
-            &["open end", "queued end"],
-            &[descriptor(kernel, slot, side).is_ok(), queued],
-            &[is_open, wanted],
-        )?;
+        alike("queued end", u64::from(queued), u64::from(wanted))?;
     }
     Ok(())
 }

@@ -1,11 +1,12 @@
 // What a poller's round gets, and to what it amounts.
 use crate::addresses::{peer_of, route_of};
 use crate::outside::Outside;
+use crate::station::own_names;
 use crate::step::{Call, Inner, Opening, Planned, Polled};
 use dispatch::{Clock, Part, Route, Unopened};
 use kernel_model::{Accepting, Descriptors, MAX_POLLED};
 use log::Level;
-use std::alloc::{AllocError, Global};
+use std::alloc::AllocError;
 use std::io::{self, ErrorKind};
 use token::{Name, Token};
 use world::{Event, Listening, Polling};
@@ -44,7 +45,7 @@ impl Outside {
     /// its round comes to its sweep.
     fn report_names(&mut self, poller: usize, names: &[Name]) -> Result<(), AllocError> {
         for slot in 0..self.tapes.len() {
-            let own = own_names(self.alloc, names, slot)?;
+            let own = own_names(self.alloc, names, Some(slot))?;
             if !own.is_empty() {
                 self.record(slot, Event::Poll(Polling::Poll(own)));
             }
@@ -218,28 +219,5 @@ impl Outside {
         if has_failed && !is_due {
             self.expect_wakes();
         }
-    }
-}
-
-/// Those of a poll's names that are about an end of this slot, as the world of that slot has them.
-fn own_names(alloc: Global, names: &[Name], slot: usize) -> Result<Vec<Name>, AllocError> {
-    let mut own = Vec::new(alloc);
-    for name in names {
-        if let Some(name) = own_name(*name, slot) {
-            own.push(name)?;
-        }
-    }
-    Ok(own)
-}
-
-fn own_name(name: Name, slot: usize) -> Option<Name> {
-    match name {
-        Name::End(token) if token.slot() == slot => {
-            match Token::pack(0, token.side(), token.generation()) {
-                Ok(token) => Some(Name::End(token)),
-                Err(_) => None,
-            }
-        }
-        _ => None,
     }
 }

@@ -11,7 +11,7 @@ use std::sync::Wait;
 
 /// Plays all scripts, and prints what was played. Answers whether the server and the world agreed throughout.
 pub fn play_all<R: Wait + AllocGlobal + Print>(rt: &R, text: &str) -> io::Result<bool> {
-    let mut totals = Totals::new();
+    let mut totals = Totals::NONE;
     let mut stage = None;
     for (index, line) in text.lines().enumerate() {
         if line.starts_with("world ") {

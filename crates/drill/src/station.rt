@@ -73,7 +73,7 @@ impl Station {
         let taken = self.kernel.poll(names.as_slice());
         self.standing.must(taken);
         self.standing.in_round = true;
-        let own = own_names(alloc, names.as_slice())?;
+        let own = own_names(alloc, names.as_slice(), None)?;
         self.tape.put(Event::Poll(Polling::Poll(own)));
         Ok(names)
     }
@@ -197,7 +197,7 @@ fn watched(kernel: &Kernel, who: Reported) -> Result<Watched, Refusal> {
 }
 
 /// The descriptor of the open end of this slot and side.
-pub fn descriptor(kernel: &Kernel, slot: usize, side: Side) -> Result<usize, Refusal> {
+fn descriptor(kernel: &Kernel, slot: usize, side: Side) -> Result<usize, Refusal> {
     for descriptor in 0..MOST {
         if let Some(open) = kernel.end(descriptor) {
             if open.token.slot() == slot && open.token.side() == side {
@@ -223,15 +223,31 @@ fn chosen(alloc: Global, queue: &[Name], polled: Option<Polled>) -> Result<Vec<N
     Ok(names)
 }
 
-/// Those of a poll's names that are of the poller itself.
-fn own_names(alloc: Global, names: &[Name]) -> Result<Vec<Name>, AllocError> {
+/// Those of a poll's names that are about an end of this slot, as the world of that slot has them. Without a slot those of the
+/// poller itself.
+pub fn own_names(
+    alloc: Global,
+    names: &[Name],
+    slot: Option<usize>,
+) -> Result<Vec<Name>, AllocError> {
     let mut own = Vec::new(alloc);
     for name in names {
-        if !matches!(name, Name::End(_)) {
-            own.push(*name)?;
+        if let Some(name) = own_name(*name, slot) {
+            own.push(name)?;
         }
     }
     Ok(own)
+}
+
+fn own_name(name: Name, slot: Option<usize>) -> Option<Name> {
+    match name {
+        Name::End(token) if slot == Some(token.slot()) => {
+            let own = Token::pack(0, token.side(), token.generation());
+            Some(Name::End(own.ok()?))
+        }
+        Name::Listener | Name::Waker if slot.is_none() => Some(name),
+        _ => None,
+    }
 }
 
 /// The slots of a part, in rising order.

@@ -13,13 +13,12 @@ pub struct Totals {
 }
 
 impl Totals {
-    pub fn new() -> Totals {
-        Totals {
-            scripts: 0,
-            steps: 0,
-            counts: Counts::NONE,
-        }
-    }
+    /// Nothing was played.
+    pub const NONE: Totals = Totals {
+        scripts: 0,
+        steps: 0,
+        counts: Counts::NONE,
+    };
 
     /// Adds a script that was played.
     pub fn add(&mut self, stage: &Option<Stage>) {
