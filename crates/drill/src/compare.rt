@@ -63,7 +63,8 @@ fn poller_agrees<R: Wait>(
     thread: &mut PollerThread<KernelFront>,
 ) -> Result<(), Difference> {
     stands(station, thread.poller.is_accepting())?;
-    match free_slots(rt, alloc, &mut thread.own) {
+    let own = &mut thread.own;
+    match free_slots(rt, alloc, &mut own.hand, &mut own.free) {
         Ok(free) => free_agree(station, free.as_slice()),
         Err(_) => alike("memory", 0, 1),
     }
@@ -123,7 +124,8 @@ fn slots_agree<R: Wait>(
     station: &Station,
     thread: &mut PollerThread<KernelFront>,
 ) -> Result<(), Differs> {
-    let Ok(tickets) = all_tickets(rt, outside.alloc, &mut thread.own) else {
+    let own = &mut thread.own;
+    let Ok(tickets) = all_tickets(rt, outside.alloc, &mut own.ready, &mut own.hand) else {
         return Err(Differs::Server);
     };
     for (slot, tape) in outside.tapes.iter().enumerate() {

@@ -1,5 +1,5 @@
 // What queues and hands contain: everything is taken out and put back in the same order.
-use dispatch::{Hand, Own};
+use dispatch::Hand;
 use ready::{FreeQueue, ReadyQueue, Ticket};
 use std::alloc::{AllocError, Global};
 use std::sync::Wait;
@@ -30,10 +30,11 @@ pub fn tickets_of(
 pub fn all_tickets(
     rt: &impl Wait,
     alloc: Global,
-    own: &mut Own,
+    ready: &mut ReadyQueue,
+    hand: &mut Hand,
 ) -> Result<Vec<Ticket>, AllocError> {
-    let mut tickets = tickets_of(rt, alloc, &mut own.ready)?;
-    add_held(&mut tickets, &mut own.hand)?;
+    let mut tickets = tickets_of(rt, alloc, ready)?;
+    add_held(&mut tickets, hand)?;
     Ok(tickets)
 }
 
@@ -48,15 +49,20 @@ fn add_held(tickets: &mut Vec<Ticket>, hand: &mut Hand) -> Result<(), AllocError
 }
 
 /// The free slots of a poller, in order: those in hand, and those in its queue.
-pub fn free_slots(rt: &impl Wait, alloc: Global, own: &mut Own) -> Result<Vec<usize>, AllocError> {
+pub fn free_slots(
+    rt: &impl Wait,
+    alloc: Global,
+    hand: &mut Hand,
+    free: &mut FreeQueue,
+) -> Result<Vec<usize>, AllocError> {
     let mut slots = Vec::with_capacity(alloc, MOST)?;
-    for _slot in 0..own.hand.slots() {
-        if let Some(slot) = own.hand.take_slot() {
-            own.hand.keep_slot(slot);
+    for _slot in 0..hand.slots() {
+        if let Some(slot) = hand.take_slot() {
+            hand.keep_slot(slot);
             slots.push(slot)?;
         }
     }
-    add_queued(rt, &mut slots, &mut own.free)?;
+    add_queued(rt, &mut slots, free)?;
     Ok(slots)
 }
 
