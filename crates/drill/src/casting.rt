@@ -1,10 +1,13 @@
 // The threads of the server of a script, made from its settings as the product makes them.
 ghost use Rattle.std.specs.Prelude.{◌≤◌, ◌≡◌, length};
-ghost use Rattle.drill_outside.specs.Sizes.{IsServerSize};
+ghost use Rattle.drill.specs.Sizes.{IsServerSize};
 
+use crate::front::KernelFront;
+use crate::outside::{Outside, OutsideCell};
+use crate::sizes::Sizes;
 use crate::stage::{Player, Stage};
+use crate::ticks::Ticks;
 use dispatch::{Poller, ServerFault};
-use drill_outside::{KernelFront, Outside, Sizes, Ticks};
 use server::build;
 use settings::{Settings, parse};
 use std::alloc::{AllocError, Global};
@@ -14,16 +17,12 @@ use std::sync::atomic::AtomicBool;
 use std::sync::{Arc, Wait};
 use threads::{Cast, Ending, Rest, Server, divide};
 
-/// A server of these sizes over this cell and by this clock.
-pub fn stage_of<R: Wait>(
-    rt: &R,
-    alloc: Global,
-    outside: Rc<RefCell<Outside>>,
-    clock: Rc<Ticks>,
-    sizes: Sizes,
-) -> Result<Stage, ServerFault>
+/// A server of these sizes.
+pub fn stage_of<R: Wait>(rt: &R, alloc: Global, sizes: Sizes) -> Result<Stage, ServerFault>
     requires { IsServerSize sizes }
 {
+    let clock = Rc::new(alloc, Ticks::new())?;
+    let outside = OutsideCell::new(alloc, Outside::new(alloc, sizes, clock.clone()?)?)?;
     let settings = settings_of(alloc, sizes)?;
     let Cast {
         pollers,
@@ -31,6 +30,7 @@ pub fn stage_of<R: Wait>(
     } = cast_of(rt, alloc, &outside, &settings, sizes)?;
     workers.reverse();
     Ok(Stage {
+        alloc,
         sizes,
         outside,
         clock,
@@ -48,7 +48,7 @@ fn players<T: Drop>(alloc: Global, mut threads: Vec<T>) -> Result<Vec<Player<T>>
         if let Some(thread) = threads.pop() {
             players.push(Player {
                 thread: RefCell::new(thread),
-                ended: Cell::new(false),
+                has_ended: Cell::new(false),
             })?;
         }
     }
@@ -70,7 +70,7 @@ fn settings_of(alloc: Global, sizes: Sizes) -> Result<Settings, AllocError> {
 fn cast_of<R: Wait>(
     rt: &R,
     alloc: Global,
-    outside: &Rc<RefCell<Outside>>,
+    outside: &OutsideCell,
     settings: &Settings,
     sizes: Sizes,
 ) -> Result<Cast<KernelFront>, ServerFault>
@@ -81,7 +81,7 @@ fn cast_of<R: Wait>(
     if fronts.len() != split.pollers() || split.slots() != settings.slots {
         return Err(ServerFault::NoMemory);
     }
-    let server = build(rt, alloc, settings, split, fronts, outside.clone()?)?;
+    let server = build(rt, alloc, settings, split, fronts, outside.share()?)?;
     let Server {
         shared,
         parts,
@@ -98,12 +98,12 @@ fn cast_of<R: Wait>(
 /// So many fronts.
 fn fronts_of(
     alloc: Global,
-    outside: &Rc<RefCell<Outside>>,
+    outside: &OutsideCell,
     pollers: usize,
 ) -> Result<Vec<KernelFront>, AllocError> {
     let mut fronts = Vec::with_capacity(alloc, pollers)?;
     for poller in 0..pollers {
-        fronts.push(KernelFront::new(alloc, outside.clone()?, poller)?)?;
+        fronts.push(KernelFront::new(alloc, outside.share()?, poller)?)?;
     }
     Ok(fronts)
 }

@@ -1,17 +1,22 @@
 // The comparison of the server with the machines.
-use crate::likeness::{Difference, Fact, alike, ends_agree, flag, pairs_agree, same};
-use crate::looking::{in_hand, slots_of, tickets_of};
-use crate::stage::Stage;
+use crate::front::KernelFront;
+use crate::likeness::{Difference, alike, both, pairs_agree, same, sockets_agree};
+use crate::looking::{all_tickets, free_slots};
+use crate::outside::Outside;
+use crate::stage::{Stage, word_of};
+use crate::station::Station;
+use crate::tape::Tape;
+use crate::ticks::START;
+use crate::wire::EndWire;
 use berths::Berth;
 use claims::Claimed;
-use drill_outside::{EndWire, KernelFront, Outside, START, Station, Tape};
 use kernel_model::Kernel;
 use ready::Ticket;
-use std::alloc::{AllocError, Global};
+use std::alloc::Global;
 use std::sync::Wait;
 use threads::PollerThread;
 use token::{Name, Side, Token};
-use world::{Connection, Holder, World};
+use world::{Connection, Holder, Slot, World};
 
 /// Where the two differ.
 #[derive(Clone, Copy)]
@@ -25,119 +30,86 @@ pub enum Differs {
 }
 
 /// The server is as the machines are. Refused is the first thing that differs.
-pub fn compare<R: Wait>(rt: &R, alloc: Global, stage: &Stage) -> Result<(), Differs> {
-    let Ok(mut outside) = stage.outside.try_borrow_mut() else {
-        return Err(Differs::Server);
-    };
+pub fn compare<R: Wait>(rt: &R, stage: &Stage, outside: &mut Outside) -> Result<(), Differs> {
     outside.book.check();
     if outside.book.wrong.is_some() {
         return Err(Differs::Server);
     }
-    for (poller, player) in stage.pollers.iter().enumerate() {
-        let Ok(mut thread) = player.thread.try_borrow_mut() else {
-            return Err(Differs::Server);
-        };
-        if let Err(difference) = poller_agrees(rt, alloc, &outside, &mut thread, poller) {
-            return Err(Differs::Poller(poller, difference));
-        }
-        let Ok(tickets) = tickets_with(rt, alloc, &mut thread) else {
-            return Err(Differs::Server);
-        };
-        slots_agree(rt, &outside, &mut thread, poller, tickets.as_slice())?;
-    }
-    Ok(())
+    all_agree(rt, stage, outside)
 }
 
-/// The tickets in the ready queue, and those in a poller's hand.
-fn tickets_with<R: Wait>(
-    rt: &R,
-    alloc: Global,
-    thread: &mut PollerThread<KernelFront>,
-) -> Result<Vec<Ticket>, AllocError> {
-    let mut tickets = tickets_of(rt, alloc, &mut thread.own.ready)?;
-    for ticket in in_hand(alloc, &mut thread.own.hand)? {
-        tickets.push(ticket)?;
+/// The pollers and their slots.
+fn all_agree<R: Wait>(rt: &R, stage: &Stage, outside: &Outside) -> Result<(), Differs> {
+    for (poller, player) in stage.pollers.iter().enumerate() {
+        let (Ok(mut thread), Some(station)) = (
+            player.thread.try_borrow_mut(),
+            outside.stations.get(poller),
+        ) else {
+            return Err(Differs::Server);
+        };
+        if let Err(difference) = poller_agrees(rt, outside.alloc, station, &mut thread) {
+            return Err(Differs::Poller(poller, difference));
+        }
+        slots_agree(rt, outside, station, &mut thread)?;
     }
-    Ok(tickets)
+    Ok(())
 }
 
 /// A poller, but for its slots.
 fn poller_agrees<R: Wait>(
     rt: &R,
     alloc: Global,
-    outside: &Outside,
+    station: &Station,
     thread: &mut PollerThread<KernelFront>,
-    poller: usize,
 ) -> Result<(), Difference> {
-    let Some(station) = outside.stations.get(poller) else {
-        return alike("poller", 1, 0);
-    };
-    let hears = thread.poller.is_accepting() || outside.hears(poller);
-    alike("client heard of", u64::from(hears), 1)?;
-    listener_agrees(station, thread)?;
-    hand_agrees(alloc, station, thread)?;
-    free_agrees(rt, alloc, station, thread)
+    stands(station, thread.poller.is_accepting())?;
+    let own = &mut thread.own;
+    match free_slots(rt, alloc, &mut own.hand, &mut own.free) {
+        Ok(free) => free_agree(station, free.as_slice()),
+        Err(_) => alike("memory", 0, 1),
+    }
 }
 
-/// The listener and the waker of a poller.
-fn listener_agrees(
-    station: &Station,
-    thread: &PollerThread<KernelFront>,
-) -> Result<(), Difference> {
-    let world = &station.tape.world;
-    let refused = station.tape.refused.is_some();
-    alike("refusal of its world", u64::from(refused), 0)?;
-    alike("refusal of its kernel", u64::from(station.refused), 0)?;
-    let accepting = u64::from(thread.poller.is_accepting());
-    alike("accept flag", accepting, u64::from(world.accept_flag()))?;
-    same(&reports_of(&station.kernel), &reports_of(world.kernel()))?;
-    alike(
-        "listening front",
-        u64::from(station.listens),
-        u64::from(station.may_listen),
+static POLLER: [&str; 4] = [
+    "refusal of its world",
+    "refusal of its kernel",
+    "accept flag",
+    "listening front",
+];
+
+/// A poller with this accept flag, and what is reported of it itself.
+fn stands(station: &Station, accepting: bool) -> Result<(), Difference> {
+    let (standing, world) = (station.standing, station.tape.world());
+    both(
+        &POLLER,
+        &[
+            station.tape.is_wrong,
+            standing.is_refused,
+            accepting,
+            standing.listens,
+        ],
+        &[false, false, world.accept_flag(), standing.may_listen],
+    )?;
+    both(
+        &REPORTS,
+        &reports_of(&station.kernel),
+        &reports_of(world.kernel()),
     )
 }
 
-/// The tickets in a poller's hand, in order.
-fn hand_agrees(
-    alloc: Global,
-    station: &Station,
-    thread: &mut PollerThread<KernelFront>,
-) -> Result<(), Difference> {
-    let hand = in_hand(alloc, &mut thread.own.hand)?;
-    alike(
-        "tickets in hand",
-        hand.len() as u64,
-        station.hand.len() as u64,
-    )?;
-    for (ticket, wanted) in hand.iter().zip(station.hand.iter()) {
-        alike(
-            "slot of a ticket in hand",
-            ticket.slot as u64,
-            *wanted as u64,
-        )?;
-    }
-    Ok(())
-}
+static REPORTS: [&str; 3] = ["armed listener", "queued listener", "queued waker"];
 
 /// What a kernel reports of a poller itself.
-fn reports_of(kernel: &Kernel) -> [Fact; 3] {
+fn reports_of(kernel: &Kernel) -> [bool; 3] {
     [
-        flag("armed listener", kernel.is_armed()),
-        flag("queued listener", kernel.is_queued(&Name::Listener)),
-        flag("queued waker", kernel.is_queued(&Name::Waker)),
+        kernel.is_armed(),
+        kernel.is_queued(&Name::Listener),
+        kernel.is_queued(&Name::Waker),
     ]
 }
 
-/// The free slots of a poller.
-fn free_agrees<R: Wait>(
-    rt: &R,
-    alloc: Global,
-    station: &Station,
-    thread: &mut PollerThread<KernelFront>,
-) -> Result<(), Difference> {
-    let own = &mut thread.own;
-    let free = slots_of(rt, alloc, &mut own.hand, &mut own.free)?;
+/// The free slots of a poller, in order.
+fn free_agree(station: &Station, free: &[usize]) -> Result<(), Difference> {
     alike("free slots", free.len() as u64, station.free.len() as u64)?;
     for (slot, wanted) in free.iter().zip(station.free.iter()) {
         alike("free slot", *slot as u64, *wanted as u64)?;
@@ -149,21 +121,17 @@ fn free_agrees<R: Wait>(
 fn slots_agree<R: Wait>(
     rt: &R,
     outside: &Outside,
+    station: &Station,
     thread: &mut PollerThread<KernelFront>,
-    poller: usize,
-    tickets: &[Ticket],
 ) -> Result<(), Differs> {
-    let part = thread.poller.part();
-    for index in 0..part.slots {
-        let slot = part.first.saturating_add(index);
-        let agrees = match (outside.stations.get(poller), outside.tapes.get(slot)) {
-            (Some(station), Some(tape)) => {
-                slot_agrees(rt, (station, tape), thread, slot, tickets)
-            }
-            _ => alike("slot", 1, 0),
-        };
-        if let Err(difference) = agrees {
-            return Err(Differs::Slot(slot, difference));
+    let own = &mut thread.own;
+    let Ok(tickets) = all_tickets(rt, outside.alloc, &mut own.ready, &mut own.hand) else {
+        return Err(Differs::Server);
+    };
+    for (slot, tape) in outside.tapes.iter().enumerate() {
+        if station.part.has(slot) {
+            let agrees = slot_agrees(rt, (station, tape), thread, slot, tickets.as_slice());
+            agrees.map_err(|difference| Differs::Slot(slot, difference))?;
         }
     }
     Ok(())
@@ -177,29 +145,38 @@ fn slot_agrees<R: Wait>(
     slot: usize,
     tickets: &[Ticket],
 ) -> Result<(), Difference> {
-    let (world, claims) = (&tape.world, &thread.shared.claims);
-    let word = if slot < claims.slots() {
-        claims.peek(slot)
-    } else {
-        2
-    };
+    let word = word_of(thread, slot).unwrap_or(2);
     if let Some(before) = tape.lost {
         let queued = tickets.iter().any(|ticket| ticket.slot == slot);
         let wanted = if queued { before } else { 0 };
         return alike("word of a lost slot", word, wanted);
     }
     let generation = thread.poller.table().get(slot).copied().unwrap_or(0);
-    word_agrees(tape, word, generation)?;
+    alike("refusal of its world", u64::from(tape.is_wrong), 0)?;
+    alike("generation of the table", generation, tape.generation())?;
+    word_agrees(tape.world().slots(), word)?;
     tickets_agree(tape, slot, tickets)?;
-    names_agree(station, world, slot, generation)?;
-    match world.connection(0) {
-        Some(machine) => place_agrees(rt, station, world, machine, thread, slot),
+    names_agree(&station.kernel, tape.world(), slot, generation)?;
+    match tape.world().connection(0) {
+        Some(machine) => place_agrees(rt, station, tape.world(), machine, thread, slot),
         None => Ok(()),
     }
 }
 
-/// The tickets of a slot, each of its last connection. Which of a round's tickets its thread runs by itself, and the order of the
-/// queue, are shown by clauses.
+/// The claim word of a slot.
+fn word_agrees(machine: &[Slot], word: u64) -> Result<(), Difference> {
+    let Some(machine) = machine.first() else {
+        return alike("slot", 1, 0);
+    };
+    let is_free = u64::from(matches!(machine.holder(), Holder::Free));
+    same(
+        &["notes", "free word", "held word"],
+        &[word / 4, u64::from(word % 4 == 3), word % 2],
+        &[machine.notes().len() as u64, is_free, is_free],
+    )
+}
+
+/// The tickets of a slot, each of its last connection. In which order they are run, and by whom, is shown by clauses.
 fn tickets_agree(tape: &Tape, slot: usize, tickets: &[Ticket]) -> Result<(), Difference> {
     let mut count: u64 = 0;
     for ticket in tickets {
@@ -211,32 +188,16 @@ fn tickets_agree(tape: &Tape, slot: usize, tickets: &[Ticket]) -> Result<(), Dif
     alike("tickets", count, tape.tickets() as u64)
 }
 
-/// The claim word and the generation of a slot.
-fn word_agrees(tape: &Tape, word: u64, generation: u64) -> Result<(), Difference> {
-    let Some(machine) = tape.world.slots().first() else {
-        return alike("slot", 1, 0);
-    };
-    let is_free = u64::from(matches!(machine.holder(), Holder::Free));
-    alike("refusal of its world", u64::from(tape.refused.is_some()), 0)?;
-    alike("generation of the table", generation, tape.generation())?;
-    alike("notes", word / 4, machine.notes().len() as u64)?;
-    alike("free word", u64::from(word % 4 == 3), is_free)?;
-    alike("held word", word % 2, is_free)
-}
-
-/// The queued reports of a slot's ends, and whether they are open.
+/// The queued reports of a slot's ends.
 fn names_agree(
-    station: &Station,
+    kernel: &Kernel,
     world: &World,
     slot: usize,
     generation: u64,
 ) -> Result<(), Difference> {
-    let open = u64::from(world.connection(0).is_some());
     for side in [Side::Client, Side::Target] {
-        let queued = is_queued(&station.kernel, slot, side, generation);
+        let queued = is_queued(kernel, slot, side, generation);
         let wanted = is_queued(world.kernel(), 0, side, generation);
-        let is_open = station.descriptor(slot, side).is_ok();
-        alike("open end", u64::from(is_open), open)?;
         alike("queued end", u64::from(queued), u64::from(wanted))?;
     }
     Ok(())
@@ -268,7 +229,7 @@ fn place_agrees<R: Wait>(
         Claimed::Held => {
             let agrees = match shared.berths.take_out(rt, seat, slot) {
                 Some(berth) => {
-                    let agrees = berths_agree(station, world, &berth, machine);
+                    let agrees = berths_agree(&station.kernel, world, &berth, machine);
                     let _ = shared.berths.put_in(rt, seat, slot, berth);
                     agrees
                 }
@@ -282,7 +243,7 @@ fn place_agrees<R: Wait>(
 
 /// A connection and its ends.
 fn berths_agree(
-    station: &Station,
+    kernel: &Kernel,
     world: &World,
     berth: &Berth<EndWire, EndWire>,
     machine: &Connection,
@@ -292,21 +253,21 @@ fn berths_agree(
     } else {
         None
     };
-    let (client, target) = (berth.client.descriptor(), berth.target.descriptor());
     pairs_agree(&berth.pair, &machine.pair, since)?;
-    one_end_agrees(station, world, client, machine.ends.client)?;
-    one_end_agrees(station, world, target, machine.ends.target)
+    let (client, target) = (berth.client.descriptor(), berth.target.descriptor());
+    ends_agree(kernel, client, world, machine.ends.client)?;
+    ends_agree(kernel, target, world, machine.ends.target)
 }
 
-fn one_end_agrees(
-    station: &Station,
-    world: &World,
+fn ends_agree(
+    kernel: &Kernel,
     here: Option<usize>,
+    world: &World,
     there: usize,
 ) -> Result<(), Difference> {
-    let server = here.and_then(|descriptor| station.kernel.end(descriptor));
+    let server = here.and_then(|descriptor| kernel.end(descriptor));
     match (server, world.kernel().end(there)) {
-        (Some(server), Some(machine)) => ends_agree(&server.socket, &machine.socket),
+        (Some(server), Some(machine)) => sockets_agree(&server.socket, &machine.socket),
         _ => alike("open ends", 0, 1),
     }
 }

@@ -1,77 +1,56 @@
 // What happens inside a turn.
+use crate::outside::OutsideCell;
 use crate::stage::Stage;
+use crate::step::Call;
 use dispatch::Gate;
-use drill_outside::Outside;
 use kernel_model::MAX_POLLED;
 use log::Log;
-use std::alloc::Global;
-use std::cell::RefCell;
 use std::sync::Wait;
 
 /// The gate of a turn inside another. Nothing happens inside of it but its calls.
 #[derive(Drop)]
 pub struct Nested<'a> {
-    pub outside: &'a RefCell<Outside>,
+    pub outside: &'a OutsideCell,
 }
 
 impl Gate for Nested<'_> {
     fn before_turn(&self, slot: usize) {
-        begin(self.outside, slot);
+        self.outside.with((), |outside| outside.begin_turn(slot));
     }
 
     fn after_turn(&self, _slot: usize) {
-        end(self.outside);
+        self.outside.with((), |outside| outside.end_calls());
     }
 }
 
 /// The gate of a turn inside of which happens what is planned for it.
 #[derive(Drop)]
-pub struct Planned<'c, R> {
+pub struct Open<'c, R> {
     pub rt: &'c R,
-    pub alloc: Global,
     pub stage: &'c Stage,
 }
 
-impl<R: Wait + Log> Gate for Planned<'_, R> {
+impl<R: Wait + Log> Gate for Open<'_, R> {
     fn before_turn(&self, slot: usize) {
-        begin(&self.stage.outside, slot);
-        self.make_planned(true);
+        self.stage.nested().before_turn(slot);
+        self.make_planned(Call::BeforeTurn);
     }
 
-    fn after_turn(&self, _slot: usize) {
-        end(&self.stage.outside);
-        self.make_planned(false);
+    fn after_turn(&self, slot: usize) {
+        self.stage.nested().after_turn(slot);
+        self.make_planned(Call::AfterTurn);
     }
 }
 
-impl<R: Wait + Log> Planned<'_, R> {
+impl<R: Wait + Log> Open<'_, R> {
     /// Makes what is planned before a turn's first call, or after its last one.
-    fn make_planned(&self, before: bool) {
+    fn make_planned(&self, call: Call) {
+        let (outside, nested) = (&self.stage.outside, self.stage.nested());
         for _step in 0..MAX_POLLED {
-            let step = match self.stage.outside.try_borrow_mut() {
-                Ok(mut outside) => outside.next_inner(before),
-                Err(_) => None,
-            };
-            let Some(step) = step else {
-                return;
-            };
-            let outside = &self.stage.outside;
-            self.stage
-                .make(self.rt, self.alloc, step, &Nested { outside });
+            match outside.with(None, |outside| outside.plan.next_step(call)) {
+                Some(step) => self.stage.make(self.rt, step, &nested),
+                None => return,
+            }
         }
-    }
-}
-
-/// The slot was claimed, and its notes were taken.
-fn begin(outside: &RefCell<Outside>, slot: usize) {
-    if let Ok(mut outside) = outside.try_borrow_mut() {
-        outside.begin_turn(slot);
-    }
-}
-
-/// The last call was made.
-fn end(outside: &RefCell<Outside>) {
-    if let Ok(mut outside) = outside.try_borrow_mut() {
-        outside.end_calls();
     }
 }

@@ -26,20 +26,30 @@ pub fn tickets_of(
     Ok(tickets)
 }
 
-/// The tickets in a hand, in order.
-pub fn in_hand(alloc: Global, hand: &mut Hand) -> Result<Vec<Ticket>, AllocError> {
-    let mut tickets = Vec::with_capacity(alloc, hand.tickets())?;
+/// The tickets in the ready queue, and behind them those in a poller's hand.
+pub fn all_tickets(
+    rt: &impl Wait,
+    alloc: Global,
+    ready: &mut ReadyQueue,
+    hand: &mut Hand,
+) -> Result<Vec<Ticket>, AllocError> {
+    let mut tickets = tickets_of(rt, alloc, ready)?;
+    add_held(&mut tickets, hand)?;
+    Ok(tickets)
+}
+
+fn add_held(tickets: &mut Vec<Ticket>, hand: &mut Hand) -> Result<(), AllocError> {
     for _ticket in 0..hand.tickets() {
         if let Some(ticket) = hand.take_ticket() {
             hand.keep_ticket(ticket);
             tickets.push(ticket)?;
         }
     }
-    Ok(tickets)
+    Ok(())
 }
 
 /// The free slots of a poller, in order: those in hand, and those in its queue.
-pub fn slots_of(
+pub fn free_slots(
     rt: &impl Wait,
     alloc: Global,
     hand: &mut Hand,
@@ -52,6 +62,15 @@ pub fn slots_of(
             slots.push(slot)?;
         }
     }
+    add_queued(rt, &mut slots, free)?;
+    Ok(slots)
+}
+
+fn add_queued(
+    rt: &impl Wait,
+    slots: &mut Vec<usize>,
+    free: &mut FreeQueue,
+) -> Result<(), AllocError> {
     let held = slots.len();
     for _slot in 0..MOST {
         let Some(slot) = free.try_take(rt) else {
@@ -62,5 +81,5 @@ pub fn slots_of(
     for slot in slots.iter().skip(held) {
         let _ = free.give(rt, *slot);
     }
-    Ok(slots)
+    Ok(())
 }

@@ -5,29 +5,48 @@
 //! amounts: for each slot in a world of its own, and for each poller's listener. The worlds make the same events. After every
 //! step what the server has at each slot and at each poller has to be what its world has.
 //!
-//! `session.rt` plays the scripts, `reading.rt` reads their steps, `casting.rt` makes the server, `stage.rt` makes its threads'
-//! steps, and `compare.rt` and `likeness.rt` compare. What the threads get, the worlds, and what has to be of turns and the
-//! log are those of `drill_outside`. `tests/drill` has scripts, and makes random ones.
+//! `session.rt` plays the scripts, `reading.rt` reads their steps (`step.rt`), `casting.rt` makes the server, `stage.rt` makes its
+//! threads' steps, with `gate.rt` inside of turns, and `compare.rt` and `likeness.rt` compare. `tests/drill` has scripts, and makes
+//! random ones.
+//!
+//! What the server's calls get in place of a system is in `outside.rt`: for each poller a station (`station.rt`, `standing.rt`), with a
+//! modelled kernel and what its next calls get (`plan.rt`), and for each slot and each listener a `tape.rt`, the world with its events.
+//! `front.rt` is a poller's front over its kernel, `wire.rt` one end of a connection, `ticks.rt` the clock, and `diary.rt` the log.
+//! `round.rt` says to which events a poller's round amounts, `calls.rt` the calls of a turn, `turn.rt` what has to be of turns, and
+//! `book.rt` what the log has to say.
 #![tactic(auto)]
 
+mod addresses;
+mod book;
+mod calls;
 mod casting;
 mod compare;
 mod diary;
+mod front;
 mod gate;
-mod header;
 mod likeness;
 mod looking;
+mod outside;
+mod plan;
 mod play;
 mod reading;
+mod round;
 mod session;
-mod source;
+mod sizes;
 mod stage;
+mod standing;
+mod station;
+mod step;
+mod tape;
+mod ticks;
+mod totals;
+mod turn;
+mod wire;
 
-use std::io::BufReader;
 use std::process::ExitCode;
 
 fn main(rt: HostRuntime) -> std::io::Result<ExitCode> {
-    let reader = BufReader::new(rt.alloc(), rt.reader())?;
-    let agreed = session::play_all(&rt, reader)?;
+    let text = std::io::read_to_string(rt.alloc(), rt.reader())?;
+    let agreed = session::play_all(&rt, text.as_str())?;
     Ok(ExitCode::from(if agreed { 0 } else { 1 }))
 }

@@ -1,6 +1,5 @@
 // The steps of a script, from its lines.
-use dispatch::Unopened;
-use drill_outside::{Fronted, Inner, Later, Outer, Polled, Untold, Wanted};
+use crate::step::{Call, Inner, Opening, Outer, Planned, Polled, Wanted};
 use kernel_model::Accepting;
 use ready::Ticket;
 use script_text::read_event;
@@ -14,7 +13,7 @@ pub enum Step {
     /// A step that is made at once.
     Now(Inner),
     /// What one of the next calls gets, or what happens between two of them.
-    Later(Later),
+    Later(Call, Planned),
     /// A worker takes this ticket, which nobody made.
     Ticket(Ticket),
     /// The connection in this slot is taken away.
@@ -33,26 +32,6 @@ pub enum Step {
     Show,
 }
 
-/// The first word of a text, and what follows the space behind it.
-fn cut(text: &str) -> (&str, &str) {
-    text.split_once(' ').unwrap_or((text, ""))
-}
-
-/// The number of a poller in front of a text, 0 if there is none, and the rest of the text.
-fn cut_poller(text: &str) -> (usize, &str) {
-    let (word, rest) = cut(text);
-    number(word).map_or((0, text), |poller| (poller, rest))
-}
-
-/// The number of a poller and nothing behind it. 0 for no text.
-fn lone_poller(text: &str) -> Option<usize> {
-    if text.is_empty() {
-        Some(0)
-    } else {
-        number(text)
-    }
-}
-
 /// The step that a line stands for. None if it is no step, or if memory for it ran out.
 pub fn read_step(alloc: Global, line: &str) -> Option<Step> {
     let (word, rest) = cut(line);
@@ -60,19 +39,35 @@ pub fn read_step(alloc: Global, line: &str) -> Option<Step> {
         "show" => Some(Step::Show),
         "stop" => Some(Step::Stop),
         "log" => Some(Step::Line(String::from_str(alloc, rest).ok()?)),
-        "machine" | "listener" | "forget" => wrong(alloc, word, rest),
         "ticket" => Some(Step::Ticket(ticket(rest)?)),
         "lose" => Some(Step::Lose(number(rest)?)),
-        "accept" | "open" | "poll" | "polled" => {
-            let (poller, rest) = cut_poller(rest);
-            Some(Step::Later(Later::Round(poller, fronted(alloc, word, rest)?)))
-        }
-        "call" => Some(Step::Later(Later::Call(wanted(rest)?))),
-        "meanwhile" => Some(Step::Later(Later::Meanwhile(outside(alloc, rest)?))),
-        "before" => Some(Step::Later(Later::Before(inner(alloc, rest)?))),
-        "after" => Some(Step::Later(Later::After(inner(alloc, rest)?))),
+        "machine" | "listener" | "forget" => wrong(alloc, word, rest),
+        "call" => Some(Step::Later(Call::InTurn, Planned::Call(wanted(rest)?))),
+        "meanwhile" => later(Call::InTurn, Inner::Outside(outside(alloc, rest)?)),
+        "before" => later(Call::BeforeTurn, inner(alloc, rest)?),
+        "after" => later(Call::AfterTurn, inner(alloc, rest)?),
+        "accept" | "open" | "poll" | "polled" => in_round(alloc, word, rest),
         _ => Some(Step::Now(inner(alloc, line)?)),
     }
+}
+
+/// The first word of a text, and what follows the space behind it.
+fn cut(text: &str) -> (&str, &str) {
+    text.split_once(' ').unwrap_or((text, ""))
+}
+
+fn number(word: &str) -> Option<usize> {
+    word.parse::<usize>().ok()
+}
+
+/// The value that a word has in a table.
+fn named<T: Copy>(table: &[(&str, T)], word: &str) -> Option<T> {
+    for (name, value) in table {
+        if *name == word {
+            return Some(*value);
+        }
+    }
+    None
 }
 
 /// A step by which the machine's side alone is changed, so that the comparison has to tell it.
@@ -86,28 +81,35 @@ fn wrong(alloc: Global, word: &str, rest: &str) -> Option<Step> {
     }
 }
 
-/// What a call of a poller's round gets.
-fn fronted(alloc: Global, word: &str, rest: &str) -> Option<Fronted> {
-    match word {
-        "accept" => Some(Fronted::Accept(accepting(rest)?)),
-        "open" => Some(Fronted::Open(outcome(rest)?)),
-        "poll" => Some(Fronted::Poll(polled(rest)?)),
-        _ => Some(Fronted::Polled(outside(alloc, rest)?)),
-    }
+fn later(call: Call, step: Inner) -> Option<Step> {
+    Some(Step::Later(call, Planned::Step(step)))
+}
+
+/// What a round gets of the poller whose number stands in front of that, or of the first one.
+fn in_round(alloc: Global, word: &str, rest: &str) -> Option<Step> {
+    let (first, behind) = cut(rest);
+    let (poller, rest) = number(first).map_or((0, rest), |poller| (poller, behind));
+    let (call, planned) = match word {
+        "accept" => (
+            Call::Accept(poller),
+            Planned::Accept(named(&ACCEPTS, rest)?),
+        ),
+        "open" => (Call::Open(poller), Planned::Open(named(&OPENINGS, rest)?)),
+        "poll" => (Call::Poll(poller), Planned::Poll(polled(rest)?)),
+        _ => return later(Call::Polled(poller), Inner::Outside(outside(alloc, rest)?)),
+    };
+    Some(Step::Later(call, planned))
 }
 
 /// A step that may be made inside a turn.
 fn inner(alloc: Global, text: &str) -> Option<Inner> {
     let (word, rest) = cut(text);
     match word {
-        "round" => Some(Inner::Round(lone_poller(rest)?)),
+        "round" if rest.is_empty() => Some(Inner::Round(0)),
+        "round" => Some(Inner::Round(number(rest)?)),
         "turn" => Some(Inner::Turn(number(rest)?)),
         _ => Some(Inner::Outside(outside(alloc, text)?)),
     }
-}
-
-fn number(word: &str) -> Option<usize> {
-    word.parse::<usize>().ok()
 }
 
 /// What happens outside of the server, as a world's scripts have it. Behind the listener and the waker the number of their
@@ -153,33 +155,29 @@ fn wanted(text: &str) -> Option<Wanted> {
     }
 }
 
-fn accepting(word: &str) -> Option<Accepting> {
-    match word {
-        "plain" => Some(Accepting::Accepted),
-        "again" => Some(Accepting::Again),
-        "starved" => Some(Accepting::Starved),
-        _ => None,
-    }
-}
+static ACCEPTS: [(&str, Accepting); 3] = [
+    ("plain", Accepting::Accepted),
+    ("again", Accepting::Again),
+    ("starved", Accepting::Starved),
+];
 
-fn outcome(text: &str) -> Option<Result<Option<Untold>, Unopened>> {
-    match text {
-        "plain" => Some(Ok(None)),
-        "connect" => Some(Err(Unopened::Connect)),
-        "register" => Some(Err(Unopened::Register)),
-        "address client" => Some(Ok(Some(Untold::Client))),
-        "address accepted" => Some(Ok(Some(Untold::Accepted))),
-        _ => None,
-    }
-}
+static OPENINGS: [(&str, Opening); 5] = [
+    ("plain", Opening::Plain),
+    ("connect", Opening::Connect),
+    ("register", Opening::Register),
+    ("address client", Opening::NoClient),
+    ("address accepted", Opening::NoAccepted),
+];
+
+static POLLS: [(&str, Polled); 3] = [
+    ("interrupted", Polled::Interrupted),
+    ("backwards", Polled::Backwards),
+    ("failed", Polled::Failed),
+];
 
 fn polled(text: &str) -> Option<Polled> {
-    let (word, rest) = cut(text);
-    match word {
-        "first" => Some(Polled::First(number(rest)?)),
-        "interrupted" => Some(Polled::Interrupted),
-        "backwards" => Some(Polled::Backwards),
-        "failed" => Some(Polled::Failed),
-        _ => None,
+    match cut(text) {
+        ("first", most) => Some(Polled::First(number(most)?)),
+        _ => named(&POLLS, text),
     }
 }

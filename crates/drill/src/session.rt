@@ -1,111 +1,68 @@
 // The scripts of the input, one after the other.
-ghost use Rattle.drill_outside.specs.Sizes.{IsServerSize};
-
 use crate::casting::stage_of;
 use crate::diary::Diary;
-use crate::header::read_sizes;
-use crate::play::play_line;
-use crate::source::Source;
+use crate::play::{Played, play_line};
+use crate::sizes::read_sizes;
 use crate::stage::Stage;
-use drill_outside::{Outside, Sizes, Ticks, Totals};
-use log::{Level, Log, Logged};
-use std::alloc::Global;
-use std::cell::RefCell;
-use std::io::{self, BufRead, ErrorKind};
-use std::rc::Rc;
+use crate::totals::Totals;
+use log::{Level, Logged};
+use std::io::{self, ErrorKind};
 use std::sync::Wait;
 
 /// Plays all scripts, and prints what was played. Answers whether the server and the world agreed throughout.
-pub fn play_all<R: Wait + AllocGlobal + Print, B: BufRead>(rt: &R, reader: B) -> io::Result<bool>
-where
-    B: Drop,
-{
-    let mut source = Source::new(rt.alloc(), reader);
-    let mut totals = Totals::new();
-    for _script in 0..u64::MAX {
-        let Some(header) = source.next()? else {
-            break;
-        };
-        let Some(sizes) = read_sizes(header.as_str()) else {
-            let number = source.number;
-            println!(rt; "line {number}: no header")?;
-            return Ok(false);
-        };
-        totals.scripts = totals.scripts.saturating_add(1);
-        if !play_script(rt, sizes, &mut source, &mut totals)? {
-            return Ok(false);
+pub fn play_all<R: Wait + AllocGlobal + Print>(rt: &R, text: &str) -> io::Result<bool> {
+    let mut totals = Totals::NONE;
+    let mut stage = None;
+    for (index, line) in text.lines().enumerate() {
+        if line.starts_with("world ") {
+            totals.add(&stage);
+            stage = begin(rt, line)?;
+        }
+        match play_on(rt, &stage, line.trim_end())? {
+            Played::Nothing => {}
+            Played::Agreed => totals.steps = totals.steps.saturating_add(1),
+            Played::Differs => return stop(rt, index, "they differ after", line),
+            Played::Malformed => return stop(rt, index, "malformed", line),
         }
     }
+    totals.add(&stage);
     totals.print(rt)?;
     Ok(true)
 }
 
-/// Plays the script behind a header. Answers whether the two agreed.
-fn play_script<R: Wait + AllocGlobal + Print, B: BufRead>(
+/// No more is played behind this line.
+fn stop<R: Print>(rt: &R, index: usize, fault: &str, line: &str) -> io::Result<bool> {
+    let number = (index as u64).saturating_add(1);
+    println!(rt; "line {number}: {fault}: {line}")?;
+    Ok(false)
+}
+
+/// The server of the script that begins with this header. None if it is no header.
+fn begin<R: Wait + AllocGlobal>(rt: &R, header: &str) -> io::Result<Option<Stage>> {
+    let Some(sizes) = read_sizes(header) else {
+        return Ok(None);
+    };
+    match stage_of(rt, rt.alloc(), sizes) {
+        Ok(stage) => Ok(Some(stage)),
+        Err(_) => Err(io::Error::from(ErrorKind::OutOfMemory)),
+    }
+}
+
+/// Plays a line of a script on its server.
+fn play_on<R: Wait + AllocGlobal + Print>(
     rt: &R,
-    sizes: Sizes,
-    source: &mut Source<B>,
-    totals: &mut Totals,
-) -> io::Result<bool>
-    requires { IsServerSize sizes }
-{
-    let alloc = rt.alloc();
-    let clock = Rc::new(alloc, Ticks::new())?;
-    let outside = Outside::new(alloc, sizes, clock.clone()?, *totals)?;
-    let outside = Rc::new(alloc, RefCell::new(outside))?;
+    stage: &Option<Stage>,
+    line: &str,
+) -> io::Result<Played> {
+    if line.is_empty() || line.starts_with('#') {
+        return Ok(Played::Nothing);
+    }
+    let Some(stage) = stage else {
+        return Ok(Played::Malformed);
+    };
     let diary = Diary {
-        alloc,
-        outside: outside.clone()?,
+        alloc: rt.alloc(),
+        outside: &stage.outside,
     };
-    let log = Logged::new(rt, Level::Debug, diary);
-    let (agreed, played) = play_server(&log, alloc, outside, clock, sizes, source)?;
-    *totals = played;
-    Ok(agreed)
-}
-
-/// Plays the lines up to the next header on a server over this cell and by this clock. Answers whether the two agreed, and what
-/// was played in all.
-fn play_server<R: Wait + Log + Print, B: BufRead>(
-    rt: &R,
-    alloc: Global,
-    outside: Rc<RefCell<Outside>>,
-    clock: Rc<Ticks>,
-    sizes: Sizes,
-    source: &mut Source<B>,
-) -> io::Result<(bool, Totals)>
-    requires { IsServerSize sizes }
-{
-    let Ok(stage) = stage_of(rt, alloc, outside, clock, sizes) else {
-        return Err(io::Error::from(ErrorKind::OutOfMemory));
-    };
-    stage.begin(rt, alloc);
-    let agreed = play_lines(rt, alloc, &stage, source)?;
-    match stage.outside.try_borrow() {
-        Ok(outside) => Ok((agreed, outside.played())),
-        Err(_) => Err(io::Error::from(ErrorKind::Other)),
-    }
-}
-
-/// Plays the lines up to the next header.
-fn play_lines<R: Wait + Log + Print, B: BufRead>(
-    rt: &R,
-    alloc: Global,
-    stage: &Stage,
-    source: &mut Source<B>,
-) -> io::Result<bool> {
-    for _line in 0..u64::MAX {
-        let Some(line) = source.next()? else {
-            return Ok(true);
-        };
-        if line.as_str().starts_with("world ") {
-            source.kept = Some(line);
-            return Ok(true);
-        }
-        let number = source.number;
-        if let Some(fault) = play_line(rt, alloc, stage, line.as_str())? {
-            println!(rt; "line {number}: {fault}: {line}")?;
-            return Ok(false);
-        }
-    }
-    Ok(true)
+    play_line(&Logged::new(rt, Level::Debug, diary), stage, line)
 }

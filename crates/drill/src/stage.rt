@@ -1,9 +1,14 @@
 // The threads of the server together, and the steps that they make.
+use crate::front::KernelFront;
 use crate::gate::Nested;
 use crate::looking::tickets_of;
+use crate::outside::OutsideCell;
+use crate::sizes::Sizes;
+use crate::step::Inner;
+use crate::ticks::Ticks;
+use crate::turn::Acting;
 use claims::Claimed;
 use dispatch::{Gate, Timing};
-use drill_outside::{Acting, Inner, KernelFront, MAX_OWN_TURNS, Outside, Sizes, Ticks};
 use log::Log;
 use ready::Ticket;
 use std::alloc::Global;
@@ -18,14 +23,15 @@ use threads::{Crew, Ending, PollerThread, Worker};
 #[derive(Drop)]
 pub struct Player<T> {
     pub thread: RefCell<T>,
-    pub ended: Cell<bool>,
+    pub has_ended: Cell<bool>,
 }
 
 /// The threads of the server, and what is outside of it.
 #[derive(Drop)]
 pub struct Stage {
+    pub alloc: Global,
     pub sizes: Sizes,
-    pub outside: Rc<RefCell<Outside>>,
+    pub outside: OutsideCell,
     pub clock: Rc<Ticks>,
     pub ending: Ending,
     pub is_stopped: AtomicBool,
@@ -35,11 +41,9 @@ pub struct Stage {
 
 impl Stage {
     /// The threads begin.
-    pub fn begin<R: Wait + Log>(&self, rt: &R, alloc: Global) {
-        let gate = Nested {
-            outside: &self.outside,
-        };
-        let crew = self.crew(rt, alloc, &gate);
+    pub fn begin<R: Wait + Log>(&self, rt: &R) {
+        let gate = self.nested();
+        let crew = self.crew(rt, &gate);
         for player in &self.pollers {
             if let Ok(mut thread) = player.thread.try_borrow_mut() {
                 thread.begin(&crew);
@@ -47,24 +51,28 @@ impl Stage {
         }
     }
 
+    /// The gate of a turn inside of which nothing else happens.
+    pub fn nested(&self) -> Nested<'_> {
+        Nested {
+            outside: &self.outside,
+        }
+    }
+
     /// A step is made, on its own or inside a turn.
-    pub fn make<G: Gate, R: Wait + Log>(&self, rt: &R, alloc: Global, step: Inner, gate: &G) {
+    pub fn make<G: Gate, R: Wait + Log>(&self, rt: &R, step: Inner, gate: &G) {
+        let crew = self.crew(rt, gate);
         match step {
-            Inner::Outside(outer) => {
-                if let Ok(mut outside) = self.outside.try_borrow_mut() {
-                    outside.happen(outer);
-                }
-            }
-            Inner::Round(poller) => self.round(rt, alloc, poller, gate),
-            Inner::Turn(number) => self.turn(rt, alloc, number, gate, None),
+            Inner::Outside(outer) => self.outside.with((), |outside| outside.happen(outer)),
+            Inner::Round(poller) => self.round(&crew, poller),
+            Inner::Turn(number) => self.turn(&crew, number, None),
         }
     }
 
     /// What a thread is handed for a step.
-    fn crew<'a, G, R>(&'a self, rt: &'a R, alloc: Global, gate: &'a G) -> Crew<'a, G, Ticks, R> {
+    fn crew<'a, G, R>(&'a self, rt: &'a R, gate: &'a G) -> Crew<'a, G, Ticks, R> {
         Crew {
             rt,
-            alloc,
+            alloc: self.alloc,
             gate,
             timing: Timing {
                 clock: &self.clock,
@@ -77,79 +85,34 @@ impl Stage {
     }
 
     /// One step of a poller's thread, unless it is in a turn or has ended.
-    fn round<G: Gate, R: Wait + Log>(&self, rt: &R, alloc: Global, poller: usize, gate: &G) {
+    fn round<G: Gate, R: Wait + Log>(&self, crew: &Crew<'_, G, Ticks, R>, poller: usize) {
         let Some(player) = self.pollers.get(poller) else {
             return;
         };
         let Ok(mut thread) = player.thread.try_borrow_mut() else {
             return;
         };
-        if player.ended.get() {
+        if player.has_ended.get() {
             return;
         }
-        let is_due = self.poller_is_due(poller);
-        if let Ok(mut outside) = self.outside.try_borrow_mut() {
-            if is_due {
-                outside.expect_rest(poller);
-            } else {
-                outside.stop_opening(poller);
-            }
-        }
+        let is_due = self
+            .outside
+            .with(false, |outside| outside.begin_step(poller));
         let former = self.enter(Some(poller));
-        let crew = self.crew(rt, alloc, gate);
-        if let Err(ended) = thread.step(&crew) {
-            thread.finish(&crew, ended);
-            player.ended.set(true);
-        }
-        self.leave(former);
-        self.check_poller(poller, is_due, player.ended.get(), thread.poller.is_over());
-    }
-
-    /// Whether a poller's thread has to end with its next step.
-    fn poller_is_due(&self, poller: usize) -> bool {
-        match self.outside.try_borrow() {
-            Ok(outside) => match outside.stations.get(poller) {
-                Some(station) => station.over || outside.faulty,
-                None => false,
-            },
-            Err(_) => false,
-        }
-    }
-
-    /// Whether a poller's thread ended as it has to, and knows whether the poller is over. It ends in a step inside of which a
-    /// fault was recorded, if it may run another turn then.
-    fn check_poller(&self, poller: usize, is_due: bool, ended: bool, over: bool) {
-        let Ok(mut outside) = self.outside.try_borrow_mut() else {
-            return;
-        };
-        let (failed, is_over, may_run) = match outside.stations.get(poller) {
-            Some(station) => (station.failed, station.over, station.turns < MAX_OWN_TURNS),
-            None => return,
-        };
-        let is_cut = outside.faulty && may_run;
-        if ended != (is_due || failed || is_cut) {
-            outside
-                .book
-                .blame("a poller's thread goes on or ends when it has not to");
-        }
-        if over != is_over {
-            outside
-                .book
-                .blame("a poller is over or not when it has not to be");
-        }
-        if failed && !is_due {
-            outside.expect_wakes();
-        }
+        let has_ended = step_poller(crew, &mut thread);
+        player.has_ended.set(has_ended);
+        self.outside.with((), |outside| {
+            outside.leave(former);
+            outside.end_step(poller, is_due, has_ended);
+        });
     }
 
     /// One step of a worker's thread, unless it would wait, is in a turn or has ended. Where it would wait, it takes this ticket,
     /// which nobody made and which is no more than taken.
     fn turn<G: Gate, R: Wait + Log>(
         &self,
-        rt: &R,
-        alloc: Global,
+        crew: &Crew<'_, G, Ticks, R>,
         number: usize,
-        gate: &G,
         made_up: Option<Ticket>,
     ) {
         let Some(player) = self.workers.get(number) else {
@@ -158,116 +121,118 @@ impl Stage {
         let Ok(mut worker) = player.thread.try_borrow_mut() else {
             return;
         };
-        let queued = match tickets_of(rt, alloc, &mut worker.own.ready) {
+        let queued = match tickets_of(crew.rt, crew.alloc, &mut worker.own.ready) {
             Ok(tickets) => tickets.len(),
             Err(_) => return self.blame(""),
         };
         let is_due = self.worker_is_due(queued);
-        if player.ended.get() || (queued > 0 || is_due) == made_up.is_some() {
+        if player.has_ended.get() || (queued > 0 || is_due) == made_up.is_some() {
             return;
         }
-        let former = self.enter(None);
         if let Some(ticket) = made_up {
-            let _ = worker.own.ready.put(rt, ticket);
+            let _ = worker.own.ready.put(crew.rt, ticket);
         }
-        let crew = self.crew(rt, alloc, gate);
-        let stepped = worker.step(&crew);
-        let ended = stepped.is_err();
-        if let Err(fault) = stepped {
-            worker.finish(&crew, fault);
-        }
-        self.leave(former);
-        player.ended.set(ended);
-        if ended != is_due {
+        let former = self.enter(None);
+        let has_ended = step_worker(crew, &mut worker);
+        player.has_ended.set(has_ended);
+        self.outside.with((), |outside| outside.leave(former));
+        if has_ended != is_due {
             self.blame("a worker's thread goes on or ends when it has not to");
         }
     }
 
     /// Whether a worker's thread has to end with its next step, where so many tickets are queued.
     fn worker_is_due(&self, queued: usize) -> bool {
-        let mut polling = false;
-        for player in &self.pollers {
-            polling = polling || !player.ended.get();
-        }
-        let faulty = match self.outside.try_borrow() {
-            Ok(outside) => outside.faulty,
-            Err(_) => false,
-        };
-        faulty || !polling && queued == 0
+        let polling = self.pollers.iter().any(|player| !player.has_ended.get());
+        let is_faulty = self.outside.with(false, |outside| outside.state.is_faulty);
+        is_faulty || !polling && queued == 0
     }
 
     /// The first worker takes this ticket, which nobody made, if no other is queued and the ticket is for no slot, for a free
     /// one, or for another connection than that of a slot without notes.
-    pub fn take_made_up<R: Wait + Log>(&self, rt: &R, alloc: Global, ticket: Ticket) {
-        let Ok(outside) = self.outside.try_borrow() else {
-            return;
-        };
-        let tape = outside.tapes.get(ticket.slot);
-        let generation = tape.map_or(0, |tape| tape.generation());
-        drop(outside);
-        let is_harmless = match self.word_of(ticket.slot) {
+    pub fn take_made_up<R: Wait + Log>(&self, rt: &R, ticket: Ticket) {
+        let generation = self
+            .outside
+            .with(0, |outside| outside.generation(ticket.slot));
+        let is_harmless = match self.word_at(ticket.slot) {
             Some(word) => word % 4 == 3 || word == 0 && generation != ticket.generation,
             None => true,
         };
         if is_harmless {
-            let gate = Nested {
-                outside: &self.outside,
-            };
-            self.turn(rt, alloc, 0, &gate, Some(ticket));
-        }
-    }
-
-    /// The claim word of a slot.
-    fn word_of(&self, slot: usize) -> Option<u64> {
-        let thread = self.pollers.first()?.thread.try_borrow().ok()?;
-        if slot < thread.shared.claims.slots() {
-            Some(thread.shared.claims.peek(slot))
-        } else {
-            None
+            let gate = self.nested();
+            self.turn(&self.crew(rt, &gate), 0, Some(ticket));
         }
     }
 
     /// From now on no more connections are to be opened.
     pub fn stop(&self) {
         self.is_stopped.store(true, SeqCst);
-        if let Ok(mut outside) = self.outside.try_borrow_mut() {
-            outside.stopped = true;
-        }
+        self.outside
+            .with((), |outside| outside.state.is_stopped = true);
     }
 
     /// The connection in this slot is taken away, if there is one and no idle limit, by which a lost slot would get notes.
     pub fn lose<R: Wait>(&self, rt: &R, slot: usize) {
-        let (Some(word), Some(player)) = (self.word_of(slot), self.pollers.first()) else {
+        let (Some(word), Some(player)) = (self.word_at(slot), self.pollers.first()) else {
             return;
         };
         let Ok(mut thread) = player.thread.try_borrow_mut() else {
             return;
         };
         if word % 4 == 0 && self.sizes.limits.idle == 0 {
-            if let Ok(mut outside) = self.outside.try_borrow_mut() {
-                outside.lose(slot, word);
-            }
+            self.outside.with((), |outside| outside.lose(slot, word));
             take_away(rt, &mut thread, slot);
         }
     }
 
+    fn word_at(&self, slot: usize) -> Option<u64> {
+        word_of(&*self.pollers.first()?.thread.try_borrow().ok()?, slot)
+    }
+
     fn blame(&self, text: &str) {
-        if let Ok(mut outside) = self.outside.try_borrow_mut() {
-            outside.book.blame(text);
-        }
+        self.outside.with((), |outside| outside.book.blame(text));
     }
 
-    fn enter(&self, poller: Option<usize>) -> Option<Acting> {
-        match self.outside.try_borrow_mut() {
-            Ok(mut outside) => Some(outside.enter(poller)),
-            Err(_) => None,
+    fn enter(&self, poller: Option<usize>) -> Acting {
+        self.outside
+            .with(Acting::NONE, |outside| outside.enter(poller))
+    }
+}
+
+/// A step of a poller's thread. Answers whether that ended the thread.
+fn step_poller<G: Gate, R: Wait + Log>(
+    crew: &Crew<'_, G, Ticks, R>,
+    thread: &mut PollerThread<KernelFront>,
+) -> bool {
+    match thread.step(crew) {
+        Ok(()) => false,
+        Err(ended) => {
+            thread.finish(crew, ended);
+            true
         }
     }
+}
 
-    fn leave(&self, former: Option<Acting>) {
-        if let (Some(former), Ok(mut outside)) = (former, self.outside.try_borrow_mut()) {
-            outside.leave(former);
+/// The same of a worker's.
+fn step_worker<G: Gate, R: Wait + Log>(
+    crew: &Crew<'_, G, Ticks, R>,
+    worker: &mut Worker<KernelFront>,
+) -> bool {
+    match worker.step(crew) {
+        Ok(()) => false,
+        Err(fault) => {
+            worker.finish(crew, fault);
+            true
         }
+    }
+}
+
+/// The claim word of a slot.
+pub fn word_of(thread: &PollerThread<KernelFront>, slot: usize) -> Option<u64> {
+    if slot < thread.shared.claims.slots() {
+        Some(thread.shared.claims.peek(slot))
+    } else {
+        None
     }
 }
 

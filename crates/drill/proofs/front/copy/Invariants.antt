@@ -1,5 +1,5 @@
 use Rattle.std.proofs.Common.{◌≡◌, take, vec_len, vec_capacity}
-use Rattle.drill_outside.proofs.front.copy.Given as goal
+use Rattle.drill.proofs.front.copy.Given as goal
 
 -- the batch has the numbers so far
 abbrev pub invariant-loop-number : goal.invariant-loop-number

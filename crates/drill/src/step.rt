@@ -1,5 +1,4 @@
-// The steps of a script that are not its program's alone.
-use dispatch::Unopened;
+// What a script may tell, but for the steps that its program makes alone.
 use kernel_model::Accepting;
 use token::Kind;
 use world::Event;
@@ -23,45 +22,33 @@ pub struct Outer {
     pub event: Event,
 }
 
-/// What the next calls get. Each kind of call takes those that are meant for it in order, and without one it gets what
-/// the kernel has for it.
+/// A call of the server, or a place between two of them.
+#[derive(Clone, Copy, PartialEq, Eq)]
+pub enum Call {
+    /// A call of a turn, before its first one, and after its last one.
+    InTurn,
+    BeforeTurn,
+    AfterTurn,
+    /// Calls of this poller's round.
+    Accept(usize),
+    Open(usize),
+    Poll(usize),
+    /// Between a poll of this poller and the delivery of its names.
+    Polled(usize),
+}
+
+/// What a call gets, as far as it may, or what happens before it.
 #[derive(Drop)]
-pub enum Later {
-    /// A call of a turn gets this.
+pub enum Planned {
+    Step(Inner),
     Call(Wanted),
-    /// This happens just before the next call of a turn.
-    Meanwhile(Outer),
-    /// This is done before the first call of a turn.
-    Before(Inner),
-    /// This is done after the last call of a turn.
-    After(Inner),
-    /// This poller's round gets this.
-    Round(usize, Fronted),
-}
-
-/// What the calls of a round get.
-#[derive(Drop)]
-pub enum Fronted {
-    /// accept(2) gets this; `Accepted` and `Blocked` stand for what the kernel has.
+    /// `Accepted` and `Blocked` stand for what the kernel has.
     Accept(Accepting),
-    /// An opening fails so, or cannot tell this address of the connection.
-    Open(Result<Option<Untold>, Unopened>),
-    /// A poll gives its names so.
+    Open(Opening),
     Poll(Polled),
-    /// This happens between a poll and the delivery of its names.
-    Polled(Outer),
 }
 
-/// An address of a connection that cannot be told.
-#[derive(Clone, Copy)]
-pub enum Untold {
-    /// The client's own.
-    Client,
-    /// That on which the connection was accepted.
-    Accepted,
-}
-
-/// What a call of a turn gets, as far as it may.
+/// What a call of a turn gets.
 #[derive(Clone, Copy)]
 pub enum Wanted {
     /// What the kernel has.
@@ -76,8 +63,21 @@ pub enum Wanted {
     Failed(Kind),
 }
 
+/// What becomes of a connection that was accepted.
+#[derive(Clone, Copy)]
+pub enum Opening {
+    /// It is opened.
+    Plain,
+    /// The target cannot be connected to, or an end cannot be registered.
+    Connect,
+    Register,
+    /// The client's own address cannot be told, or that on which it was accepted.
+    NoClient,
+    NoAccepted,
+}
+
 /// How a poll gives the names that are queued.
-#[derive(Clone, Copy, PartialEq, Eq)]
+#[derive(Clone, Copy)]
 pub enum Polled {
     /// Not at all, since a signal came first.
     Interrupted,

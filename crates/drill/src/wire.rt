@@ -6,19 +6,17 @@ ghost use Rattle.engine.specs.Tallies.{counted};
 
 use crate::addresses::peer_of;
 use crate::calls::{Asked, Asking};
-use crate::outside::Outside;
+use crate::outside::OutsideCell;
 use dispatch::Settle;
 use engine::{Tally, Wire};
 use relay_core::Call;
-use std::cell::RefCell;
 use std::io::{self, ErrorKind};
 use std::net::SocketAddr;
-use std::rc::Rc;
 use token::{Side, Token};
 
 /// A wire over an end of the modelled kernel, which is closed with it.
 pub struct EndWire {
-    outside: Rc<RefCell<Outside>>,
+    outside: OutsideCell,
     /// The poller that accepted or opened it.
     poller: usize,
     /// The name under which it is reported, and its descriptor in the poller's kernel. None for a connection that was accepted
@@ -29,8 +27,8 @@ pub struct EndWire {
 
 impl EndWire {
     /// A poller's wire over this end. A client's is joined, a target's is connecting.
-    pub(crate) fn new(
-        outside: Rc<RefCell<Outside>>,
+    pub fn new(
+        outside: OutsideCell,
         poller: usize,
         end: Option<(Token, usize)>,
         joined: bool,
@@ -44,7 +42,7 @@ impl EndWire {
     }
 
     /// An accepted connection is opened as this end.
-    pub(crate) fn open(&mut self, token: Token, descriptor: usize)
+    pub fn open(&mut self, token: Token, descriptor: usize)
         ensures { self.new.tally ≡ self.old.tally }
     {
         self.end = Some((token, descriptor));
@@ -57,24 +55,20 @@ impl EndWire {
     }
 
     /// The address of its client. None if it is not open.
-    pub(crate) fn peer(&self) -> Option<SocketAddr> {
+    pub fn peer(&self) -> Option<SocketAddr> {
         let (token, _) = self.end?;
         Some(peer_of(token.slot(), token.generation()))
     }
 
     /// Makes a call. A read fills the front of the buffer.
     fn ask(&self, call: Asking<'_>, buffer: &mut [u8]) -> Result<usize, ErrorKind> {
-        let (Some(descriptor), Ok(mut outside)) = (self.descriptor(), self.outside.try_borrow_mut())
-        else {
-            return Err(ErrorKind::Other);
-        };
         let asked = Asked {
             poller: self.poller,
-            descriptor,
+            descriptor: self.descriptor().ok_or(ErrorKind::Other)?,
             joined: self.tally.joined(),
             call,
         };
-        outside.call(asked, buffer)
+        self.outside.with(Err(ErrorKind::Other), |outside| outside.call(asked, buffer))
     }
 
     /// Counts an error of a call by its class, and gives it.
@@ -89,9 +83,10 @@ impl EndWire {
 
 impl Drop for EndWire {
     fn drop(self) {
-        let (poller, end) = (self.poller, self.end);
-        if let (Some((token, descriptor)), Ok(mut outside)) = (end, self.outside.try_borrow_mut()) {
-            outside.close(poller, descriptor, token);
+        if let Some((token, descriptor)) = self.end {
+            let poller = self.poller;
+            self.outside
+                .with((), |outside| outside.close(poller, descriptor, token));
         }
         let EndWire {
             outside: _,
@@ -162,8 +157,6 @@ impl Wire for EndWire {
 
 impl Settle for EndWire {
     fn settle(&mut self) {
-        if let Ok(mut outside) = self.outside.try_borrow_mut() {
-            outside.settle_end();
-        }
+        self.outside.with((), |outside| outside.settle_end());
     }
 }

@@ -1,14 +1,38 @@
-// The header of a script: the sizes of the server that it plays.
+// The header of a script: the sizes of the server that it plays, and which slots are whose.
 ghost use Rattle.std.specs.Prelude.{IfSome};
-ghost use Rattle.drill_outside.specs.Sizes.{IsServerSize};
+ghost use Rattle.drill.specs.Sizes.{IsServerSize};
 
 use dispatch::Split;
-use drill_outside::Sizes;
 use script_text::{Header, read_header};
 use world::{Lead, Limits};
 
 /// The most pollers.
 const MAX_POLLERS: usize = 16;
+
+/// The sizes of the server of a script.
+#[derive(Clone, Copy)]
+pub struct Sizes {
+    /// Those of the whole server, without a lead.
+    pub limits: Limits,
+    /// Which slots are which poller's.
+    pub split: Split,
+    /// After how many connections the server ends, 0 for never.
+    pub stop_after: u64,
+    /// Whether targets get a PROXY line.
+    pub proxy: bool,
+}
+
+impl Sizes {
+    /// How many connections this poller may open.
+    pub fn share_of(&self, poller: usize) -> u64 {
+        if self.stop_after == 0 {
+            return u64::MAX;
+        }
+        let pollers = self.split.pollers() as u64;
+        let more = (poller as u64) < self.stop_after % pollers;
+        (self.stop_after / pollers).saturating_add(u64::from(more))
+    }
+}
 
 /// The sizes of a header: that of a world without a lead, and behind it perhaps ` with`, ` pollers=P`, ` stop=N` and ` proxy`.
 /// There are P pollers, or as many as the split makes of them. The server ends after N connections. Targets get a PROXY line

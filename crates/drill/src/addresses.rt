@@ -1,11 +1,25 @@
 // The addresses of a poller's connections, and the line by which their targets get to know them.
-use dispatch::Route;
+use crate::step::Opening;
+use dispatch::{Route, Unopened};
 use std::net::{Ipv4Addr, SocketAddr, SocketAddrV4};
 use world::Lead;
 
-/// What a poller's front tells of a connection. It is the same for all of its connections, since a world has one lead.
-/// Another poller has other addresses, and a line of another length.
-pub fn route_of(poller: usize) -> Route {
+/// What a poller's front tells of a connection of which this becomes. But for that it is the same for all of its connections, since
+/// a world has one lead.
+pub fn route_of(poller: usize, opening: Opening) -> Result<Route, Unopened> {
+    let mut route = addresses_of(poller);
+    match opening {
+        Opening::Plain => {}
+        Opening::Connect => return Err(Unopened::Connect),
+        Opening::Register => return Err(Unopened::Register),
+        Opening::NoClient => route.client = None,
+        Opening::NoAccepted => route.accepted = None,
+    }
+    Ok(route)
+}
+
+/// The addresses of a poller's connections. Another poller has others, and a line of another length.
+fn addresses_of(poller: usize) -> Route {
     let (client, accepted) = if poller == 0 {
         (
             SocketAddrV4::new(Ipv4Addr::new(10, 0, 0, 1), 40_000),

@@ -1,6 +1,6 @@
 // The calls of a turn on the modelled kernel.
 use crate::outside::Outside;
-use crate::step::{Later, Wanted};
+use crate::step::{Call, Inner, Planned, Wanted};
 use engine::error_of;
 use kernel_model::{End, Kernel, MAX_POLLED, Refusal, Reply};
 use std::io::ErrorKind;
@@ -34,13 +34,13 @@ pub enum Asking<'a> {
 
 impl Outside {
     /// Makes a call, after what happens before it. Answers how many bytes it moved. A read fills the front of the buffer.
-    pub(crate) fn call(&mut self, asked: Asked<'_>, buffer: &mut [u8]) -> Result<usize, ErrorKind> {
+    pub fn call(&mut self, asked: Asked<'_>, buffer: &mut [u8]) -> Result<usize, ErrorKind> {
         let wanted = self.next_wanted();
         let Some(station) = self.stations.get_mut(asked.poller) else {
             return Err(ErrorKind::Other);
         };
         let Some(reply) = make(&mut station.kernel, asked, wanted, buffer) else {
-            station.refused = true;
+            station.standing.is_refused = true;
             return Err(ErrorKind::Other);
         };
         self.act(Act::Call(reply));
@@ -50,10 +50,10 @@ impl Outside {
 
     /// What happens before the next call of a turn, and then what that call gets.
     fn next_wanted(&mut self) -> Wanted {
-        for event in 0..MAX_POLLED + 1 {
-            match self.calls.pop_front() {
-                Some(Later::Meanwhile(outer)) if event < MAX_POLLED => self.happen(outer),
-                Some(Later::Call(wanted)) => return wanted,
+        for _event in 0..MAX_POLLED {
+            match self.plan.next(Call::InTurn) {
+                Some(Planned::Step(Inner::Outside(outer))) => self.happen(outer),
+                Some(Planned::Call(wanted)) => return wanted,
                 _ => return Wanted::Plain,
             }
         }

@@ -1,58 +1,84 @@
 // What is outside of the server: for each poller a station, for each slot a tape, the clients that no poller has accepted
 // yet, what the next calls get, and the log.
-ghost use Rattle.drill_outside.specs.Sizes.{IsServerSize};
+ghost use Rattle.drill.specs.Sizes.{IsServerSize};
 
 use crate::book::Book;
+use crate::plan::Plan;
 use crate::sizes::Sizes;
 use crate::station::Station;
-use crate::step::{Inner, Later, Outer};
+use crate::step::Outer;
 use crate::tape::Tape;
 use crate::ticks::Ticks;
-use crate::totals::Totals;
 use crate::turn::Acting;
 use kernel_model::MAX_BACKLOG;
 use log::Level;
 use std::alloc::{AllocError, Global};
-use std::collections::VecDeque;
+use std::cell::RefCell;
 use std::rc::Rc;
-use token::Name;
 use world::{Event, Listening, Reported};
 
 /// What is outside of the server.
 #[derive(Drop)]
 pub struct Outside {
-    pub(crate) alloc: Global,
-    pub(crate) sizes: Sizes,
-    pub(crate) clock: Rc<Ticks>,
+    pub alloc: Global,
+    pub sizes: Sizes,
+    pub clock: Rc<Ticks>,
     /// What is each poller's.
     pub stations: Vec<Station>,
     /// What is each slot's.
     pub tapes: Vec<Tape>,
-    /// What the next turns' calls get, and what happens before a call: `Call` and `Meanwhile`, first in, first out.
-    pub(crate) calls: VecDeque<Later>,
-    /// What is done before a turn's first call, and after its last one.
-    before: VecDeque<Inner>,
-    after: VecDeque<Inner>,
-    /// How many clients wait outside of all kernels.
-    pub(crate) waiting: usize,
-    pub(crate) acting: Acting,
-    /// How many turns have read the clock and may still make calls.
-    pub(crate) calling: usize,
+    pub plan: Plan,
+    pub acting: Acting,
     pub book: Book,
+    pub state: State,
+}
+
+/// How things stand.
+#[derive(Clone, Copy)]
+pub struct State {
+    /// How many clients wait outside of all kernels.
+    pub waiting: usize,
+    /// How many turns have read the clock and may still make calls.
+    pub calling: usize,
     /// Whether a thread has met a fault.
-    pub faulty: bool,
+    pub is_faulty: bool,
     /// Whether no more connections are to be opened.
-    pub stopped: bool,
-    pub totals: Totals,
+    pub is_stopped: bool,
+}
+
+/// What is outside, for all who change it, one after the other.
+#[derive(Drop)]
+pub struct OutsideCell {
+    cell: Rc<RefCell<Outside>>,
+}
+
+impl OutsideCell {
+    pub fn new(alloc: Global, outside: Outside) -> Result<OutsideCell, AllocError> {
+        Ok(OutsideCell {
+            cell: Rc::new(alloc, RefCell::new(outside))?,
+        })
+    }
+
+    /// The same, for another.
+    pub fn share(&self) -> Result<OutsideCell, AllocError> {
+        Ok(OutsideCell {
+            cell: self.cell.clone()?,
+        })
+    }
+
+    /// Changes it so. Inside of such a change the answer is this other one.
+    pub fn with<T: Drop, F: FnOnce(&mut Outside) -> T + Drop>(&self, otherwise: T, change: F) -> T
+        requires { F.IsAlwaysCallable change }
+    {
+        match self.cell.try_borrow_mut() {
+            Ok(mut outside) => change(&mut outside),
+            Err(_) => otherwise,
+        }
+    }
 }
 
 impl Outside {
-    pub fn new(
-        alloc: Global,
-        sizes: Sizes,
-        clock: Rc<Ticks>,
-        totals: Totals,
-    ) -> Result<Outside, AllocError>
+    pub fn new(alloc: Global, sizes: Sizes, clock: Rc<Ticks>) -> Result<Outside, AllocError>
         requires { IsServerSize sizes }
     {
         Ok(Outside {
@@ -61,59 +87,58 @@ impl Outside {
             clock,
             stations: stations_of(alloc, sizes)?,
             tapes: tapes_of(alloc, sizes)?,
-            calls: VecDeque::new(alloc),
-            before: VecDeque::new(alloc),
-            after: VecDeque::new(alloc),
-            waiting: 0,
+            plan: Plan::new(alloc),
             acting: Acting::NONE,
-            calling: 0,
             book: Book::new(alloc),
-            faulty: false,
-            stopped: false,
-            totals,
+            state: State {
+                waiting: 0,
+                calling: 0,
+                is_faulty: false,
+                is_stopped: false,
+            },
         })
     }
 
-    /// Adds what a later call gets.
-    pub fn add(&mut self, later: Later) -> Result<(), AllocError> {
-        match later {
-            Later::Before(inner) => self.before.push_back(inner)?,
-            Later::After(inner) => self.after.push_back(inner)?,
-            Later::Round(poller, fronted) => {
-                if let Some(station) = self.stations.get_mut(poller) {
-                    station.add(fronted)?;
-                }
-            }
-            called => self.calls.push_back(called)?,
-        }
-        Ok(())
-    }
-
-    /// What is done next before a turn's first call, or after its last one.
-    pub fn next_inner(&mut self, before: bool) -> Option<Inner> {
-        if before {
-            self.before.pop_front()
-        } else {
-            self.after.pop_front()
-        }
-    }
-
     /// An event has happened in the world of this slot.
-    pub(crate) fn record(&mut self, slot: usize, event: &Event) {
+    pub fn record(&mut self, slot: usize, event: Event) {
         if let Some(tape) = self.tapes.get_mut(slot) {
             tape.put(event);
         }
     }
 
+    /// An event has happened in the world of this poller's listener.
+    pub fn record_at_poller(&mut self, poller: usize, event: Event) {
+        if let Some(station) = self.stations.get_mut(poller) {
+            station.tape.put(event);
+        }
+    }
+
+    /// The station of the poller that has this slot.
+    pub fn station_of(&mut self, slot: usize) -> Option<&mut Station> {
+        self.stations.get_mut(self.sizes.split.poller_of(slot))
+    }
+
+    /// Whether the connection in this slot was taken away.
+    pub fn is_lost(&self, slot: usize) -> bool {
+        matches!(self.tapes.get(slot), Some(tape) if tape.lost.is_some())
+    }
+
+    /// How many connections this slot has had.
+    pub fn generation(&self, slot: usize) -> u64 {
+        self.tapes.get(slot).map_or(0, |tape| tape.generation())
+    }
+
     /// The log gets this line. Whose connection it was that did not end well, and why, is compared by `tests/relay` alone: here no
-    /// error has a number.
+    /// error has a number. What a poller tells of itself is shown by rows.
     pub fn log(&mut self, level: Level, text: &str) {
         if text.starts_with("gone ") {
             return;
         }
+        if !text.contains(" s=") {
+            return self.book.add(text);
+        }
         if self.book.is_complete() {
             self.expect_ended();
-            self.expect_told();
         }
         self.book.write(level, text);
     }
@@ -125,20 +150,14 @@ impl Outside {
         match &event {
             Event::Tick(seconds) => self.tick(*seconds),
             Event::Listen(Listening::Connect) => self.connect(),
-            Event::Vanish(Reported::Listener) if self.waiting > 0 => {}
+            Event::Vanish(Reported::Listener) if self.state.waiting > 0 => {}
             Event::Network(slot, _, _)
             | Event::Spurious(Reported::End(slot, _))
             | Event::Vanish(Reported::End(slot, _)) => {
                 let slot = *slot;
                 self.change(slot, event);
             }
-            _ => {
-                if let Some(station) = self.stations.get_mut(poller) {
-                    if station.listens || !matches!(&event, Event::Spurious(Reported::Listener)) {
-                        station.happen(&event);
-                    }
-                }
-            }
+            _ => self.report(poller, event),
         }
     }
 
@@ -150,76 +169,59 @@ impl Outside {
         }
     }
 
+    /// Something happens to a report of a poller itself.
+    fn report(&mut self, poller: usize, event: Event) {
+        if let Some(station) = self.stations.get_mut(poller) {
+            if station.standing.listens || !matches!(&event, Event::Spurious(Reported::Listener)) {
+                station.happen(event);
+            }
+        }
+    }
+
     /// The clock goes on, and so does the second of each world, if there is an idle limit. Nothing happens while a turn
     /// that has read the clock may still make calls: the server makes them at the second that it read.
     fn tick(&mut self, seconds: u64) {
-        if self.calling > 0 || !self.clock.go_on(seconds) || self.sizes.limits.idle == 0 {
+        if self.state.calling > 0 || !self.clock.go_on(seconds) || self.sizes.limits.idle == 0 {
             return;
         }
-        let event = Event::Tick(seconds);
         for station in self.stations.iter_mut() {
-            station.tape.put(&event);
+            station.tape.put(Event::Tick(seconds));
         }
         for tape in self.tapes.iter_mut() {
-            tape.put(&event);
+            tape.put(Event::Tick(seconds));
         }
     }
 
     /// Whether a poller listens.
-    pub(crate) fn is_listening(&self) -> bool {
-        for station in self.stations.iter() {
-            if station.listens {
-                return true;
-            }
-        }
-        false
+    pub fn is_listening(&self) -> bool {
+        self.stations.iter().any(|station| station.standing.listens)
     }
 
     /// A client connects. It waits outside of the kernels, and is reported to each poller that listens and was told at its last
     /// try that nobody waits. The others are going to try again in any case. It is refused where none listens.
     fn connect(&mut self) {
-        if self.waiting >= MAX_BACKLOG || !self.is_listening() {
+        if self.state.waiting >= MAX_BACKLOG || !self.is_listening() {
             return;
         }
-        self.waiting += 1;
+        self.state.waiting += 1;
         for station in self.stations.iter_mut() {
-            if station.listens && station.kernel.is_armed() {
-                station.happen(&Event::Spurious(Reported::Listener));
+            if station.standing.listens && station.kernel.is_armed() {
+                station.happen(Event::Spurious(Reported::Listener));
             }
-        }
-    }
-
-    /// Whether no client waits that this poller could accept, or else its next poll tells of the listener.
-    pub fn hears(&self, poller: usize) -> bool {
-        match self.stations.get(poller) {
-            Some(station) => {
-                self.waiting == 0 || !station.listens || station.kernel.is_queued(&Name::Listener)
-            }
-            None => false,
         }
     }
 
     /// The poller that has this slot is woken.
-    pub(crate) fn wake(&mut self, slot: usize) {
-        if let Some(station) = self.stations.get_mut(self.sizes.split.poller_of(slot)) {
+    pub fn wake(&mut self, slot: usize) {
+        if let Some(station) = self.station_of(slot) {
             station.wake();
         }
-    }
-
-    /// A step of this poller's thread begins, which has not come to its end. Where no more connections are to be opened, it
-    /// comes to know that with it, and wakes all pollers.
-    pub fn stop_opening(&mut self, poller: usize) {
-        match self.stations.get_mut(poller) {
-            Some(station) if self.stopped && !station.has_opened_all() => station.stop_opening(),
-            _ => return,
-        }
-        self.expect_wakes();
     }
 
     /// All pollers have been woken.
     pub fn expect_wakes(&mut self) {
         for station in self.stations.iter_mut() {
-            station.tape.put(&Event::Spurious(Reported::Waker));
+            station.tape.put(Event::Spurious(Reported::Waker));
         }
     }
 
@@ -229,18 +231,6 @@ impl Outside {
         if let Some(tape) = self.tapes.get_mut(slot) {
             tape.lost = Some(word);
         }
-    }
-
-    /// What was played in all.
-    pub fn played(&self) -> Totals {
-        let mut totals = self.totals;
-        for station in self.stations.iter() {
-            totals.add(&station.tape.totals);
-        }
-        for tape in self.tapes.iter() {
-            totals.add(&tape.totals);
-        }
-        totals
     }
 }
 

@@ -1,6 +1,6 @@
 -- The sizes of a server that can be compared with worlds.
 use Rattle.std.specs.Prelude.{◌<◌, ◌≤◌, ◌≡◌}
-use Rattle.drill_outside.specs.declared.sizes.Sizes.{Sizes}
+use Rattle.drill.specs.declared.sizes.Sizes.{Sizes}
 
 -- as a world's
 pub record IsServerSize (s : Sizes) : Type 0 where

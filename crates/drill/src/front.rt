@@ -1,22 +1,20 @@
 // The front over the modelled kernel.
 ghost use Rattle.std.specs.Prelude.{◌≡◌, ◌≤◌, [], OnErr, length, vec_len, vec_capacity};
 
-use crate::outside::Outside;
+use crate::outside::OutsideCell;
 use crate::wire::EndWire;
 use dispatch::{Front, MAX_BATCH, Opened, Unopened};
 use kernel_model::Accepting;
 use log::Log;
 use std::alloc::{AllocError, Global};
-use std::cell::RefCell;
 use std::io::{self, ErrorKind};
 use std::net::SocketAddr;
-use std::rc::Rc;
 use token::{Name, Token};
 
 /// A poller's front, whose connections and reports are those of its modelled kernel.
 #[derive(Drop)]
 pub struct KernelFront {
-    outside: Rc<RefCell<Outside>>,
+    outside: OutsideCell,
     poller: usize,
     /// The numbers that the last poll gave.
     reported: Vec<u64>,
@@ -29,7 +27,7 @@ impl KernelFront {
     /// A front that has reported nothing.
     pub fn new(
         alloc: Global,
-        outside: Rc<RefCell<Outside>>,
+        outside: OutsideCell,
         poller: usize,
     ) -> Result<KernelFront, AllocError> {
         Ok(KernelFront {
@@ -56,22 +54,15 @@ fn fill(numbers: &mut Vec<u64>, names: &[Name])
 }
 
 /// The numbers of the reports that a poller's kernel gives now, in an empty list.
-fn take_reports(
-    outside: &Rc<RefCell<Outside>>,
-    poller: usize,
-    wait: bool,
-    numbers: &mut Vec<u64>,
-) -> io::Result<()>
+fn take_reports(outside: &OutsideCell, poller: usize, numbers: &mut Vec<u64>) -> io::Result<()>
     requires empty { vec_len numbers.old ≡ 0 }
     requires room { MAX_BATCH ≤ vec_capacity numbers.old }
     ensures most { vec_len numbers.new ≤ MAX_BATCH }
     ensures capacity { vec_capacity numbers.new ≡ vec_capacity numbers.old }
     ensures failed { OnErr result (numbers.new.items ≡ []) }
 {
-    let Ok(mut outside) = outside.try_borrow_mut() else {
-        return Err(io::Error::from(ErrorKind::Other));
-    };
-    match outside.poll(poller, wait) {
+    let in_use = Err(io::Error::from(ErrorKind::Other));
+    match outside.with(in_use, |outside| outside.poll(poller)) {
         Ok(names) => {
             fill(numbers, names.as_slice());
             Ok(())
@@ -102,35 +93,33 @@ impl Front for KernelFront {
 
     type Target = EndWire;
 
-    type Waker = Rc<RefCell<Outside>>;
+    type Waker = OutsideCell;
 
     /// Nothing comes while it would wait, so it never does.
-    fn poll(&mut self, batch: &mut Vec<u64>, wait: bool) -> io::Result<()> {
+    fn poll(&mut self, batch: &mut Vec<u64>, _wait: bool) -> io::Result<()> {
         batch.clear();
         self.reported.clear();
-        let answer = take_reports(&self.outside, self.poller, wait, &mut self.reported);
+        let answer = take_reports(&self.outside, self.poller, &mut self.reported);
         copy(batch, self.reported.as_slice());
         answer
     }
 
     fn accept(&mut self) -> io::Result<EndWire> {
-        let shared = self.outside.clone()?;
-        let Ok(mut outside) = self.outside.try_borrow_mut() else {
-            return Err(io::Error::from(ErrorKind::Other));
+        let (shared, poller) = (self.outside.share()?, self.poller);
+        let kind = match shared.with(Accepting::Starved, |outside| outside.accept(poller)) {
+            Accepting::Accepted => return Ok(EndWire::new(shared, poller, None, true)),
+            Accepting::Blocked => ErrorKind::WouldBlock,
+            Accepting::Again => ErrorKind::ConnectionAborted,
+            Accepting::Starved => ErrorKind::Other,
         };
-        match outside.accept(self.poller) {
-            Accepting::Accepted => Ok(EndWire::new(shared, self.poller, None, true)),
-            Accepting::Blocked => Err(io::Error::from(ErrorKind::WouldBlock)),
-            Accepting::Again => Err(io::Error::from(ErrorKind::ConnectionAborted)),
-            Accepting::Starved => Err(io::Error::from(ErrorKind::Other)),
-        }
+        Err(io::Error::from(kind))
     }
 
     fn stop_listening(&mut self) {
         self.listening = false;
-        if let Ok(mut outside) = self.outside.try_borrow_mut() {
-            outside.stop_listening(self.poller);
-        }
+        let poller = self.poller;
+        self.outside
+            .with((), |outside| outside.stop_listening(poller));
     }
 
     fn open<N: Log>(
@@ -140,27 +129,23 @@ impl Front for KernelFront {
         client_token: Token,
         target_token: Token,
     ) -> Result<Opened<EndWire>, Unopened> {
-        let Ok(shared) = self.outside.clone() else {
-            return Err(Unopened::Connect);
-        };
-        let Ok(mut outside) = self.outside.try_borrow_mut() else {
-            return Err(Unopened::Connect);
-        };
-        let (ends, route) = outside.open(self.poller, client_token, target_token)?;
+        let shared = self.outside.share().or(Err(Unopened::Connect))?;
+        let poller = self.poller;
+        let (ends, route) = shared.with(Err(Unopened::Connect), |outside| {
+            outside.open(poller, client_token, target_token)
+        })?;
         if let Some(ends) = ends {
             client.open(client_token, ends.client);
         }
         let end = ends.map(|ends| (target_token, ends.target));
         Ok(Opened {
-            target: EndWire::new(shared, self.poller, end, false),
+            target: EndWire::new(shared, poller, end, false),
             route,
         })
     }
 
-    fn wake(waker: &Rc<RefCell<Outside>>, slot: usize) {
-        if let Ok(mut outside) = waker.try_borrow_mut() {
-            outside.wake(slot);
-        }
+    fn wake(waker: &OutsideCell, slot: usize) {
+        waker.with((), |outside| outside.wake(slot));
     }
 
     fn peer(client: &EndWire) -> Option<SocketAddr> {

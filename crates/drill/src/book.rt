@@ -17,7 +17,7 @@ pub struct Book {
 }
 
 impl Book {
-    pub(crate) fn new(alloc: Global) -> Book {
+    pub fn new(alloc: Global) -> Book {
         Book {
             alloc,
             due: VecDeque::new(alloc),
@@ -46,27 +46,24 @@ impl Book {
     }
 
     /// The log has to tell of a connection that has ended.
-    pub(crate) fn expect_end(
+    pub fn expect_end(
         &mut self,
         slot: usize,
         generation: u64,
         verdict: Verdict,
         counts: (u64, u64),
     ) {
-        let alloc = self.alloc;
-        let (up, down) = counts;
+        let ((up, down), alloc) = (counts, self.alloc);
         match verdict {
             Verdict::Live => {}
             Verdict::Done => self.expect(
                 Level::Info,
                 format!(in alloc; "done s={slot} g={generation} up={up} down={down}"),
             ),
-            Verdict::Failed(Fault::Idle) => {
-                self.expect(
-                    Level::Warn,
-                    format!(in alloc; "fail s={slot} g={generation} idle"),
-                )
-            }
+            Verdict::Failed(Fault::Idle) => self.expect(
+                Level::Warn,
+                format!(in alloc; "fail s={slot} g={generation} idle"),
+            ),
             Verdict::Failed(Fault::Broken { side, call, kind }) => {
                 let (side, call, kind) = (side.name(), call.name(), kind.name());
                 self.expect(
@@ -80,19 +77,27 @@ impl Book {
     }
 
     /// Whether nothing is expected that the log has not got.
-    pub(crate) fn is_complete(&self) -> bool {
+    pub fn is_complete(&self) -> bool {
         self.due.is_empty()
     }
 
-    /// The log gets this line.
-    pub(crate) fn write(&mut self, level: Level, text: &str) {
+    /// The log gets this line, of which nothing is expected.
+    pub fn add(&mut self, text: &str) {
         let added = self.text.push_str(text).and(self.text.push_str("\n"));
+        if added.is_err() {
+            self.blame("");
+        }
+    }
+
+    /// The log gets this line.
+    pub fn write(&mut self, level: Level, text: &str) {
+        self.add(text);
         let due = self.due.pop_front();
         let is_due = match &due {
             Some((wanted, line)) => *wanted == level && line.as_str() == text,
             None => false,
         };
-        if !is_due || added.is_err() {
+        if !is_due {
             let due = due.as_ref().map_or("no line", |line| line.1.as_str());
             self.blame_for(format!(in self.alloc; "the log gets `{text}` in place of `{due}`"));
         }
