@@ -35,14 +35,6 @@ pub record TookNothing (old new : Own) : Type 0 where
   pub tickets : new.ready.history.taken ≡ old.ready.history.taken
   pub slots : new.free.history.taken ≡ old.free.history.taken
 
--- what a thread owns once the tickets in hand were put, each or until one was refused
-pub record TicketsPut (old new : Own) : Type 0 where
-  pub tickets : tickets_out new ≡ tickets_out old
-  pub took : new.ready.history.taken ≡ old.ready.history.taken
-  pub seat : new.seat ≡ old.seat
-  pub free : new.free ≡ old.free
-  pub slots : new.hand.slots ≡ old.hand.slots
-
 -- the thread without the oldest ticket in its hand
 abbrev pub without_first : Own → Own
 without_first own = record own { hand = record own.hand { tickets = drop 1 own.hand.tickets } }
