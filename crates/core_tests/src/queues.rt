@@ -17,7 +17,7 @@ fn gives_the_second_back(rt: &impl Wait, end: Option<&mut ReadyQueue>) -> bool {
     match end {
         Some(end) => {
             end.put(rt, ticket(3, 1)).is_ok()
-                && end.put(rt, ticket(4, 2)) == Err(Full(ticket(4, 2)))
+                && matches!(end.put(rt, ticket(4, 2)), Err(Full(back)) if back == ticket(4, 2))
         }
         None => false,
     }
