@@ -19,7 +19,7 @@ mod proxy;
 #[cfg(test)]
 mod queues;
 #[cfg(test)]
-mod records;
+mod record_lines;
 #[cfg(test)]
 mod replays;
 #[cfg(test)]
