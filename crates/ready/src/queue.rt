@@ -106,16 +106,6 @@ impl ReadyQueue {
         self.end.all_busy()
     }
 
-    #[cfg(test)]
-    pub(crate) fn idle(&self) -> &IdleEnds {
-        self.end.idle()
-    }
-
-    #[cfg(test)]
-    pub(crate) fn sleeper(&self) -> &Sleeper {
-        self.end.sleeper()
-    }
-
     /// Lets `take` answer none at every end once the queue is empty, and wakes all ends that sleep.
     pub fn close(&mut self)
         ensures { self.new ≡ self.old }
