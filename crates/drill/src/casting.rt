@@ -15,7 +15,7 @@ use std::cell::{Cell, RefCell};
 use std::rc::Rc;
 use std::sync::atomic::AtomicBool;
 use std::sync::{Arc, Wait};
-use threads::{Cast, Ending, Rest, Server, divide};
+use threads::{Cast, Ending, PollerThread, Rest, Server, Worker, divide};
 
 /// A server of these sizes.
 pub fn stage_of<R: Wait>(rt: &R, alloc: Global, sizes: Sizes) -> Result<Stage, ServerFault>
@@ -24,21 +24,34 @@ pub fn stage_of<R: Wait>(rt: &R, alloc: Global, sizes: Sizes) -> Result<Stage, S
     let clock = Rc::new(alloc, Ticks::new())?;
     let outside = OutsideCell::new(alloc, Outside::new(alloc, sizes, clock.clone()?)?)?;
     let settings = settings_of(alloc, sizes)?;
-    let Cast {
-        pollers,
-        mut workers,
-    } = cast_of(rt, alloc, &outside, &settings, sizes)?;
-    workers.reverse();
+    let cast = cast_of(rt, alloc, &outside, &settings, sizes)?;
+    let ending = Ending::new(cast.pollers.len());
+    let (pollers, workers) = players_of(alloc, cast)?;
     Ok(Stage {
         alloc,
         sizes,
         outside,
         clock,
-        ending: Ending::new(pollers.len()),
+        ending,
         is_stopped: AtomicBool::new(false),
-        pollers: players(alloc, pollers)?,
-        workers: players(alloc, workers)?,
+        pollers,
+        workers,
     })
+}
+
+/// The threads of a server, which have not begun.
+type Players = (
+    Vec<Player<PollerThread<KernelFront>>>,
+    Vec<Player<Worker<KernelFront>>>,
+);
+
+fn players_of(alloc: Global, cast: Cast<KernelFront>) -> Result<Players, AllocError> {
+    let Cast {
+        pollers,
+        mut workers,
+    } = cast;
+    workers.reverse();
+    Ok((players(alloc, pollers)?, players(alloc, workers)?))
 }
 
 /// These threads, the last one first.

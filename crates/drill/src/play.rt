@@ -101,24 +101,33 @@ fn show_tape<R: Print>(rt: &R, tape: &Tape) -> io::Result<()> {
 
 /// Compares the server and the machines. The first difference is printed, and the script and report of the world that differs.
 fn agree<R: Wait + Print>(rt: &R, stage: &Stage, outside: &mut Outside) -> io::Result<Played> {
-    match compare(rt, stage, outside) {
-        Ok(()) => return Ok(Played::Agreed),
-        Err(Differs::Server) => {
-            let text = outside.book.wrong.as_ref().map_or("", |text| text.as_str());
-            println!(rt; "differs: {text}")?;
-        }
-        Err(Differs::Poller(poller, (what, server, machine))) => {
-            println!(rt; "differs: poller {poller}: {what}: server {server}, machine {machine}")?;
-            if let Some(station) = outside.stations.get(poller) {
-                show_tape(rt, &station.tape)?;
-            }
-        }
-        Err(Differs::Slot(slot, (what, server, machine))) => {
-            println!(rt; "differs: slot {slot}: {what}: server {server}, machine {machine}")?;
-            if let Some(tape) = outside.tapes.get(slot) {
-                show_tape(rt, tape)?;
-            }
-        }
+    let Err(differs) = compare(rt, stage, outside) else {
+        return Ok(Played::Agreed);
+    };
+    tell(rt, outside, differs)?;
+    if let Some(tape) = tape_of(outside, differs) {
+        show_tape(rt, tape)?;
     }
     Ok(Played::Differs)
+}
+
+fn tell<R: Print>(rt: &R, outside: &Outside, differs: Differs) -> io::Result<()> {
+    let (place, number, (what, server, machine)) = match differs {
+        Differs::Server => {
+            let text = outside.book.wrong.as_ref().map_or("", |text| text.as_str());
+            return println!(rt; "differs: {text}");
+        }
+        Differs::Poller(poller, difference) => ("poller", poller, difference),
+        Differs::Slot(slot, difference) => ("slot", slot, difference),
+    };
+    println!(rt; "differs: {place} {number}: {what}: server {server}, machine {machine}")
+}
+
+/// The world that differs, if it is not the server's log or a thread that does.
+fn tape_of(outside: &Outside, differs: Differs) -> Option<&Tape> {
+    match differs {
+        Differs::Server => None,
+        Differs::Poller(poller, _) => Some(&outside.stations.get(poller)?.tape),
+        Differs::Slot(slot, _) => outside.tapes.get(slot),
+    }
 }

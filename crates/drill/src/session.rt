@@ -9,25 +9,59 @@ use log::{Level, Logged};
 use std::io::{self, ErrorKind};
 use std::sync::Wait;
 
+/// What was played, and the server of the script in progress.
+#[derive(Drop)]
+struct Session {
+    totals: Totals,
+    stage: Option<Stage>,
+}
+
 /// Plays all scripts, and prints what was played. Answers whether the server and the world agreed throughout.
 pub fn play_all<R: Wait + AllocGlobal + Print>(rt: &R, text: &str) -> io::Result<bool> {
-    let mut totals = Totals::NONE;
-    let mut stage = None;
-    for (index, line) in text.lines().enumerate() {
-        if line.starts_with("world ") {
-            totals.add(&stage);
-            stage = begin(rt, line)?;
+    let mut session = Session {
+        totals: Totals::NONE,
+        stage: None,
+    };
+    session.play(rt, text)
+}
+
+impl Session {
+    fn play<R: Wait + AllocGlobal + Print>(&mut self, rt: &R, text: &str) -> io::Result<bool> {
+        for (index, line) in text.lines().enumerate() {
+            if line.starts_with("world ") {
+                self.begin(rt, line)?;
+            }
+            if let Some(fault) = self.play_on(rt, line.trim_end())? {
+                return stop(rt, index, fault, line);
+            }
         }
-        match play_on(rt, &stage, line.trim_end())? {
-            Played::Nothing => {}
-            Played::Agreed => totals.steps = totals.steps.saturating_add(1),
-            Played::Differs => return stop(rt, index, "they differ after", line),
-            Played::Malformed => return stop(rt, index, "malformed", line),
-        }
+        self.totals.add(&self.stage);
+        self.totals.print(rt)?;
+        Ok(true)
     }
-    totals.add(&stage);
-    totals.print(rt)?;
-    Ok(true)
+
+    /// A script begins.
+    fn begin<R: Wait + AllocGlobal>(&mut self, rt: &R, header: &str) -> io::Result<()> {
+        self.totals.add(&self.stage);
+        self.stage = begin(rt, header)?;
+        Ok(())
+    }
+
+    /// Plays a line. Answers why no more is played behind it, if that is so.
+    fn play_on<R: Wait + AllocGlobal + Print>(
+        &mut self,
+        rt: &R,
+        line: &str,
+    ) -> io::Result<Option<&'static str>> {
+        match play_on(rt, &self.stage, line)? {
+            Played::Nothing => return Ok(None),
+            Played::Agreed => {}
+            Played::Differs => return Ok(Some("they differ after")),
+            Played::Malformed => return Ok(Some("malformed")),
+        }
+        self.totals.steps = self.totals.steps.saturating_add(1);
+        Ok(None)
+    }
 }
 
 /// No more is played behind this line.
