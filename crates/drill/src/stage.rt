@@ -89,22 +89,29 @@ impl Stage {
         let Some(player) = self.pollers.get(poller) else {
             return;
         };
-        let Ok(mut thread) = player.thread.try_borrow_mut() else {
-            return;
-        };
-        if player.has_ended.get() {
-            return;
+        if let (false, Ok(mut thread)) = (player.has_ended.get(), player.thread.try_borrow_mut()) {
+            let has_ended = self.round_of(crew, poller, &mut thread);
+            player.has_ended.set(has_ended);
         }
+    }
+
+    /// The step of a poller's thread. Answers whether the thread ends with it.
+    fn round_of<G: Gate, R: Wait + Log>(
+        &self,
+        crew: &Crew<'_, G, Ticks, R>,
+        poller: usize,
+        thread: &mut PollerThread<KernelFront>,
+    ) -> bool {
         let is_due = self
             .outside
             .with(false, |outside| outside.begin_step(poller));
         let former = self.enter(Some(poller));
-        let has_ended = step_poller(crew, &mut thread);
-        player.has_ended.set(has_ended);
+        let has_ended = step_poller(crew, thread);
         self.outside.with((), |outside| {
             outside.leave(former);
             outside.end_step(poller, is_due, has_ended);
         });
+        has_ended
     }
 
     /// One step of a worker's thread, unless it would wait, is in a turn or has ended. Where it would wait, it takes this ticket,
@@ -118,27 +125,46 @@ impl Stage {
         let Some(player) = self.workers.get(number) else {
             return;
         };
-        let Ok(mut worker) = player.thread.try_borrow_mut() else {
-            return;
+        if let (false, Ok(mut worker)) = (player.has_ended.get(), player.thread.try_borrow_mut()) {
+            let has_ended = self.turn_of(crew, &mut worker, made_up);
+            player.has_ended.set(has_ended);
+        }
+    }
+
+    /// The step of a worker's thread, unless it would wait. Answers whether the thread ends with it.
+    fn turn_of<G: Gate, R: Wait + Log>(
+        &self,
+        crew: &Crew<'_, G, Ticks, R>,
+        worker: &mut Worker<KernelFront>,
+        made_up: Option<Ticket>,
+    ) -> bool {
+        let Ok(tickets) = tickets_of(crew.rt, crew.alloc, &mut worker.own.ready) else {
+            self.blame("");
+            return false;
         };
-        let queued = match tickets_of(crew.rt, crew.alloc, &mut worker.own.ready) {
-            Ok(tickets) => tickets.len(),
-            Err(_) => return self.blame(""),
-        };
-        let is_due = self.worker_is_due(queued);
-        if player.has_ended.get() || (queued > 0 || is_due) == made_up.is_some() {
-            return;
+        let is_due = self.worker_is_due(tickets.len());
+        if (!tickets.is_empty() || is_due) == made_up.is_some() {
+            return false;
         }
         if let Some(ticket) = made_up {
             let _ = worker.own.ready.put(crew.rt, ticket);
         }
-        let former = self.enter(None);
-        let has_ended = step_worker(crew, &mut worker);
-        player.has_ended.set(has_ended);
-        self.outside.with((), |outside| outside.leave(former));
+        let has_ended = self.make_turn(crew, worker);
         if has_ended != is_due {
             self.blame("a worker's thread goes on or ends when it has not to");
         }
+        has_ended
+    }
+
+    fn make_turn<G: Gate, R: Wait + Log>(
+        &self,
+        crew: &Crew<'_, G, Ticks, R>,
+        worker: &mut Worker<KernelFront>,
+    ) -> bool {
+        let former = self.enter(None);
+        let has_ended = step_worker(crew, worker);
+        self.outside.with((), |outside| outside.leave(former));
+        has_ended
     }
 
     /// Whether a worker's thread has to end with its next step, where so many tickets are queued.
