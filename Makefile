@@ -66,7 +66,7 @@ install: $(PROGRAM)
 	install -D -m 755 $(PROGRAM) $(DESTDIR)$(PREFIX)/bin/relayd
 	install -D -m 644 -t $(DESTDIR)$(PREFIX)/share/man/man1 man/relayd.1
 	install -D -m 644 -t $(DESTDIR)$(PREFIX)/share/man/man5 man/relayd.toml.5
-	install -D -m 644 -t $(DESTDIR)$(PREFIX)/share/doc/relayd docs/FORMATS.md docs/GLOSSARY.md docs/OPERATIONS.md
+	install -D -m 644 -t $(DESTDIR)$(PREFIX)/share/doc/relayd docs/FORMATS.md docs/GLOSSARY.md docs/MODEL.md docs/OPERATIONS.md
 	install -D -m 644 -t $(DESTDIR)$(PREFIX)/share/doc/relayd README.md LICENSE-APACHE LICENSE-MIT
 	install -D -m 644 -t $(DESTDIR)$(PREFIX)/share/doc/relayd/examples examples/* packaging/*.yaml packaging/replace.conf
 	chmod 755 $(DESTDIR)$(PREFIX)/share/doc/relayd/examples/replace.sh
