@@ -338,7 +338,7 @@ pub room_left : (try : ℕ) (a b c : Own) → OnlyTook a b → ticket_room b.han
 room_left try a b c took one room = let same = room_same a b took in omega arith
 
 -- what trying accept(2) may change of what the poller keeps
-abbrev tried : PollerState → PollerState → PollerState
+abbrev pub tried : PollerState → PollerState → PollerState
 tried p q = record p { table = q.table; accepting = q.accepting; starved = q.starved; tries = q.tries; opened = q.opened; dropped = q.dropped; lost = q.lost; episodes = q.episodes }
 
 pub accept_again : (p q r : PollerState) → q ≡ tried p q → r ≡ tried q r → r ≡ tried p r

@@ -1,6 +1,6 @@
 -- A round, of its parts: the reports were delivered, a sweep was made or none, and connections
 -- were opened.
-use Rattle.std.proofs.Common.{◌≡◌, ◌⊎◌, ℕ, ◌+◌, ◌*◌, ◌<◌, ◌≤◌, inl, inr, List, [], ◌++◌, length, refl, sym, subst, ap, ◌∙◌, arith, append_assoc}
+use Rattle.std.proofs.Common.{◌≡◌, ◌⊎◌, ℕ, ◌+◌, ◌*◌, ◌<◌, ◌≤◌, ◌≢◌, ◌↔◌, inl, inr, Bool, true, false, IsTrue, List, [], ◌++◌, length, Result, Ok, Err, IfErr, IsErr, IsErrAnd, OnOk, refl, sym, subst, ap, ◌∙◌, arith, append_assoc}
 use Rattle.std.specs.Prelude.{map}
 use Rattle.claims.specs.declared.view.Account.{Account}
 use Rattle.claims.specs.Seats.{SeatState, account_at}
@@ -13,11 +13,13 @@ use Rattle.rounds.specs.Openings.{times, slots_in, AreIn, AreOpened, SlotsCounte
 use Rattle.dispatch.specs.Outgoing.{outgoing, tickets_out}
 use Rattle.dispatch.specs.Polls.{PollerState, Counted, HasOpenedAll}
 use Rattle.dispatch.specs.declared.part.Part.{Part}
-use Rattle.rounds.specs.Rounds.{RoundDone, AcceptEnded}
+use Rattle.relay_log.specs.declared.faults.ServerFault.{ServerFault}
+use Rattle.relay_log.specs.declared.faults.ServerFault.TheVariants.{Worn}
+use Rattle.rounds.specs.Rounds.{RoundDone, AcceptEnded, EndedEarly, ListenerKept, ListensToOpen}
 use Rattle.std.proofs.lemmas.Bool.{cases_lt}
 use Rattle.rounds.specs.Sweeps.{swept_after, sweep_of}
 use Rattle.dispatch.specs.Posts.{Rose}
-use Rattle.rounds.proofs.Connections.{SamePoller, accept_none}
+use Rattle.rounds.proofs.Connections.{SamePoller, accept_none, tried}
 use Rattle.rounds.proofs.Reports.{posted_none}
 use Rattle.rounds.proofs.Sweeps.{no_sweep, same_sweep}
 
@@ -173,3 +175,70 @@ ended_still p q a b ended is left = by_count (cases_lt p.opened p.most) where
       let same = left (λ all. omega (arith, some, all)) in
       subst (λ (s : PollerState). AcceptEnded s b) (sym same.1) (subst (λ (o : Own). AcceptEnded p o) (sym same.0) ended)
   by_count (inr all) = inl (inr (inr (inr (subst (λ (s : PollerState). HasOpenedAll s) (sym is) all))))
+
+-- what the steps of a round leave as it is: the last two only its end may change
+pub record Lasting (old new : PollerState) : Type 0 where
+  pub opening : new.opening ≡ old.opening
+  pub most : new.most ≡ old.most
+  pub heavy : new.heavy ≡ old.heavy
+  pub over : new.over ≡ old.over
+  pub listening : new.listening ≡ old.listening
+
+pub looked_lasts : (p q r : PollerState) → q ≡ record p { batch = [] } → r ≡ record q { reported = r.reported; failed = r.failed; batch = r.batch } → Lasting p r
+looked_lasts p q r begun looked = record {
+  opening = ap (λ (s : PollerState). s.opening) looked ∙ ap (λ (s : PollerState). s.opening) begun;
+  most = ap (λ (s : PollerState). s.most) looked ∙ ap (λ (s : PollerState). s.most) begun;
+  heavy = ap (λ (s : PollerState). s.heavy) looked ∙ ap (λ (s : PollerState). s.heavy) begun;
+  over = ap (λ (s : PollerState). s.over) looked ∙ ap (λ (s : PollerState). s.over) begun;
+  listening = ap (λ (s : PollerState). s.listening) looked ∙ ap (λ (s : PollerState). s.listening) begun;
+}
+
+pub delivered_lasts : {p q r : PollerState} → Lasting p q → r ≡ record q { accepting = r.accepting } → Lasting p r
+delivered_lasts {p} before is = subst (λ (s : PollerState). Lasting p s) (sym is) (record { opening = before.opening; most = before.most; heavy = before.heavy; over = before.over; listening = before.listening })
+
+pub swept_lasts : {p q r : PollerState} → Lasting p q → r ≡ record q { second = r.second; swept = r.swept } → Lasting p r
+swept_lasts {p} before is = subst (λ (s : PollerState). Lasting p s) (sym is) (record { opening = before.opening; most = before.most; heavy = before.heavy; over = before.over; listening = before.listening })
+
+pub accepted_lasts : {p q r : PollerState} → Lasting p q → r ≡ tried q r → Lasting p r
+accepted_lasts {p} before is = subst (λ (s : PollerState). Lasting p s) (sym is) (record { opening = before.opening; most = before.most; heavy = before.heavy; over = before.over; listening = before.listening })
+
+-- from the look on, the batch is what was reported
+abbrev IsRead : PollerState → Type 0
+IsRead p = p.batch ≡ p.reported
+
+pub still_read : (p q r s t : PollerState) → IsRead p → q ≡ record p { accepting = q.accepting } → r ≡ record q { second = r.second; swept = r.swept }
+    → s ≡ tried r s → t ≡ record s { listening = t.listening; over = t.over } → IsRead t
+still_read p q r s t read delivered swept accepted ended =
+    subst (λ (u : PollerState). IsRead u) (sym ended) (subst (λ (u : PollerState). IsRead u) (sym accepted)
+    (subst (λ (u : PollerState). IsRead u) (sym swept) (subst (λ (u : PollerState). IsRead u) (sym delivered) read)))
+
+-- the hand had no room for a round
+pub ended_early : (enough : Bool) (slots words room : ℕ) → (IsTrue enough ↔ (512 + slots ≤ room)) → enough ≡ false → slots ≡ words → room < 512 + words
+ended_early enough slots words room is not same = grind arith
+
+-- what a step refused is what the round refuses, and after Worn there is no more to say
+pub passed_up : {T E : Type 0} (r : Result T E) (e : E) (P : E → Type 0) → IsErrAnd r (λ y. y ≡ e) → P e → IfErr r P
+passed_up (Ok x) e P is p = tt
+passed_up (Err y) e P is p = subst P (sym is) p
+
+pub but_worn : {T : Type 0} {X : Type 0} (r : Result T ServerFault) (e : ServerFault) → IsErrAnd r (λ y. y ≡ e) → e ≡ Worn → r ≢ Err Worn → X
+but_worn (Ok x) e is worn other = absurd is
+but_worn (Err y) e is worn other = absurd (other (ap (λ f. Err f) (is ∙ worn)))
+
+pub not_ok : {T E : Type 0} (r : Result T E) (X : Type 0) → IsErr r → OnOk r X
+not_ok (Ok x) X is = cc
+not_ok (Err y) X is = tt
+
+pub over_before : {a b : Bool} {X : Type 0} → b ≡ a → (b ≡ true) ⊎ X → (a ≡ true) ⊎ X
+over_before same (inl over) = inl (sym same ∙ over)
+over_before same (inr now) = inr now
+
+-- the front listens as before, since it ends only once all connections were opened
+pub listens_still : (p q r : PollerState) (a b : Own) → q.listening ≡ p.listening → r ≡ record q { listening = r.listening; over = r.over }
+    → ((HasOpenedAll q → ⊥) → (b ≡ a) × (r ≡ q)) → ListensToOpen r → ListenerKept p r
+listens_still p q r a b same is left closed = by_count (cases_lt q.opened q.most) where
+  by_count : (q.opened < q.most) ⊎ (q.most ≤ q.opened) → ListenerKept p r
+  by_count (inl some) = inl (ap (λ (s : PollerState). s.listening) (left (λ all. omega (arith, some, all))).1 ∙ same)
+  by_count (inr all) =
+      let all_then : HasOpenedAll r = subst (λ (s : PollerState). HasOpenedAll s) (sym is) all in
+      inr (all_then, closed all_then)

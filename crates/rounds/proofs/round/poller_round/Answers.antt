@@ -1,24 +1,99 @@
-use Rattle.std.proofs.Common.{◌∙◌, ap, inl, inr, arith}
+use Rattle.std.proofs.Common.{ℕ, ◌≡◌, ◌<◌, ◌+◌, ◌∙◌, ap, refl, inl, inr, List, sym, subst, length, arith}
+use Rattle.claims.specs.Seats.{SeatState, HoldsNothing}
+use Rattle.ready.specs.declared.ticket.Ticket.{Ticket}
+use Rattle.ready.specs.Steps.{EndState}
+use Rattle.dispatch.specs.Drops.{AreTold}
+use Rattle.dispatch.specs.Hands.{ticket_room}
 use Rattle.dispatch.specs.Polls.{PollerState}
 use Rattle.rounds.proofs.Connections.{SamePoller, accept_both, accept_took, room_same, took_none}
 use Rattle.rounds.proofs.Reports.{few_tickets, capacity_kept, reported_le}
 use Rattle.rounds.proofs.Sweeps.{few_sweep}
-use Rattle.rounds.proofs.WholeRounds.{begun_is, ended_still, looked_is, round_of, round_ended, swept_is}
+use Rattle.rounds.proofs.WholeRounds.{SameTable, begun_is, ended_still, looked_is, round_of, round_ended, swept_is, looked_lasts, delivered_lasts, swept_lasts, accepted_lasts, still_read, ended_early, passed_up, but_worn, not_ok, over_before, listens_still}
 use Rattle.rounds.proofs.round.poller_round.Goals as goal
 
-pub returns-then-not-begin-clause-round : goal.returns-then-not-begin-clause-round
-returns-then-not-begin-clause-round g c = λ _. round_ended c.args.poller.now c.begin.new.poller c.args.own.now c.args.own.now
-    (begun_is c.begin.ensures.poller)
-    (ap (λ (s : PollerState). s.batch) c.begin.ensures.poller)
-    (took_none c.args.own.now)
+pub returns-then-not-begin : goal.returns-then-not-begin
+returns-then-not-begin g c =
+    let early : ticket_room c.args.own.now.hand < 512 + c.args.shared.now.claims.words =
+        ended_early c.begin.result c.slots.result c.args.shared.now.claims.words (ticket_room c.args.own.now.hand) c.begin.ensures.room c.if-not-begin.true c.slots.ensures in
+    record {
+      same = refl;
+      idle = c.requires.idle;
+      sized = ap (λ (s : PollerState). length s.table) c.begin.ensures.poller;
+      round = λ _. round_ended c.args.poller.now c.begin.new.poller c.args.own.now c.args.own.now
+          (begun_is c.begin.ensures.poller)
+          (ap (λ (s : PollerState). s.batch) c.begin.ensures.poller)
+          (took_none c.args.own.now);
+      batch = λ _. inl early;
+      told = inl early;
+      swept = inl early;
+      unswept = inl (ap (λ (s : PollerState). s.swept) c.begin.ensures.poller);
+      accepted = inl early;
+      over = λ over. inl (sym (ap (λ (s : PollerState). s.over) c.begin.ensures.poller) ∙ over);
+      listens = inl (ap (λ (s : PollerState). s.listening) c.begin.ensures.poller);
+      closed = inl early;
+      ended = inl early;
+      told_drops = inl early;
+      opening = ap (λ (s : PollerState). s.opening) c.begin.ensures.poller;
+      most = ap (λ (s : PollerState). s.most) c.begin.ensures.poller;
+      heavy = ap (λ (s : PollerState). s.heavy) c.begin.ensures.poller;
+      took = refl;
+      refused = tt;
+    }
 
-pub returns-in_err-look-clause-round : goal.returns-in_err-look-clause-round
-returns-in_err-look-clause-round g c = λ _. round_ended c.args.poller.now c.look.new.poller c.args.own.now c.look.new.own
-    (looked_is c.begin.ensures.poller c.look.ensures.poller)
-    c.in_err-look.ensures.failed.2
-    c.look.ensures.took
+pub returns-in_err-look : goal.returns-in_err-look
+returns-in_err-look g c =
+    let looked : SameTable c.args.poller.now c.look.new.poller = looked_is c.begin.ensures.poller c.look.ensures.poller in
+    let same = looked_lasts c.args.poller.now c.begin.new.poller c.look.new.poller c.begin.ensures.poller c.look.ensures.poller in
+    let failed = c.from_residual.ensures.1 in
+    record {
+      same = ap (λ (s : SeatState). s.table) c.look.ensures.took.seat;
+      idle = subst (λ (s : SeatState). HoldsNothing s) (sym c.look.ensures.took.seat) c.requires.idle;
+      sized = ap (λ (t : List ℕ). length t) looked.table;
+      round = λ _. round_ended c.args.poller.now c.look.new.poller c.args.own.now c.look.new.own looked c.in_err-look.ensures.failed.2 c.look.ensures.took;
+      batch = λ _. inr c.look.ensures.batch;
+      told = not_ok c.from_residual.result _ c.from_residual.ensures.0;
+      swept = not_ok c.from_residual.result _ c.from_residual.ensures.0;
+      unswept = inl looked.swept;
+      accepted = not_ok c.from_residual.result _ c.from_residual.ensures.0;
+      over = not_ok c.from_residual.result _ c.from_residual.ensures.0;
+      listens = inl (same.listening);
+      closed = not_ok c.from_residual.result _ c.from_residual.ensures.0;
+      ended = not_ok c.from_residual.result _ c.from_residual.ensures.0;
+      told_drops = not_ok c.from_residual.result _ c.from_residual.ensures.0;
+      opening = same.opening;
+      most = same.most;
+      heavy = same.heavy;
+      took = ap (λ (q : EndState Ticket). q.history.taken) c.look.ensures.took.ready;
+      refused = passed_up c.from_residual.result c.in_err-look.field-0.0 _ failed (inl (c.in_err-look.ensures.failed.0, c.in_err-look.ensures.failed.1));
+    }
 
--- a batch has at most 256 reports, and each takes at most one ticket
+pub returns-in_err-deliver_batch : goal.returns-in_err-deliver_batch
+returns-in_err-deliver_batch g c =
+    let looked : SameTable c.args.poller.now c.look.new.poller = looked_is c.begin.ensures.poller c.look.ensures.poller in
+    let same = delivered_lasts (looked_lasts c.args.poller.now c.begin.new.poller c.look.new.poller c.begin.ensures.poller c.look.ensures.poller) c.deliver_batch.ensures.poller in
+    let failed = c.from_residual-in_err-deliver_batch.ensures.1 in
+    record {
+      same = c.deliver_batch.ensures.between.same ∙ sym c.requires.same;
+      idle = c.deliver_batch.ensures.between.idle;
+      sized = c.deliver_batch.ensures.between.sized ∙ sym c.requires.sized;
+      round = but_worn c.from_residual-in_err-deliver_batch.result c.in_err-deliver_batch.field-0.0 failed c.in_err-deliver_batch.ensures.worn.0;
+      batch = but_worn c.from_residual-in_err-deliver_batch.result c.in_err-deliver_batch.field-0.0 failed c.in_err-deliver_batch.ensures.worn.0;
+      told = not_ok c.from_residual-in_err-deliver_batch.result _ c.from_residual-in_err-deliver_batch.ensures.0;
+      swept = not_ok c.from_residual-in_err-deliver_batch.result _ c.from_residual-in_err-deliver_batch.ensures.0;
+      unswept = inl (ap (λ (s : PollerState). s.swept) c.deliver_batch.ensures.poller ∙ looked.swept);
+      accepted = not_ok c.from_residual-in_err-deliver_batch.result _ c.from_residual-in_err-deliver_batch.ensures.0;
+      over = not_ok c.from_residual-in_err-deliver_batch.result _ c.from_residual-in_err-deliver_batch.ensures.0;
+      listens = inl (same.listening);
+      closed = not_ok c.from_residual-in_err-deliver_batch.result _ c.from_residual-in_err-deliver_batch.ensures.0;
+      ended = not_ok c.from_residual-in_err-deliver_batch.result _ c.from_residual-in_err-deliver_batch.ensures.0;
+      told_drops = not_ok c.from_residual-in_err-deliver_batch.result _ c.from_residual-in_err-deliver_batch.ensures.0;
+      opening = same.opening;
+      most = same.most;
+      heavy = same.heavy;
+      took = ap (λ (q : EndState Ticket). q.history.taken) (c.deliver_batch.ensures.ready ∙ c.look.ensures.took.ready);
+      refused = passed_up c.from_residual-in_err-deliver_batch.result c.in_err-deliver_batch.field-0.0 _ failed (inr c.in_err-deliver_batch.ensures.worn);
+    }
+
 pub sweep_if_due-requires-clause-room : goal.sweep_if_due-requires-clause-room
 sweep_if_due-requires-clause-room g c =
     let few = few_tickets c.in_ok-deliver_batch.ensures.delivered in
@@ -30,7 +105,33 @@ sweep_if_due-requires-clause-room g c =
     let sized = c.deliver_batch.ensures.between.sized in
     omega arith
 
--- and a sweep takes at most one for each slot
+pub returns-in_err-sweep_if_due : goal.returns-in_err-sweep_if_due
+returns-in_err-sweep_if_due g c =
+    let looked : SameTable c.args.poller.now c.look.new.poller = looked_is c.begin.ensures.poller c.look.ensures.poller in
+    let same = swept_lasts (delivered_lasts (looked_lasts c.args.poller.now c.begin.new.poller c.look.new.poller c.begin.ensures.poller c.look.ensures.poller) c.deliver_batch.ensures.poller) c.sweep_if_due.ensures.poller in
+    let failed = c.from_residual-in_err-sweep_if_due.ensures.1 in
+    record {
+      same = c.sweep_if_due.ensures.between.same ∙ sym c.requires.same;
+      idle = c.sweep_if_due.ensures.between.idle;
+      sized = c.sweep_if_due.ensures.between.sized ∙ sym c.requires.sized;
+      round = but_worn c.from_residual-in_err-sweep_if_due.result c.in_err-sweep_if_due.field-0.0 failed c.in_err-sweep_if_due.ensures.worn.0;
+      batch = but_worn c.from_residual-in_err-sweep_if_due.result c.in_err-sweep_if_due.field-0.0 failed c.in_err-sweep_if_due.ensures.worn.0;
+      told = not_ok c.from_residual-in_err-sweep_if_due.result _ c.from_residual-in_err-sweep_if_due.ensures.0;
+      swept = not_ok c.from_residual-in_err-sweep_if_due.result _ c.from_residual-in_err-sweep_if_due.ensures.0;
+      unswept = inl (c.in_err-sweep_if_due.ensures.unswept ∙ ap (λ (s : PollerState). s.swept) c.deliver_batch.ensures.poller ∙ looked.swept);
+      accepted = not_ok c.from_residual-in_err-sweep_if_due.result _ c.from_residual-in_err-sweep_if_due.ensures.0;
+      over = not_ok c.from_residual-in_err-sweep_if_due.result _ c.from_residual-in_err-sweep_if_due.ensures.0;
+      listens = inl (same.listening);
+      closed = not_ok c.from_residual-in_err-sweep_if_due.result _ c.from_residual-in_err-sweep_if_due.ensures.0;
+      ended = not_ok c.from_residual-in_err-sweep_if_due.result _ c.from_residual-in_err-sweep_if_due.ensures.0;
+      told_drops = not_ok c.from_residual-in_err-sweep_if_due.result _ c.from_residual-in_err-sweep_if_due.ensures.0;
+      opening = same.opening;
+      most = same.most;
+      heavy = same.heavy;
+      took = ap (λ (q : EndState Ticket). q.history.taken) (c.sweep_if_due.ensures.ready ∙ c.deliver_batch.ensures.ready ∙ c.look.ensures.took.ready);
+      refused = passed_up c.from_residual-in_err-sweep_if_due.result c.in_err-sweep_if_due.field-0.0 _ failed (inr c.in_err-sweep_if_due.ensures.worn);
+    }
+
 pub accept-requires-clause-room : goal.accept-requires-clause-room
 accept-requires-clause-room g c =
     let few = few_tickets c.in_ok-deliver_batch.ensures.delivered in
@@ -45,89 +146,102 @@ accept-requires-clause-room g c =
     let slots = few_sweep c.deliver_batch.new.poller c.sweep_if_due.new.poller in
     omega arith
 
-pub returns-clause-round : goal.returns-clause-round
-returns-clause-round g c = λ _.
-    (let flags : SamePoller c.accept.new.poller c.take_back.new.poller = record {
-      table = ap (λ (s : PollerState). s.table) c.take_back.ensures.poller;
-      opened = ap (λ (s : PollerState). s.opened) c.take_back.ensures.poller;
-      lost = ap (λ (s : PollerState). s.lost) c.take_back.ensures.poller;
-      batch = ap (λ (s : PollerState). s.batch) c.take_back.ensures.poller;
-      part = ap (λ (s : PollerState). s.part) c.take_back.ensures.poller;
-    } in
-    round_of c.args.poller.now c.look.new.poller c.deliver_batch.new.poller c.sweep_if_due.new.poller c.take_back.new.poller
-    c.args.own.now c.look.new.own c.deliver_batch.new.own c.sweep_if_due.new.own c.take_back.new.own
-    (looked_is c.begin.ensures.poller c.look.ensures.poller)
-    c.look.ensures.took
-    c.in_ok-deliver_batch.ensures.delivered
-    c.deliver_batch.ensures.ready
-    c.deliver_batch.ensures.free
-    c.deliver_batch.ensures.own
-    (record {
-      table = ap (λ (s : PollerState). s.table) c.deliver_batch.ensures.poller;
-      opened = ap (λ (s : PollerState). s.opened) c.deliver_batch.ensures.poller;
-      lost = ap (λ (s : PollerState). s.lost) c.deliver_batch.ensures.poller;
-      batch = ap (λ (s : PollerState). s.batch) c.deliver_batch.ensures.poller;
-      part = ap (λ (s : PollerState). s.part) c.deliver_batch.ensures.poller;
-    })
-    (ap (λ (s : PollerState). s.swept) c.deliver_batch.ensures.poller)
-    c.in_ok-sweep_if_due.ensures.posted
-    c.sweep_if_due.ensures.ready
-    c.sweep_if_due.ensures.free
-    c.sweep_if_due.ensures.own
-    (record {
-      table = ap (λ (s : PollerState). s.table) c.sweep_if_due.ensures.poller;
-      opened = ap (λ (s : PollerState). s.opened) c.sweep_if_due.ensures.poller;
-      lost = ap (λ (s : PollerState). s.lost) c.sweep_if_due.ensures.poller;
-      batch = ap (λ (s : PollerState). s.batch) c.sweep_if_due.ensures.poller;
-      part = ap (λ (s : PollerState). s.part) c.sweep_if_due.ensures.poller;
-    })
-    (accept_both c.in_ok-accept.ensures.done (accept_took c.accept.new.poller c.take_back.new.poller c.accept.new.own c.take_back.new.own flags c.take_back.ensures.took))
-    (ap (λ (s : PollerState). s.swept) c.take_back.ensures.poller ∙ ap (λ (s : PollerState). s.swept) c.accept.ensures.poller))
+pub returns-in_err-accept : goal.returns-in_err-accept
+returns-in_err-accept g c =
+    let looked : SameTable c.args.poller.now c.look.new.poller = looked_is c.begin.ensures.poller c.look.ensures.poller in
+    let same = accepted_lasts (swept_lasts (delivered_lasts (looked_lasts c.args.poller.now c.begin.new.poller c.look.new.poller c.begin.ensures.poller c.look.ensures.poller) c.deliver_batch.ensures.poller) c.sweep_if_due.ensures.poller) c.accept.ensures.poller in
+    let failed = c.from_residual-in_err-accept.ensures.1 in
+    record {
+      same = c.accept.ensures.between.same ∙ sym c.requires.same;
+      idle = c.accept.ensures.between.idle;
+      sized = c.accept.ensures.between.sized ∙ sym c.requires.sized;
+      round = but_worn c.from_residual-in_err-accept.result c.in_err-accept.field-0.0 failed c.in_err-accept.ensures.worn.0;
+      batch = but_worn c.from_residual-in_err-accept.result c.in_err-accept.field-0.0 failed c.in_err-accept.ensures.worn.0;
+      told = not_ok c.from_residual-in_err-accept.result _ c.from_residual-in_err-accept.ensures.0;
+      swept = not_ok c.from_residual-in_err-accept.result _ c.from_residual-in_err-accept.ensures.0;
+      unswept = inr (swept_is c.args.timing.now.limit c.args.poller.now c.deliver_batch.new.poller c.sweep_if_due.new.poller c.accept.new.poller
+          (ap (λ (s : PollerState). s.swept) c.deliver_batch.ensures.poller ∙ looked.swept)
+          c.in_ok-sweep_if_due.ensures.swept
+          (ap (λ (s : PollerState). s.swept) c.accept.ensures.poller)
+          (ap (λ (s : PollerState). s.second) c.accept.ensures.poller));
+      accepted = not_ok c.from_residual-in_err-accept.result _ c.from_residual-in_err-accept.ensures.0;
+      over = not_ok c.from_residual-in_err-accept.result _ c.from_residual-in_err-accept.ensures.0;
+      listens = inl (same.listening);
+      closed = not_ok c.from_residual-in_err-accept.result _ c.from_residual-in_err-accept.ensures.0;
+      ended = not_ok c.from_residual-in_err-accept.result _ c.from_residual-in_err-accept.ensures.0;
+      told_drops = not_ok c.from_residual-in_err-accept.result _ c.from_residual-in_err-accept.ensures.0;
+      opening = same.opening;
+      most = same.most;
+      heavy = same.heavy;
+      took = ap (λ (q : EndState Ticket). q.history.taken) (c.accept.ensures.ready ∙ c.sweep_if_due.ensures.ready ∙ c.deliver_batch.ensures.ready ∙ c.look.ensures.took.ready);
+      refused = passed_up c.from_residual-in_err-accept.result c.in_err-accept.field-0.0 _ failed (inr c.in_err-accept.ensures.worn);
+    }
 
--- the second of the last sweep is what it was until the sweep, and what the sweep left from then on
-pub returns-then-not-begin-clause-unswept : goal.returns-then-not-begin-clause-unswept
-returns-then-not-begin-clause-unswept g c = inl (ap (λ (s : PollerState). s.swept) c.begin.ensures.poller)
-
-pub returns-in_err-look-clause-unswept : goal.returns-in_err-look-clause-unswept
-returns-in_err-look-clause-unswept g c = inl (ap (λ (s : PollerState). s.swept) c.look.ensures.poller ∙ ap (λ (s : PollerState). s.swept) c.begin.ensures.poller)
-
-pub returns-in_err-deliver_batch-clause-unswept : goal.returns-in_err-deliver_batch-clause-unswept
-returns-in_err-deliver_batch-clause-unswept g c = inl (ap (λ (s : PollerState). s.swept) c.deliver_batch.ensures.poller ∙ ap (λ (s : PollerState). s.swept) c.look.ensures.poller ∙ ap (λ (s : PollerState). s.swept) c.begin.ensures.poller)
-
-pub returns-in_err-sweep_if_due-clause-unswept : goal.returns-in_err-sweep_if_due-clause-unswept
-returns-in_err-sweep_if_due-clause-unswept g c = inl (c.in_err-sweep_if_due.ensures.unswept ∙ ap (λ (s : PollerState). s.swept) c.deliver_batch.ensures.poller ∙ ap (λ (s : PollerState). s.swept) c.look.ensures.poller ∙ ap (λ (s : PollerState). s.swept) c.begin.ensures.poller)
-
-pub returns-in_err-accept-clause-unswept : goal.returns-in_err-accept-clause-unswept
-returns-in_err-accept-clause-unswept g c =
-    inr (swept_is c.args.timing.now.limit c.args.poller.now c.deliver_batch.new.poller c.sweep_if_due.new.poller c.accept.new.poller
-    (ap (λ (s : PollerState). s.swept) c.deliver_batch.ensures.poller ∙ ap (λ (s : PollerState). s.swept) c.look.ensures.poller ∙ ap (λ (s : PollerState). s.swept) c.begin.ensures.poller)
-    c.in_ok-sweep_if_due.ensures.swept
-    (ap (λ (s : PollerState). s.swept) c.accept.ensures.poller)
-    (ap (λ (s : PollerState). s.second) c.accept.ensures.poller))
-
-pub returns-clause-unswept : goal.returns-clause-unswept
-returns-clause-unswept g c =
-    inr (swept_is c.args.timing.now.limit c.args.poller.now c.deliver_batch.new.poller c.sweep_if_due.new.poller c.take_back.new.poller
-    (ap (λ (s : PollerState). s.swept) c.deliver_batch.ensures.poller ∙ ap (λ (s : PollerState). s.swept) c.look.ensures.poller ∙ ap (λ (s : PollerState). s.swept) c.begin.ensures.poller)
-    c.in_ok-sweep_if_due.ensures.swept
-    (ap (λ (s : PollerState). s.swept) c.take_back.ensures.poller ∙ ap (λ (s : PollerState). s.swept) c.accept.ensures.poller)
-    (ap (λ (s : PollerState). s.second) c.take_back.ensures.poller ∙ ap (λ (s : PollerState). s.second) c.accept.ensures.poller))
-
-pub returns-clause-swept : goal.returns-clause-swept
-returns-clause-swept g c =
-    inr (swept_is c.args.timing.now.limit c.args.poller.now c.deliver_batch.new.poller c.sweep_if_due.new.poller c.take_back.new.poller
-    (ap (λ (s : PollerState). s.swept) c.deliver_batch.ensures.poller ∙ ap (λ (s : PollerState). s.swept) c.look.ensures.poller ∙ ap (λ (s : PollerState). s.swept) c.begin.ensures.poller)
-    c.in_ok-sweep_if_due.ensures.swept
-    (ap (λ (s : PollerState). s.swept) c.take_back.ensures.poller ∙ ap (λ (s : PollerState). s.swept) c.accept.ensures.poller)
-    (ap (λ (s : PollerState). s.second) c.take_back.ensures.poller ∙ ap (λ (s : PollerState). s.second) c.accept.ensures.poller))
-
-pub returns-clause-ended : goal.returns-clause-ended
-returns-clause-ended g c = inr c.take_back.ensures.all
-
-pub returns-clause-accepted : goal.returns-clause-accepted
-returns-clause-accepted g c =
-    inr (ended_still c.accept.new.poller c.take_back.new.poller c.accept.new.own c.take_back.new.own
-    c.in_ok-accept.ensures.ended c.take_back.ensures.poller c.take_back.ensures.unlimited)
-
-pub returns-clause-closed : goal.returns-clause-closed
-returns-clause-closed g c = inr c.take_back.ensures.closed
+pub returns : goal.returns
+returns g c =
+    let looked : SameTable c.args.poller.now c.look.new.poller = looked_is c.begin.ensures.poller c.look.ensures.poller in
+    let same = accepted_lasts (swept_lasts (delivered_lasts (looked_lasts c.args.poller.now c.begin.new.poller c.look.new.poller c.begin.ensures.poller c.look.ensures.poller) c.deliver_batch.ensures.poller) c.sweep_if_due.ensures.poller) c.accept.ensures.poller in
+    let second = ap (λ (s : PollerState). s.second) c.take_back.ensures.poller ∙ ap (λ (s : PollerState). s.second) c.accept.ensures.poller in
+    let swept = swept_is c.args.timing.now.limit c.args.poller.now c.deliver_batch.new.poller c.sweep_if_due.new.poller c.take_back.new.poller
+          (ap (λ (s : PollerState). s.swept) c.deliver_batch.ensures.poller ∙ looked.swept)
+          c.in_ok-sweep_if_due.ensures.swept
+          (ap (λ (s : PollerState). s.swept) c.take_back.ensures.poller ∙ ap (λ (s : PollerState). s.swept) c.accept.ensures.poller)
+          (second) in
+    let flags : SamePoller c.accept.new.poller c.take_back.new.poller = record {
+        table = ap (λ (s : PollerState). s.table) c.take_back.ensures.poller;
+        opened = ap (λ (s : PollerState). s.opened) c.take_back.ensures.poller;
+        lost = ap (λ (s : PollerState). s.lost) c.take_back.ensures.poller;
+        batch = ap (λ (s : PollerState). s.batch) c.take_back.ensures.poller;
+        part = ap (λ (s : PollerState). s.part) c.take_back.ensures.poller;
+      } in
+    record {
+      same = ap (λ (s : SeatState). s.table) c.take_back.ensures.took.seat ∙ c.accept.ensures.between.same ∙ sym c.requires.same;
+      idle = subst (λ (s : SeatState). HoldsNothing s) (sym c.take_back.ensures.took.seat) c.accept.ensures.between.idle;
+      sized = ap (λ (s : PollerState). length s.table) c.take_back.ensures.poller ∙ c.accept.ensures.between.sized ∙ sym c.requires.sized;
+      round = λ _. round_of c.args.poller.now c.look.new.poller c.deliver_batch.new.poller c.sweep_if_due.new.poller c.take_back.new.poller
+          c.args.own.now c.look.new.own c.deliver_batch.new.own c.sweep_if_due.new.own c.take_back.new.own
+          looked
+          c.look.ensures.took
+          c.in_ok-deliver_batch.ensures.delivered
+          c.deliver_batch.ensures.ready
+          c.deliver_batch.ensures.free
+          c.deliver_batch.ensures.own
+          (record {
+            table = ap (λ (s : PollerState). s.table) c.deliver_batch.ensures.poller;
+            opened = ap (λ (s : PollerState). s.opened) c.deliver_batch.ensures.poller;
+            lost = ap (λ (s : PollerState). s.lost) c.deliver_batch.ensures.poller;
+            batch = ap (λ (s : PollerState). s.batch) c.deliver_batch.ensures.poller;
+            part = ap (λ (s : PollerState). s.part) c.deliver_batch.ensures.poller;
+          })
+          (ap (λ (s : PollerState). s.swept) c.deliver_batch.ensures.poller)
+          c.in_ok-sweep_if_due.ensures.posted
+          c.sweep_if_due.ensures.ready
+          c.sweep_if_due.ensures.free
+          c.sweep_if_due.ensures.own
+          (record {
+            table = ap (λ (s : PollerState). s.table) c.sweep_if_due.ensures.poller;
+            opened = ap (λ (s : PollerState). s.opened) c.sweep_if_due.ensures.poller;
+            lost = ap (λ (s : PollerState). s.lost) c.sweep_if_due.ensures.poller;
+            batch = ap (λ (s : PollerState). s.batch) c.sweep_if_due.ensures.poller;
+            part = ap (λ (s : PollerState). s.part) c.sweep_if_due.ensures.poller;
+          })
+          (accept_both c.in_ok-accept.ensures.done (accept_took c.accept.new.poller c.take_back.new.poller c.accept.new.own c.take_back.new.own flags c.take_back.ensures.took))
+          (ap (λ (s : PollerState). s.swept) c.take_back.ensures.poller ∙ ap (λ (s : PollerState). s.swept) c.accept.ensures.poller);
+      batch = λ _. inr (still_read c.look.new.poller c.deliver_batch.new.poller c.sweep_if_due.new.poller c.accept.new.poller c.take_back.new.poller c.look.ensures.batch c.deliver_batch.ensures.poller c.sweep_if_due.ensures.poller c.accept.ensures.poller c.take_back.ensures.poller);
+      told = inr (subst (λ (n : ℕ). g.C.Clock.tells c.args.timing.now.clock.now n) (sym second) c.sweep_if_due.ensures.told);
+      swept = inr swept;
+      unswept = inr swept;
+      accepted = inr (ended_still c.accept.new.poller c.take_back.new.poller c.accept.new.own c.take_back.new.own
+          c.in_ok-accept.ensures.ended c.take_back.ensures.poller c.take_back.ensures.unlimited);
+      over = λ over. over_before (same.over) (c.take_back.ensures.over over);
+      listens = listens_still c.args.poller.now c.accept.new.poller c.take_back.new.poller c.accept.new.own c.take_back.new.own
+          (same.listening) c.take_back.ensures.poller c.take_back.ensures.unlimited c.take_back.ensures.closed;
+      closed = inr c.take_back.ensures.closed;
+      ended = inr c.take_back.ensures.all;
+      told_drops = inr (subst (λ (s : PollerState). AreTold s.second s.episodes.drops) (sym c.take_back.ensures.poller) c.in_ok-accept.ensures.told);
+      opening = ap (λ (s : PollerState). s.opening) c.take_back.ensures.poller ∙ same.opening;
+      most = ap (λ (s : PollerState). s.most) c.take_back.ensures.poller ∙ same.most;
+      heavy = ap (λ (s : PollerState). s.heavy) c.take_back.ensures.poller ∙ same.heavy;
+      took = ap (λ (q : EndState Ticket). q.history.taken) (c.take_back.ensures.took.ready ∙ c.accept.ensures.ready ∙ c.sweep_if_due.ensures.ready ∙ c.deliver_batch.ensures.ready ∙ c.look.ensures.took.ready);
+      refused = tt;
+    }
