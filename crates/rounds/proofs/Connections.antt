@@ -1,23 +1,28 @@
 -- Connections that are opened one after the other.
-use Rattle.std.proofs.Common.{◌≡◌, ◌≢◌, ◌⊎◌, ℕ, ◌+◌, ◌-◌, ◌≤◌, List, [], ◌∷◌, ◌++◌, length, drop, slice_get, slice_set, min, cond, Bool, refl, sym, subst, ap, ◌∙◌, arith, inl, inr, append_assoc, length-append}
-use Rattle.std.specs.Prelude.{◌==◌, Some, None, Result, Ok, Err, OnOk, map}
-use Rattle.std.proofs.lemmas.List.{append-nil}
+use Rattle.std.proofs.Common.{◌≡◌, ◌≢◌, ◌⊎◌, ◌↔◌, ℕ, ◌+◌, ◌-◌, ◌<◌, ◌≤◌, true, false, IsTrue, List, [], ◌∷◌, ◌++◌, length, drop, slice_get, slice_set, min, cond, Bool, refl, sym, subst, ap, ◌∙◌, arith, inl, inr, append_assoc, length-append}
+use Rattle.std.specs.Prelude.{◌==◌, Option, Some, None, Result, Ok, Err, OnOk, IfSome, IfErr, IsErr, IsErrAnd, map, slice_index}
+use Rattle.std.proofs.lemmas.Bool.{cases_lt}
+use Rattle.std.proofs.lemmas.List.{append-nil, length-set}
 use Rattle.std.proofs.lemmas.List.Sums.{sum_by-append}
 use Rattle.std.proofs.lemmas.Option.{none-some, same_Some}
 use mathlib.Core.Logic.{dite}
 use native.Mathlib.Decide.{ℕ_discrete}
 use Rattle.claims.specs.declared.view.Account.{Account}
-use Rattle.claims.specs.Seats.{SeatState, account_at}
+use Rattle.claims.specs.Seats.{SeatState, TableId, Changed, HoldsNothing, OnlyAt, account_at, one_step_later}
+use Rattle.claims.specs.Views.{after_adopt}
 use Rattle.ready.specs.declared.ticket.Ticket.{Ticket}
 use Rattle.dispatch.specs.declared.shared.Own.{Own}
 use Rattle.ready.specs.Steps.{EndState}
 use Rattle.dispatch.specs.Hands.{HandState, ticket_room}
 use Rattle.rounds.specs.Deliveries.{at_slot}
-use Rattle.rounds.specs.Openings.{times, slots_in, AreIn, AreOpened, SlotsCounted, OnlyTook, Connected, AcceptDone}
+use Rattle.rounds.specs.Openings.{times, slots_in, AreIn, AreOpened, SlotsCounted, OnlyTook, Between, Started, Connected, AcceptDone, IsOpened, IsDropped, IsLost, IsSpent, LostFor}
 use Rattle.dispatch.specs.Polls.{PollerState, Counted, counted_up, IsIn}
 use Rattle.dispatch.specs.declared.part.Part.{Part}
 use Rattle.dispatch.specs.declared.episodes.Episodes.{Episodes}
+use Rattle.dispatch.specs.Drops.{dropped_for}
+use Rattle.dispatch.specs.Episodes.{opened_after}
 use Rattle.dispatch.specs.Posts.{Rose}
+use Rattle.relay_log.specs.declared.cause.Cause.{Cause}
 use Rattle.rounds.proofs.Reports.{at_slot-append, one_at, none_at}
 
 -- counts
@@ -369,3 +374,146 @@ same_full episodes is = record {
 
 pub accept_told : (p q : PollerState) (episodes : Episodes) → q ≡ record p { episodes = episodes } → q ≡ tried p q
 accept_told p q episodes is = subst (λ (s : PollerState). s ≡ tried p s) (sym is) refl
+
+-- what opening a connection may change of what the poller keeps
+abbrev opens : PollerState → PollerState → PollerState
+opens p q = record p { table = q.table; opened = q.opened; dropped = q.dropped; lost = q.lost; episodes = q.episodes }
+
+pub opens_lost : (p q : PollerState) (lost : ℕ) → q ≡ record p { lost = lost } → q ≡ opens p q
+opens_lost p q lost is = subst (λ (s : PollerState). s ≡ opens p s) (sym is) refl
+
+pub opens_dropped : (p r q : PollerState) (episodes : Episodes) (dropped : ℕ) → r ≡ record p { episodes = episodes } → q ≡ record r { dropped = dropped } → q ≡ opens p q
+opens_dropped p r q episodes dropped one two =
+    subst (λ (s : PollerState). s ≡ opens p s) (sym two) (ap (λ (s : PollerState). record s { dropped = dropped }) one ∙ sym (ap (λ (s : PollerState). opens p (record s { dropped = dropped })) one))
+
+-- what became of an accepted connection in the first slot in hand, as it counts
+abbrev IsCounted : PollerState → PollerState → SeatState → SeatState → ℕ → Type 0
+IsCounted p q a b slot = IsOpened p q ⊎ (IsDropped p q ⊎ (IsLost p q × LostFor p slot a b))
+
+pub lost_counts : (p q : PollerState) (a b : SeatState) (slots : List ℕ) (slot : ℕ) → slice_get slots 0 ≡ Some slot
+    → q ≡ record p { lost = counted_up p.lost 1 } → IsSpent p slot → IfSome (slice_get slots 0) (IsCounted p q a b)
+lost_counts p q a b slots slot first is spent = subst (λ (o : Option ℕ). IfSome o (IsCounted p q a b)) (sym first) (inr (inr (
+  (ap (λ (s : PollerState). s.opened) is, ap (λ (s : PollerState). s.dropped) is, ap (λ (s : PollerState). s.lost) is, ap (λ (s : PollerState). s.episodes) is),
+  inl spent,
+)))
+
+pub dropped_counts : (p r q : PollerState) (a b : SeatState) (slots : List ℕ) (slot : ℕ) (cause : Cause) → slice_get slots 0 ≡ Some slot
+    → r ≡ record p { episodes = record p.episodes { drops = dropped_for cause p.second p.episodes.drops } } → q ≡ record r { dropped = counted_up r.dropped 1 }
+    → IfSome (slice_get slots 0) (IsCounted p q a b)
+dropped_counts p r q a b slots slot cause first one two = subst (λ (o : Option ℕ). IfSome o (IsCounted p q a b)) (sym first) (inr (inl (
+  ap (λ (s : PollerState). s.opened) two ∙ ap (λ (s : PollerState). s.opened) one,
+  ap (λ (s : PollerState). s.dropped) two ∙ ap (λ (s : PollerState). counted_up s.dropped 1) one,
+  ap (λ (s : PollerState). s.lost) two ∙ ap (λ (s : PollerState). s.lost) one,
+  (cause, ap (λ (s : PollerState). s.episodes) two ∙ ap (λ (s : PollerState). s.episodes) one),
+)))
+
+pub placed_counts : {E : Type 0} (r : Result (Unit {0}) E) (p q : PollerState) (a b : SeatState) (slots : List ℕ) (slot : ℕ) → slice_get slots 0 ≡ Some slot
+    → OnOk r (IsOpened p q ⊎ (IsLost p q × (b ≡ one_step_later a))) → OnOk r (IfSome (slice_get slots 0) (IsCounted p q a b))
+placed_counts (Ok done) p q a b slots slot first (inl opened) = subst (λ (o : Option ℕ). IfSome o (IsCounted p q a b)) (sym first) (inl opened)
+placed_counts (Ok done) p q a b slots slot first (inr lost) = subst (λ (o : Option ℕ). IfSome o (IsCounted p q a b)) (sym first) (inr (inr (lost.0, inr lost.1)))
+placed_counts (Err fault) p q a b slots slot first is = tt
+
+-- a slot of another poller, and one that has no next names
+pub not_own : (own : Bool) (part : Part) (slot : ℕ) → (IsTrue own ↔ IsIn part slot) → own ≡ false → IsIn part slot → ⊥
+not_own own part slot is not here = let yes : own ≡ true = is.1 here in cc
+
+pub no_names : (table : List ℕ) (slot : ℕ) → (slot ≤ 32767 → slot < length table → slice_index table slot ≡ 140737488355327)
+    → (length table ≤ slot) ⊎ ((32768 ≤ slot) ⊎ (slice_index table slot ≡ 140737488355327))
+no_names table slot last = by_table (cases_lt slot (length table)) where
+  by_width : slot < length table → (slot < 32768) ⊎ (32768 ≤ slot) → (length table ≤ slot) ⊎ ((32768 ≤ slot) ⊎ (slice_index table slot ≡ 140737488355327))
+  by_width inside (inl narrow) = inr (inr (last (omega arith) inside))
+  by_width inside (inr wide) = inr (inl wide)
+
+  by_table : (slot < length table) ⊎ (length table ≤ slot) → (length table ≤ slot) ⊎ ((32768 ≤ slot) ⊎ (slice_index table slot ≡ 140737488355327))
+  by_table (inl inside) = by_width inside (cases_lt slot 32768)
+  by_table (inr outside) = inl outside
+
+-- the hand has room for as many tickets as before
+pub room_still : (h k : HandState) (slots : List ℕ) → k ≡ record h { slots = slots } → ticket_room h ≤ ticket_room k + 1
+room_still h k slots is = let same : ticket_room k ≡ ticket_room h = ap (λ (x : HandState). ticket_room x) is in omega arith
+
+pub opens_placed : (p r q : PollerState) → r ≡ p → q ≡ record r { table = q.table; opened = q.opened; lost = q.lost; episodes = q.episodes } → q ≡ opens p q
+opens_placed p r q same is = subst (λ (s : PollerState). q ≡ opens s q) same (subst (λ (s : PollerState). s ≡ opens r s) (sym is) refl)
+
+-- a call refuses what a call of its own refused, and no more is said where it does
+pub passed_up : {T E : Type 0} (r : Result T E) (e : E) (P : E → Type 0) → IsErrAnd r (λ y. y ≡ e) → P e → IfErr r P
+passed_up (Ok x) e P is p = tt
+passed_up (Err y) e P is p = subst P (sym is) p
+
+pub not_ok : {T E : Type 0} (r : Result T E) (X : Type 0) → IsErr r → OnOk r X
+not_ok (Ok x) X is = cc
+not_ok (Err y) X is = tt
+
+-- what placing a connection may change of what the poller keeps
+abbrev places : PollerState → PollerState → PollerState
+places p q = record p { table = q.table; opened = q.opened; lost = q.lost; episodes = q.episodes }
+
+pub places_lost : (p q : PollerState) (lost : ℕ) → q ≡ record p { lost = lost } → q ≡ places p q
+places_lost p q lost is = subst (λ (s : PollerState). s ≡ places p s) (sym is) refl
+
+pub places_opened : (p q : PollerState) (table : List ℕ) (opened : ℕ) → q ≡ record p { table = table; opened = opened } → q ≡ places p q
+places_opened p q table opened is = subst (λ (s : PollerState). s ≡ places p s) (sym is) refl
+
+pub places_told : (p r q : PollerState) (episodes : Episodes) → r ≡ places p r → q ≡ record r { episodes = episodes } → q ≡ places p q
+places_told p r q episodes one two = subst (λ (s : PollerState). s ≡ places p s) (sym two) (ap (λ (s : PollerState). record s { episodes = episodes }) one)
+
+-- no connection was placed, since the slot was not free
+pub not_placed : (p q : PollerState) (a : Own) (seat : SeatState) (slot : ℕ) → q ≡ record p { lost = counted_up p.lost 1 } → seat ≡ one_step_later a.seat
+    → Connected [] (slot ∷ []) 1 p q a (record a { seat = seat })
+not_placed p q a seat slot lost step = record {
+  some = omega arith;
+  exchanges = (let later : seat.steps ≡ a.seat.steps + 1 = ap (λ (s : SeatState). s.steps) step in omega arith);
+  table = ap (λ (s : PollerState). s.table) lost;
+  counted = counted_same p.opened q.opened (ap (λ (s : PollerState). s.opened) lost);
+  unused = counted_one 18446744073709551615 p.lost q.lost (ap (λ (s : PollerState). s.lost) lost);
+  batch = ap (λ (s : PollerState). s.batch) lost;
+  part = ap (λ (s : PollerState). s.part) lost;
+  own = λ s out. refl;
+  accounts = λ s. rose_none (account_at a.seat s) (account_at seat s) (ap (λ (x : SeatState). account_at x s) step);
+  tickets = sym (append-nil a.hand.tickets);
+  ready = refl;
+  gave = refl;
+}
+
+module _ (p r : PollerState) (t : Ticket) (counted : r ≡ record p { table = slice_set p.table t.slot t.generation; opened = counted_up p.opened 1 }) where
+  pub still_sized : length r.table ≡ length p.table
+  still_sized = ap (λ (s : PollerState). length s.table) counted ∙ length-set p.table t.slot t.generation
+
+  module _ (q : PollerState) (told : q ≡ record r { episodes = opened_after r.episodes }) where
+    pub is_opened : IsOpened p q
+    is_opened = (
+      ap (λ (s : PollerState). s.opened) told ∙ ap (λ (s : PollerState). s.opened) counted,
+      ap (λ (s : PollerState). s.dropped) told ∙ ap (λ (s : PollerState). s.dropped) counted,
+      ap (λ (s : PollerState). s.lost) told ∙ ap (λ (s : PollerState). s.lost) counted,
+      ap (λ (s : PollerState). s.episodes) told ∙ ap (λ (s : PollerState). opened_after s.episodes) counted,
+    )
+
+    -- the connection was placed in a slot that was adopted for it, and started
+    pub placed : (a b : Own) (seat : SeatState) (pending : ℕ) → IsIn p.part t.slot → t.generation ≡ slice_index p.table t.slot + 1
+        → Changed t.slot a.seat seat (after_adopt pending (account_at a.seat t.slot)) → OnlyAt t.slot seat b.seat
+        → Started t seat b.seat a.hand b.hand → b.seat.steps ≡ seat.steps + 3 → b.ready ≡ a.ready → b.free ≡ a.free
+        → Connected (t ∷ []) [] 0 p q a b
+    placed a b seat pending here next adopted only started steps ready free = record {
+      some = omega arith;
+      exchanges = (let first = adopted.steps in omega arith);
+      table = (next, ap (λ (s : PollerState). s.table) told ∙ ap (λ (s : PollerState). s.table) counted);
+      counted = counted_one 18446744073709551615 p.opened q.opened is_opened.0;
+      unused = counted_same p.lost q.lost is_opened.2;
+      batch = ap (λ (s : PollerState). s.batch) told ∙ ap (λ (s : PollerState). s.batch) counted;
+      part = ap (λ (s : PollerState). s.part) told ∙ ap (λ (s : PollerState). s.part) counted;
+      own = own_one p.part t here;
+      accounts = accounts_of_one t a.seat b.seat
+          (let rose : Rose 1 1 (after_adopt pending (account_at a.seat t.slot)) (account_at b.seat t.slot) = subst (λ (x : Account). Rose 1 1 x (account_at b.seat t.slot)) adopted.here started.account in
+          record { posted = rose.posted; minted = rose.minted })
+          (λ other elsewhere. only.others other elsewhere ∙ adopted.others other elsewhere);
+      tickets = ap (λ (h : HandState). h.tickets) started.hand;
+      ready = ready;
+      gave = ap (λ (f : EndState ℕ). f.history.put) free;
+    }
+
+-- one ticket more is in hand
+pub room_less : (h k : HandState) (t : Ticket) → k ≡ record h { tickets = h.tickets ++ t ∷ [] } → ticket_room h ≤ ticket_room k + 1
+room_less h k t is =
+    let room : ticket_room k ≡ h.capacity - length (h.tickets ++ t ∷ []) = ap (λ (x : HandState). ticket_room x) is in
+    let more = length-append h.tickets (t ∷ []) in
+    omega arith

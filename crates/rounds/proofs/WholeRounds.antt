@@ -216,18 +216,10 @@ still_read p q r s t read delivered swept accepted ended =
 pub ended_early : (enough : Bool) (slots words room : ℕ) → (IsTrue enough ↔ (512 + slots ≤ room)) → enough ≡ false → slots ≡ words → room < 512 + words
 ended_early enough slots words room is not same = grind arith
 
--- what a step refused is what the round refuses, and after Worn there is no more to say
-pub passed_up : {T E : Type 0} (r : Result T E) (e : E) (P : E → Type 0) → IsErrAnd r (λ y. y ≡ e) → P e → IfErr r P
-passed_up (Ok x) e P is p = tt
-passed_up (Err y) e P is p = subst P (sym is) p
-
+-- a round that was refused so has nothing to say
 pub but_worn : {T : Type 0} {X : Type 0} (r : Result T ServerFault) (e : ServerFault) → IsErrAnd r (λ y. y ≡ e) → e ≡ Worn → r ≢ Err Worn → X
 but_worn (Ok x) e is worn other = absurd is
 but_worn (Err y) e is worn other = absurd (other (ap (λ f. Err f) (is ∙ worn)))
-
-pub not_ok : {T E : Type 0} (r : Result T E) (X : Type 0) → IsErr r → OnOk r X
-not_ok (Ok x) X is = cc
-not_ok (Err y) X is = tt
 
 pub over_before : {a b : Bool} {X : Type 0} → b ≡ a → (b ≡ true) ⊎ X → (a ≡ true) ⊎ X
 over_before same (inl over) = inl (sym same ∙ over)

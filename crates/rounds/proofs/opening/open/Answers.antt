@@ -1,30 +1,116 @@
-use Rattle.std.proofs.Common.{rules, ◌≡◌, ℕ, ◌++◌, ◌∷◌, [], ap, sym, ◌∙◌}
-use Rattle.rounds.proofs.Connections.{some_first, opened_never, opened_not, opened_there, on_ok, same_dropped}
+use Rattle.std.proofs.Common.{rules, ◌≡◌, ◌+◌, ◌<◌, ◌≤◌, ℕ, List, OnOk, ◌⊎◌, slice_index, length, refl, subst, inl, inr, ◌++◌, ◌∷◌, [], ap, sym, ◌∙◌, arith}
+use Rattle.dispatch.specs.declared.part.Part.{Part}
+use Rattle.dispatch.specs.Hands.{HandState, ticket_room}
+use Rattle.dispatch.specs.Polls.{PollerState, IsIn}
+use Rattle.claims.specs.Seats.{one_step_later}
+use Rattle.rounds.specs.Openings.{IsOpened, IsLost}
+use Rattle.token.specs.declared.token.Token.{Token}
+use Rattle.rounds.proofs.Connections.{some_first, opened_never, opened_not, opened_there, on_ok, same_dropped, opens_lost, opens_dropped, opens_placed, lost_counts, dropped_counts, placed_counts, not_own, no_names, room_still}
 use Rattle.rounds.proofs.opening.open.Goals as goal
 
-pub returns-in_default-clause-done : goal.returns-in_default-clause-done
-returns-in_default-clause-done g c =
+pub returns-in_default : goal.returns-in_default
+returns-in_default g c =
     absurd (some_first c.args.own.now.hand.slots c.requires.slot (sym c.take_slot.ensures.value ∙ c.in_default.is))
 
-pub returns-in_default-next_names-clause-done : goal.returns-in_default-next_names-clause-done
-returns-in_default-next_names-clause-done g c =
-    opened_never c.args.poller.now c.count_lost-in_default-next_names.new.self c.args.own.now c.take_slot.new.self c.take_slot.ensures.left c.in-Some.slot (sym c.take_slot.ensures.value ∙ c.in-Some.is) c.count_lost-in_default-next_names.ensures
+pub returns-then-not-has : goal.returns-then-not-has
+returns-then-not-has g c =
+    let first = sym c.take_slot.ensures.value ∙ c.in-Some.is in
+    let other = subst (λ (part : Part). IsIn part c.in-Some.slot → ⊥) c.part.ensures (not_own c.has.result c.part.result c.in-Some.slot c.has.ensures c.if-not-has.true) in
+    record {
+      between = record {
+        same = c.requires.between.same;
+        idle = c.requires.between.idle;
+        sized = ap (λ (s : PollerState). length s.table) c.count_lost-then-not-has.ensures ∙ c.requires.between.sized;
+      };
+      worn = tt;
+      counted = lost_counts c.args.poller.now c.count_lost-then-not-has.new.self c.args.own.now.seat c.args.own.now.seat c.args.own.now.hand.slots c.in-Some.slot first c.count_lost-then-not-has.ensures (inl other);
+      done = opened_never c.args.poller.now c.count_lost-then-not-has.new.self c.args.own.now c.take_slot.new.self c.take_slot.ensures.left c.in-Some.slot first c.count_lost-then-not-has.ensures;
+      ready = refl;
+      poller = opens_lost c.args.poller.now c.count_lost-then-not-has.new.self _ c.count_lost-then-not-has.ensures;
+      room = room_still c.args.own.now.hand c.take_slot.new.self _ c.take_slot.ensures.left;
+    }
 
-pub returns-then-not-has-clause-done : goal.returns-then-not-has-clause-done
-returns-then-not-has-clause-done g c =
-    opened_never c.args.poller.now c.count_lost-then-not-has.new.self c.args.own.now c.take_slot.new.self c.take_slot.ensures.left c.in-Some.slot (sym c.take_slot.ensures.value ∙ c.in-Some.is) c.count_lost-then-not-has.ensures
+pub returns-in_default-next_names : goal.returns-in_default-next_names
+returns-in_default-next_names g c =
+    let first = sym c.take_slot.ensures.value ∙ c.in-Some.is in
+    let spent = no_names c.args.poller.now.table c.in-Some.slot
+        (subst (λ (table : List ℕ). c.in-Some.slot ≤ 32767 → c.in-Some.slot < length table → slice_index table c.in-Some.slot ≡ 140737488355327) c.table.ensures.table (c.in_default-next_names.ensures.none refl)) in
+    record {
+      between = record {
+        same = c.requires.between.same;
+        idle = c.requires.between.idle;
+        sized = ap (λ (s : PollerState). length s.table) c.count_lost-in_default-next_names.ensures ∙ c.requires.between.sized;
+      };
+      worn = tt;
+      counted = lost_counts c.args.poller.now c.count_lost-in_default-next_names.new.self c.args.own.now.seat c.args.own.now.seat c.args.own.now.hand.slots c.in-Some.slot first c.count_lost-in_default-next_names.ensures (inr spent);
+      done = opened_never c.args.poller.now c.count_lost-in_default-next_names.new.self c.args.own.now c.take_slot.new.self c.take_slot.ensures.left c.in-Some.slot first c.count_lost-in_default-next_names.ensures;
+      ready = refl;
+      poller = opens_lost c.args.poller.now c.count_lost-in_default-next_names.new.self _ c.count_lost-in_default-next_names.ensures;
+      room = room_still c.args.own.now.hand c.take_slot.new.self _ c.take_slot.ensures.left;
+    }
 
-pub returns-in-Err-clause-done : goal.returns-in-Err-clause-done
-returns-in-Err-clause-done g c =
-    let named : c.in-Some-next_names.names.client.slot ≡ c.in-Some.slot = search rules in
+pub returns-in-Err : goal.returns-in-Err
+returns-in-Err g c =
+    let first = sym c.take_slot.ensures.value ∙ c.in-Some.is in
+    let named : c.in-Some-next_names.names.client.slot ≡ c.in-Some.slot = ap (λ (t : Token). t.slot) c.in-Some-next_names.ensures.client in
     let here = c.in-Err.ensures.failed ∙ ap (λ (s : ℕ). record c.take_slot.new.self { slots = c.take_slot.new.self.slots ++ s ∷ [] }) named in
-    opened_not c.args.poller.now c.count_dropped.new.self c.args.own.now c.take_slot.new.self c.take_slot.ensures.left c.in-Some.slot (sym c.take_slot.ensures.value ∙ c.in-Some.is) c.prepare.new.hand here
-    (same_dropped c.args.poller.now c.prepare.new.poller c.count_dropped.new.self _ _ c.in-Err.ensures.told c.count_dropped.ensures)
+    record {
+      between = record {
+        same = c.requires.between.same;
+        idle = c.requires.between.idle;
+        sized = ap (λ (s : PollerState). length s.table) c.count_dropped.ensures ∙ ap (λ (s : PollerState). length s.table) c.in-Err.ensures.told ∙ c.requires.between.sized;
+      };
+      worn = tt;
+      counted = dropped_counts c.args.poller.now c.prepare.new.poller c.count_dropped.new.self c.args.own.now.seat c.args.own.now.seat c.args.own.now.hand.slots c.in-Some.slot
+          c.in-Err.dropped first c.in-Err.ensures.told c.count_dropped.ensures;
+      done = opened_not c.args.poller.now c.count_dropped.new.self c.args.own.now c.take_slot.new.self c.take_slot.ensures.left c.in-Some.slot first c.prepare.new.hand here
+          (same_dropped c.args.poller.now c.prepare.new.poller c.count_dropped.new.self _ _ c.in-Err.ensures.told c.count_dropped.ensures);
+      ready = refl;
+      poller = opens_dropped c.args.poller.now c.prepare.new.poller c.count_dropped.new.self _ _ c.in-Err.ensures.told c.count_dropped.ensures;
+      room = subst (λ (h : HandState). ticket_room h ≤ ticket_room c.prepare.new.hand + 1) c.take_slot.ensures.left
+          (room_still c.take_slot.new.self c.prepare.new.hand _ c.in-Err.ensures.failed);
+    }
 
-pub returns-in-Ok-clause-done : goal.returns-in-Ok-clause-done
-returns-in-Ok-clause-done g c =
-    let here : c.in-Ok.berth.pair.slot ≡ c.in-Some.slot = search rules in
-    on_ok c.place.result
-    (opened_there c.args.poller.now c.place.new.poller c.args.own.now c.prepare.new.hand (c.in-Ok.ensures.prepared ∙ c.take_slot.ensures.left) c.in-Some.slot (sym c.take_slot.ensures.value ∙ c.in-Some.is)
-    c.prepare.new.poller c.place.new.own (record { slot = c.in-Ok.berth.pair.slot; generation = c.in-Ok.berth.pair.generation }) c.in-Ok.ensures.same here)
-    c.place.ensures.done c.place.ensures.free c.place.ensures.slots
+pub returns-in-Ok : goal.returns-in-Ok
+returns-in-Ok g c =
+    let first = sym c.take_slot.ensures.value ∙ c.in-Some.is in
+    let hand = c.in-Ok.ensures.prepared ∙ c.take_slot.ensures.left in
+    let here : c.in-Ok.berth.pair.slot ≡ c.in-Some.slot = c.in-Ok.ensures.slot ∙ ap (λ (t : Token). t.slot) c.in-Some-next_names.ensures.client in
+    record {
+      between = c.place.ensures.between;
+      worn = c.place.ensures.worn;
+      counted = placed_counts c.place.result c.args.poller.now c.place.new.poller c.args.own.now.seat c.place.new.own.seat c.args.own.now.hand.slots c.in-Some.slot first
+          (subst (λ (p : PollerState). OnOk c.place.result (IsOpened p c.place.new.poller ⊎ (IsLost p c.place.new.poller × (c.place.new.own.seat ≡ one_step_later c.args.own.now.seat)))) c.in-Ok.ensures.same c.place.ensures.counted);
+      done = on_ok c.place.result
+          (opened_there c.args.poller.now c.place.new.poller c.args.own.now c.prepare.new.hand hand c.in-Some.slot first
+          c.prepare.new.poller c.place.new.own (record { slot = c.in-Ok.berth.pair.slot; generation = c.in-Ok.berth.pair.generation }) c.in-Ok.ensures.same here)
+          c.place.ensures.done c.place.ensures.free c.place.ensures.slots;
+      ready = c.place.ensures.ready;
+      poller = opens_placed c.args.poller.now c.prepare.new.poller c.place.new.poller c.in-Ok.ensures.same c.place.ensures.poller;
+      room = subst (λ (h : HandState). OnOk c.place.result (ticket_room h ≤ ticket_room c.place.new.own.hand + 1)) hand c.place.ensures.room;
+    }
+
+pub place-requires : goal.place-requires
+place-requires g c =
+    let named = c.in-Some-next_names.ensures.client in
+    let here : c.in-Ok.berth.pair.slot ≡ c.in-Some.slot = c.in-Ok.ensures.slot ∙ ap (λ (t : Token). t.slot) named in
+    let table : c.prepare.new.poller.table ≡ c.table.result.now = ap (λ (p : PollerState). p.table) c.in-Ok.ensures.same ∙ sym c.table.ensures.table in
+    record {
+      between = record {
+        same = c.requires.between.same;
+        idle = c.requires.between.idle;
+        sized = ap (λ (p : PollerState). length p.table) c.in-Ok.ensures.same ∙ c.requires.between.sized;
+      };
+      inside = subst (λ (t : List ℕ). c.in-Ok.berth.pair.slot < length t) (sym table) (subst (λ (s : ℕ). s < length c.table.result.now) (sym here) c.in-Some-next_names.ensures.inside);
+      own = subst (λ (p : PollerState). IsIn p.part c.in-Ok.berth.pair.slot) (sym c.in-Ok.ensures.same)
+          (subst (λ (part : Part). IsIn part c.in-Ok.berth.pair.slot) c.part.ensures
+          (subst (λ (s : ℕ). IsIn c.part.result s) (sym here) (c.has.ensures.0 c.if-not-has.false)));
+      next = subst (λ (t : List ℕ). c.in-Ok.berth.pair.generation ≡ slice_index t c.in-Ok.berth.pair.slot + 1) (sym table)
+          (subst (λ (s : ℕ). c.in-Ok.berth.pair.generation ≡ slice_index c.table.result.now s + 1) (sym here)
+          (c.in-Ok.ensures.generation ∙ ap (λ (t : Token). t.generation) named));
+      generation = search rules;
+      room = subst (λ (h : HandState). 1 ≤ ticket_room h) (sym (c.in-Ok.ensures.prepared ∙ c.take_slot.ensures.left)) c.requires.room;
+    }
+
+pub prepare-requires : goal.prepare-requires
+prepare-requires g c = c.in-Some.ensures.room refl

@@ -1,0 +1,73 @@
+use Rattle.std.proofs.Common.{◌≡◌, ◌∙◌, ℕ, ◌∷◌, [], ◌+◌, slice_index, ap, arith, inl, inr, length, refl, subst, sym}
+use Rattle.claims.specs.Seats.{SeatState, HoldsNothing}
+use Rattle.ready.specs.declared.ticket.Ticket.{Ticket}
+use Rattle.dispatch.specs.Hands.{HandState}
+use Rattle.dispatch.specs.Polls.{PollerState, IsIn}
+use Rattle.rounds.specs.Openings.{Connected}
+use Rattle.rounds.proofs.Connections.{is_opened, not_ok, not_placed, passed_up, placed, places_lost, places_opened, places_told, room_less, still_sized}
+use Rattle.rounds.proofs.opening.place.Goals as goal
+
+pub returns-in_ok-start-in-Adopted : goal.returns-in_ok-start-in-Adopted
+returns-in_ok-start-in-Adopted g c =
+    let ticket : Ticket = record { slot = c.slot-slot.result; generation = c.generation-generation.result } in
+    let named : ticket ≡ record { slot = c.args.berth.pair.slot; generation = c.args.berth.pair.generation } =
+        ap (λ (s : ℕ). record { slot = s; generation = c.generation-generation.result }) c.slot-slot.ensures ∙ ap (λ (n : ℕ). record { slot = c.args.berth.pair.slot; generation = n }) c.generation-generation.ensures in
+    let change = c.in-Adopted.ensures.change in
+    record {
+      between = record {
+        same = c.start.ensures.only.table ∙ change.1.table ∙ c.requires.between.same;
+        idle = c.start.ensures.idle;
+        sized = ap (λ (s : PollerState). length s.table) c.end_episodes.ensures ∙ still_sized c.args.poller.now c.count_opened.new.self ticket c.count_opened.ensures ∙ c.requires.between.sized;
+      };
+      worn = tt;
+      done = inl (subst (λ (t : Ticket). Connected (t ∷ []) [] 0 c.args.poller.now c.end_episodes.new.self c.args.own.now c.start.new.own) named
+          (placed c.args.poller.now c.count_opened.new.self ticket c.count_opened.ensures c.end_episodes.new.self c.end_episodes.ensures c.args.own.now c.start.new.own c.adopt.new.seat change.0
+          (subst (λ (t : Ticket). IsIn c.args.poller.now.part t.slot) (sym named) c.requires.own)
+          (subst (λ (t : Ticket). t.generation ≡ slice_index c.args.poller.now.table t.slot + 1) (sym named) c.requires.next)
+          change.1 c.start.ensures.only c.in_ok-start-in-Adopted.ensures.started c.in_ok-start-in-Adopted.ensures.exchanges c.start.ensures.ready c.start.ensures.free));
+      poller = places_told c.args.poller.now c.count_opened.new.self c.end_episodes.new.self _ (places_opened c.args.poller.now c.count_opened.new.self _ _ c.count_opened.ensures) c.end_episodes.ensures;
+      ready = c.start.ensures.ready;
+      counted = inl (is_opened c.args.poller.now c.count_opened.new.self ticket c.count_opened.ensures c.end_episodes.new.self c.end_episodes.ensures);
+      free = c.start.ensures.free;
+      slots = ap (λ (h : HandState). h.slots) c.in_ok-start-in-Adopted.ensures.started.hand;
+      room = room_less c.args.own.now.hand c.start.new.own.hand ticket c.in_ok-start-in-Adopted.ensures.started.hand;
+    }
+
+pub returns-in_err-start-in-Adopted : goal.returns-in_err-start-in-Adopted
+returns-in_err-start-in-Adopted g c =
+    let ticket : Ticket = record { slot = c.slot-slot.result; generation = c.generation-generation.result } in
+    let failed = c.from_residual.ensures.0 in
+    record {
+      between = record {
+        same = c.start.ensures.only.table ∙ c.in-Adopted.ensures.change.1.table ∙ c.requires.between.same;
+        idle = c.start.ensures.idle;
+        sized = still_sized c.args.poller.now c.count_opened.new.self ticket c.count_opened.ensures ∙ c.requires.between.sized;
+      };
+      worn = passed_up c.from_residual.result c.in_err-start-in-Adopted.field-0.0 _ c.from_residual.ensures.1 c.in_err-start-in-Adopted.ensures.worn;
+      done = not_ok c.from_residual.result _ failed;
+      poller = places_opened c.args.poller.now c.count_opened.new.self _ _ c.count_opened.ensures;
+      ready = c.start.ensures.ready;
+      counted = not_ok c.from_residual.result _ failed;
+      free = not_ok c.from_residual.result _ failed;
+      slots = not_ok c.from_residual.result _ failed;
+      room = not_ok c.from_residual.result _ failed;
+    }
+
+pub returns-in-NotFree : goal.returns-in-NotFree
+returns-in-NotFree g c =
+    let change = c.in-NotFree.ensures.change in
+    record {
+      between = record {
+        same = ap (λ (s : SeatState). s.table) change ∙ c.requires.between.same;
+        idle = subst (λ (s : SeatState). HoldsNothing s) (sym change) (record { nowhere = c.requires.between.idle.nowhere });
+        sized = ap (λ (s : PollerState). length s.table) c.count_lost.ensures ∙ c.requires.between.sized;
+      };
+      worn = tt;
+      done = inr (not_placed c.args.poller.now c.count_lost.new.self c.args.own.now c.adopt.new.seat c.args.berth.pair.slot c.count_lost.ensures change);
+      poller = places_lost c.args.poller.now c.count_lost.new.self _ c.count_lost.ensures;
+      ready = refl;
+      counted = inr ((ap (λ (s : PollerState). s.opened) c.count_lost.ensures, ap (λ (s : PollerState). s.dropped) c.count_lost.ensures, ap (λ (s : PollerState). s.lost) c.count_lost.ensures, ap (λ (s : PollerState). s.episodes) c.count_lost.ensures), change);
+      free = refl;
+      slots = refl;
+      room = omega arith;
+    }
