@@ -1,2 +1,1 @@
-pub mod Shares
 pub mod Turns

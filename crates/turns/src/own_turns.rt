@@ -122,11 +122,20 @@ pub fn own_turn<F: Front, G: Gate, C: Clock, R: Wait + Log>(
     };
     let terms = Terms::own(shared.budget, timing.moment());
     let worked = turn_of(rt, shared, own, gate, ticket, terms)?;
+    follow_up(shared, poller, ticket, worked);
+    Ok(Some(worked))
+}
+
+/// What the answer of an own turn means to the poller: a connection that spent the budget is heavy from then on, and once no more
+/// are to be opened, the next wait ends at once where one has ended.
+fn follow_up<F: Front>(shared: &Shared<F>, poller: &mut Poller<F>, ticket: Ticket, worked: Worked)
+    ensures marks { poller.new ≡ record poller.old { heavy = marks_after (Some ticket) (Ok (Some worked)) poller.old.heavy } }
+    ensures woken { worked ≡ Worked.Ended → HasOpenedAll poller.old → F.woke shared.now.waker ticket.slot }
+{
     if worked == Worked::Again {
         poller.mark_heavy(ticket.slot);
     }
     if worked == Worked::Ended && poller.has_opened_all() {
         F::wake(&shared.waker, ticket.slot);
     }
-    Ok(Some(worked))
 }

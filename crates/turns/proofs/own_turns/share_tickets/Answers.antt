@@ -3,7 +3,7 @@ use Rattle.claims.specs.Seats.{SeatState, HoldsNothing}
 use Rattle.dispatch.specs.Hands.{HandState}
 use Rattle.std.proofs.lemmas.Bool.{false≢true}
 use Rattle.turns.specs.Shares.{Stays}
-use Rattle.turns.proofs.Shares.{OneMoved, kept_moves, passed_moves, shared_more, shared_all, took_none}
+use Rattle.turns.proofs.Turns.{OneMoved, kept_moves, passed_moves, shared_more, shared_all, took_none}
 use Rattle.turns.proofs.own_turns.share_tickets.Goals as goal
 use Rattle.turns.proofs.own_turns.share_tickets.Goals.{in-Some-stays, in_default-stays}
 

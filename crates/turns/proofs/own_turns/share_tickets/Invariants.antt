@@ -1,6 +1,6 @@
 use Rattle.std.specs.Prelude.{◌≡◌, ◌≤◌}
 use Rattle.claims.specs.Seats.{HoldsNothing}
-use Rattle.turns.proofs.Shares.{SharedSoFar}
+use Rattle.turns.proofs.Turns.{SharedSoFar}
 use Rattle.turns.proofs.own_turns.share_tickets.Given as goal
 
 abbrev pub invariant-loop-ticket : goal.invariant-loop-ticket
