@@ -1,6 +1,6 @@
--- Connections that are opened one after the other.
-use Rattle.std.proofs.Common.{◌≡◌, ◌≢◌, ◌⊎◌, ◌↔◌, ℕ, ◌+◌, ◌-◌, ◌<◌, ◌≤◌, true, false, IsTrue, List, [], ◌∷◌, ◌++◌, length, drop, slice_get, slice_set, min, cond, Bool, refl, sym, subst, ap, ◌∙◌, arith, inl, inr, append_assoc, length-append}
-use Rattle.std.specs.Prelude.{◌==◌, Option, Some, None, Result, Ok, Err, OnOk, IfSome, IfErr, IsErr, IsErrAnd, map, slice_index}
+-- Connections that are opened one after the other, and why one is closed unopened.
+use Rattle.std.proofs.Common.{◌≡◌, ◌≢◌, ◌⊎◌, ◌↔◌, ℕ, ◌+◌, ◌-◌, ◌<◌, ◌≤◌, true, false, IsTrue, List, [], ◌∷◌, ◌++◌, length, drop, slice_get, slice_set, min, cond, Bool, refl, sym, subst, ap, ◌∙◌, arith, inl, inr, append_assoc, length-append, Option, Some, None}
+use Rattle.std.specs.Prelude.{◌==◌, Option, Some, None, Result, Ok, Err, OnOk, IfSome, IfErr, OnErr, IsErr, IsErrAnd, map, slice_index}
 use Rattle.std.proofs.lemmas.Bool.{cases_lt}
 use Rattle.std.proofs.lemmas.List.{append-nil, length-set}
 use Rattle.std.proofs.lemmas.List.Sums.{sum_by-append}
@@ -15,7 +15,7 @@ use Rattle.dispatch.specs.declared.shared.Own.{Own}
 use Rattle.ready.specs.Steps.{EndState}
 use Rattle.dispatch.specs.Hands.{HandState, ticket_room}
 use Rattle.rounds.specs.Deliveries.{at_slot}
-use Rattle.rounds.specs.Openings.{times, slots_in, AreIn, AreOpened, SlotsCounted, OnlyTook, Between, Started, Connected, AcceptDone, IsOpened, IsDropped, IsLost, IsSpent, LostFor}
+use Rattle.rounds.specs.Openings.{times, slots_in, AreIn, AreOpened, SlotsCounted, OnlyTook, Between, Started, Connected, AcceptDone, IsOpened, IsDropped, IsLost, IsSpent, LostFor, DropsFor}
 use Rattle.dispatch.specs.Polls.{PollerState, Counted, counted_up, IsIn}
 use Rattle.dispatch.specs.declared.part.Part.{Part}
 use Rattle.dispatch.specs.declared.episodes.Episodes.{Episodes}
@@ -24,6 +24,12 @@ use Rattle.dispatch.specs.Episodes.{opened_after}
 use Rattle.dispatch.specs.Posts.{Rose}
 use Rattle.relay_log.specs.declared.cause.Cause.{Cause}
 use Rattle.rounds.proofs.Reports.{at_slot-append, one_at, none_at}
+use Rattle.relay_log.specs.declared.cause.Cause.TheVariants as cause
+use Rattle.dispatch.specs.Fronts.{cause_of}
+use Rattle.dispatch.specs.declared.front.Unopened.{Unopened}
+use Rattle.dispatch.specs.declared.front.Unopened.TheVariants as unopened
+use Rattle.dispatch.specs.declared.route.Route.{Route}
+use Rattle.rounds.specs.Leads.{lacks, lead_of}
 
 -- counts
 
@@ -444,6 +450,10 @@ pub not_ok : {T E : Type 0} (r : Result T E) (X : Type 0) → IsErr r → OnOk r
 not_ok (Ok x) X is = cc
 not_ok (Err y) X is = tt
 
+pub if_fails : {T E A : Type 0} (r : Result T E) → A → OnErr r A
+if_fails (Ok x) a = tt
+if_fails (Err y) a = a
+
 -- what placing a connection may change of what the poller keeps
 abbrev places : PollerState → PollerState → PollerState
 places p q = record p { table = q.table; opened = q.opened; lost = q.lost; episodes = q.episodes }
@@ -517,3 +527,33 @@ room_less h k t is =
     let room : ticket_room k ≡ h.capacity - length (h.tickets ++ t ∷ []) = ap (λ (x : HandState). ticket_room x) is in
     let more = length-append h.tickets (t ∷ []) in
     omega arith
+
+-- what holds between two steps still holds behind one that took slots
+pub between_took : (claims : TableId) (a b : Own) (p q : PollerState) → Between claims a p → OnlyTook a b → q.table ≡ p.table → Between claims b q
+between_took claims a b p q between took table = record {
+  same = ap (λ (s : SeatState). s.table) took.seat ∙ between.same;
+  idle = subst (λ (s : SeatState). HoldsNothing s) (sym took.seat) between.idle;
+  sized = ap (λ (t : List ℕ). length t) table ∙ between.sized;
+}
+
+-- why a connection is closed unopened: by what the front answered
+pub refused_drops : (may_refuse : Unopened → Type 0) (may_tell : Route → Type 0) (proxy : Bool) (why : Unopened) (c : Cause)
+    → may_refuse why → c ≡ cause_of why → DropsFor may_refuse may_tell proxy c
+refused_drops may_refuse may_tell proxy why c refuses is = subst (λ (d : Cause). DropsFor may_refuse may_tell proxy d) (sym is) (by_front why refuses) where
+  by_front : (w : Unopened) → may_refuse w → DropsFor may_refuse may_tell proxy (cause_of w)
+  by_front unopened.Connect refuses = refuses
+  by_front unopened.Register refuses = refuses
+
+-- by what the lead lacked
+pub lacking_drops : (may_refuse : Unopened → Type 0) (may_tell : Route → Type 0) (proxy : Bool) (route : Route) (c : Cause)
+    → may_tell route → c ≡ lacks (lead_of proxy route) → DropsFor may_refuse may_tell proxy c
+lacking_drops may_refuse may_tell proxy route c told is =
+    subst (λ (d : Cause). DropsFor may_refuse may_tell proxy d) (sym is) (by_lead (lead_of proxy route) (λ i. lead_of proxy route)) where
+      by_lead : (lead : Option (List ℕ)) → lead_of proxy route ≡ lead → DropsFor may_refuse may_tell proxy (lacks lead)
+      by_lead None same = (route, told, same)
+      by_lead (Some lead) same = tt
+
+-- for want of memory
+pub memory_drops : (may_refuse : Unopened → Type 0) (may_tell : Route → Type 0) (proxy : Bool) (c : Cause)
+    → c ≡ cause.Memory → DropsFor may_refuse may_tell proxy c
+memory_drops may_refuse may_tell proxy c is = subst (λ (d : Cause). DropsFor may_refuse may_tell proxy d) (sym is) tt

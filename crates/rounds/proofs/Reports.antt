@@ -1,6 +1,8 @@
--- Reports that are delivered one after the other, each for a slot of the poller's own.
-use Rattle.std.proofs.Common.{◌≡◌, ◌≢◌, ℕ, suc, ◌+◌, ◌≤◌, List, [], ◌∷◌, ◌++◌, length, cond, refl, sym, subst, ap, ◌∙◌, arith, slice_index, inl, inr, append_assoc, length-append, Bool, true, false}
-use Rattle.std.specs.Prelude.{◌==◌, Option, Some, None}
+-- The reports of a batch, and the posts of a sweep, one after the other.
+use Rattle.std.proofs.Common.{◌≡◌, ◌≢◌, ◌⊎◌, ◌↔◌, IsTrue, ℕ, suc, ◌+◌, ◌≤◌, List, [], ◌∷◌, ◌++◌, length, cond, refl, sym, subst, ap, ◌∙◌, arith, slice_index, inl, inr, append_assoc, length-append, Bool, true, false, zero}
+use Rattle.std.specs.Prelude.{◌==◌, Option, Some, None, nat_lt, if◌then◌else◌, Contains}
+use Rattle.std.proofs.lemmas.Bool.Decides.{nat_tests}
+use Rattle.relay_core.specs.Idle.{is_past}
 use Rattle.std.specs.List.{cons_option}
 use Rattle.std.proofs.lemmas.Bool.{eq-eqb, ne_eqb}
 use Rattle.std.proofs.lemmas.List.{append-nil}
@@ -15,9 +17,10 @@ use Rattle.claims.specs.Seats.{SeatState, account_at, HoldsNot, HoldsNothing, Ch
 use Rattle.ready.specs.declared.ticket.Ticket.{Ticket}
 use Rattle.dispatch.specs.Hands.{HandState}
 use Rattle.dispatch.specs.declared.part.Part.{Part}
-use Rattle.dispatch.specs.Polls.{IsIn, IsOwnTable}
+use Rattle.dispatch.specs.Polls.{IsIn, IsOwnTable, PollerState}
 use Rattle.rounds.specs.Openings.{AreIn}
 use Rattle.rounds.specs.Deliveries.{reported, all_reported, at_slot, IsSubsequence, raised, ArePosted, Delivered}
+use Rattle.rounds.specs.Sweeps.{last_in, opened_in, opened_below, all_opened, sweep_of, swept_after}
 
 raised_none : (a : Account) → a ≡ raised 0 0 a
 raised_none a =
@@ -182,3 +185,114 @@ pub own_reports : (part : Part) (table batch : List ℕ) → IsOwnTable part tab
 own_reports part table [] own slot out = refl
 own_reports part table (number ∷ batch) own slot out =
     own_report part table number slot (all_reported table batch) own out (own_reports part table batch own slot out) (reported table number) refl
+
+few_in : (table : List ℕ) (slot : ℕ) → length (opened_in table slot) ≤ 1
+few_in table slot = elim (nat_lt 0 (slice_index table slot)) as (λ (b : Bool). length (if b then last_in table slot ∷ [] else []) ≤ 1) [ true ↦ omega arith | false ↦ omega arith ]
+
+-- as many as there are slots, or fewer
+pub few_below : (table : List ℕ) (slots : ℕ) → length (opened_below table slots) ≤ slots
+few_below table zero = omega arith
+few_below table (suc slots) =
+    let before = few_below table slots in
+    let one = few_in table slots in
+    let both = length-append (opened_below table slots) (opened_in table slots) in
+    omega arith
+
+-- one slot more
+pub below_more : (table : List ℕ) (slot : ℕ) → opened_below table (slot + 1) ≡ opened_below table slot ++ opened_in table slot
+below_more table slot =
+    let more : slot + 1 ≡ suc slot = omega arith in
+    ap (λ (n : ℕ). opened_below table n) more
+
+none_in : (table : List ℕ) (part : Part) (slot at : ℕ) → IsOwnTable part table → (IsIn part slot → ⊥) → at_slot slot (opened_in table at) ≡ 0
+none_in table part slot at own out = dite (ℕ_discrete slot at)
+    (λ same. (
+    let none : slice_index table at ≡ 0 = subst (λ (i : ℕ). slice_index table i ≡ 0) same (own slot out) in
+    let unopened : nat_lt 0 (slice_index table at) ≡ false = ap (λ (n : ℕ). nat_lt 0 n) none in
+    ap (λ (b : Bool). at_slot slot (if b then last_in table at ∷ [] else [])) unopened))
+    (λ other.
+    elim (nat_lt 0 (slice_index table at)) as (λ (b : Bool). at_slot slot (if b then last_in table at ∷ [] else []) ≡ 0)
+    [ true ↦ none_at (last_in table at) slot other | false ↦ refl ])
+
+below_own : (part : Part) (table : List ℕ) (slots : ℕ) → IsOwnTable part table → AreIn part (opened_below table slots)
+below_own part table zero own slot out = refl
+below_own part table (suc slots) own slot out =
+    let before = below_own part table slots own slot out in
+    let one = none_in table part slot slots own out in
+    let both = at_slot-append slot (opened_below table slots) (opened_in table slots) in
+    omega arith
+
+-- a poller opened connections in its own slots alone
+pub own_opened : (part : Part) (table : List ℕ) → IsOwnTable part table → AreIn part (all_opened table)
+own_opened part table own = below_own part table (length table) own
+
+-- what a round posts for time
+pub own_sweep : (part : Part) (old new : PollerState) → AreIn part (all_opened old.table) → AreIn part (sweep_of old new)
+own_sweep part old new own slot out =
+    elim (new.swept == old.swept) as (λ (b : Bool). at_slot slot (if b then [] else all_opened old.table) ≡ 0) [ true ↦ refl | false ↦ own slot out ]
+
+pub few_sweep : (old new : PollerState) → length (sweep_of old new) ≤ length old.table
+few_sweep old new =
+    let few = few_below old.table (length old.table) in
+    elim (new.swept == old.swept) as (λ (b : Bool). length (if b then [] else all_opened old.table) ≤ length old.table) [ true ↦ omega arith | false ↦ few ]
+
+-- no sweep was made
+pub no_sweep : (old : PollerState) (swept : ℕ) → swept ≡ old.swept → (if swept == old.swept then [] else all_opened old.table) ≡ []
+no_sweep old swept same = ap (λ (b : Bool). if b then [] else all_opened old.table) (eq-eqb swept old.swept same)
+
+-- the parts of a round that a sweep does not see
+pub same_sweep : (p q r s : PollerState) → q.table ≡ p.table → q.swept ≡ p.swept → s.swept ≡ r.swept → sweep_of p s ≡ sweep_of q r
+same_sweep p q r s table was is =
+    ap (λ (ts : List ℕ). if s.swept == p.swept then [] else all_opened ts) (sym table)
+    ∙ ap (λ (n : ℕ). if n == p.swept then [] else all_opened q.table) is
+    ∙ ap (λ (n : ℕ). if r.swept == n then [] else all_opened q.table) (sym was)
+
+-- a sweep was made
+past_later : (second limit last : ℕ) → is_past second limit last ≡ true → second ≢ last
+past_later second limit last past same = grind (arith, nat_tests)
+
+a_sweep : (old new : PollerState) (limit : ℕ) → is_past new.swept limit old.swept ≡ true → sweep_of old new ≡ all_opened old.table
+a_sweep old new limit past = ap (λ (b : Bool). if b then [] else all_opened old.table) (ne_eqb new.swept old.swept (past_later new.swept limit old.swept past))
+
+-- Behind a look at the clock, and what the test whether the limit has passed says then
+module _ (p q : PollerState) (second : ℕ) (set : q ≡ record p { second = second }) where
+  pub set_only : q ≡ record p { second = q.second; swept = q.swept }
+  set_only = subst (λ (s : PollerState). s ≡ record p { second = s.second; swept = s.swept }) (sym set) refl
+
+  module _ (limit last l : ℕ) (passed : Bool) (test : passed ≡ is_past second limit last) (was : last ≡ q.swept) (is : limit ≡ l) where
+    is_test : passed ≡ is_past second l p.swept
+    is_test = subst (λ (n : ℕ). passed ≡ is_past second l n) (was ∙ ap (λ (s : PollerState). s.swept) set)
+        (subst (λ (n : ℕ). passed ≡ is_past second n last) is test)
+
+    pub not_swept : passed ≡ false → q.swept ≡ swept_after l q.second p.swept
+    not_swept not =
+        let late : is_past second l p.swept ≡ false = sym is_test ∙ not in
+        let still : swept_after l second p.swept ≡ p.swept = ap (λ (b : Bool). if b then second else p.swept) late in
+        subst (λ (s : PollerState). s.swept ≡ swept_after l s.second p.swept) (sym set) (sym still)
+
+    module _ (r : PollerState) (counted : r ≡ record q { swept = q.second }) (yes_passed : passed ≡ true) where
+      pub swept_is_now : r.swept ≡ second
+      swept_is_now = ap (λ (s : PollerState). s.swept) counted ∙ ap (λ (s : PollerState). s.second) set
+
+      pub second_is_now : r.second ≡ second
+      second_is_now = ap (λ (s : PollerState). s.second) counted ∙ ap (λ (s : PollerState). s.second) set
+
+      pub both_only : r ≡ record p { second = r.second; swept = r.swept }
+      both_only = subst (λ (s : PollerState). s ≡ record p { second = s.second; swept = s.swept }) (sym counted)
+          (subst (λ (s : PollerState). record s { swept = s.second } ≡ record p { second = s.second; swept = s.second }) (sym set) refl)
+
+      late : is_past second l p.swept ≡ true
+      late = sym is_test ∙ yes_passed
+
+      pub swept : r.swept ≡ swept_after l r.second p.swept
+      swept = swept_is_now ∙ sym (ap (λ (b : Bool). if b then second else p.swept) late) ∙ ap (λ (n : ℕ). swept_after l n p.swept) (sym second_is_now)
+
+      pub sweep_is : sweep_of p r ≡ all_opened p.table
+      sweep_is = a_sweep p r l (subst (λ (n : ℕ). is_past n l p.swept ≡ true) (sym swept_is_now) late)
+
+-- the listener was not reported
+pub flag_still : (told flag : Bool) (batch : List ℕ) → (IsTrue told ↔ Contains batch 0) → told ≡ false → IsTrue flag ↔ (IsTrue flag ⊎ Contains batch 0)
+flag_still told flag batch is not = (λ up. inl up, by_either) where
+  by_either : IsTrue flag ⊎ Contains batch 0 → IsTrue flag
+  by_either (inl up) = up
+  by_either (inr has) = let so : told ≡ true = is.1 has in cc

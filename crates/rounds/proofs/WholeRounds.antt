@@ -20,8 +20,7 @@ use Rattle.std.proofs.lemmas.Bool.{cases_lt}
 use Rattle.rounds.specs.Sweeps.{swept_after, sweep_of}
 use Rattle.dispatch.specs.Posts.{Rose}
 use Rattle.rounds.proofs.Connections.{SamePoller, accept_none, tried}
-use Rattle.rounds.proofs.Reports.{posted_none}
-use Rattle.rounds.proofs.Sweeps.{no_sweep, same_sweep}
+use Rattle.rounds.proofs.Reports.{posted_none, no_sweep, same_sweep}
 
 -- notes were posted for reports, then for a sweep, then for openings
 rose_after : (a b c d : Account) (posts wakes sweeps rouses opened : ℕ) → b ≡ raised posts wakes a → c ≡ raised sweeps rouses b → Rose opened opened c d → Rose (posts + (sweeps + opened)) (wakes + (rouses + opened)) a d

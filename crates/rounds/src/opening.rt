@@ -156,7 +156,7 @@ pub(crate) fn connect<F: Front, N: Log>(
 /// the addresses of their clients' connections, the pair begins with it on the way up. A refusal closes the target's
 /// connection if it had been started. It is what the front answered, or `Address` if the line is to be sent and an address is
 /// missing, or `Memory`.
-#[tactic(auto, using(crate::proofs::Causes::refused_drops, crate::proofs::Causes::lacking_drops, crate::proofs::Causes::memory_drops))]
+#[tactic(auto, using(crate::proofs::Connections::refused_drops, crate::proofs::Connections::lacking_drops, crate::proofs::Connections::memory_drops))]
 fn reach<F: Front, N: Log>(
     rt: &N,
     alloc: Global,

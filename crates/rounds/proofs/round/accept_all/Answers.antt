@@ -1,4 +1,4 @@
-use Rattle.std.proofs.Common.{◌+◌, ◌∙◌, ap, length, arith}
+use Rattle.std.proofs.Common.{inl, inr, ◌+◌, ◌∙◌, ap, length, arith}
 use Rattle.dispatch.specs.Polls.{PollerState}
 use Rattle.rounds.proofs.Connections.{accept_none, accept_again, accept_still, same_tries, accept_and_took, accept_and_next, room_left}
 use Rattle.rounds.proofs.round.accept_all.Goals as goal
@@ -36,3 +36,12 @@ returns-in_err-accept_next-clause-poller g c = accept_again c.args.poller.now c.
 
 pub returns-then-not-branch-clause-poller : goal.returns-then-not-branch-clause-poller
 returns-then-not-branch-clause-poller g c = accept_again c.args.poller.now c.loop-try.poller c.accept_next.new.poller c.loop-try.invariant.poller c.in_ok-accept_next.ensures.poller
+
+pub accept_next-requires-clause-slot : goal.accept_next-requires-clause-slot
+accept_next-requires-clause-slot g c = c.may_accept.ensures.slot c.if-not-may_accept.false
+
+pub returns-then-not-may_accept-clause-ended : goal.returns-then-not-may_accept-clause-ended
+returns-then-not-may_accept-clause-ended g c = inl (inr (c.may_accept.ensures.ended c.if-not-may_accept.true))
+
+pub returns-then-not-branch-clause-ended : goal.returns-then-not-branch-clause-ended
+returns-then-not-branch-clause-ended g c = inl (inl (c.in_ok-accept_next.ensures.starved c.if-not-branch.true))

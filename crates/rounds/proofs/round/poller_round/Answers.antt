@@ -6,8 +6,7 @@ use Rattle.dispatch.specs.Drops.{AreTold}
 use Rattle.dispatch.specs.Hands.{ticket_room}
 use Rattle.dispatch.specs.Polls.{PollerState}
 use Rattle.rounds.proofs.Connections.{SamePoller, accept_both, accept_took, room_same, took_none, passed_up, not_ok}
-use Rattle.rounds.proofs.Reports.{few_tickets, capacity_kept, reported_le}
-use Rattle.rounds.proofs.Sweeps.{few_sweep}
+use Rattle.rounds.proofs.Reports.{few_tickets, capacity_kept, reported_le, few_sweep}
 use Rattle.rounds.proofs.WholeRounds.{SameTable, begun_is, ended_still, looked_is, round_of, round_ended, swept_is, looked_lasts, delivered_lasts, swept_lasts, accepted_lasts, still_read, ended_early, but_worn, over_before, listens_still}
 use Rattle.rounds.proofs.round.poller_round.Goals as goal
 

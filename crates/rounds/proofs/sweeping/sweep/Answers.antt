@@ -1,8 +1,7 @@
 use Rattle.std.proofs.Common.{List, subst, sym, arith}
 use Rattle.ready.specs.declared.ticket.Ticket.{Ticket}
 use Rattle.rounds.specs.Deliveries.{ArePosted}
-use Rattle.rounds.proofs.Reports.{posted_none, posted_both, few_tickets, capacity_kept}
-use Rattle.rounds.proofs.Sweeps.{below_more, few_below}
+use Rattle.rounds.proofs.Reports.{posted_none, posted_both, few_tickets, capacity_kept, below_more, few_below}
 use Rattle.rounds.proofs.sweeping.sweep.Goals as goal
 
 pub loop-slot-init : goal.loop-slot-init
