@@ -1,6 +1,6 @@
 -- A round, of its parts: the reports were delivered, a sweep was made or none, and connections
 -- were opened.
-use Rattle.std.proofs.Common.{◌≡◌, ◌⊎◌, ℕ, ◌+◌, ◌*◌, ◌<◌, ◌≤◌, ◌≢◌, ◌↔◌, inl, inr, Bool, true, false, IsTrue, List, [], ◌++◌, length, Result, Ok, Err, IfErr, IsErr, IsErrAnd, OnOk, refl, sym, subst, ap, ◌∙◌, arith, append_assoc}
+use Rattle.std.proofs.Common.{◌≡◌, ◌⊎◌, ℕ, ◌+◌, ◌*◌, ◌<◌, ◌≤◌, ◌≢◌, ◌↔◌, inl, inr, Bool, true, false, IsTrue, List, [], ◌++◌, length, Result, Ok, Err, IsErrAnd, refl, sym, subst, ap, ◌∙◌, arith, append_assoc}
 use Rattle.std.specs.Prelude.{map}
 use Rattle.claims.specs.declared.view.Account.{Account}
 use Rattle.claims.specs.Seats.{SeatState, account_at}
@@ -15,7 +15,7 @@ use Rattle.dispatch.specs.Polls.{PollerState, Counted, HasOpenedAll}
 use Rattle.dispatch.specs.declared.part.Part.{Part}
 use Rattle.relay_log.specs.declared.faults.ServerFault.{ServerFault}
 use Rattle.relay_log.specs.declared.faults.ServerFault.TheVariants.{Worn}
-use Rattle.rounds.specs.Rounds.{RoundDone, AcceptEnded, EndedEarly, ListenerKept, ListensToOpen}
+use Rattle.rounds.specs.Rounds.{RoundDone, AcceptEnded, ListenerKept, ListensToOpen}
 use Rattle.std.proofs.lemmas.Bool.{cases_lt}
 use Rattle.rounds.specs.Sweeps.{swept_after, sweep_of}
 use Rattle.dispatch.specs.Posts.{Rose}

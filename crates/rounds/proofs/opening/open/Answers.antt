@@ -1,4 +1,4 @@
-use Rattle.std.proofs.Common.{rules, ◌≡◌, ◌+◌, ◌<◌, ◌≤◌, ℕ, List, OnOk, ◌⊎◌, slice_index, length, refl, subst, inl, inr, ◌++◌, ◌∷◌, [], ap, sym, ◌∙◌, arith}
+use Rattle.std.proofs.Common.{rules, ◌≡◌, ◌+◌, ◌<◌, ◌≤◌, ℕ, List, OnOk, ◌⊎◌, slice_index, length, refl, subst, inl, inr, ◌++◌, ◌∷◌, [], ap, sym, ◌∙◌}
 use Rattle.dispatch.specs.declared.part.Part.{Part}
 use Rattle.dispatch.specs.Hands.{HandState, ticket_room}
 use Rattle.dispatch.specs.Polls.{PollerState, IsIn}
@@ -34,7 +34,7 @@ pub returns-in_default-next_names : goal.returns-in_default-next_names
 returns-in_default-next_names g c =
     let first = sym c.take_slot.ensures.value ∙ c.in-Some.is in
     let spent = no_names c.args.poller.now.table c.in-Some.slot
-        (subst (λ (table : List ℕ). c.in-Some.slot ≤ 32767 → c.in-Some.slot < length table → slice_index table c.in-Some.slot ≡ 140737488355327) c.table.ensures.table (c.in_default-next_names.ensures.none refl)) in
+    (subst (λ (table : List ℕ). c.in-Some.slot ≤ 32767 → c.in-Some.slot < length table → slice_index table c.in-Some.slot ≡ 140737488355327) c.table.ensures.table (c.in_default-next_names.ensures.none refl)) in
     record {
       between = record {
         same = c.requires.between.same;
@@ -114,3 +114,6 @@ place-requires g c =
 
 pub prepare-requires : goal.prepare-requires
 prepare-requires g c = c.in-Some.ensures.room refl
+
+pub next_names-requires : goal.next_names-requires
+next_names-requires g c = c.table.ensures.generations

@@ -11,7 +11,7 @@ pub returns-in_ok-start-in-Adopted : goal.returns-in_ok-start-in-Adopted
 returns-in_ok-start-in-Adopted g c =
     let ticket : Ticket = record { slot = c.slot-slot.result; generation = c.generation-generation.result } in
     let named : ticket ≡ record { slot = c.args.berth.pair.slot; generation = c.args.berth.pair.generation } =
-        ap (λ (s : ℕ). record { slot = s; generation = c.generation-generation.result }) c.slot-slot.ensures ∙ ap (λ (n : ℕ). record { slot = c.args.berth.pair.slot; generation = n }) c.generation-generation.ensures in
+    ap (λ (s : ℕ). record { slot = s; generation = c.generation-generation.result }) c.slot-slot.ensures ∙ ap (λ (n : ℕ). record { slot = c.args.berth.pair.slot; generation = n }) c.generation-generation.ensures in
     let change = c.in-Adopted.ensures.change in
     record {
       between = record {

@@ -1,11 +1,11 @@
-use Rattle.std.proofs.Common.{ℕ, ◌≡◌, ◌<◌, ◌+◌, ◌∙◌, ap, refl, inl, inr, List, sym, subst, length, arith}
+use Rattle.std.proofs.Common.{ℕ, ◌<◌, ◌+◌, ◌∙◌, ap, refl, inl, inr, List, sym, subst, length, arith}
 use Rattle.claims.specs.Seats.{SeatState, HoldsNothing}
 use Rattle.ready.specs.declared.ticket.Ticket.{Ticket}
 use Rattle.ready.specs.Steps.{EndState}
 use Rattle.dispatch.specs.Drops.{AreTold}
 use Rattle.dispatch.specs.Hands.{ticket_room}
 use Rattle.dispatch.specs.Polls.{PollerState}
-use Rattle.rounds.proofs.Connections.{SamePoller, accept_both, accept_took, room_same, took_none, passed_up, not_ok}
+use Rattle.rounds.proofs.Connections.{SamePoller, accept_both, accept_took, between_took, room_same, took_none, passed_up, not_ok}
 use Rattle.rounds.proofs.Reports.{few_tickets, capacity_kept, reported_le, few_sweep}
 use Rattle.rounds.proofs.WholeRounds.{SameTable, begun_is, ended_still, looked_is, round_of, round_ended, swept_is, looked_lasts, delivered_lasts, swept_lasts, accepted_lasts, still_read, ended_early, but_worn, over_before, listens_still}
 use Rattle.rounds.proofs.round.poller_round.Goals as goal
@@ -13,7 +13,7 @@ use Rattle.rounds.proofs.round.poller_round.Goals as goal
 pub returns-then-not-begin : goal.returns-then-not-begin
 returns-then-not-begin g c =
     let early : ticket_room c.args.own.now.hand < 512 + c.args.shared.now.claims.words =
-        ended_early c.begin.result c.slots.result c.args.shared.now.claims.words (ticket_room c.args.own.now.hand) c.begin.ensures.room c.if-not-begin.true c.slots.ensures in
+    ended_early c.begin.result c.slots.result c.args.shared.now.claims.words (ticket_room c.args.own.now.hand) c.begin.ensures.room c.if-not-begin.true c.slots.ensures in
     record {
       same = refl;
       idle = c.requires.idle;
@@ -182,17 +182,17 @@ returns g c =
     let same = accepted_lasts (swept_lasts (delivered_lasts (looked_lasts c.args.poller.now c.begin.new.poller c.look.new.poller c.begin.ensures.poller c.look.ensures.poller) c.deliver_batch.ensures.poller) c.sweep_if_due.ensures.poller) c.accept.ensures.poller in
     let second = ap (λ (s : PollerState). s.second) c.take_back.ensures.poller ∙ ap (λ (s : PollerState). s.second) c.accept.ensures.poller in
     let swept = swept_is c.args.timing.now.limit c.args.poller.now c.deliver_batch.new.poller c.sweep_if_due.new.poller c.take_back.new.poller
-          (ap (λ (s : PollerState). s.swept) c.deliver_batch.ensures.poller ∙ looked.swept)
-          c.in_ok-sweep_if_due.ensures.swept
-          (ap (λ (s : PollerState). s.swept) c.take_back.ensures.poller ∙ ap (λ (s : PollerState). s.swept) c.accept.ensures.poller)
-          (second) in
+    (ap (λ (s : PollerState). s.swept) c.deliver_batch.ensures.poller ∙ looked.swept)
+    c.in_ok-sweep_if_due.ensures.swept
+    (ap (λ (s : PollerState). s.swept) c.take_back.ensures.poller ∙ ap (λ (s : PollerState). s.swept) c.accept.ensures.poller)
+    (second) in
     let flags : SamePoller c.accept.new.poller c.take_back.new.poller = record {
-        table = ap (λ (s : PollerState). s.table) c.take_back.ensures.poller;
-        opened = ap (λ (s : PollerState). s.opened) c.take_back.ensures.poller;
-        lost = ap (λ (s : PollerState). s.lost) c.take_back.ensures.poller;
-        batch = ap (λ (s : PollerState). s.batch) c.take_back.ensures.poller;
-        part = ap (λ (s : PollerState). s.part) c.take_back.ensures.poller;
-      } in
+      table = ap (λ (s : PollerState). s.table) c.take_back.ensures.poller;
+      opened = ap (λ (s : PollerState). s.opened) c.take_back.ensures.poller;
+      lost = ap (λ (s : PollerState). s.lost) c.take_back.ensures.poller;
+      batch = ap (λ (s : PollerState). s.batch) c.take_back.ensures.poller;
+      part = ap (λ (s : PollerState). s.part) c.take_back.ensures.poller;
+    } in
     record {
       same = ap (λ (s : SeatState). s.table) c.take_back.ensures.took.seat ∙ c.accept.ensures.between.same ∙ sym c.requires.same;
       idle = subst (λ (s : SeatState). HoldsNothing s) (sym c.take_back.ensures.took.seat) c.accept.ensures.between.idle;
@@ -244,3 +244,21 @@ returns g c =
       took = ap (λ (q : EndState Ticket). q.history.taken) (c.take_back.ensures.took.ready ∙ c.accept.ensures.ready ∙ c.sweep_if_due.ensures.ready ∙ c.deliver_batch.ensures.ready ∙ c.look.ensures.took.ready);
       refused = tt;
     }
+
+pub deliver_batch-requires : goal.deliver_batch-requires
+deliver_batch-requires g c =
+    let looked : SameTable c.args.poller.now c.look.new.poller = looked_is c.begin.ensures.poller c.look.ensures.poller in
+    let most = c.look.ensures.few in
+    let room = c.begin.ensures.room.0 c.if-not-begin.false in
+    let same = room_same c.args.own.now c.look.new.own c.look.ensures.took in
+    record {
+      between = between_took c.args.shared.now.claims c.args.own.now c.look.new.own c.args.poller.now c.look.new.poller
+          (record { same = c.requires.same; idle = c.requires.idle; sized = c.requires.sized }) c.look.ensures.took looked.table;
+      room = omega arith;
+    }
+
+pub sweep_if_due-requires-clause-between : goal.sweep_if_due-requires-clause-between
+sweep_if_due-requires-clause-between g c = c.deliver_batch.ensures.between
+
+pub accept-requires-clause-between : goal.accept-requires-clause-between
+accept-requires-clause-between g c = c.sweep_if_due.ensures.between

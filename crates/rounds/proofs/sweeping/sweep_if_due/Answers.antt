@@ -1,11 +1,10 @@
-use Rattle.std.proofs.Common.{ℕ, List, ◌≡◌, ◌≤◌, ◌∙◌, true, false, length, refl, subst, sym, ap}
+use Rattle.std.proofs.Common.{ℕ, List, ◌≤◌, ◌∙◌, length, refl, subst, sym, ap}
 use Rattle.ready.specs.declared.ticket.Ticket.{Ticket}
-use Rattle.relay_core.specs.Idle.{is_past}
 use Rattle.dispatch.specs.Hands.{ticket_room}
 use Rattle.dispatch.specs.Polls.{PollerState, IsOwnTable}
 use Rattle.rounds.specs.Deliveries.{ArePosted}
 use Rattle.rounds.specs.Openings.{AreIn}
-use Rattle.rounds.specs.Sweeps.{all_opened, swept_after}
+use Rattle.rounds.specs.Sweeps.{all_opened}
 use Rattle.rounds.proofs.Connections.{if_fails, not_ok, passed_up}
 use Rattle.rounds.proofs.Reports.{both_only, no_sweep, not_swept, own_opened, own_sweep, posted_none, second_is_now, set_only, sweep_is, swept}
 use Rattle.rounds.proofs.sweeping.sweep_if_due.Goals as goal

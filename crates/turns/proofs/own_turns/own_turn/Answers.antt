@@ -1,4 +1,4 @@
-use Rattle.std.proofs.Common.{◌≡◌, ◌∙◌, ℕ, List, Option, Some, None, Ok, Err, Result, slice_get, refl, sym, ap, subst, inl, inr, length}
+use Rattle.std.proofs.Common.{rules, ◌<◌, ◌≡◌, ◌∙◌, ℕ, List, Option, Some, None, Ok, Err, Result, slice_get, refl, sym, ap, subst, inl, inr, length}
 use Rattle.ready.specs.declared.ticket.Ticket.{Ticket}
 use Rattle.dispatch.specs.Hands.{HandState}
 use Rattle.relay_log.specs.declared.faults.ServerFault.{ServerFault}
@@ -98,3 +98,14 @@ returns g c =
       worn = tt;
       woken = λ is all. of_first oldest c.in-Some.ticket _ first (c.follow_up.ensures.woken (same_answer c.in_ok-worked.worked worked.Ended is) all);
     }
+
+pub turn_of-requires : goal.turn_of-requires
+turn_of-requires g c = record {
+  same = c.requires.same;
+  idle = c.requires.idle;
+  room = record {
+    tickets = c.in-Some.ensures.room refl;
+    slots = subst (λ (h : HandState). length h.slots < h.capacity) (sym c.take_ticket.ensures.left) (c.has_slot_room.ensures.0 c.if-not-has_slot_room.false);
+  };
+  budget = search rules;
+}

@@ -1,4 +1,4 @@
-use Rattle.std.proofs.Common.{refl}
+use Rattle.std.proofs.Common.{refl, sym}
 use Rattle.turns.proofs.Turns.{again_was_held, two_steps, same_either, still_at_work, turn_after}
 use Rattle.turns.proofs.worker.run.Goals as goal
 
@@ -25,3 +25,9 @@ end-requires-clause-over g c = same_either c.play.result _ _ _ c.play.ensures.ou
 
 pub returns-in-Quiet-clause-exchanges : goal.returns-in-Quiet-clause-exchanges
 returns-in-Quiet-clause-exchanges g c = two_steps c.args.own.now.seat.steps c.play.new.seat.steps c.rest.new.own.seat.steps c.play.ensures.exchanges c.rest.ensures.exchanges
+
+pub rest-requires-clause-quiet : goal.rest-requires-clause-quiet
+rest-requires-clause-quiet g c = sym c.in-Quiet.ensures.outcome
+
+pub again-requires-clause-due : goal.again-requires-clause-due
+again-requires-clause-due g c = sym c.in-Again.ensures.outcome
