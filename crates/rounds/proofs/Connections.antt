@@ -84,7 +84,7 @@ own_both p q xs ys same one two slot out =
     omega arith
 
 -- a connection in one of the poller's own slots
-pub own_one : (part : Part) (t : Ticket) → IsIn part t.slot → AreIn part (t ∷ [])
+own_one : (part : Part) (t : Ticket) → IsIn part t.slot → AreIn part (t ∷ [])
 own_one part t here slot out = none_at t slot (λ same. out (subst (λ (i : ℕ). IsIn part i) (sym same) here))
 
 slots_both : (a b c : Own) (xs ys : List Ticket) (ls ms : List ℕ) → SlotsCounted a b xs ls → SlotsCounted b c ys ms → SlotsCounted a c (xs ++ ys) (ls ++ ms)

@@ -203,7 +203,6 @@ fn log_unopened<F: Front, N: Log>(rt: &N, client: &F::Client, cause: Cause) {
 }
 
 /// Places a prepared connection in its slot, which has it from then on.
-#[tactic(auto, using(crate::proofs::Connections::own_one))]
 fn place<F: Front, R: Wait + Log>(
     rt: &R,
     shared: &Shared<F>,

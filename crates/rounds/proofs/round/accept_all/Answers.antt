@@ -1,6 +1,6 @@
-use Rattle.std.proofs.Common.{inl, inr, ◌+◌, ◌∙◌, ap, length, arith}
+use Rattle.std.proofs.Common.{refl, inl, inr, ◌+◌, ◌∙◌, ap, length, arith}
 use Rattle.dispatch.specs.Polls.{PollerState}
-use Rattle.rounds.proofs.Connections.{accept_none, accept_again, accept_still, same_tries, accept_and_took, accept_and_next, room_left}
+use Rattle.rounds.proofs.Connections.{between_took, not_ok, passed_up, room_same, accept_none, accept_again, accept_still, same_tries, accept_and_took, accept_and_next, room_left}
 use Rattle.rounds.proofs.round.accept_all.Goals as goal
 
 pub loop-try-init : goal.loop-try-init
@@ -16,11 +16,48 @@ loop-try-init g c = record {
   poller = accept_still c.args.poller.now c.reset_tries.new.self 4 c.reset_tries.ensures;
 }
 
-pub returns-then-not-may_accept-clause-done : goal.returns-then-not-may_accept-clause-done
-returns-then-not-may_accept-clause-done g c = accept_and_took c.loop-try.invariant.done c.may_accept.ensures.took
+pub accept_next-requires : goal.accept_next-requires
+accept_next-requires g c =
+    let room = c.loop-try.invariant.room in
+    let same = room_same c.loop-try.own c.may_accept.new.own c.may_accept.ensures.took in
+    let sum = c.loop-try.invariant.tries in
+    let more = c.loop-try-test.true in
+    record {
+      between = between_took c.args.shared.now.claims c.loop-try.own c.may_accept.new.own c.loop-try.poller c.loop-try.poller c.loop-try.invariant.between c.may_accept.ensures.took refl;
+      room = omega arith;
+      left = omega arith;
+      slot = c.may_accept.ensures.slot c.if-not-may_accept.false;
+    }
 
-pub returns-then-not-branch-clause-done : goal.returns-then-not-branch-clause-done
-returns-then-not-branch-clause-done g c = accept_and_next c.loop-try.invariant.done c.may_accept.ensures.took c.in_ok-accept_next.ensures.done
+pub returns-then-not-may_accept : goal.returns-then-not-may_accept
+returns-then-not-may_accept g c = record {
+  between = between_took c.args.shared.now.claims c.loop-try.own c.may_accept.new.own c.loop-try.poller c.loop-try.poller c.loop-try.invariant.between c.may_accept.ensures.took refl;
+  worn = tt;
+  done = accept_and_took c.loop-try.invariant.done c.may_accept.ensures.took;
+  ended = inl (inr (c.may_accept.ensures.ended c.if-not-may_accept.true));
+  ready = c.may_accept.ensures.took.ready ∙ c.loop-try.invariant.done.connected.ready;
+  poller = c.loop-try.invariant.poller;
+}
+
+pub returns-in_err-accept_next : goal.returns-in_err-accept_next
+returns-in_err-accept_next g c = record {
+  between = c.accept_next.ensures.between;
+  worn = passed_up c.from_residual.result c.in_err-accept_next.field-0.0 _ c.from_residual.ensures.1 c.in_err-accept_next.ensures.worn;
+  done = not_ok c.from_residual.result _ c.from_residual.ensures.0;
+  ended = not_ok c.from_residual.result _ c.from_residual.ensures.0;
+  ready = c.accept_next.ensures.ready ∙ c.may_accept.ensures.took.ready ∙ c.loop-try.invariant.done.connected.ready;
+  poller = accept_again c.args.poller.now c.loop-try.poller c.accept_next.new.poller c.loop-try.invariant.poller c.accept_next.ensures.poller;
+}
+
+pub returns-then-not-branch : goal.returns-then-not-branch
+returns-then-not-branch g c = record {
+  between = c.accept_next.ensures.between;
+  worn = tt;
+  done = accept_and_next c.loop-try.invariant.done c.may_accept.ensures.took c.in_ok-accept_next.ensures.done;
+  ended = inl (inl (c.in_ok-accept_next.ensures.starved c.if-not-branch.true));
+  ready = c.accept_next.ensures.ready ∙ c.may_accept.ensures.took.ready ∙ c.loop-try.invariant.done.connected.ready;
+  poller = accept_again c.args.poller.now c.loop-try.poller c.accept_next.new.poller c.loop-try.invariant.poller c.in_ok-accept_next.ensures.poller;
+}
 
 pub loop-try-preserved : goal.loop-try-preserved
 loop-try-preserved g c = record {
@@ -30,18 +67,3 @@ loop-try-preserved g c = record {
   done = accept_and_next c.loop-try.invariant.done c.may_accept.ensures.took c.in_ok-accept_next.ensures.done;
   poller = accept_again c.args.poller.now c.loop-try.poller c.accept_next.new.poller c.loop-try.invariant.poller c.in_ok-accept_next.ensures.poller;
 }
-
-pub returns-in_err-accept_next-clause-poller : goal.returns-in_err-accept_next-clause-poller
-returns-in_err-accept_next-clause-poller g c = accept_again c.args.poller.now c.loop-try.poller c.accept_next.new.poller c.loop-try.invariant.poller c.accept_next.ensures.poller
-
-pub returns-then-not-branch-clause-poller : goal.returns-then-not-branch-clause-poller
-returns-then-not-branch-clause-poller g c = accept_again c.args.poller.now c.loop-try.poller c.accept_next.new.poller c.loop-try.invariant.poller c.in_ok-accept_next.ensures.poller
-
-pub accept_next-requires-clause-slot : goal.accept_next-requires-clause-slot
-accept_next-requires-clause-slot g c = c.may_accept.ensures.slot c.if-not-may_accept.false
-
-pub returns-then-not-may_accept-clause-ended : goal.returns-then-not-may_accept-clause-ended
-returns-then-not-may_accept-clause-ended g c = inl (inr (c.may_accept.ensures.ended c.if-not-may_accept.true))
-
-pub returns-then-not-branch-clause-ended : goal.returns-then-not-branch-clause-ended
-returns-then-not-branch-clause-ended g c = inl (inl (c.in_ok-accept_next.ensures.starved c.if-not-branch.true))
