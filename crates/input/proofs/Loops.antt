@@ -1,5 +1,5 @@
 -- What a loop of reads keeps: the text is what the reader has given, a byte at least for each read.
-use Rattle.std.proofs.Common.{◌≡◌, ℕ, ◌<◌, ◌≤◌, List, ◌++◌, length, take, Option, Some, None, sym, ◌∙◌, ap, arith, append-nil, length-append}
+use Rattle.std.proofs.Common.{◌≡◌, ◌≢◌, ℕ, ◌+◌, ◌<◌, ◌≤◌, List, ◌++◌, length, take, Option, Some, None, sym, ◌∙◌, ap, arith, append-nil, length-append}
 use Rattle.std.specs.Prelude.{IfSome}
 use Rattle.std.specs.Io.KnownBytes.{Consumes, IsAtEnd}
 use Rattle.std.proofs.KnownBytes.{Consumes-trans}
@@ -15,6 +15,14 @@ pub record Reads (most : ℕ) (first now : Option (List ℕ)) (text : List ℕ) 
 -- what was consumed by now
 gone : (most : ℕ) (a b c : Option (List ℕ)) (text more : List ℕ) (reads n : ℕ) → Reads most a b text reads → ReadsOn most b c text more n → Consumes a c more
 gone most a b c text more reads n r on = rw on.appended (Consumes-trans a b c text on.bytes r.consumed on.consumed)
+
+-- a read that gave some
+pub more_read : (most : ℕ) (a b c : Option (List ℕ)) (text more : List ℕ) (reads n : ℕ) → Reads most a b text reads → ReadsOn most b c text more n → n ≢ 0 → length more ≤ most → Reads most a c more (reads + 1)
+more_read most a b c text more reads n r on some few = record {
+  consumed = gone most a b c text more reads n r on;
+  many = omega (arith, r.many, on.count, ap length on.appended, length-append text on.bytes, some);
+  few = few;
+}
 
 -- a text as long as is wanted
 full_front : (most : ℕ) (a b : Option (List ℕ)) (text : List ℕ) → Consumes a b text → length text ≡ most → IfSome a (λ input. text ≡ take most input)
