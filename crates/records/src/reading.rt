@@ -1,7 +1,55 @@
 // How a record is read: word by word, from left to right.
 use crate::act::{Accepted, Act, Answer, Made, Opening, Polling, Record};
-use crate::words::{Words, Wrong, is, number, said};
+use crate::words::{Words, Wrong, is, named, number, said};
 use token::{Kind, Name, Side, Token};
+
+/// What a call can be answered, other than that it was interrupted or failed.
+struct Answers {
+    /// Whether a number of bytes is an answer.
+    counts: bool,
+    /// The answers that have a word.
+    named: &'static [(&'static str, Answer)],
+    wanted: &'static str,
+}
+
+static READ: Answers = Answers {
+    counts: true,
+    named: &[("end", Answer::End), ("blocked", Answer::Blocked)],
+    wanted: "a number of bytes, end, blocked, interrupted or failed is wanted",
+};
+
+static WRITE: Answers = Answers {
+    counts: true,
+    named: &[("blocked", Answer::Blocked)],
+    wanted: "a number of bytes, blocked, interrupted or failed is wanted",
+};
+
+static JOIN: Answers = Answers {
+    counts: false,
+    named: &[("joined", Answer::Joined), ("blocked", Answer::Blocked)],
+    wanted: "one of joined, blocked, interrupted and failed is wanted",
+};
+
+static SHUT: Answers = Answers {
+    counts: false,
+    named: &[("shut", Answer::Shut)],
+    wanted: "one of shut, interrupted and failed is wanted",
+};
+
+/// What accept(2) answers.
+static ACCEPTED: [(&str, Accepted); 4] = [
+    ("ok", Accepted::Taken),
+    ("blocked", Accepted::Blocked),
+    ("again", Accepted::Again),
+    ("starved", Accepted::Starved),
+];
+
+/// Whether a front opened a connection.
+static OPENINGS: [(&str, Opening); 3] = [
+    ("ok", Opening::Opened),
+    ("connect", Opening::Connect),
+    ("register", Opening::Register),
+];
 
 /// Reads the record of a line, which is given without its line feed. What is read from the text of a record is that record.
 ///
@@ -26,20 +74,39 @@ fn act<'a>(words: &mut Words<'a>) -> Result<Act, Wrong<'a>> {
     let wanted = "pP, second, S, S.G.SIDE, end or full is wanted";
     let word = words.word(wanted)?;
     if is(word, "second") {
-        Ok(Act::Second(words.number("a number of seconds is wanted")?))
+        second(words)
     } else if is(word, "end") {
         Ok(Act::Ended)
     } else if is(word, "full") {
         Ok(Act::Full)
     } else if let Some(token) = end_named(word) {
-        Ok(Act::Wire(token, made(words)?))
+        wire(token, words)
     } else if let Some(poller) = poller_named(word) {
         match polling(words) {
             Ok(did) => Ok(Act::Poller(poller, did)),
             Err(wrong) => Err(wrong),
         }
     } else {
-        turn(said(number(word), word, wanted)? as usize, words)
+        match number(word) {
+            Some(slot) => turn(slot as usize, words),
+            None => said(None, word, wanted),
+        }
+    }
+}
+
+/// The second that the clock showed.
+fn second<'a>(words: &mut Words<'a>) -> Result<Act, Wrong<'a>> {
+    match words.number("a number of seconds is wanted") {
+        Ok(second) => Ok(Act::Second(second)),
+        Err(wrong) => Err(wrong),
+    }
+}
+
+/// What was done with the wire of this end.
+fn wire<'a>(token: Token, words: &mut Words<'a>) -> Result<Act, Wrong<'a>> {
+    match made(words) {
+        Ok(made) => Ok(Act::Wire(token, made)),
+        Err(wrong) => Err(wrong),
     }
 }
 
@@ -50,8 +117,8 @@ fn poller_named(word: &[u8]) -> Option<usize> {
 
 /// The slot and the generation at the front of `S.G` or `S.G.SIDE`.
 fn place(words: &mut Words<'_>) -> Option<(usize, u64)> {
-    let slot = words.number("").ok()?;
-    let generation = words.number("").ok()?;
+    let slot = words.next_number()?;
+    let generation = words.next_number()?;
     Some((slot as usize, generation))
 }
 
@@ -59,8 +126,10 @@ fn place(words: &mut Words<'_>) -> Option<(usize, u64)> {
 fn end_named(word: &[u8]) -> Option<Token> {
     let mut parts = Words::new(word, b'.');
     let (slot, generation) = place(&mut parts)?;
-    let side = Side::named(parts.word("").ok()?)?;
-    parts.end().ok()?;
+    let side = Side::named(parts.next()?)?;
+    if parts.next().is_some() {
+        return None;
+    }
     match Token::pack(slot, side, generation) {
         Ok(token) => Some(token),
         Err(_) => None,
@@ -71,8 +140,10 @@ fn end_named(word: &[u8]) -> Option<Token> {
 fn place_named(word: &[u8]) -> Option<(usize, u64)> {
     let mut parts = Words::new(word, b'.');
     let place = place(&mut parts)?;
-    parts.end().ok()?;
-    Some(place)
+    match parts.next() {
+        None => Some(place),
+        Some(_) => None,
+    }
 }
 
 /// The beginning or the end of a turn at a slot.
@@ -100,7 +171,7 @@ fn polling<'a>(words: &mut Words<'a>) -> Result<Polling, Wrong<'a>> {
             Err(wrong) => Err(wrong),
         }
     } else if is(word, "accept") {
-        Ok(Polling::Accept(accepted(words)?))
+        accepted(words)
     } else if is(word, "open") {
         opened(words)
     } else {
@@ -117,7 +188,10 @@ fn polled<'a>(words: &mut Words<'a>) -> Result<Polling, Wrong<'a>> {
     } else if is(word, "failed") {
         Ok(Polling::Failed)
     } else {
-        Ok(Polling::Gave(said(number(word), word, wanted)? as usize))
+        match number(word) {
+            Some(count) => Ok(Polling::Gave(count as usize)),
+            None => said(None, word, wanted),
+        }
     }
 }
 
@@ -138,19 +212,12 @@ fn reported<'a>(words: &mut Words<'a>) -> Result<Name, Wrong<'a>> {
 }
 
 /// What accept(2) answered.
-fn accepted<'a>(words: &mut Words<'a>) -> Result<Accepted, Wrong<'a>> {
+fn accepted<'a>(words: &mut Words<'a>) -> Result<Polling, Wrong<'a>> {
     let wanted = "one of again, blocked, ok and starved is wanted";
     let word = words.word(wanted)?;
-    if is(word, "ok") {
-        Ok(Accepted::Taken)
-    } else if is(word, "blocked") {
-        Ok(Accepted::Blocked)
-    } else if is(word, "again") {
-        Ok(Accepted::Again)
-    } else if is(word, "starved") {
-        Ok(Accepted::Starved)
-    } else {
-        said(None, word, wanted)
+    match named(word, &ACCEPTED) {
+        Some(accepted) => Ok(Polling::Accept(accepted)),
+        None => said(None, word, wanted),
     }
 }
 
@@ -161,16 +228,10 @@ fn opened<'a>(words: &mut Words<'a>) -> Result<Polling, Wrong<'a>> {
     let (slot, generation) = said(place_named(word), word, place)?;
     let wanted = "one of ok, connect and register is wanted";
     let word = words.word(wanted)?;
-    let opening = if is(word, "ok") {
-        Some(Opening::Opened)
-    } else if is(word, "connect") {
-        Some(Opening::Connect)
-    } else if is(word, "register") {
-        Some(Opening::Register)
-    } else {
-        None
-    };
-    Ok(Polling::Open(slot, generation, said(opening, word, wanted)?))
+    match named(word, &OPENINGS) {
+        Some(opening) => Ok(Polling::Open(slot, generation, opening)),
+        None => said(None, word, wanted),
+    }
 }
 
 /// What was done with a wire.
@@ -178,15 +239,13 @@ fn made<'a>(words: &mut Words<'a>) -> Result<Made, Wrong<'a>> {
     let wanted = "one of drop, join, read, settle, shut and write is wanted";
     let word = words.word(wanted)?;
     if is(word, "read") {
-        let most = words.number("the number of bytes that were asked for is wanted")?;
-        Ok(Made::Read(most as usize, read(words)?))
+        read(words)
     } else if is(word, "write") {
-        let length = words.number("the number of bytes that were offered is wanted")?;
-        Ok(Made::Write(length as usize, written(words)?))
+        write(words)
     } else if is(word, "join") {
-        Ok(Made::Join(joined(words)?))
+        join(words)
     } else if is(word, "shut") {
-        Ok(Made::Shut(shut(words)?))
+        shut(words)
     } else if is(word, "settle") {
         Ok(Made::Settle)
     } else if is(word, "drop") {
@@ -196,63 +255,49 @@ fn made<'a>(words: &mut Words<'a>) -> Result<Made, Wrong<'a>> {
     }
 }
 
-/// What a read is answered.
-fn read<'a>(words: &mut Words<'a>) -> Result<Answer, Wrong<'a>> {
-    let wanted = "a number of bytes, end, blocked, interrupted or failed is wanted";
-    let word = words.word(wanted)?;
-    if is(word, "end") {
-        Ok(Answer::End)
-    } else if is(word, "blocked") {
-        Ok(Answer::Blocked)
-    } else {
-        moved_or_unmade(word, words, wanted)
+/// A read, and what it is answered.
+fn read<'a>(words: &mut Words<'a>) -> Result<Made, Wrong<'a>> {
+    let most = words.number("the number of bytes that were asked for is wanted")?;
+    match answered(words, &READ) {
+        Ok(answer) => Ok(Made::Read(most as usize, answer)),
+        Err(wrong) => Err(wrong),
     }
 }
 
-/// What a write is answered.
-fn written<'a>(words: &mut Words<'a>) -> Result<Answer, Wrong<'a>> {
-    let wanted = "a number of bytes, blocked, interrupted or failed is wanted";
-    let word = words.word(wanted)?;
-    if is(word, "blocked") {
-        Ok(Answer::Blocked)
-    } else {
-        moved_or_unmade(word, words, wanted)
+/// A write, and what it is answered.
+fn write<'a>(words: &mut Words<'a>) -> Result<Made, Wrong<'a>> {
+    let length = words.number("the number of bytes that were offered is wanted")?;
+    match answered(words, &WRITE) {
+        Ok(answer) => Ok(Made::Write(length as usize, answer)),
+        Err(wrong) => Err(wrong),
     }
 }
 
-/// What a join is answered.
-fn joined<'a>(words: &mut Words<'a>) -> Result<Answer, Wrong<'a>> {
-    let wanted = "one of joined, blocked, interrupted and failed is wanted";
-    let word = words.word(wanted)?;
-    if is(word, "joined") {
-        Ok(Answer::Joined)
-    } else if is(word, "blocked") {
-        Ok(Answer::Blocked)
-    } else {
-        unmade(word, words, wanted)
+/// A join, and what it is answered.
+fn join<'a>(words: &mut Words<'a>) -> Result<Made, Wrong<'a>> {
+    match answered(words, &JOIN) {
+        Ok(answer) => Ok(Made::Join(answer)),
+        Err(wrong) => Err(wrong),
     }
 }
 
-/// What a shutdown is answered.
-fn shut<'a>(words: &mut Words<'a>) -> Result<Answer, Wrong<'a>> {
-    let wanted = "one of shut, interrupted and failed is wanted";
-    let word = words.word(wanted)?;
-    if is(word, "shut") {
-        Ok(Answer::Shut)
-    } else {
-        unmade(word, words, wanted)
+/// A shutdown, and what it is answered.
+fn shut<'a>(words: &mut Words<'a>) -> Result<Made, Wrong<'a>> {
+    match answered(words, &SHUT) {
+        Ok(answer) => Ok(Made::Shut(answer)),
+        Err(wrong) => Err(wrong),
     }
 }
 
-/// A number of bytes, or a call that was interrupted or failed.
-fn moved_or_unmade<'a>(
-    word: &'a [u8],
-    words: &mut Words<'a>,
-    wanted: &'static str,
-) -> Result<Answer, Wrong<'a>> {
+/// What a call is answered.
+fn answered<'a>(words: &mut Words<'a>, answers: &Answers) -> Result<Answer, Wrong<'a>> {
+    let word = words.word(answers.wanted)?;
+    if let Some(answer) = named(word, answers.named) {
+        return Ok(answer);
+    }
     match number(word) {
-        Some(count) => Ok(Answer::Moved(count as usize)),
-        None => unmade(word, words, wanted),
+        Some(count) if answers.counts => Ok(Answer::Moved(count as usize)),
+        _ => unmade(word, words, answers.wanted),
     }
 }
 

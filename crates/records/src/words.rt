@@ -26,7 +26,7 @@ impl<'a> Words<'a> {
     }
 
     /// The next word, if one is left.
-    fn next(&mut self) -> Option<&'a [u8]> {
+    pub(crate) fn next(&mut self) -> Option<&'a [u8]> {
         let text = self.rest?;
         let separator = self.separator;
         match text.iter().position(|byte| *byte == separator) {
@@ -39,6 +39,11 @@ impl<'a> Words<'a> {
                 Some(text)
             }
         }
+    }
+
+    /// The number that the next word is, if it is one.
+    pub(crate) fn next_number(&mut self) -> Option<u64> {
+        number(self.next()?)
     }
 
     /// The next word, whatever it is.
@@ -80,6 +85,16 @@ pub(crate) fn said<'a, T>(
             wanted,
         }),
     }
+}
+
+/// What a word says by this table, if it says anything.
+pub(crate) fn named<T: Copy>(word: &[u8], table: &[(&str, T)]) -> Option<T> {
+    for (name, value) in table {
+        if is(word, name) {
+            return Some(*value);
+        }
+    }
+    None
 }
 
 /// Whether a word is this text.
