@@ -69,11 +69,20 @@ fn missing(alloc: Global, key: Key) -> Result<String, AllocError> {
 fn refused(alloc: Global, text: &str, key: Key) -> Option<String> {
     let place = place_of(alloc, text, key.name()).ok()?;
     let document = toml::table_from_str(alloc, text).ok()?;
-    let value = document.get(key.name())?;
+    refused_value(alloc, place.as_str(), document.get(key.name())?, key).ok()
+}
+
+/// The place of a key with a value that it does not take, and what it takes.
+fn refused_value(
+    alloc: Global,
+    place: &str,
+    value: &Value,
+    key: Key,
+) -> Result<String, AllocError> {
     let wanted = Wanted::in_place_of(value, key);
-    let value = format!(in alloc; "{value}").ok()?;
+    let value = format!(in alloc; "{value}")?;
     let value = OneLine(value.as_str());
-    format!(in alloc; "{place}{key} = {value}: {wanted}").ok()
+    format!(in alloc; "{place}{key} = {value}: {wanted}")
 }
 
 /// The cause of a fault in a text that says what the arguments of a command line say: the argument and its value, as they
@@ -86,15 +95,24 @@ pub fn argument_cause(alloc: Global, bytes: &[u8], fault: &SettingsFault) -> Opt
         return None;
     };
     let document = toml::table_from_str(alloc, std::str::from_utf8(bytes).ok()?).ok()?;
-    let value = document.get(key.name())?;
-    let name = ArgumentName(*key);
-    let wanted = Wanted::in_place_of(value, *key);
-    let typed = match value.as_str() {
-        Some(text) => String::from_str(alloc, text).ok()?,
-        None => format!(in alloc; "{value}").ok()?,
-    };
+    refused_argument(alloc, document.get(key.name())?, *key).ok()
+}
+
+/// An argument with a value that it does not take, and what it takes.
+fn refused_argument(alloc: Global, value: &Value, key: Key) -> Result<String, AllocError> {
+    let name = ArgumentName(key);
+    let wanted = Wanted::in_place_of(value, key);
+    let typed = typed(alloc, value)?;
     let typed = OneLine(typed.as_str());
-    format!(in alloc; "{name} {typed}: {wanted}").ok()
+    format!(in alloc; "{name} {typed}: {wanted}")
+}
+
+/// A value as it is typed on a command line, where a text has no quotes.
+fn typed(alloc: Global, value: &Value) -> Result<String, AllocError> {
+    match value.as_str() {
+        Some(text) => String::from_str(alloc, text),
+        None => format!(in alloc; "{value}"),
+    }
 }
 
 /// A key as it is typed on a command line: its option, or what stands for it in a help text.
