@@ -1,4 +1,3 @@
-pub mod Decimals
 pub mod AddressParts
 pub mod Unknown
 pub mod Unique

@@ -15,8 +15,7 @@ use Rattle.settings.specs.declared.faults.SettingsFault.TheVariants.{Missing}
 use Rattle.settings.specs.declared.fields.Settings.{Settings}
 use Rattle.settings.specs.declared.levels.LogLevel.{LogLevel}
 use Rattle.settings.specs.declared.levels.LogLevel.TheVariants.{Off, Error, Warn, Info, Debug, Trace}
-use Rattle.settings.proofs.AddressParts.{octet_at, rest_of_first, rest_of_second, rest_of_third, rest_of_fourth, text_parts, is_byte, from_parts}
-use Rattle.settings.proofs.Decimals.{not_in_decimal}
+use Rattle.settings.proofs.AddressParts.{not_in_decimal, octet_at, rest_of_first, rest_of_second, rest_of_third, rest_of_fourth, text_parts, is_byte, from_parts}
 
 abbrev Lacks : ℕ → List ℕ → Type 0
 Lacks c xs = (i : ℕ) → i < length xs → get_or xs i 0 ≢ c

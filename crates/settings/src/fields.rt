@@ -53,17 +53,27 @@ impl Settings {
         ensures settings { IfOk result (λ s. GivesEach (table_view document.now) (setting s)) }
         ensures fault { IfErr result (IsFirstFault keys (table_view document.now)) }
     {
+        let listen = address_at(document, LISTEN)?;
+        let target = address_at(document, TARGET)?;
+        let ring = number_at(document, RING)?;
+        let budget = number_at(document, BUDGET)?;
+        let workers = number_at(document, WORKERS)?;
+        let slots = number_at(document, SLOTS)?;
+        let stop_after = number_at(document, STOP_AFTER)?;
+        let log = level_at(document, LOG)?;
+        let idle = number_at(document, IDLE)?;
+        let proxy = truth_at(document, PROXY)?;
         Ok(Settings {
-            listen: address_at(document, LISTEN)?,
-            target: address_at(document, TARGET)?,
-            ring: number_at(document, RING)? as usize,
-            budget: number_at(document, BUDGET)?,
-            workers: number_at(document, WORKERS)? as usize,
-            slots: number_at(document, SLOTS)? as usize,
-            stop_after: number_at(document, STOP_AFTER)?,
-            log: level_at(document, LOG)?,
-            idle: number_at(document, IDLE)?,
-            proxy: truth_at(document, PROXY)?,
+            listen,
+            target,
+            ring: ring as usize,
+            budget,
+            workers: workers as usize,
+            slots: slots as usize,
+            stop_after,
+            log,
+            idle,
+            proxy,
         })
     }
 }
