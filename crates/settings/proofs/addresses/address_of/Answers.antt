@@ -1,6 +1,7 @@
 -- An address whose text this is has each part that the code looks for.
 use Rattle.std.proofs.Common.{sym, ◌∙◌, arith}
 use Rattle.std.proofs.lemmas.Fmt.{decimal_injective}
+use Rattle.std.proofs.lemmas.Grind.{common_steps}
 use Rattle.settings.proofs.AddressParts.{octet_at, rest_of_first, rest_of_second, rest_of_third, rest_of_fourth, text_parts, is_byte, from_parts}
 use Rattle.settings.proofs.addresses.address_of.Goals as goal
 
@@ -37,6 +38,9 @@ returns-in_err-port-clause-none c =
     let three = c.in_ok-third.ensures.only (octet_at a 2) (rest_of_third a) (is_byte a 2 h (omega arith)) (sym two.1) in
     let four = c.in_ok-fourth.ensures.only (octet_at a 3) (rest_of_fourth a) (is_byte a 3 h (omega arith)) (sym three.1) in
     c.in_err-port.ensures.none a.1 h.2 (sym four.1))
+
+pub returns-clause-some : goal.returns-clause-some
+returns-clause-some c = grind (arith, common_steps)
 
 pub returns-clause-only : goal.returns-clause-only
 returns-clause-only c = λ b h same.

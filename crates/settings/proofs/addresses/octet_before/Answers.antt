@@ -1,5 +1,6 @@
 use Rattle.std.proofs.Common.{sym, ◌∙◌, arith}
 use Rattle.std.proofs.lemmas.Fmt.{decimal_injective}
+use Rattle.std.proofs.lemmas.Str.Pattern.{split_parts}
 use Rattle.settings.proofs.AddressParts.{split_number}
 use Rattle.settings.proofs.addresses.octet_before.Goals as goal
 
@@ -15,6 +16,12 @@ returns-in_err-number-clause-none c =
     let parts = split_number c.args.separator n c.args.text.now rest c.split_once.result c.split_once.ensures.cases c.requires small same in
     let here = rw c.in_ok-front.was at parts in
     c.in_err-number.ensures.none n small here.0)
+
+pub returns-clause-some : goal.returns-clause-some
+returns-clause-some c =
+    let parts = split_parts c.args.separator c.args.text.now c.split_once.result c.split_once.ensures.cases (omega arith) in
+    let here = rw c.in_ok-front.was at parts in
+    rw (← c.in_ok-number.ensures.some) here.0
 
 pub returns-clause-only : goal.returns-clause-only
 returns-clause-only c n rest small same =
