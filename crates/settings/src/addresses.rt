@@ -37,6 +37,7 @@ fn octet_before(text: &str, separator: char) -> Option<(u8, &str)>
 }
 
 /// The number below 256 that a text stands for in decimal, without leading zeros.
+#[tactic(auto, using(std::proofs::lemmas::Fmt::decimal_injective))]
 fn octet(text: &str) -> Option<u8>
     ensures some { IfSome result (λ n. text.now ≡ decimal n) }
     ensures none { IfNone result ((n : ℕ) → n < 2 ^ 8 → text.now ≢ decimal n) }
