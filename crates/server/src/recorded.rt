@@ -1,7 +1,10 @@
 //! A server that records what its threads do.
-use crate::making::{build, split_of};
-use crate::serving::{Lent, run};
-use dispatch::{Clock, Gate, ServerFault, Split};
+ghost use Rattle.settings.specs.Pollers.{pollers_for};
+ghost use Rattle.std.specs.Prelude.{◌≡◌, length};
+
+use crate::making::split_of;
+use crate::serving::{Lent, run_on};
+use dispatch::{Clock, Front, Gate, ServerFault, Split};
 use log::{Log, error};
 use recording::{RecordQueue, RecordedClock, RecordedGate, Recorder, record_all, write_records};
 use records::Header;
@@ -102,18 +105,37 @@ fn serve_into<G: Gate + Sync, C: Clock + Sync, R: Net + Dial + Wait + Threads + 
     lent: Lent<'_, G, C>,
     queue: &RecordQueue,
 ) -> Result<(), ServerFault> {
+    let forwarding = Forwarding::of(settings);
+    let (fronts, wakers) = open_all(rt, alloc, bound, forwarding, split_of(settings))?;
+    run_recorded(rt, alloc, settings, fronts, wakers, lent, queue)
+}
+
+/// Runs a server with these fronts, one for each poller, and records what they and what is lent do.
+fn run_recorded<F, G: Gate + Sync, C: Clock + Sync, R: Wait + Threads + Log + Sync>(
+    rt: &R,
+    alloc: Global,
+    settings: &Settings,
+    fronts: Vec<F>,
+    waker: F::Waker,
+    lent: Lent<'_, G, C>,
+    queue: &RecordQueue,
+) -> Result<(), ServerFault>
+where
+    F: Front + Drop + Send,
+    F::Client: Send,
+    F::Target: Send,
+    F::Waker: Send + Sync + Drop,
+    requires { length fronts.items ≡ pollers_for settings.now.slots settings.now.workers }
+{
     let recorder = Recorder::new(rt, queue);
+    let fronts = record_all(alloc, fronts, &recorder)?;
     let lent = Lent {
         gate: &RecordedGate::new(lent.gate, recorder.again()),
         clock: &RecordedClock::new(lent.clock, recorder.again(), settings.idle > 0),
         is_stopped: lent.is_stopped,
         statistics: lent.statistics,
     };
-    let split = split_of(settings);
-    let (fronts, wakers) = open_all(rt, alloc, bound, Forwarding::of(settings), split)?;
-    let fronts = record_all(alloc, fronts, &recorder)?;
-    let server = build(rt, alloc, settings, split, fronts, wakers)?;
-    run(rt, alloc, settings, server, lent)
+    run_on(rt, alloc, settings, fronts, waker, lent)
 }
 
 /// The sizes of a server, as its recording begins.

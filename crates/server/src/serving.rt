@@ -1,5 +1,6 @@
 //! A server over the system's sockets, from its settings to its end.
-ghost use Rattle.std.specs.Prelude.{◌≡◌};
+ghost use Rattle.settings.specs.Pollers.{pollers_for};
+ghost use Rattle.std.specs.Prelude.{◌≡◌, length};
 
 use crate::making::{build, split_of};
 use dispatch::{Clock, Front, Gate, ServerFault, Shared, Timing};
@@ -46,9 +47,28 @@ pub fn serve<G: Gate + Sync, C: Clock + Sync, R: Net + Dial + Wait + Threads + L
     bound: Bound,
     lent: Lent<'_, G, C>,
 ) -> Result<(), ServerFault> {
-    let split = split_of(settings);
-    let (fronts, wakers) = open_all(rt, alloc, bound, Forwarding::of(settings), split)?;
-    let server = build(rt, alloc, settings, split, fronts, wakers)?;
+    let forwarding = Forwarding::of(settings);
+    let (fronts, wakers) = open_all(rt, alloc, bound, forwarding, split_of(settings))?;
+    run_on(rt, alloc, settings, fronts, wakers, lent)
+}
+
+/// Makes a server with these fronts, one for each poller, and runs it.
+pub(crate) fn run_on<F, G: Gate + Sync, C: Clock + Sync, R: Wait + Threads + Log + Sync>(
+    rt: &R,
+    alloc: Global,
+    settings: &Settings,
+    fronts: Vec<F>,
+    waker: F::Waker,
+    lent: Lent<'_, G, C>,
+) -> Result<(), ServerFault>
+where
+    F: Front + Drop + Send,
+    F::Client: Send,
+    F::Target: Send,
+    F::Waker: Send + Sync + Drop,
+    requires { length fronts.items ≡ pollers_for settings.now.slots settings.now.workers }
+{
+    let server = build(rt, alloc, settings, split_of(settings), fronts, waker)?;
     run(rt, alloc, settings, server, lent)
 }
 
