@@ -2,13 +2,15 @@
 use Rattle.std.proofs.Common.{◌≡◌, ℕ, ◌+◌, List, [], ◌∷◌, ◌++◌, map, length, reverse, replicate, All, append_assoc, append-nil, Bool, true, false, ap, ◌∙◌, sym, subst, arith}
 use Rattle.std.specs.List.{range_with_len}
 use Rattle.std.proofs.lemmas.List.FromFn.{map-range_with_len_more}
-use Rattle.std.proofs.lemmas.List.{map-append, nil_from_length, reverse-append, reverse-reverse}
+use Rattle.std.proofs.lemmas.List.{length-replicate, length-reverse, map-append, nil_from_length, reverse-append, reverse-reverse}
 use Rattle.dispatch.specs.declared.opening.Opening.{Opening}
 use Rattle.dispatch.specs.declared.part.Part.{Part}
+use Rattle.claims.specs.Seats.{TableId, SeatState, fresh_seat}
 use Rattle.dispatch.specs.Episodes.{no_episodes}
+use Rattle.dispatch.specs.Parts.{AreFresh}
 use Rattle.dispatch.specs.Polls.{PollerState}
 use Rattle.server.specs.Begins.{HasBegun}
-use Rattle.std.proofs.lemmas.List.Elements.{All-push}
+use Rattle.std.proofs.lemmas.List.Elements.{All-nil, All-push}
 
 -- one more of a list with an item for each number
 pub one_more : {A : Type 0} (f : ℕ → A) (n : ℕ) → map f (range_with_len 0 (n + 1)) ≡ map f (range_with_len 0 n) ++ f n ∷ []
@@ -47,7 +49,18 @@ begun_one slots opening ps qs {p} more is all =
     subst (λ (rs : List PollerState). All (λ (q : PollerState). HasBegun slots opening q) rs) (sym more)
     (All-push (λ (q : PollerState). HasBegun slots opening q) ps p all one)
 
+-- none made yet
+pub none_mapped : {P A : Type 0} (of : P → A) (ps : List P) → ps ≡ [] → map of ps ≡ []
+none_mapped {P = P} of ps none = ap (λ (qs : List P). map of qs) none
+
+pub none_begun : (slots : ℕ) (opening : Opening) (ps : List PollerState) → ps ≡ [] → All (λ (q : PollerState). HasBegun slots opening q) ps
+none_begun slots opening ps none =
+    subst (λ (qs : List PollerState). All (λ (q : PollerState). HasBegun slots opening q) qs) (sym none) (All-nil (λ (q : PollerState). HasBegun slots opening q))
+
 -- none made yet, of a list that was turned round
+pub none_made_yet : {X : Type 0} (xs ys : List X) (n : ℕ) → ys ≡ reverse xs → length xs ≡ n → length ys + 0 ≡ n
+none_made_yet {X = X} xs ys n turned all = let long : length ys ≡ n = ap (λ (zs : List X). length zs) turned ∙ length-reverse xs ∙ all in omega (arith, long)
+
 pub none_taken : {P X A : Type 0} (of : P → A) (f : X → A) (ps : List P) (xs ys : List X) → ps ≡ [] → ys ≡ reverse xs
     → map of ps ++ map f (reverse ys) ≡ map f xs
 none_taken {P = P} {X = X} {A = A} of f ps xs ys none turned =
@@ -71,3 +84,9 @@ pub all_taken : {P X A : Type 0} (of : P → A) (f : X → A) (ps : List P) (xs 
     → map of ps ++ map f (reverse xs) ≡ all → map of ps ≡ all
 all_taken {P = P} {X = X} {A = A} of f ps xs all none before =
     sym (append-nil (map of ps)) ∙ ap (λ (zs : List X). map of ps ++ map f (reverse zs)) (sym (nil_from_length xs none)) ∙ before
+
+-- so many seats that have done nothing yet
+pub all_fresh : (table : TableId) (seats : List SeatState) (n : ℕ) → seats ≡ replicate n (fresh_seat table) → AreFresh table seats
+all_fresh table seats n are = record {
+  each = are ∙ ap (λ (k : ℕ). replicate k (fresh_seat table)) (sym (ap (λ (some : List SeatState). length some) are ∙ length-replicate n (fresh_seat table)));
+}

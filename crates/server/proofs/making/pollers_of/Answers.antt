@@ -1,10 +1,10 @@
 use Rattle.std.proofs.Common.{◌≡◌, ap, ◌∙◌, ◌+◌, ℕ, length, arith}
-use Rattle.server.proofs.Parts.{mapped_more, mapped_all, begun_one, one_taken, all_taken}
+use Rattle.server.proofs.Parts.{mapped_more, mapped_all, begun_one, none_begun, none_made_yet, none_mapped, none_taken, one_taken, all_taken}
 use Rattle.server.proofs.making.pollers_of.Goals as goal
 
 pub loop-number-preserved : goal.loop-number-preserved
 loop-number-preserved g c = record {
-  left = omega (arith, c.loop-number.invariant.left, c.in-Some.ensures.len);
+  left = omega (arith, c.loop-number.invariant.left, c.in-Some.ensures.len, c.loop-number.fronts.ok.0, c.pop.new.self.ok.0);
   parts = mapped_more _ _ _ _ c.loop-number.number c.push_reserved.ensures.items (ap (λ poller. poller.part) c.in_ok-poller_of-in-Some.ensures) c.loop-number.invariant.parts;
   begun = begun_one _ _ _ _ c.push_reserved.ensures.items c.in_ok-poller_of-in-Some.ensures c.loop-number.invariant.begun;
   shares = mapped_more _ _ _ _ c.loop-number.number c.push_reserved.ensures.items (ap (λ poller. poller.most) c.in_ok-poller_of-in-Some.ensures) c.loop-number.invariant.shares;
@@ -15,13 +15,31 @@ loop-number-preserved g c = record {
 }
 
 pub returns-clause-parts : goal.returns-clause-parts
-returns-clause-parts g c = mapped_all _ _ _ c.loop-number.number _ (omega (arith, c.loop-number.invariant.left, c.pollers-count.ensures.parts)) c.loop-number.invariant.parts
+returns-clause-parts g c = mapped_all _ _ _ c.loop-number.number _ (omega (arith, c.loop-number.invariant.left, c.loop-number-test.false, c.pollers-count.ensures.parts)) c.loop-number.invariant.parts
 
 pub returns-clause-shares : goal.returns-clause-shares
-returns-clause-shares g c = mapped_all _ _ _ c.loop-number.number _ (omega (arith, c.loop-number.invariant.left, c.pollers-count.ensures.parts)) c.loop-number.invariant.shares
+returns-clause-shares g c = mapped_all _ _ _ c.loop-number.number _ (omega (arith, c.loop-number.invariant.left, c.loop-number-test.false, c.pollers-count.ensures.parts)) c.loop-number.invariant.shares
 
 pub returns-clause-reported : goal.returns-clause-reported
 returns-clause-reported g c = all_taken _ _ _ c.loop-number.fronts.items _ (let none : length c.loop-number.fronts.items ≡ 0 = omega (arith, c.loop-number.invariant.left, c.loop-number-test.false, c.pollers-count.ensures.parts) in none) c.loop-number.invariant.reported
 
 pub returns-clause-failed : goal.returns-clause-failed
 returns-clause-failed g c = all_taken _ _ _ c.loop-number.fronts.items _ (let none : length c.loop-number.fronts.items ≡ 0 = omega (arith, c.loop-number.invariant.left, c.loop-number-test.false, c.pollers-count.ensures.parts) in none) c.loop-number.invariant.failed
+
+pub loop-number-init : goal.loop-number-init
+loop-number-init g c = record {
+  left = none_made_yet _ _ _ c.reverse.ensures.items c.requires;
+  parts = none_mapped _ _ c.in_ok-pollers.ensures.items;
+  begun = none_begun _ _ _ c.in_ok-pollers.ensures.items;
+  shares = none_mapped _ _ c.in_ok-pollers.ensures.items;
+  reported = none_taken _ _ _ _ _ c.in_ok-pollers.ensures.items c.reverse.ensures.items;
+  failed = none_taken _ _ _ _ _ c.in_ok-pollers.ensures.items c.reverse.ensures.items;
+  len = c.in_ok-pollers.ensures.len;
+  room = c.in_ok-pollers.ensures.capacity;
+}
+
+pub poller_of-requires : goal.poller_of-requires
+poller_of-requires g c = record { number = omega (arith, c.loop-number-test.true, c.pollers-count.ensures.parts) }
+
+pub unreachable-requires : goal.unreachable-requires
+unreachable-requires g c = omega (arith, c.in-None.ensures.cases.0, c.loop-number.fronts.ok.0, c.loop-number.invariant.left, c.loop-number-test.true, c.pollers-count.ensures.parts)

@@ -1,0 +1,14 @@
+use Rattle.std.proofs.Common.{arith}
+use Rattle.server.proofs.Parts.{all_fresh}
+use Rattle.server.proofs.making.build.Goals as goal
+
+pub frees_of-requires : goal.frees_of-requires
+frees_of-requires g c = omega (arith, c.args.settings.now.workers_range.1)
+
+pub shared_of-requires : goal.shared_of-requires
+shared_of-requires g c = record {
+  threads = (omega (arith, c.args.settings.now.workers_range.0), omega (arith, c.args.settings.now.workers_range.1, c.pollers.ensures.few));
+}
+
+pub invariant_of-result : goal.invariant_of-result
+invariant_of-result g c = record { seats = all_fresh _ _ _ c.in_ok-shared.ensures.seats }
