@@ -1,11 +1,13 @@
--- Which ends of the queues of free slots the threads get, and in which order the threads are made.
-use Rattle.std.proofs.Common.{◌≡◌, ℕ, zero, suc, ◌+◌, List, [], ◌∷◌, ◌++◌, length, length-set, map, reverse, All, slice_index_or, Some, ◌-◌, ◌<◌, refl, sym, ap, ◌∙◌, subst, append_assoc, append-nil, arith}
+-- Which ends of the queues of free slots the threads get and use, and in which order the threads are made.
+use Rattle.std.proofs.Common.{◌≡◌, ◌≢◌, ℕ, zero, suc, ◌+◌, List, [], ◌∷◌, ◌++◌, length, length-set, map, reverse, All, slice_index_or, Some, ◌-◌, ◌<◌, refl, sym, ap, ◌∙◌, subst, append_assoc, append-nil, arith}
+use Rattle.std.specs.Prelude.{Option, None, IfSome, option_map, option_to_list}
 use Rattle.std.specs.List.{slice_get, slice_set, enumerate_from, range_with_len}
 use Rattle.std.proofs.lemmas.List.Elements.{All-push}
-use Rattle.std.proofs.lemmas.Option.{slice_get_within}
-use Rattle.std.proofs.lemmas.List.{length-map, map-append, nil_from_length, reverse-append}
+use Rattle.std.proofs.lemmas.Option.{slice_get-get_or, slice_get-map, slice_get_within}
+use Rattle.std.proofs.lemmas.List.{get_or-set_same, length-map, map-append, nil_from_length, reverse-append}
 use Rattle.ready.specs.Steps.{EndState}
 use Rattle.threads.specs.Casts.{numbered, IsEndOf, AreEndsFrom, AreLeft, HasOneOfEach}
+use Rattle.threads.specs.Loops.{OthersKept}
 
 abbrev pub End : Type 0
 End = EndState ℕ
@@ -96,6 +98,13 @@ module _ {X : Type 0} where
     each = λ at there now. taken_at f xs poller at x y gone there is was now;
   }
 
+  -- the last end of this poller's queue, if it has one, is one of its ends
+  pub end_of_last : (f : X → List End) (xs : List X) (poller : ℕ) (x : X) (left : List End) (last : Option End) → poller < length xs → x ≡ slice_index_or xs poller x → f x ≡ left ++ option_to_list last → IfSome last (λ end. IsEndOf (map f xs) poller end)
+  end_of_last f xs poller x left None within is ends = search
+  end_of_last f xs poller x left (Some end) within is ends =
+      let there : slice_get xs poller ≡ Some x = slice_get-get_or xs poller x within ∙ ap (λ (y : X). Some y) (sym is) in
+      record { before = left; behind = []; there = slice_get-map f xs poller ∙ ap (λ (o : Option X). option_map f o) there ∙ ap (λ (es : List End). Some es) ends }
+
   -- one of each queue, the first poller's last
   pub one_of_each : (f : X → List End) (xs : List X) (new : List (List End)) (end : End) (others : List End) → AreEndsFrom (map f xs) 1 others → length others ≡ length xs - 1 → AreLeft (map f xs) new → IsEndOf new 0 end
       → HasOneOfEach (map f xs) (end ∷ others)
@@ -139,3 +148,55 @@ none_made {X = X} g made left none = ap (λ (xs : List X). map g xs ++ numbered 
 
 pub none_all : {X : Type 0} (P : X → Type 0) (made : List X) → made ≡ [] → All P made
 none_all {X = X} P made none = λ k d less. let e : length made ≡ 0 = ap (λ (xs : List X). length xs) none in absurd (omega (arith, less, e))
+
+-- a worker exchanges two of its ends, uses one, and exchanges them again
+module _ {X : Type 0} where
+  set_at : (xs : List X) (n : ℕ) (y : X) → n < length xs → slice_get (slice_set xs n y) n ≡ Some y
+  set_at xs n y within =
+      let long = length-set xs n y in
+      slice_get-get_or (slice_set xs n y) n y (omega arith) ∙ ap (λ (x : X). Some x) (get_or-set_same xs n y y within)
+
+  set_elsewhere : (xs : List X) (n k : ℕ) (y : X) → k ≢ n → slice_get (slice_set xs n y) k ≡ slice_get xs k
+  set_elsewhere [] n k y other = λ i. slice_get [] k
+  set_elsewhere (x ∷ xs) zero zero y other = absurd (other (λ i. 0))
+  set_elsewhere (x ∷ xs) zero (suc k) y other = λ i. slice_get xs k
+  set_elsewhere (x ∷ xs) (suc n) zero y other = λ i. Some x
+  set_elsewhere (x ∷ xs) (suc n) (suc k) y other = set_elsewhere xs n k y (λ same. other (ap suc same))
+
+-- the first poller's end is the one that is used
+pub first_used : (p : ℕ) (a d : End) (xs ys us zs : List End) → p ≡ 0 → ys ≡ xs → us ≡ ys → zs ≡ us → OthersKept p (a ∷ xs) (d ∷ zs)
+first_used p a d xs ys us zs none one same two zero other = absurd (other (sym none))
+first_used p a d xs ys us zs none one same two (suc k) other = ap (λ (ws : List End). slice_get ws k) (two ∙ same ∙ one)
+
+kept_at : (n k : ℕ) (a c d : End) (xs ys zs : List End) → k ≢ suc n
+    → ys ≡ slice_set xs n a → (d ≡ a) × (zs ≡ slice_set ys n c) → slice_get (d ∷ zs) k ≡ slice_get (a ∷ xs) k
+kept_at n zero a c d xs ys zs other one two = ap (λ (e : End). Some e) two.0
+kept_at n (suc k) a c d xs ys zs other one two =
+    ap (λ (ws : List End). slice_get ws k) two.1
+    ∙ set_elsewhere ys n k c (λ same. other (ap suc same))
+    ∙ ap (λ (ws : List End). slice_get ws k) one
+    ∙ set_elsewhere xs n k a (λ same. other (ap suc same))
+
+by_number : (n : ℕ) (a b c d : End) (xs ys zs : List End) → n < length xs
+    → IfSome (slice_get xs n) (λ o. (b ≡ o) × (ys ≡ slice_set xs n a))
+    → IfSome (slice_get ys n) (λ o. (d ≡ o) × (zs ≡ slice_set ys n c))
+    → OthersKept (suc n) (a ∷ xs) (d ∷ zs)
+by_number n a b c d xs ys zs within first second k other =
+    let one = subst (λ o. IfSome o (λ o. (b ≡ o) × (ys ≡ slice_set xs n a))) (slice_get-get_or xs n a within) first in
+    let there : slice_get ys n ≡ Some a = ap (λ (ws : List End). slice_get ws n) one.1 ∙ set_at xs n a within in
+    let two = subst (λ o. IfSome o (λ o. (d ≡ o) × (zs ≡ slice_set ys n c))) there second in
+    kept_at n k a c d xs ys zs other one.1 two
+
+-- another poller's is
+pub other_used : (p : ℕ) (a b c d : End) (xs ys us zs : List End) → p ≢ 0 → p < length (a ∷ xs)
+    → IfSome (slice_get xs (p - 1)) (λ o. (b ≡ o) × (ys ≡ slice_set xs (p - 1) a))
+    → us ≡ ys
+    → IfSome (slice_get us (p - 1)) (λ o. (d ≡ o) × (zs ≡ slice_set us (p - 1) c))
+    → OthersKept p (a ∷ xs) (d ∷ zs)
+other_used zero a b c d xs ys us zs some within first same second = absurd (some (λ i. 0))
+other_used (suc n) a b c d xs ys us zs some within first same second =
+    let less : suc n - 1 ≡ n = omega arith in
+    by_number n a b c d xs ys zs (omega (arith, within))
+    (subst (λ m. IfSome (slice_get xs m) (λ o. (b ≡ o) × (ys ≡ slice_set xs m a))) less first)
+    (subst (λ m. IfSome (slice_get ys m) (λ o. (d ≡ o) × (zs ≡ slice_set ys m c))) less
+    (subst (λ (vs : List End). IfSome (slice_get vs (suc n - 1)) (λ o. (d ≡ o) × (zs ≡ slice_set vs (suc n - 1) c))) same second))

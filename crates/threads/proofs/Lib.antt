@@ -1,4 +1,2 @@
-pub mod Ends
 pub mod Casts
-pub mod Endings
 pub mod Loops

@@ -447,6 +447,10 @@ pub some_is : (o : Option Worked) (answer : Result (Option Worked) Ended) → an
 some_is None answer is some none = false≢true some
 some_is (Some worked) answer is some none = absurd (none-some worked (ap (λ (r : Result (Option Worked) Ended). ran_of r) (sym none ∙ is)))
 
+pub none_is : (o : Option Worked) (answer : Result (Option Worked) Ended) → answer ≡ Ok o → is_some o ≡ false → answer ≡ Ok None
+none_is None answer is none = is
+none_is (Some worked) answer is none = absurd (false≢true (sym none))
+
 -- that no turn was run is told as it was answered
 pub none_told : (answer : Result (Option Worked) ServerFault) (told : Result (Option Worked) Ended)
     → IfOk answer (λ value. told ≡ Ok value) → answer ≡ Ok None → told ≡ Ok None
@@ -462,3 +466,13 @@ told (Err ended) = ended.fault
 
 pub told_other : {T : Type 0} (answer : Result T Ended) (ended : Ended) → answer ≡ Err ended → ended.fault ≢ Some Worn → answer ≢ Err (record { fault = Some Worn })
 told_other {T} answer ended is well worn = well (ap (λ (r : Result T Ended). told r) (sym is ∙ worn))
+
+-- of every number below one, as of every poller that is woken
+pub none_below : (P : ℕ → Type 0) (q : ℕ) → q < 0 → P q
+none_below P q below = absurd (omega arith)
+
+pub one_below : (P : ℕ → Type 0) (n : ℕ) → ((q : ℕ) → q < n → P q) → P n → (q : ℕ) → q < n + 1 → P q
+one_below P n all one q below = dite (ℕ_discrete q n) (λ same. subst P (sym same) one) (λ other. all q (omega arith))
+
+pub all_below : (P : ℕ → Type 0) (n m : ℕ) → m ≤ n → ((q : ℕ) → q < n → P q) → (q : ℕ) → q < m → P q
+all_below P n m whole all q below = all q (omega arith)

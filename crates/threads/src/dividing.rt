@@ -83,7 +83,6 @@ where
 }
 
 /// The thread of a poller. A poller whose table is not for these slots is refused; `build` makes none.
-#[tactic(auto, using(claims::proofs::Seats::fresh_holds_nothing))]
 fn next_poller<F: Front + Drop>(
     alloc: Global,
     shared: &Arc<Shared<F>>,
@@ -144,7 +143,6 @@ where
 }
 
 /// The thread of a worker, with an end of each poller's queue of free slots.
-#[tactic(auto, using(claims::proofs::Seats::fresh_holds_nothing, crate::proofs::Casts::left_of_left))]
 fn next_worker<F: Front + Drop>(
     alloc: Global,
     shared: &Arc<Shared<F>>,

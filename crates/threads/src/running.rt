@@ -143,6 +143,7 @@ where
         let next = self.cast.lock(self.crew.rt).pollers.pop();
         if let Some(mut poller) = next {
             poller.run(&self.crew);
+            drop(poller);
         }
     }
 
@@ -151,6 +152,7 @@ where
         let next = self.cast.lock(self.crew.rt).workers.pop();
         if let Some(mut worker) = next {
             worker.run(&self.crew);
+            drop(worker);
         }
     }
 }

@@ -6,8 +6,8 @@ use Rattle.threads.proofs.dividing.pollers_of.Goals as goal
 pub loop-thread-preserved : goal.loop-thread-preserved
 loop-thread-preserved g c = record {
   fresh = c.next_poller.ensures.fresh;
-  left = omega (arith, c.loop-thread.invariant.left, c.in-Some.ensures.len);
-  numbered = threads_more _ _ _ _ _ _ _ _ _ c.push_reserved.ensures.items c.in-Some.ensures.items (omega (arith, c.len.ensures)) (both c.in_ok-next_poller-in-Some.ensures.poller.0 c.in_ok-next_poller-in-Some.ensures.poller.1) c.loop-thread.invariant.numbered;
+  left = omega (arith, c.loop-thread.invariant.left, c.in-Some.ensures.len, c.loop-thread.pollers.ok.0, c.pop.new.self.ok.0);
+  numbered = threads_more _ _ _ _ _ _ _ _ _ c.push_reserved.ensures.items c.in-Some.ensures.items (omega (arith, c.len.ensures, c.pop.new.self.ok.0)) (both c.in_ok-next_poller-in-Some.ensures.poller.0 c.in_ok-next_poller-in-Some.ensures.poller.1) c.loop-thread.invariant.numbered;
   slots = all_pushed (λ thread. IsEndOf (map (λ ends. ends.items) c.args.rest.now.free.items) thread.number thread.own.free) _ _ _ c.push_reserved.ensures.items c.loop-thread.invariant.slots (slot_of_all _ _ _ _ _ c.loop-thread.invariant.ends c.in_ok-next_poller-in-Some.ensures.slots c.in_ok-next_poller-in-Some.ensures.poller.0);
   ends = left_of_left _ _ _ c.loop-thread.invariant.ends c.next_poller.ensures.left;
   len = c.push_reserved.ensures.len ∙ ap (λ (n : ℕ). n + 1) c.loop-thread.invariant.len;
@@ -16,8 +16,8 @@ loop-thread-preserved g c = record {
 
 pub loop-thread-init : goal.loop-thread-init
 loop-thread-init g c = record {
-  fresh = search;
-  left = omega (arith, c.len-count.ensures);
+  fresh = c.requires;
+  left = omega (arith, c.len-count.ensures, c.args.pollers.ok.0);
   numbered = none_made _ _ c.args.pollers.items c.in_ok-threads.ensures.items;
   slots = none_all (λ thread. IsEndOf (map (λ ends. ends.items) c.args.rest.now.free.items) thread.number thread.own.free) _ c.in_ok-threads.ensures.items;
   ends = all_left _;
@@ -30,3 +30,12 @@ returns-clause-pollers g c = all_made _ _ c.loop-thread.pollers.items (let none 
 
 pub returns-in_err-next_poller-in-Some-clause-left : goal.returns-in_err-next_poller-in-Some-clause-left
 returns-in_err-next_poller-in-Some-clause-left g c = left_of_left _ _ _ c.loop-thread.invariant.ends c.next_poller.ensures.left
+
+pub unreachable-requires : goal.unreachable-requires
+unreachable-requires g c = omega (arith, c.in-None.ensures.cases.0, c.loop-thread.pollers.ok.0, c.loop-thread.invariant.left, c.loop-thread-test.true)
+
+pub unreachable-unreachable : goal.unreachable-unreachable
+unreachable-unreachable g c = c.unreachable.result
+
+pub returns-in_err-threads-clause-left : goal.returns-in_err-threads-clause-left
+returns-in_err-threads-clause-left g c = all_left _

@@ -1,7 +1,7 @@
 use Rattle.std.proofs.Common.{ℕ, subst, arith}
 use Rattle.dispatch.specs.declared.part.Part.{Part}
 use Rattle.dispatch.specs.Splits.{part_of, parts_of}
-use Rattle.threads.proofs.Endings.{none_below, one_below, all_below}
+use Rattle.threads.proofs.Loops.{none_below, one_below, all_below}
 use Rattle.threads.proofs.crew.Crew.wake_pollers.Goals as goal
 
 pub loop-poller-init : goal.loop-poller-init

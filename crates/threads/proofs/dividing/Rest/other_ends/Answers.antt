@@ -1,5 +1,5 @@
 use Rattle.std.proofs.Common.{◌∙◌, arith}
-use Rattle.threads.proofs.Casts.{ends_pushed, left_of_left, length_pushed}
+use Rattle.threads.proofs.Casts.{all_left, ends_pushed, left_of_left, length_pushed}
 use Rattle.threads.proofs.dividing.Rest.other_ends.Goals as goal
 
 pub loop-poller-preserved : goal.loop-poller-preserved
@@ -11,3 +11,12 @@ loop-poller-preserved c = record {
   as_many = omega (arith, length_pushed _ _ _ c.push_reserved.ensures.items, c.push_reserved.ensures.len, c.loop-poller.invariant.as_many);
   room = omega (arith, c.push_reserved.ensures.capacity, c.loop-poller.invariant.room);
 }
+
+pub returns-in-None-clause-left : goal.returns-in-None-clause-left
+returns-in-None-clause-left c = left_of_left _ _ _ c.loop-poller.invariant.left c.next_end.ensures.left
+
+pub returns-in_err-ends-clause-left : goal.returns-in_err-ends-clause-left
+returns-in_err-ends-clause-left c = all_left _
+
+pub returns-in-None-clause-parts : goal.returns-in-None-clause-parts
+returns-in-None-clause-parts c = c.next_end.ensures.parts ∙ c.loop-poller.invariant.parts
