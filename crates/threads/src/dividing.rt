@@ -184,9 +184,9 @@ where
     ensures shared { IfOk result (λ made. arc_value made.0 ≡ arc_value shared.now) }
     ensures own { IfOk result (λ made. made.1.seat ≡ fresh_seat (arc_value shared.now).claims) }
 {
+    let same = Arc::try_clone(shared)?;
     let own = rest.next_own(alloc, shared, poller, capacity)?;
-    let shared = Arc::try_clone(shared)?;
-    Ok((shared, own))
+    Ok((same, own))
 }
 
 impl Rest {

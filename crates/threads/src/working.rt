@@ -3,14 +3,14 @@ ghost use Rattle.std.specs.Prelude.{◌≡◌, ◌≢◌, ◌<◌, ◌-◌, [], 
 ghost use Rattle.std.specs.Arc.{arc_value};
 ghost use Rattle.claims.specs.Seats.{HoldsNothing};
 ghost use Rattle.dispatch.specs.Hands.{HasRoom};
-ghost use Rattle.dispatch.specs.Outgoing.{slots_out};
+ghost use Rattle.dispatch.specs.Outgoing.{outgoing, slots_out};
 ghost use Rattle.relay_log.specs.declared.faults.ServerFault.{ServerFault};
 ghost use Rattle.threads.specs.Loops.{GivesToOwner, OneRan, Took, WorkerEnded, WorkerRan};
 
 use crate::crew::Crew;
 use crate::ended::Ended;
 use crate::ending::{Cleared, NoFault};
-use dispatch::{Clock, Front, Gate, Own, Shared, give_slots, put_tickets};
+use dispatch::{Clock, Front, Gate, Hand, Own, Shared, give_slots, put_tickets};
 use log::Log;
 use ready::{FreeQueue, Ticket};
 use std::sync::{Arc, Wait};
@@ -172,11 +172,20 @@ where
         ensures shared { self.new.shared ≡ self.old.shared }
         ensures others { self.new.others.items ≡ self.old.others.items }
     {
-        for _try in rt.forever() {
-            if self.own.hand.slots() == 0 {
-                return;
-            }
-            give_slots(rt, &mut self.own.free, &mut self.own.hand);
+        give_until_empty(rt, &mut self.own.free, &mut self.own.hand);
+    }
+}
+
+/// Gives back slots until none is in hand.
+fn give_until_empty(rt: &impl Wait, free: &mut FreeQueue, hand: &mut Hand)
+    ensures given { hand.new.slots ≡ [] }
+    ensures slots { outgoing free.new.history hand.new.slots ≡ outgoing free.old.history hand.old.slots }
+    ensures tickets { hand.new.tickets ≡ hand.old.tickets }
+{
+    for _try in rt.forever() {
+        if hand.slots() == 0 {
+            return;
         }
+        give_slots(rt, free, hand);
     }
 }
