@@ -10,3 +10,6 @@ returns-in_default-bytes_read c = grind (arith, gets)
 
 pub returns-then-not-fits : goal.returns-then-not-fits
 returns-then-not-fits c = grind (arith, gets)
+
+pub returns : goal.returns
+returns c = grind (arith, gets)

@@ -1,6 +1,23 @@
-use Rattle.std.proofs.Common.{arith}
-use Rattle.std.proofs.lemmas.Option.{gets}
+use Rattle.std.proofs.Common.{◌<◌, length, ap, sym, ◌∙◌, arith}
+use Rattle.std.specs.List.{slice_get}
+use Rattle.std.proofs.lemmas.Option.{gets, option_and_then_some, slice_get_within}
+use Rattle.world.specs.Steps.{connection_at}
 use Rattle.world.proofs.world.World.close.Goals as goal
 
 pub returns : goal.returns
 returns c = grind (arith, gets)
+
+pub index_mut-requires : goal.index_mut-requires
+index_mut-requires c =
+    let there = ap (λ world. connection_at world c.args.slot) c.self.view_is ∙ sym c.in-Some.ensures in
+    let within : c.args.slot < length c.self.inside.slots.items = option_and_then_some (λ place. place.connection) (slice_get c.self.inside.slots.items c.args.slot) _ there (λ place at is. slice_get_within c.self.inside.slots.items c.args.slot place at) in
+    omega (arith, within, c.self.inside.slots.ok.0)
+
+pub index_mut-requires-2 : goal.index_mut-requires-2
+index_mut-requires-2 c =
+    let there = ap (λ world. slice_get world.workers c.args.worker) c.self.view_is ∙ c.requires in
+    let within : c.args.worker < length c.self.inside.workers.items = slice_get_within c.self.inside.workers.items c.args.worker _ there in
+    omega (arith, within, c.self.inside.workers.ok.0)
+
+pub returns-in_err-reserve : goal.returns-in_err-reserve
+returns-in_err-reserve c = grind (arith, gets)
