@@ -14,8 +14,8 @@ use std::alloc::Global;
 use std::io::Write;
 use std::net::Net;
 use std::sync::{Mutex, Wait};
-use std::thread;
 use std::thread::Threads;
+use std::{fmt, thread};
 
 /// Serves as [`serve`](crate::serve) does, and records into the file what each thread does, until the server ends: then the
 /// last line says that all is recorded. One thread more writes the file, and the call returns once it has written all.
@@ -86,14 +86,19 @@ where
             requires { S.IsAlwaysCallable serve }
         {
             if let Err(error) = scope.spawn(move || recording.write()) {
-                error!(recording.rt; target: "relayd", "threads: {error}");
-                return Err(ServerFault::Threads);
+                return Err(not_started(recording.rt, &error));
             }
             let served = serve();
             recording.queue.close();
             served
         },
     )
+}
+
+/// The fault of a thread that was not started. The cause is logged.
+fn not_started<E: fmt::Display>(rt: &impl Log, error: &E) -> ServerFault {
+    error!(rt; target: "relayd", "threads: {error}");
+    ServerFault::Threads
 }
 
 /// Serves, and records into the queue.
