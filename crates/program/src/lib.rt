@@ -4,13 +4,12 @@
 //! [`act`] does all of that: from its arguments, a reader, two writers and a closure that serves, to a status.
 //! [`arguments`] are those of the process, and [`report_arguments_fault`] reports that they cannot be read.
 //!
-//! - `replaying_file` replays a recording.
 //! - `command_line` finds the command in them; `forwarding` has the settings that they may give.
 //! - [`config`] reads the settings, and `starting` looks at what they need before a relay serves by them.
+//! - `recording_file` makes the file of a recording, and `replaying_file` replays one.
 //! - [`until_eof`] waits for the end of standard input.
 //! - [`logging`] is the log of a relay that serves, and [`level_filter`] its level; [`telling`] its statistics; `streams` logs
-//!   what is wrong with an
-//!   input or an output.
+//!   what is wrong with an input or an output.
 #![tactic(auto)]
 
 mod acting;

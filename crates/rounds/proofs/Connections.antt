@@ -1,5 +1,5 @@
 -- Connections that are opened one after the other, and why one is closed unopened.
-use Rattle.std.proofs.Common.{◌≡◌, ◌≢◌, ◌⊎◌, ◌↔◌, ℕ, ◌+◌, ◌-◌, ◌<◌, ◌≤◌, true, false, IsTrue, List, [], ◌∷◌, ◌++◌, length, drop, slice_get, slice_set, min, cond, Bool, refl, sym, subst, ap, ◌∙◌, arith, inl, inr, append_assoc, length-append, Option, Some, None}
+use Rattle.std.proofs.Common.{◌≡◌, ◌≢◌, ◌⊎◌, ℕ, ◌+◌, ◌-◌, ◌<◌, ◌≤◌, List, [], ◌∷◌, ◌++◌, length, drop, slice_get, slice_set, min, cond, Bool, refl, sym, subst, ap, ◌∙◌, arith, inl, inr, append_assoc, length-append, Option, Some, None}
 use Rattle.std.specs.Prelude.{◌==◌, Option, Some, None, Result, Ok, Err, OnOk, IfSome, IfErr, OnErr, IsErr, IsErrAnd, map, slice_index}
 use Rattle.std.proofs.lemmas.Bool.{cases_lt}
 use Rattle.std.proofs.lemmas.List.{append-nil, length-set}
@@ -419,10 +419,7 @@ placed_counts (Ok done) p q a b slots slot first (inl opened) = subst (λ (o : O
 placed_counts (Ok done) p q a b slots slot first (inr lost) = subst (λ (o : Option ℕ). IfSome o (IsCounted p q a b)) (sym first) (inr (inr (lost.0, inr lost.1)))
 placed_counts (Err fault) p q a b slots slot first is = tt
 
--- a slot of another poller, and one that has no next names
-pub not_own : (own : Bool) (part : Part) (slot : ℕ) → (IsTrue own ↔ IsIn part slot) → own ≡ false → IsIn part slot → ⊥
-not_own own part slot is not here = let yes : own ≡ true = is.1 here in cc
-
+-- a slot that has no next names
 pub no_names : (table : List ℕ) (slot : ℕ) → (slot ≤ 32767 → slot < length table → slice_index table slot ≡ 140737488355327)
     → (length table ≤ slot) ⊎ ((32768 ≤ slot) ⊎ (slice_index table slot ≡ 140737488355327))
 no_names table slot last = by_table (cases_lt slot (length table)) where

@@ -1,34 +1,19 @@
-use Rattle.std.proofs.Common.{rules, ◌≡◌, ◌+◌, ◌<◌, ◌≤◌, ℕ, List, OnOk, ◌⊎◌, slice_index, length, refl, subst, inl, inr, ◌++◌, ◌∷◌, [], ap, sym, ◌∙◌}
-use Rattle.dispatch.specs.declared.part.Part.{Part}
+use Rattle.std.proofs.Common.{◌≡◌, ◌+◌, ◌<◌, ◌≤◌, ℕ, List, OnOk, ◌⊎◌, slice_index, length, refl, subst, inr, ◌++◌, ◌∷◌, [], ap, sym, ◌∙◌}
 use Rattle.dispatch.specs.Hands.{HandState, ticket_room}
-use Rattle.dispatch.specs.Polls.{PollerState, IsIn}
+use Rattle.dispatch.specs.Polls.{PollerState}
 use Rattle.claims.specs.Seats.{one_step_later}
 use Rattle.rounds.specs.Openings.{IsOpened, IsLost}
 use Rattle.token.specs.declared.token.Token.{Token}
-use Rattle.rounds.proofs.Connections.{some_first, opened_never, opened_not, opened_there, on_ok, same_dropped, opens_lost, opens_dropped, opens_placed, lost_counts, dropped_counts, placed_counts, not_own, no_names, room_still}
+use Rattle.rounds.proofs.Connections.{some_first, opened_never, opened_not, opened_there, on_ok, same_dropped, opens_lost, opens_dropped, opens_placed, lost_counts, dropped_counts, placed_counts, no_names, room_still}
 use Rattle.rounds.proofs.opening.open.Goals as goal
 
 pub returns-in_default : goal.returns-in_default
 returns-in_default g c =
     absurd (some_first c.args.own.now.hand.slots c.requires.slot (sym c.take_slot.ensures.value ∙ c.in_default.is))
 
-pub returns-then-not-has : goal.returns-then-not-has
-returns-then-not-has g c =
-    let first = sym c.take_slot.ensures.value ∙ c.in-Some.is in
-    let other = subst (λ (part : Part). IsIn part c.in-Some.slot → ⊥) c.part.ensures (not_own c.has.result c.part.result c.in-Some.slot c.has.ensures c.if-not-has.true) in
-    record {
-      between = record {
-        same = c.requires.between.same;
-        idle = c.requires.between.idle;
-        sized = ap (λ (s : PollerState). length s.table) c.count_lost-then-not-has.ensures ∙ c.requires.between.sized;
-      };
-      worn = tt;
-      counted = lost_counts c.args.poller.now c.count_lost-then-not-has.new.self c.args.own.now.seat c.args.own.now.seat c.args.own.now.hand.slots c.in-Some.slot first c.count_lost-then-not-has.ensures (inl other);
-      done = opened_never c.args.poller.now c.count_lost-then-not-has.new.self c.args.own.now c.take_slot.new.self c.take_slot.ensures.left c.in-Some.slot first c.count_lost-then-not-has.ensures;
-      ready = refl;
-      poller = opens_lost c.args.poller.now c.count_lost-then-not-has.new.self _ c.count_lost-then-not-has.ensures;
-      room = room_still c.args.own.now.hand c.take_slot.new.self _ c.take_slot.ensures.left;
-    }
+pub returns-then-not-has-clause-done : goal.returns-then-not-has-clause-done
+returns-then-not-has-clause-done g c =
+    opened_never c.args.poller.now c.count_lost-then-not-has.new.self c.args.own.now c.take_slot.new.self c.take_slot.ensures.left c.in-Some.slot (sym c.take_slot.ensures.value ∙ c.in-Some.is) c.count_lost-then-not-has.ensures
 
 pub returns-in_default-next_names : goal.returns-in_default-next_names
 returns-in_default-next_names g c =
@@ -90,27 +75,30 @@ returns-in-Ok g c =
       room = subst (λ (h : HandState). OnOk c.place.result (ticket_room h ≤ ticket_room c.place.new.own.hand + 1)) hand c.place.ensures.room;
     }
 
-pub place-requires : goal.place-requires
-place-requires g c =
+pub place-requires-clause-between : goal.place-requires-clause-between
+place-requires-clause-between g c = record {
+  same = c.requires.between.same;
+  idle = c.requires.between.idle;
+  sized = ap (λ (p : PollerState). length p.table) c.in-Ok.ensures.same ∙ c.requires.between.sized;
+}
+
+pub place-requires-clause-inside : goal.place-requires-clause-inside
+place-requires-clause-inside g c =
+    let here : c.in-Ok.berth.pair.slot ≡ c.in-Some.slot = c.in-Ok.ensures.slot ∙ ap (λ (t : Token). t.slot) c.in-Some-next_names.ensures.client in
+    let table : c.prepare.new.poller.table ≡ c.table.result.now = ap (λ (p : PollerState). p.table) c.in-Ok.ensures.same ∙ sym c.table.ensures.table in
+    subst (λ (t : List ℕ). c.in-Ok.berth.pair.slot < length t) (sym table) (subst (λ (s : ℕ). s < length c.table.result.now) (sym here) c.in-Some-next_names.ensures.inside)
+
+pub place-requires-clause-next : goal.place-requires-clause-next
+place-requires-clause-next g c =
     let named = c.in-Some-next_names.ensures.client in
     let here : c.in-Ok.berth.pair.slot ≡ c.in-Some.slot = c.in-Ok.ensures.slot ∙ ap (λ (t : Token). t.slot) named in
     let table : c.prepare.new.poller.table ≡ c.table.result.now = ap (λ (p : PollerState). p.table) c.in-Ok.ensures.same ∙ sym c.table.ensures.table in
-    record {
-      between = record {
-        same = c.requires.between.same;
-        idle = c.requires.between.idle;
-        sized = ap (λ (p : PollerState). length p.table) c.in-Ok.ensures.same ∙ c.requires.between.sized;
-      };
-      inside = subst (λ (t : List ℕ). c.in-Ok.berth.pair.slot < length t) (sym table) (subst (λ (s : ℕ). s < length c.table.result.now) (sym here) c.in-Some-next_names.ensures.inside);
-      own = subst (λ (p : PollerState). IsIn p.part c.in-Ok.berth.pair.slot) (sym c.in-Ok.ensures.same)
-          (subst (λ (part : Part). IsIn part c.in-Ok.berth.pair.slot) c.part.ensures
-          (subst (λ (s : ℕ). IsIn c.part.result s) (sym here) (c.has.ensures.0 c.if-not-has.false)));
-      next = subst (λ (t : List ℕ). c.in-Ok.berth.pair.generation ≡ slice_index t c.in-Ok.berth.pair.slot + 1) (sym table)
-          (subst (λ (s : ℕ). c.in-Ok.berth.pair.generation ≡ slice_index c.table.result.now s + 1) (sym here)
-          (c.in-Ok.ensures.generation ∙ ap (λ (t : Token). t.generation) named));
-      generation = search rules;
-      room = subst (λ (h : HandState). 1 ≤ ticket_room h) (sym (c.in-Ok.ensures.prepared ∙ c.take_slot.ensures.left)) c.requires.room;
-    }
+    subst (λ (t : List ℕ). c.in-Ok.berth.pair.generation ≡ slice_index t c.in-Ok.berth.pair.slot + 1) (sym table)
+    (subst (λ (s : ℕ). c.in-Ok.berth.pair.generation ≡ slice_index c.table.result.now s + 1) (sym here)
+    (c.in-Ok.ensures.generation ∙ ap (λ (t : Token). t.generation) named))
+
+pub place-requires-clause-room : goal.place-requires-clause-room
+place-requires-clause-room g c = subst (λ (h : HandState). 1 ≤ ticket_room h) (sym (c.in-Ok.ensures.prepared ∙ c.take_slot.ensures.left)) c.requires.room
 
 pub prepare-requires : goal.prepare-requires
 prepare-requires g c = c.in-Some.ensures.room refl

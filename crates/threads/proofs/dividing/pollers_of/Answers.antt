@@ -34,8 +34,5 @@ returns-in_err-next_poller-in-Some-clause-left g c = left_of_left _ _ _ c.loop-t
 pub unreachable-requires : goal.unreachable-requires
 unreachable-requires g c = omega (arith, c.in-None.ensures.cases.0, c.loop-thread.pollers.ok.0, c.loop-thread.invariant.left, c.loop-thread-test.true)
 
-pub unreachable-unreachable : goal.unreachable-unreachable
-unreachable-unreachable g c = c.unreachable.result
-
 pub returns-in_err-threads-clause-left : goal.returns-in_err-threads-clause-left
 returns-in_err-threads-clause-left g c = all_left _
