@@ -2,6 +2,7 @@
 
 use crate::constants::VERSION;
 use crate::forwarding::{add_settings, settings_text};
+use clap::builder::ValueParser;
 use clap::{Arg, ArgAction, ArgMatches, Error, value_parser};
 use std::alloc::{AllocError, Global};
 
@@ -58,12 +59,29 @@ pub struct Replayed<'a> {
 /// An error is a usage text: the requested help or version, or why the arguments are refused; or it has the kind
 /// `OutOfMemory`. Nothing has been printed then.
 pub fn read_command<'a>(alloc: Global, arguments: &'a [&'a str]) -> Result<Command<'a>, Error> {
-    let matches = relayd(alloc)?.try_get_matches_from(arguments)?;
-    if let Some(forward) = matches.subcommand_matches("forward") {
-        let text = settings_text(alloc, forward)?;
-        return Ok(Command::Forward(text, forward.get_str("record"), Extras::of(forward)));
+    match matches_of(alloc, arguments) {
+        Ok(matches) => command_of(alloc, &matches),
+        Err(error) => Err(error),
     }
-    Ok(chosen(&matches))
+}
+
+/// What the arguments say.
+fn matches_of<'a>(alloc: Global, arguments: &'a [&'a str]) -> Result<ArgMatches<'a>, Error> {
+    match relayd(alloc) {
+        Ok(command) => command.try_get_matches_from(arguments),
+        Err(error) => Err(Error::from(error)),
+    }
+}
+
+/// The command that they say.
+fn command_of<'a>(alloc: Global, matches: &ArgMatches<'a>) -> Result<Command<'a>, Error> {
+    match matches.subcommand_matches("forward") {
+        Some(forward) => {
+            let text = settings_text(alloc, forward)?;
+            Ok(Command::Forward(text, forward.get_str("record"), Extras::of(forward)))
+        }
+        None => Ok(chosen(matches)),
+    }
 }
 
 /// The chosen command, if it is not `forward`; without one, the simulator.
@@ -103,16 +121,34 @@ fn shows_each(matches: &ArgMatches<'_>) -> bool {
 
 /// The program's command line.
 fn relayd<'a>(alloc: Global) -> Result<clap::Command<'a>, AllocError> {
-    let mut command = clap::Command::new(alloc, "relayd")
+    let mut subcommands = Vec::new(alloc);
+    add_subcommands(alloc, commands(), &mut subcommands)?;
+    without_subcommands(alloc).subcommands(subcommands)
+}
+
+/// The program's command line, but for its commands.
+fn without_subcommands<'a>(alloc: Global) -> clap::Command<'a> {
+    clap::Command::new(alloc, "relayd")
         .version(VERSION)
         .about("Forwards TCP connections to another address")
         .after_help(
             "Without a command, relayd does the same as `relayd sim`.\n\nExamples:\n  relayd forward 127.0.0.1:7000 127.0.0.1:7001\n  relayd run --config examples/relayd.toml\n  relayd sim < examples/one-direction.flow\n\nSee relayd(1) for details and relayd.toml(5) for the settings.",
-        );
-    for row in &COMMANDS {
-        command = command.subcommand(subcommand(alloc, *row)?)?;
+        )
+}
+
+/// Adds the commands of rows.
+fn add_subcommands<'a>(
+    alloc: Global,
+    rows: &[CommandRow],
+    subcommands: &mut Vec<clap::Command<'a>>,
+) -> Result<(), AllocError> {
+    for row in rows {
+        match subcommand(alloc, *row) {
+            Ok(subcommand) => subcommands.push(subcommand)?,
+            Err(error) => return Err(error),
+        }
     }
-    Ok(command)
+    Ok(())
 }
 
 /// A command of the program, as its help describes it.
@@ -140,7 +176,7 @@ enum Form {
     /// `--NAME`.
     Flag,
     /// `--NAME` and a value, which help calls so.
-    Value(&'static str),
+    Value(&'static [&'static str]),
     /// `--NAME` and a number of seconds, up to a day.
     Seconds,
     /// `-c` or `--NAME` and a file, which is required.
@@ -149,10 +185,35 @@ enum Form {
     File,
 }
 
+impl Form {
+    /// What becomes of what is given.
+    fn action(self) -> ArgAction {
+        match self {
+            Form::Flag => ArgAction::SetTrue,
+            _ => ArgAction::Set,
+        }
+    }
+
+    /// What help calls the value, if there is one.
+    fn value_names(self) -> &'static [&'static str] {
+        match self {
+            Form::Flag => &[],
+            Form::Value(names) => names,
+            Form::Seconds => &["SECONDS"],
+            Form::NeededFile | Form::File => &["FILE"],
+        }
+    }
+
+    /// Whether it is required.
+    fn is_needed(self) -> bool {
+        matches!(self, Form::NeededFile | Form::File)
+    }
+}
+
 /// The file to record into.
 const RECORD: ArgumentRow = ArgumentRow {
     name: "record",
-    form: Form::Value("FILE"),
+    form: Form::Value(&["FILE"]),
     help: "Record into this file what each thread does, but no bytes",
 };
 /// How often statistics are logged.
@@ -176,7 +237,7 @@ const CONFIG: ArgumentRow = ArgumentRow {
 /// A level in place of the file's.
 const LEVEL: ArgumentRow = ArgumentRow {
     name: "log",
-    form: Form::Value("LEVEL"),
+    form: Form::Value(&["LEVEL"]),
     help: "The least important messages that are logged, in place of the file's `log`",
 };
 /// Whether each step is shown.
@@ -189,7 +250,7 @@ const EACH: ArgumentRow = ArgumentRow {
 const RECORDING: [ArgumentRow; 4] = [
     ArgumentRow {
         name: "script",
-        form: Form::Value("SLOT.GEN"),
+        form: Form::Value(&["SLOT.GEN"]),
         help: "Print the script of this connection",
     },
     ArgumentRow {
@@ -248,35 +309,61 @@ static COMMANDS: [CommandRow; 5] = [
     },
 ];
 
+/// All commands.
+fn commands() -> &'static [CommandRow] {
+    &COMMANDS
+}
+
 /// A row's command.
 fn subcommand<'a>(alloc: Global, row: CommandRow) -> Result<clap::Command<'a>, AllocError> {
-    let mut command = clap::Command::new(alloc, row.name)
+    let mut arguments = Vec::new(alloc);
+    add_arguments(alloc, row, &mut arguments)?;
+    without_arguments(alloc, row).args(arguments)
+}
+
+/// A row's command, but for its arguments.
+fn without_arguments<'a>(alloc: Global, row: CommandRow) -> clap::Command<'a> {
+    clap::Command::new(alloc, row.name)
         .about(row.about)
-        .after_help(row.details);
+        .after_help(row.details)
+}
+
+/// Adds the arguments of a row's command.
+fn add_arguments<'a>(
+    alloc: Global,
+    row: CommandRow,
+    arguments: &mut Vec<Arg<'a>>,
+) -> Result<(), AllocError> {
     if row.settings {
-        command = add_settings(alloc, command)?;
+        add_settings(alloc, arguments)?;
     }
-    for argument in row.arguments {
-        command = command.arg(argument_of(alloc, *argument))?;
+    for row in row.arguments {
+        arguments.push(argument_of(alloc, *row))?;
     }
-    Ok(command)
+    Ok(())
 }
 
 /// A row's argument.
 fn argument_of<'a>(alloc: Global, row: ArgumentRow) -> Arg<'a> {
-    let argument = Arg::new(alloc, row.name).help(row.help);
+    let argument = described(alloc, row);
     match row.form {
-        Form::Flag => argument.long(row.name).action(ArgAction::SetTrue),
-        Form::Value(value) => argument.long(row.name).value_name(value),
-        Form::Seconds => argument
-            .long(row.name)
-            .value_name("SECONDS")
-            .value_parser(value_parser!(u64).range(1..=86_400)),
-        Form::NeededFile => argument
-            .short('c')
-            .long(row.name)
-            .value_name("FILE")
-            .required(true),
-        Form::File => argument.value_name("FILE").required(true),
+        Form::File => argument,
+        Form::NeededFile => argument.long(row.name).short('c'),
+        Form::Seconds => argument.long(row.name).value_parser(seconds()),
+        _ => argument.long(row.name),
     }
+}
+
+/// A row's argument, but for how it is known.
+fn described<'a>(alloc: Global, row: ArgumentRow) -> Arg<'a> {
+    Arg::new(alloc, row.name)
+        .help(row.help)
+        .action(row.form.action())
+        .value_names(row.form.value_names())
+        .required(row.form.is_needed())
+}
+
+/// What reads a number of seconds.
+fn seconds<'a>() -> ValueParser<'a> {
+    value_parser!(u64).range(1..=86_400)
 }

@@ -6,43 +6,56 @@ use settings::{ARGUMENTS, Argument, Key};
 use std::alloc::{AllocError, Global};
 use std::fmt;
 
-/// The command with an argument for each setting.
-pub fn add_settings<'a>(
-    alloc: Global,
-    mut command: clap::Command<'a>,
-) -> Result<clap::Command<'a>, AllocError> {
-    for row in &ARGUMENTS {
-        command = command.arg(argument(alloc, *row))?;
+/// Adds an argument for each setting.
+pub fn add_settings<'a>(alloc: Global, arguments: &mut Vec<Arg<'a>>) -> Result<(), AllocError> {
+    for row in all_arguments() {
+        arguments.push(argument(alloc, *row))?;
     }
-    Ok(command)
+    Ok(())
 }
 
 /// The argument of a setting. Help shows its default.
 fn argument<'a>(alloc: Global, row: Argument) -> Arg<'a> {
-    let argument = Arg::new(alloc, row.key.name())
-        .value_name(row.value_name)
-        .help(row.help);
-    let argument = match row.option {
-        // A negative number is a value that is out of range, and no option that is unknown.
-        Some(option) => argument.long(option).allow_negative_numbers(true),
-        None => argument.required(true),
-    };
+    let argument = without_default(alloc, row);
     match row.key.default() {
         Some(default) => argument.default_value(default),
         None => argument,
     }
 }
 
+/// The argument of a setting, with no default.
+fn without_default<'a>(alloc: Global, row: Argument) -> Arg<'a> {
+    let argument = Arg::new(alloc, row.key.name())
+        .value_name(row.value_name)
+        .help(row.help);
+    match row.option {
+        // A negative number is a value that is out of range, and no option that is unknown.
+        Some(option) => argument.long(option).allow_negative_numbers(true),
+        None => argument.required(true),
+    }
+}
+
+/// The arguments of all settings.
+fn all_arguments() -> &'static [Argument] {
+    &ARGUMENTS
+}
+
 /// The text of a settings file that says the same as the arguments.
 pub fn settings_text(alloc: Global, matches: &ArgMatches<'_>) -> Result<String, AllocError> {
     let mut text = String::new(alloc);
-    for row in &ARGUMENTS {
+    for row in all_arguments() {
         if let Some(value) = matches.get_str(row.key.name()) {
-            let line = setting_text(alloc, row.key, value)?;
-            text = format!(in alloc; "{text}{line}\n")?;
+            add_line(alloc, &mut text, row.key, value)?;
         }
     }
     Ok(text)
+}
+
+/// Adds a line to such a text.
+fn add_line(alloc: Global, text: &mut String, key: Key, value: &str) -> Result<(), AllocError> {
+    let line = setting_text(alloc, key, value)?;
+    text.push_str(line.as_str())?;
+    text.push('\n')
 }
 
 /// One line of such a text.
