@@ -3,7 +3,7 @@
 //! The thread is never waited for but at the end, and then for a second: a write to a pipe that nobody reads may not end.
 ghost use Rattle.std.specs.Prelude.{◌≡◌, ◌⊎◌, IfErr};
 
-use log::error;
+use crate::streams::log_error;
 use log::sink::Console;
 use log_queue::{LogQueue, write_lines};
 use relay_log::ServerFault;
@@ -29,7 +29,7 @@ where
     let queue = Arc::new(rt.alloc(), LogQueue::new(rt.alloc())?)?;
     let lines = queue.clone()?;
     if let Err(error) = Builder::new().spawn(&rt, move || write_lines(&rt, &lines)) {
-        error!(Console(rt); target: "relayd", "threads: {error}");
+        log_error(&Console(rt), &"threads", &error);
         return Err(ServerFault::Threads);
     }
     Ok(queue)

@@ -2,8 +2,9 @@
 ghost use Rattle.std.specs.Prelude.{◌≡◌, ◌⊎◌, IfErr};
 
 use crate::command_line::Extras;
+use crate::streams::log_error;
+use log::info;
 use log::sink::Console;
-use log::{error, info};
 use log_queue::{LogQueue, Queued};
 use relay_log::ServerFault;
 use settings::{LogLevel, Settings};
@@ -61,7 +62,7 @@ where
         &rt,
         move || tell_every(&rt, rhythm, &counted, &lines),
     ) {
-        error!(Console(rt); target: "relayd", "threads: {error}");
+        log_error(&Console(rt), &"threads", &error);
         return Err(ServerFault::Threads);
     }
     Ok(())

@@ -4,8 +4,9 @@
 ghost use Rattle.std.specs.Prelude.{◌≡◌, ◌⊎◌, IfErr};
 
 use crate::command_line::Extras;
+use crate::streams::log_error;
 use log::sink::Console;
-use log::{LevelFilter, Logged, error, info, warn};
+use log::{LevelFilter, Logged, info, warn};
 use log_queue::{LogQueue, Queued};
 use relay_log::ServerFault;
 use std::alloc::AllocGlobal;
@@ -42,7 +43,7 @@ where
         sign.store(true, SeqCst);
     };
     if let Err(error) = Builder::new().spawn(&rt, read) {
-        error!(Console(rt); target: "relayd", "threads: {error}");
+        log_error(&Console(rt), &"threads", &error);
         return Err(ServerFault::Threads);
     }
     Ok(has_ended)
