@@ -45,7 +45,7 @@ static LINES: [&str; 36] = [
 ];
 
 /// Lines that are wrong, and the word that is.
-static WRONG: [(&str, &str); 14] = [
+static WRONG: [(&str, &str); 16] = [
     ("", ""),
     ("1", "missing"),
     ("1 2", "missing"),
@@ -54,10 +54,12 @@ static WRONG: [(&str, &str); 14] = [
     ("1 2 end now", "now"),
     ("1 2 p0", "missing"),
     ("1 2 p0 open 1 ok", "1"),
+    ("1 2 p0 open 0.1.2 ok", "0.1.2"),
     ("1 2 p0 report 0.0.client", "0.0.client"),
     ("1 2 32768.1.client drop", "32768.1.client"),
     ("1 2 0.1.client.target drop", "0.1.client.target"),
     ("1 2 0.1.client read 5 joined", "joined"),
+    ("1 2 0.1.client join 5", "5"),
     ("1 2 0.1.client shut blocked", "blocked"),
     ("1 2 0.1.client shut failed", "missing"),
 ];
