@@ -18,7 +18,7 @@ help:
 	@command -v rt >/dev/null || echo 'The command `rt` of the Rattle toolchain is not in PATH. Without it nothing is built or tested; an archive of a built relayd needs none (README.md).'
 	@sed -n 's/^## //p' $(MAKEFILE_LIST)
 
-## make build         proves and builds crates/relayd/out/relayd; takes some 19 minutes the first time
+## make build         proves and builds crates/relayd/out/relayd; takes twenty minutes or more the first time
 build:
 	@.ci/build relayd
 
