@@ -1,17 +1,20 @@
 # Thin targets over the toolchain's command `rt`. See README.md.
 
-.PHONY: help build run sim test test-program test-drill soak growths bench install dist
+.PHONY: help build run try sim test test-program test-drill soak growths bench install uninstall dist deb
 
 # The settings file of `make run`.
 CONFIG ?= examples/relayd.toml
 # Where `make install` puts things, and the folder that stands for the root there.
 PREFIX ?= /usr/local
 DESTDIR ?=
+# Where `make dist` and `make deb` put what they make.
+OUT ?= build
 
 PROGRAM = crates/relayd/out/relayd
 # The version stands with the program that prints it.
 VERSION = $(shell sed -n 's/^pub const VERSION: &str = "\(.*\)";$$/\1/p' crates/program/src/constants.rt)
-ARCHIVE = build/relayd-$(VERSION)-linux-x86_64.tar.gz
+ARCHIVE = $(OUT)/relayd-$(VERSION)-linux-x86_64.tar.gz
+PACKAGE = $(OUT)/relayd_$(VERSION)_amd64.deb
 
 # A line that begins with two of these signs is printed by `make` on its own.
 help:
@@ -25,6 +28,10 @@ build:
 ## make run           forwards connections as examples/relayd.toml says, or CONFIG=FILE
 run: build
 	@$(PROGRAM) run --config $(CONFIG)
+
+## make try           runs the program unproved, for a first look: CONFIG=FILE, or a script on standard input
+try:
+	@.ci/try $(if $(filter file,$(origin CONFIG)),,$(CONFIG))
 
 ## make sim           runs the script on standard input
 sim: build
@@ -61,30 +68,45 @@ bench: build
 $(PROGRAM):
 	@.ci/build relayd
 
+# What is installed: the folder below PREFIX, and the file here.
+DOCUMENTS = share/doc/relayd
+INSTALLED = bin:$(PROGRAM) share/man/man1:man/relayd.1 share/man/man5:man/relayd.toml.5 lib/systemd/system:packaging/relayd.service \
+  $(patsubst %,$(DOCUMENTS):docs/%.md,FORMATS GLOSSARY MODEL OPERATIONS) \
+  $(addprefix $(DOCUMENTS):,LICENSE-APACHE LICENSE-MIT packaging/copyright) \
+  $(addprefix $(DOCUMENTS)/examples:,$(wildcard examples/*) $(addprefix packaging/,deployment.yaml replace.conf sidecar.yaml))
+
 ## make install       installs what make build has built under PREFIX=/usr/local, with DESTDIR in front
+# What is installed names other files by where they are then.
 install: $(PROGRAM)
-	install -D -m 755 $(PROGRAM) $(DESTDIR)$(PREFIX)/bin/relayd
-	install -D -m 644 -t $(DESTDIR)$(PREFIX)/share/man/man1 man/relayd.1
-	install -D -m 644 -t $(DESTDIR)$(PREFIX)/share/man/man5 man/relayd.toml.5
-	install -D -m 644 -t $(DESTDIR)$(PREFIX)/share/doc/relayd docs/FORMATS.md docs/GLOSSARY.md docs/MODEL.md docs/OPERATIONS.md
-	install -D -m 644 -t $(DESTDIR)$(PREFIX)/share/doc/relayd README.md LICENSE-APACHE LICENSE-MIT
-	install -D -m 644 -t $(DESTDIR)$(PREFIX)/share/doc/relayd/examples examples/* packaging/*.yaml packaging/replace.conf
-	chmod 755 $(DESTDIR)$(PREFIX)/share/doc/relayd/examples/replace.sh
-	install -D -m 644 -t $(DESTDIR)$(PREFIX)/lib/systemd/system packaging/relayd.service
-	sed -i 's|/usr/local/|$(PREFIX)/|g' $(DESTDIR)$(PREFIX)/lib/systemd/system/relayd.service \
-	  $(DESTDIR)$(PREFIX)/share/doc/relayd/examples/replace.conf
+	@for it in $(INSTALLED); do \
+	  test -x "$${it#*:}" && mode=755 || mode=644; \
+	  install -v -D -m $$mode -t "$(DESTDIR)$(PREFIX)/$${it%%:*}" "$${it#*:}" || exit 1; \
+	done
+	@cd "$(DESTDIR)$(PREFIX)" && sed -i -e 's|/usr/local/|$(PREFIX)/|g' -e 's|`docs/\([FGMO]\)|`\1|g' -e 's|`packaging/\([dsr]\)|`examples/\1|g' \
+	  lib/systemd/system/relayd.service $(DOCUMENTS)/examples/replace.conf $(DOCUMENTS)/*.md
+
+## make uninstall     removes what make install has put there, with the same PREFIX and DESTDIR
+uninstall:
+	@cd "$(DESTDIR)$(PREFIX)" && for it in $(INSTALLED); do file=$${it#*:}; rm -vf "$${it%%:*}/$${file##*/}"; done
+	@cd "$(DESTDIR)$(PREFIX)/share/doc" && rmdir --ignore-fail-on-non-empty relayd/examples relayd 2>/dev/null || true
 
 ## make dist          makes an archive of what make install installs, build/relayd-VERSION-linux-x86_64.tar.gz
-# It is for machines without the toolchain: unpack it at the root, as with `tar -C / -xzf`. Its file BUILD says of which
-# commit and with which toolchain the program is, and the program's checksum.
-# The same commit gives the same archive, whatever the umask and the locale are. A program older than its sources is built
-# anew, since it is not of that commit.
+# It is for machines without the toolchain. Its file BUILD says of which commit and with which toolchain the program is, and
+# the program's checksum. The same commit gives the same archive, whatever the umask and the locale are. A program older than
+# its sources is built anew, since it is not of that commit.
 dist: build
-	rm -rf build/dist build/relayd-*.tar.gz
-	$(MAKE) --no-print-directory install DESTDIR=build/dist
-	{ echo "relayd $(VERSION)"; git describe --always --abbrev=40 --dirty --exclude '*'; rt version 2>/dev/null || echo 'no toolchain here'; \
-	  cd build/dist$(PREFIX)/bin && sha256sum relayd; } > build/dist$(PREFIX)/share/doc/relayd/BUILD
-	chmod 644 build/dist$(PREFIX)/share/doc/relayd/BUILD
-	cd build/dist && find . -type f -print0 | LC_ALL=C sort -z \
-	  | tar --null -T - --owner=0 --group=0 --numeric-owner --mtime=@0 -cf - | gzip -n9 > ../../$(ARCHIVE)
+	rm -rf $(OUT)/dist $(OUT)/relayd-*.tar.gz
+	@$(MAKE) --no-print-directory install DESTDIR=$(OUT)/dist >/dev/null
+	@umask 022; { echo "relayd $(VERSION)"; git describe --always --abbrev=40 --dirty --exclude '*'; \
+	  rt version 2>/dev/null || echo 'no toolchain here'; cd $(OUT)/dist$(PREFIX)/bin && sha256sum relayd; \
+	  } > $(OUT)/dist$(PREFIX)/$(DOCUMENTS)/BUILD
+	cd $(OUT)/dist && find . -mindepth 1 -print0 | LC_ALL=C sort -z \
+	  | tar --null --no-recursion -T - --owner=0 --group=0 --numeric-owner --mtime=@0 -cf - | gzip -n9 > $(abspath $(ARCHIVE))
 	@echo $(ARCHIVE)
+
+## make deb           makes a Debian package, build/relayd_VERSION_amd64.deb
+deb: build
+	rm -rf $(OUT)/deb $(OUT)/relayd_*.deb
+	@$(MAKE) --no-print-directory install PREFIX=/usr DESTDIR=$(OUT)/deb >/dev/null
+	packaging/deb $(OUT)/deb $(VERSION) $(PACKAGE)
+	@echo $(PACKAGE)
