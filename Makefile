@@ -45,6 +45,7 @@ test:
 test-program: build
 	@tests/program/run $(PROGRAM)
 	@tests/relay $(PROGRAM)
+	@tests/packages $(PROGRAM)
 
 ## make test-drill    plays the server beside the modelled machine; part of the gate
 test-drill: build
