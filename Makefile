@@ -18,7 +18,7 @@ PACKAGE = $(OUT)/relayd_$(VERSION)_amd64.deb
 
 # A line that begins with two of these signs is printed by `make` on its own.
 help:
-	@command -v rt >/dev/null || echo 'The command `rt` of the Rattle toolchain is not in PATH. Without it nothing is built or tested; an archive of a built relayd needs none (README.md).'
+	@command -v rt >/dev/null || echo 'The command `rt` of the Rattle toolchain is not in PATH. Without it nothing is built or tested; an archive or a package of a built relayd needs none (README.md).'
 	@sed -n 's/^## //p' $(MAKEFILE_LIST)
 
 ## make build         proves and builds crates/relayd/out/relayd; takes twenty minutes or more the first time
