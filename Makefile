@@ -71,7 +71,8 @@ $(PROGRAM):
 
 # What is installed: the folder below PREFIX, and the file here.
 DOCUMENTS = share/doc/relayd
-INSTALLED = bin:$(PROGRAM) share/man/man1:man/relayd.1 share/man/man5:man/relayd.toml.5 lib/systemd/system:packaging/relayd.service \
+INSTALLED = bin:$(PROGRAM) share/man/man1:man/relayd.1 share/man/man5:man/relayd.toml.5 \
+  lib/systemd/system:packaging/relayd.service \
   $(patsubst %,$(DOCUMENTS):docs/%.md,FORMATS GLOSSARY MODEL OPERATIONS) \
   $(addprefix $(DOCUMENTS):,LICENSE-APACHE LICENSE-MIT packaging/copyright) \
   $(addprefix $(DOCUMENTS)/examples:,$(wildcard examples/*) $(addprefix packaging/,deployment.yaml replace.conf sidecar.yaml))
@@ -83,7 +84,8 @@ install: $(PROGRAM)
 	  test -x "$${it#*:}" && mode=755 || mode=644; \
 	  install -v -D -m $$mode -t "$(DESTDIR)$(PREFIX)/$${it%%:*}" "$${it#*:}" || exit 1; \
 	done
-	@cd "$(DESTDIR)$(PREFIX)" && sed -i -e 's|/usr/local/|$(PREFIX)/|g' -e 's|`docs/\([FGMO]\)|`\1|g' -e 's|`packaging/\([dsr]\)|`examples/\1|g' \
+	@cd "$(DESTDIR)$(PREFIX)" && sed -i -e 's|/usr/local/|$(PREFIX)/|g' \
+	  -e 's|`docs/\([FGMO]\)|`\1|g' -e 's|`packaging/\([drs]\)|`examples/\1|g' \
 	  lib/systemd/system/relayd.service $(DOCUMENTS)/examples/replace.conf $(DOCUMENTS)/*.md
 
 ## make uninstall     removes what make install has put there, with the same PREFIX and DESTDIR
@@ -91,16 +93,18 @@ uninstall:
 	@cd "$(DESTDIR)$(PREFIX)" && for it in $(INSTALLED); do file=$${it#*:}; rm -vf "$${it%%:*}/$${file##*/}"; done
 	@cd "$(DESTDIR)$(PREFIX)/share/doc" && rmdir --ignore-fail-on-non-empty relayd/examples relayd 2>/dev/null || true
 
+# The file BUILD below a prefix: of which commit and with which toolchain the program is, and its checksum. A program older than
+# its sources is built anew before, since it is not of that commit.
+write_build = umask 022; cd $(1)/bin && { echo "relayd $(VERSION)"; \
+  git -C $(CURDIR) describe --always --abbrev=40 --dirty --exclude '*'; rt version 2>/dev/null || echo 'no toolchain here'; \
+  sha256sum relayd; } > ../$(DOCUMENTS)/BUILD
+
 ## make dist          makes an archive of what make install installs, build/relayd-VERSION-linux-x86_64.tar.gz
-# It is for machines without the toolchain. Its file BUILD says of which commit and with which toolchain the program is, and
-# the program's checksum. The same commit gives the same archive, whatever the umask and the locale are. A program older than
-# its sources is built anew, since it is not of that commit.
+# It is for machines without the toolchain. The same commit gives the same archive, whatever the umask and the locale are.
 dist: build
 	rm -rf $(OUT)/dist $(OUT)/relayd-*.tar.gz
 	@$(MAKE) --no-print-directory install DESTDIR=$(OUT)/dist >/dev/null
-	@umask 022; { echo "relayd $(VERSION)"; git describe --always --abbrev=40 --dirty --exclude '*'; \
-	  rt version 2>/dev/null || echo 'no toolchain here'; cd $(OUT)/dist$(PREFIX)/bin && sha256sum relayd; \
-	  } > $(OUT)/dist$(PREFIX)/$(DOCUMENTS)/BUILD
+	@$(call write_build,$(OUT)/dist$(PREFIX))
 	cd $(OUT)/dist && find . -mindepth 1 -print0 | LC_ALL=C sort -z \
 	  | tar --null --no-recursion -T - --owner=0 --group=0 --numeric-owner --mtime=@0 -cf - | gzip -n9 > $(abspath $(ARCHIVE))
 	@echo $(ARCHIVE)
@@ -109,5 +113,6 @@ dist: build
 deb: build
 	rm -rf $(OUT)/deb $(OUT)/relayd_*.deb
 	@$(MAKE) --no-print-directory install PREFIX=/usr DESTDIR=$(OUT)/deb >/dev/null
+	@$(call write_build,$(OUT)/deb/usr)
 	packaging/deb $(OUT)/deb $(VERSION) $(PACKAGE)
 	@echo $(PACKAGE)
