@@ -38,7 +38,7 @@ start() {
 # Whether the address is in use by the other relay: it has the same port, and the same address or every address.
 is_the_others() {
     [ -n "$other" ] && grep -q '^relayd: listen: failed$' "$log" || return 1
-    held=$(cat "$directory/listening")
+    held=$(cat "$directory/listening" 2> /dev/null)
     [ "${held##*:}" = "${wanted##*:}" ] || return 1
     case "${held%:*} ${wanted%:*}" in
         "${wanted%:*} "* | "0.0.0.0 "* | *" 0.0.0.0") return 0 ;;
