@@ -1,20 +1,26 @@
 -- The contracts of the calls by cases on what the word said.
 use Rattle.std.proofs.Common.{◌≡◌, ℕ, zero, suc, Bool, true, false, if◌then◌else◌, refl, sym, subst, ap}
 use Rattle.claims.specs.declared.view.Account.{Account}
+use Rattle.claims.specs.declared.view.Exchange.TheVariants as exchange
 use Rattle.claims.specs.declared.answers.Posted.{Posted}
 use Rattle.claims.specs.declared.answers.Released.{Released}
 use Rattle.claims.specs.declared.answers.Posted.TheVariants.{Wake, Quiet}
 use Rattle.claims.specs.declared.answers.Released.TheVariants.{Wake as ReleaseWakes, Quiet as ReleaseQuiet}
 use Rattle.claims.specs.Words.{some_wait, wakes, answer_of, WordState, post, claim, adopt, wake, quiet, held, busy, adopted, not_free}
-use Rattle.claims.specs.Views.{account_after, after_post, after_claim, after_release, after_adopt}
-use Rattle.claims.specs.Seats.{SeatState, account_at, HoldsNot, Changed, Stepped}
-use Rattle.claims.specs.Calls.{PostChange, PostStep, ReleaseChange, release_answer}
+use Rattle.claims.specs.Views.{after, after_post, after_claim, after_release, after_adopt}
+use Rattle.claims.specs.Rule.{made}
+use Rattle.claims.specs.Seats.{SeatState, account_at, HoldsNot, Adds, Changed, Stepped}
+use Rattle.claims.specs.Calls.{PostChange, PostTrace, PostStep, ReleaseChange, woke, release_answer}
 
 module _ (slot : ℕ) (old new : SeatState) where
   pub post_change : (r : Posted) (woke : Bool) → r ≡ (if woke then Wake else Quiet) → Changed slot old new (after_post woke (account_at old slot)) → (woke ≡ true → HoldsNot old slot)
       → PostChange slot old r new
   post_change r true is changed alone = subst (λ q. PostChange slot old q new) (sym is) (changed, alone refl)
   post_change r false is changed alone = subst (λ q. PostChange slot old q new) (sym is) changed
+
+  pub post_trace : (r : Posted) (woke : Bool) → r ≡ (if woke then Wake else Quiet) → Adds slot (exchange.Post woke) old new → PostTrace slot old r new
+  post_trace r true is adds = subst (λ q. PostTrace slot old q new) (sym is) adds
+  post_trace r false is adds = subst (λ q. PostTrace slot old q new) (sym is) adds
 
   pub post_step : (r : Posted) (woke : Bool) → r ≡ (if woke then Wake else Quiet) → Stepped post slot old new (if woke then wake else quiet) → PostStep slot old r new
   post_step r true is step = subst (λ q. PostStep slot old q new) (sym is) step
@@ -41,18 +47,35 @@ pub none_wait : (p : ℕ) → some_wait p ≡ false → p ≡ 0
 none_wait zero is = refl
 none_wait (suc p) is = cc
 
-module _ (w : WordState) (a : Account) where
-  pub claim_busy : w.held ≡ true → account_after claim w a ≡ a
-  claim_busy is = ap (λ h. if h then a else after_claim w.pending a) is
+pub woke_says : (b : Bool) → b ≡ woke (if b then ReleaseWakes else ReleaseQuiet)
+woke_says true = refl
+woke_says false = refl
 
-  pub claim_gains : w.held ≡ false → account_after claim w a ≡ after_claim w.pending a
-  claim_gains is = ap (λ h. if h then a else after_claim w.pending a) is
+module _ (w : WordState) where
+  pub makes_busy : w.held ≡ true → made claim w ≡ exchange.Busy
+  makes_busy is = ap (λ h. if h then exchange.Busy else exchange.Held w.pending) is
 
-  pub adopt_gains : w.free ≡ true → account_after adopt w a ≡ after_adopt w.pending a
-  adopt_gains is = ap (λ f. if f then after_adopt w.pending a else a) is
+  pub makes_held : w.held ≡ false → made claim w ≡ exchange.Held w.pending
+  makes_held is = ap (λ h. if h then exchange.Busy else exchange.Held w.pending) is
 
-  pub adopt_not_free : w.free ≡ false → account_after adopt w a ≡ a
-  adopt_not_free is = ap (λ f. if f then after_adopt w.pending a else a) is
+  pub makes_adopted : w.free ≡ true → made adopt w ≡ exchange.Adopted w.pending
+  makes_adopted is = ap (λ f. if f then exchange.Adopted w.pending else exchange.NotFree) is
+
+  pub makes_not_free : w.free ≡ false → made adopt w ≡ exchange.NotFree
+  makes_not_free is = ap (λ f. if f then exchange.Adopted w.pending else exchange.NotFree) is
+
+  module _ (a : Account) where
+    pub claim_busy : w.held ≡ true → after (made claim w) a ≡ a
+    claim_busy is = ap (λ e. after e a) (makes_busy is)
+
+    pub claim_gains : w.held ≡ false → after (made claim w) a ≡ after_claim w.pending a
+    claim_gains is = ap (λ e. after e a) (makes_held is)
+
+    pub adopt_gains : w.free ≡ true → after (made adopt w) a ≡ after_adopt w.pending a
+    adopt_gains is = ap (λ e. after e a) (makes_adopted is)
+
+    pub adopt_not_free : w.free ≡ false → after (made adopt w) a ≡ a
+    adopt_not_free is = ap (λ e. after e a) (makes_not_free is)
 
 pub says_busy : (w : WordState) → w.held ≡ true → busy ≡ answer_of claim w
 says_busy w is = sym (ap (λ h. if h then busy else held) is)

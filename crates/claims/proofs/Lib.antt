@@ -1,5 +1,6 @@
 pub mod Totals
 pub mod OneSlot
+pub mod Histories
 pub mod Bits
 pub mod AllSlots
 pub mod Moves

@@ -1,4 +1,4 @@
--- One step keeps the rule of its slot.
+-- One step keeps the counts of its slot.
 use Rattle.std.proofs.Common.{◌≡◌, ◌≢◌, ℕ, zero, suc, ◌+◌, ◌<◌, ◌≤◌, Bool, true, false, List, length, get_or, set, refl, sym, subst, ap, arith, get_or-set_other, get_or-set_same, length-set}
 use Rattle.std.specs.List.{sum_by, All}
 use Rattle.std.proofs.lemmas.List.Sums.{get_or-le-sum_by}
@@ -7,10 +7,10 @@ use mathlib.Core.Logic.{dite}
 use native.Mathlib.Decide.{ℕ_discrete}
 use lib.ListN.{get_elem?}
 use Rattle.claims.specs.declared.view.Account.{Account}
-use Rattle.claims.specs.Words.{one, some_wait, wakes, word_of, word_after, WordState, StepKind, post, claim, take, release, retire, adopt}
-use Rattle.claims.specs.Views.{posted_of, taken_of, minted_of, redeemed_of, holding_of, adopts_of, retires_of, account_after, after_post, after_claim, after_take, after_release, after_retire, after_adopt}
-use Rattle.claims.specs.Rule.{due, Knows, SlotRule}
-use Rattle.claims.specs.Steps.{NeedsHolder}
+use Rattle.claims.specs.Words.{one, some_wait, wakes, word_after, WordState, StepKind, post, claim, take, release, retire, adopt}
+use Rattle.claims.specs.Views.{posted_of, taken_of, minted_of, redeemed_of, holding_of, adopts_of, retires_of, after, after_post, after_claim, after_take, after_release, after_retire, after_adopt}
+use Rattle.claims.specs.Rule.{made, NeedsHolder}
+use Rattle.claims.specs.Laws.{due, Knows, Counts}
 use Rattle.claims.proofs.Totals.{sum_by-put, term-le, each_at}
 
 -- the entry of another seat
@@ -55,7 +55,7 @@ module _ (accounts : List Account) (k : ℕ) (v : Account) (at : get_elem? accou
       → w.minted + v.redeemed + due s ≡ v.minted + w.redeemed + due t
       → one t.free + w.adopts + v.retires ≡ one s.free + v.adopts + w.retires
       → All (Knows t.pending) (set accounts k w)
-      → SlotRule (word_of t) (set accounts k w)
+      → Counts t (set accounts k w)
   turned w s t notes holders tickets freed n h m f knows =
       let taken = sum_by-put taken_of accounts k v w at in
       let posted = sum_by-put posted_of accounts k v w at in
@@ -65,8 +65,6 @@ module _ (accounts : List Account) (k : ℕ) (v : Account) (at : get_elem? accou
       let adopts = sum_by-put adopts_of accounts k v w at in
       let retires = sum_by-put retires_of accounts k v w at in
       record {
-        state = t;
-        reads = refl;
         notes = omega arith;
         holders = omega arith;
         tickets = omega arith;
@@ -92,7 +90,7 @@ module _ (accounts : List Account) (k : ℕ) (v : Account) (at : get_elem? accou
       → sum_by minted_of accounts ≡ sum_by redeemed_of accounts + due (word_state p f h)
       → All (Knows p) accounts
       → one f + sum_by adopts_of accounts ≡ 1 + sum_by retires_of accounts
-      → SlotRule (word_of (word_after kind (word_state p f h))) (set accounts k (account_after kind (word_state p f h) v))
+      → Counts (word_after kind (word_state p f h)) (set accounts k (after (made kind (word_state p f h)) v))
   step_by post p f h may notes holders tickets known freed =
       let s = word_state p f h in let w = after_post (wakes s) v in
       let due_now = due-post p f h in
@@ -136,5 +134,5 @@ module _ (accounts : List Account) (k : ℕ) (v : Account) (at : get_elem? accou
       let s = word_state p false h in
       turned v s s notes holders tickets freed (omega arith) refl (omega arith) (omega arith) (all_put (Knows p) accounts k v (each_at (Knows p) accounts k v at known) (λ j d other lt. known j d lt))
 
-  pub slot_kept : (kind : StepKind) (n : ℕ) → NeedsHolder kind v → (rule : SlotRule n accounts) → SlotRule (word_of (word_after kind rule.state)) (set accounts k (account_after kind rule.state v))
-  slot_kept kind n may rule = step_by kind rule.state.pending rule.state.free rule.state.held may rule.notes rule.holders rule.tickets rule.known rule.freed
+  pub counts_kept : (kind : StepKind) (s : WordState) → NeedsHolder kind v → Counts s accounts → Counts (word_after kind s) (set accounts k (after (made kind s) v))
+  counts_kept kind s may counts = step_by kind s.pending s.free s.held may counts.notes counts.holders counts.tickets counts.known counts.freed

@@ -1,6 +1,6 @@
 -- For callers: where a seat has changed, and that it holds nothing.
 -- A function that names `claims::proofs::Seats::at_one_slot` in its `using` mostly needs no answers.
-use Rattle.std.proofs.Common.{◌≡◌, ℕ, zero, suc, List, replicate, get_or, refl, sym, subst, ap, ◌∙◌}
+use Rattle.std.proofs.Common.{◌≡◌, ℕ, zero, suc, List, [], map, replicate, get_or, refl, sym, subst, ap, ◌∙◌}
 use Rattle.std.specs.List.{All}
 use Rattle.std.proofs.lemmas.List.Elements.{All-replicate}
 use mathlib.Core.Logic.{dite}
@@ -14,11 +14,11 @@ use Rattle.claims.specs.declared.answers.Released.{Released}
 use Rattle.claims.specs.declared.answers.Released.TheVariants.{Wake as ReleaseWakes, Quiet as ReleaseQuiet}
 use Rattle.claims.specs.declared.answers.Adopted.{Adopted as AdoptAnswer}
 use Rattle.claims.specs.declared.answers.Adopted.TheVariants.{Adopted, NotFree}
-use Rattle.claims.specs.Views.{blank}
-use Rattle.claims.specs.Seats.{TableId, SeatState, account_at, HoldsNot, HoldsNothing, OnlyAt, one_step_later, Changed, fresh_seat}
+use Rattle.claims.specs.Views.{blank, account_of}
+use Rattle.claims.specs.Seats.{TableId, SeatState, account_at, HoldsNot, HoldsNothing, OnlyAt, Changed, fresh_seat}
 use Rattle.claims.specs.Calls.{PostChange, ClaimChange, ReleaseChange, AdoptChange}
 
-blank_at : (n slot : ℕ) → get_or (replicate n blank) slot blank ≡ blank
+blank_at : (n slot : ℕ) → get_or (map account_of (replicate n [])) slot blank ≡ blank
 blank_at zero slot = refl
 blank_at (suc n) zero = refl
 blank_at (suc n) (suc slot) = blank_at n slot
@@ -37,10 +37,6 @@ module _ {slot : ℕ} where
   pub only_at_none : {old new : SeatState} → new ≡ old → OnlyAt slot old new
   only_at_none is = record { table = ap (λ (s : SeatState). s.table) is; others = λ other ne. ap (λ (s : SeatState). account_at s other) is }
 
-  -- Busy and NotFree
-  pub only_at_step : {old new : SeatState} → new ≡ one_step_later old → OnlyAt slot old new
-  only_at_step is = record { table = ap (λ (s : SeatState). s.table) is; others = λ other ne. ap (λ (s : SeatState). account_at s other) is }
-
   pub only_at_changed : {old new : SeatState} {account : Account} → Changed slot old new account → OnlyAt slot old new
   only_at_changed changed = record { table = changed.table; others = changed.others }
 
@@ -56,7 +52,7 @@ module _ {slot : ℕ} where
         (λ ne. ap (λ (a : Account). a.holds) (only.others other ne) ∙ nothing.nowhere other);
   }
 
-pub ruleset at_one_slot = (only_at_none, only_at_step, only_at_changed, only_at_twice, holds_nothing_again)
+pub ruleset at_one_slot = (only_at_none, only_at_changed, only_at_twice, holds_nothing_again)
 
 -- each call, whatever it answers
 module _ (slot : ℕ) (old new : SeatState) where
@@ -67,7 +63,7 @@ module _ (slot : ℕ) (old new : SeatState) where
 
   pub only_at_claim : (r : Claimed) → ClaimChange slot old r new → OnlyAt slot old new
   only_at_claim Held change = only_at_changed change.1
-  only_at_claim Busy change = only_at_step change
+  only_at_claim Busy change = only_at_changed change
 
   pub only_at_release : (r : Released) → ReleaseChange slot old r new → OnlyAt slot old new
   only_at_release ReleaseWakes change = only_at_changed change
@@ -75,4 +71,4 @@ module _ (slot : ℕ) (old new : SeatState) where
 
   pub only_at_adopt : (r : AdoptAnswer) → AdoptChange slot old r new → OnlyAt slot old new
   only_at_adopt Adopted change = only_at_changed change.1
-  only_at_adopt NotFree change = only_at_step change
+  only_at_adopt NotFree change = only_at_changed change

@@ -7,9 +7,9 @@ use native.Mathlib.Decide.{ℕ_discrete}
 use Rattle.claims.specs.declared.view.Account.{Account}
 use Rattle.claims.specs.Words.{one, some_wait, word_of, WordState}
 use Rattle.claims.specs.Views.{blank, holding_of, column}
-use Rattle.claims.specs.Rule.{due}
-use Rattle.claims.specs.Laws.{OneHolderEach, NotesAreKept, TicketsAreNeeded}
+use Rattle.claims.specs.Laws.{due, OneHolderEach, NotesAreKept, TicketsAreNeeded}
 use Rattle.claims.proofs.OneSlot.{one_le}
+use Rattle.claims.proofs.Histories.{counts_of}
 
 -- an entry of the list holds only where there is one
 holds_inside : (l : List Account) (k : ℕ) → (get_or l k blank).holds ≡ true → k < length l
@@ -34,7 +34,7 @@ one_holder_each slots words views rule slot inside seat other seat_holds other_h
     dite (ℕ_discrete seat other) (λ same. same) (λ ne. (
     let two = two_count (column slot views) seat other seat_holds other_holds ne in
     let here = rule.slot_rules slot inside in
-    let holders = here.holders in
+    let holders = (counts_of _ _ here).holders in
     let most = one_le here.state.held in
     absurd (omega arith)))
 
@@ -59,13 +59,13 @@ pub notes_are_kept : NotesAreKept
 notes_are_kept slots words views rule slot inside state is =
     let here = rule.slot_rules slot inside in
     let reads = here.reads in
-    let notes = here.notes in
+    let notes = (counts_of _ _ here).notes in
     let pending = same_pending state here.state (sym is ∙ reads) in
     omega arith
 
 pub tickets_are_needed : TicketsAreNeeded
 tickets_are_needed slots words views rule slot inside state is =
     let here = rule.slot_rules slot inside in
-    let tickets = here.tickets in
+    let tickets = (counts_of _ _ here).tickets in
     let needed = same_due state here.state (sym is ∙ here.reads) in
     omega arith

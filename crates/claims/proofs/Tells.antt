@@ -1,21 +1,25 @@
 -- What a step has told, in the words of the calls' contracts.
-use Rattle.std.proofs.Common.{◌≡◌, ℕ, ◌+◌, ◌^◌, ◌<◌, ◌≤◌, Bool, true, false, List, length, map, set, get_or, refl, sym, subst, ap, ◌∙◌, arith, get_or-set_same, get_or-set_other, length-set}
+use Rattle.std.proofs.Common.{◌≡◌, ℕ, ◌+◌, ◌^◌, ◌<◌, ◌≤◌, Bool, true, false, List, [], ◌∷◌, ◌++◌, length, map, set, get_or, refl, sym, subst, ap, ◌∙◌, arith, get_or-set_same, get_or-set_other, length-set, length-append}
 use Rattle.std.specs.List.{sum_by}
-use Rattle.std.proofs.lemmas.List.{map-set, set-get_or}
+use Rattle.std.proofs.lemmas.List.{map-set, set-get_or, length-map}
 use Rattle.std.proofs.lemmas.List.Sums.{sum_by-set}
 use mathlib.Core.Option.{some}
 use lib.ListN.{get_elem?}
 use Rattle.atomic_table.proofs.Lists.{at_map, set_here}
 use Rattle.claims.specs.declared.view.Account.{Account}
+use Rattle.claims.specs.declared.view.Exchange.{Exchange}
 use Rattle.claims.specs.declared.view.View.{View}
 use Rattle.claims.specs.Words.{one, word_of, word_after, answer_of, WordState, StepKind, Answer}
-use Rattle.claims.specs.Views.{blank, posted_of, taken_of, holds_of, holding_of, account_in, column, account_after}
-use Rattle.claims.specs.Rule.{Knows, ClaimRule}
+use Rattle.claims.specs.Views.{blank, posted_of, taken_of, holds_of, holding_of, after, account_of, accounts_of, trace_in, traces_at, account_in, column}
+use Rattle.claims.specs.Rule.{made, ClaimRule}
+use Rattle.claims.specs.Laws.{Knows, Counts}
 use Rattle.claims.specs.Steps.{state_at, StepEffect}
-use Rattle.claims.specs.Seats.{TableId, SeatState, seat_state, view_of, account_at, Holds, HoldsNot, one_step_later, Changed, KeepsRule, Stepped, SeatOk}
+use Rattle.claims.specs.Seats.{TableId, SeatState, seat_state, view_of, account_at, Holds, HoldsNot, Adds, Changed, KeepsRule, Stepped, SeatOk}
 use Rattle.claims.proofs.Totals.{inside, each_at, term-le}
 use Rattle.claims.proofs.OneSlot.{false_from_zero}
 use Rattle.claims.proofs.AllSlots.{few_posts}
+use Rattle.claims.proofs.Histories.{counts_of}
+use Rattle.claims.proofs.Moves.{accounts_on, account_there}
 
 module _ {kind : StepKind} {slot found : ℕ} {v w : View} (told : StepEffect kind slot found v w) where
   -- what the number found says
@@ -25,45 +29,68 @@ module _ {kind : StepKind} {slot found : ℕ} {v w : View} (told : StepEffect ki
   pub reads : found ≡ word_of state
   reads = told.word_was ∙ (told.before.slot_rules slot told.inside).reads
 
+  abbrev pub last : Exchange
+  last = made kind state
+
   abbrev pub next : Account
-  next = account_after kind state (account_in slot v)
+  next = after last (account_in slot v)
 
-  sized : length v.accounts ≡ told.slots
-  sized = each_at (λ (u : View). length u.accounts ≡ told.slots) told.views told.seat v told.mine told.before.one_account_each
+  sized : length v.traces ≡ told.slots
+  sized = each_at (λ (u : View). length u.traces ≡ told.slots) told.views told.seat v told.mine told.before.one_trace_each
 
-  wide : slot < length v.accounts
+  wide : slot < length v.traces
   wide = subst (λ n. slot < n) (sym sized) told.inside
 
-  accounts : w.accounts ≡ set v.accounts slot next
-  accounts = ap (λ (u : View). u.accounts) told.becomes
+  wide_accounts : slot < length (accounts_of v)
+  wide_accounts = subst (λ n. slot < n) (sym (length-map v.traces account_of)) wide
 
-  here : get_or w.accounts slot blank ≡ next
-  here = ap (λ (l : List Account). get_or l slot blank) accounts ∙ get_or-set_same v.accounts slot next blank wide
+  traces : w.traces ≡ set v.traces slot (trace_in slot v ++ last ∷ [])
+  traces = ap (λ (u : View). u.traces) told.becomes
+
+  accounts : accounts_of w ≡ set (accounts_of v) slot next
+  accounts = ap (λ (l : List (List Exchange)). map account_of l) traces ∙ accounts_on v slot last
+
+  trace_here : get_or w.traces slot [] ≡ trace_in slot v ++ last ∷ []
+  trace_here = ap (λ (l : List (List Exchange)). get_or l slot []) traces ∙ get_or-set_same v.traces slot (trace_in slot v ++ last ∷ []) [] wide
+
+  here : get_or (accounts_of w) slot blank ≡ after last (get_or (accounts_of v) slot blank)
+  here = ap (λ (l : List Account). get_or l slot blank) accounts ∙ get_or-set_same (accounts_of v) slot next blank wide_accounts ∙ ap (after last) (sym (account_there v slot))
+
+  steps_more : sum_by length w.traces ≡ sum_by length v.traces + 1
+  steps_more =
+      let put = sum_by-set length v.traces slot (trace_in slot v ++ last ∷ []) [] wide in
+      let longer = length-append (trace_in slot v) (last ∷ []) in
+      let same = ap (λ (l : List (List Exchange)). sum_by length l) traces in
+      omega arith
 
   my_account : get_elem? (column slot told.views) told.seat ≡ some (account_in slot v)
-  my_account = at_map (account_in slot) told.views told.seat v told.mine
+  my_account = at_map account_of (traces_at slot told.views) told.seat (trace_in slot v) (at_map (trace_in slot) told.views told.seat v told.mine)
+
+  counts : Counts state (column slot told.views)
+  counts = counts_of _ _ (told.before.slot_rules slot told.inside)
 
   pub knows_few : (account_in slot v).known ≤ state.pending
-  knows_few = (each_at (Knows state.pending) (column slot told.views) told.seat (account_in slot v) my_account (told.before.slot_rules slot told.inside).known).0
+  knows_few = (each_at (Knows state.pending) (column slot told.views) told.seat (account_in slot v) my_account counts.known).0
 
   pub knows_none : (account_in slot v).holds ≡ false → (account_in slot v).known ≡ 0
-  knows_none = (each_at (Knows state.pending) (column slot told.views) told.seat (account_in slot v) my_account (told.before.slot_rules slot told.inside).known).1
+  knows_none = (each_at (Knows state.pending) (column slot told.views) told.seat (account_in slot v) my_account counts.known).1
 
   -- nobody holds a slot whose word says so, nor a free one
   pub not_mine : one state.held ≤ one state.free → (account_in slot v).holds ≡ false
   not_mine none =
       let term = term-le holding_of (column slot told.views) told.seat (account_in slot v) my_account in
-      let holders = (told.before.slot_rules slot told.inside).holders in
+      let holders = counts.holders in
       false_from_zero (account_in slot v).holds (omega arith)
 
   -- all that the seat ever took here
-  pub took_few : (account_in slot w).taken ≤ 2 ^ 61
+  pub took_few : (get_or (accounts_of w) slot blank).taken ≤ 2 ^ 61
   took_few =
       let views = set told.views told.seat w in
       let there : get_elem? views told.seat ≡ some w = set_here told.views told.seat w (inside told.views told.seat v told.mine) in
-      let term = term-le taken_of (column slot views) told.seat (account_in slot w) (at_map (account_in slot) views told.seat w there) in
-      let notes = (told.after.slot_rules slot told.inside).notes in
+      let term = term-le taken_of (column slot views) told.seat (account_in slot w) (at_map account_of (traces_at slot views) told.seat (trace_in slot w) (at_map (trace_in slot) views told.seat w there)) in
+      let notes = (counts_of _ _ (told.after.slot_rules slot told.inside)).notes in
       let few = few_posts told.slots (set told.words slot (word_of (word_after kind state))) views told.after slot told.inside in
+      let this = ap taken_of (account_there w slot) in
       omega arith
 
   pub mark_put : (held : List Bool) (b : Bool) → b ≡ next.holds → set held slot b ≡ set held slot next.holds
@@ -74,48 +101,50 @@ module _ {kind : StepKind} {slot found : ℕ} {v w : View} (told : StepEffect ki
     -- what the seat keeps beside its view
     pub kept_beside : (posts' : ℕ) (held' : List Bool) → posts' + (account_in slot v).posted ≡ posts + next.posted → posts' ≤ 2 ^ 56 → held' ≡ set held slot next.holds → SeatOk posts' held' table' w
     kept_beside posts' held' more few marks =
-        let put = sum_by-set posted_of v.accounts slot next blank wide in
+        let put = sum_by-set posted_of (accounts_of v) slot next blank wide_accounts in
+        let there = ap posted_of (account_there v slot) in
         let counted = ok.counted in
-        let sum : sum_by posted_of w.accounts ≡ sum_by posted_of (set v.accounts slot next) = ap (λ (l : List Account). sum_by posted_of l) accounts in
+        let sum : sum_by posted_of (accounts_of w) ≡ sum_by posted_of (set (accounts_of v) slot next) = ap (λ (l : List Account). sum_by posted_of l) accounts in
         record {
           counted = omega arith;
           unworn = few;
-          marked = marks ∙ ap (λ (l : List Bool). set l slot next.holds) ok.marked ∙ sym (map-set holds_of v.accounts slot next) ∙ ap (λ (l : List Account). map holds_of l) (sym accounts);
+          marked = marks ∙ ap (λ (l : List Bool). set l slot next.holds) ok.marked ∙ sym (map-set holds_of (accounts_of v) slot next) ∙ ap (λ (l : List Account). map holds_of l) (sym accounts);
           splits_no_more = ap (λ (u : View). u.spare) told.becomes ∙ ok.splits_no_more;
-          sized = ap length accounts ∙ length-set v.accounts slot next ∙ ok.sized ∙ ap (λ (z : TableId). z.words) (sym same);
+          sized = ap length traces ∙ length-set v.traces slot (trace_in slot v ++ last ∷ []) ∙ ok.sized ∙ ap (λ (z : TableId). z.words) (sym same);
         }
 
     -- a step that leaves who holds the slot
     pub mark_kept : next.holds ≡ (account_in slot v).holds → held ≡ set held slot next.holds
     mark_kept e = sym (
-        ap (λ (l : List Bool). set l slot next.holds) ok.marked ∙ ap (λ (b : Bool). set (map holds_of v.accounts) slot b) e
-        ∙ sym (map-set holds_of v.accounts slot (account_in slot v)) ∙ ap (λ (l : List Account). map holds_of l) (set-get_or v.accounts slot blank) ∙ sym ok.marked)
+        ap (λ (l : List Bool). set l slot next.holds) ok.marked ∙ ap (λ (b : Bool). set (map holds_of (accounts_of v)) slot b) (e ∙ ap holds_of (sym (account_there v slot)))
+        ∙ sym (map-set holds_of (accounts_of v) slot (get_or (accounts_of v) slot blank)) ∙ ap (λ (l : List Account). map holds_of l) (set-get_or (accounts_of v) slot blank) ∙ sym ok.marked)
 
     -- what the caller saw of the seat
     module _ (old : SeatState) (was : seat_state table v ≡ old) where
-      pub changed : Changed slot old (seat_state table' w) (account_after kind state (account_at old slot))
-      changed = subst (λ (s : SeatState). Changed slot s (seat_state table' w) (account_after kind state (account_at s slot))) was (record {
+      pub changed : Changed slot old (seat_state table' w) (after last (account_at old slot))
+      changed = subst (λ (s : SeatState). Changed slot s (seat_state table' w) (after last (account_at s slot))) was (record {
         table = same;
         here = here;
-        steps = ap (λ (u : View). u.steps) told.becomes;
-        others = λ other ne. (ap (λ (l : List Account). get_or l other blank) accounts ∙ get_or-set_other v.accounts slot other next blank ne);
+        steps = steps_more;
+        others = λ other ne. (ap (λ (l : List Account). get_or l other blank) accounts ∙ get_or-set_other (accounts_of v) slot other next blank ne);
       })
 
-      pub changed_to : (a : Account) → account_after kind state (account_at old slot) ≡ a → Changed slot old (seat_state table' w) a
+      pub changed_to : (a : Account) → after last (account_at old slot) ≡ a → Changed slot old (seat_state table' w) a
       changed_to a is = subst (λ (b : Account). Changed slot old (seat_state table' w) b) is changed
 
-      -- a step that leaves the account leaves the seat, but for the step itself
-      pub unchanged : next ≡ account_in slot v → seat_state table' w ≡ one_step_later old
-      unchanged e =
-          let kept : w.accounts ≡ v.accounts = accounts ∙ ap (λ (a : Account). set v.accounts slot a) e ∙ set-get_or v.accounts slot blank in
-          let more : w.steps ≡ v.steps + 1 = ap (λ (u : View). u.steps) told.becomes in
-          (λ i. record { table = same i; accounts = kept i; steps = more i }) ∙ ap one_step_later was
+      pub adds : (e : Exchange) → last ≡ e → Adds slot e old (seat_state table' w)
+      adds e is = subst (λ (x : Exchange). Adds slot x old (seat_state table' w)) is (
+          subst (λ (s : SeatState). Adds slot last s (seat_state table' w)) was (record {
+            table = same;
+            here = trace_here;
+            others = λ other ne. (ap (λ (l : List (List Exchange)). get_or l other []) traces ∙ get_or-set_other v.traces slot other (trace_in slot v ++ last ∷ []) [] ne);
+          }))
 
       pub stepped : (answer : Answer) → answer ≡ answer_of kind state → Stepped kind slot old (seat_state table' w) answer
       unfolding Stepped
       stepped answer is = subst (λ (s : SeatState). KeepsRule kind slot s (seat_state table' w) answer) was (
           let slots : told.slots ≡ table.words = sym sized ∙ ok.sized in
-          let whole : (u : View) → u.spare ≡ 0 → u ≡ record { accounts = u.accounts; spare = 0; steps = u.steps } = λ u e i. record { accounts = u.accounts; spare = e i; steps = u.steps } in
+          let whole : (u : View) → u.spare ≡ 0 → u ≡ record { traces = u.traces; spare = 0 } = λ u e i. record { traces = u.traces; spare = e i } in
           let spare : w.spare ≡ 0 = ap (λ (u : View). u.spare) told.becomes ∙ ok.splits_no_more in
           record {
             words = told.words;
@@ -125,23 +154,23 @@ module _ {kind : StepKind} {slot found : ℕ} {v w : View} (told : StepEffect ki
             mine = told.mine ∙ ap some (whole v ok.splits_no_more);
             before = subst (λ (n : ℕ). ClaimRule n told.words told.views) slots told.before;
             step = record { found = state; old_is = (told.before.slot_rules slot told.inside).reads; new_is = refl; answer_is = is };
-            account = here;
+            trace = trace_here;
             after = subst (λ (n : ℕ). ClaimRule n (set told.words slot (word_of (word_after kind state))) (set told.views told.seat (view_of (seat_state table' w)))) slots
                 (subst (λ (u : View). ClaimRule told.slots (set told.words slot (word_of (word_after kind state))) (set told.views told.seat u)) (whole w spare) told.after);
           })
 
       pub known_few : (n : ℕ) → n ≡ state.pending → (account_at old slot).known ≤ n
-      known_few n is = subst (λ (s : SeatState). (account_at s slot).known ≤ n) was (let few = knows_few in omega arith)
+      known_few n is = subst (λ (s : SeatState). (account_at s slot).known ≤ n) was (let few = knows_few in let this = ap (λ (a : Account). a.known) (account_there v slot) in omega arith)
 
       pub held_by_none : one state.held ≤ one state.free → HoldsNot old slot
-      held_by_none none = subst (λ (s : SeatState). HoldsNot s slot) was (not_mine none)
+      held_by_none none = subst (λ (s : SeatState). HoldsNot s slot) was (ap holds_of (account_there v slot) ∙ not_mine none)
 
       pub knew_none : state.pending ≡ 0 → (account_at old slot).known ≡ 0
-      knew_none is = subst (λ (s : SeatState). (account_at s slot).known ≡ 0) was (let few = knows_few in omega arith)
+      knew_none is = subst (λ (s : SeatState). (account_at s slot).known ≡ 0) was (let few = knows_few in let this = ap (λ (a : Account). a.known) (account_there v slot) in omega arith)
 
 -- what a call's conditions say of the table's own numbers
 pub within : (key : ℕ) (table now : TableId) (slot : ℕ) → key ≡ table.words → table ≡ now → slot < now.words → slot < key
 within key table now slot sized is inside = let words : table.words ≡ now.words = ap (λ (z : TableId). z.words) is in omega arith
 
 pub holds_now : (slot : ℕ) (table : TableId) (v : View) (now : SeatState) → seat_state table v ≡ now → Holds now slot → (account_in slot v).holds ≡ true
-holds_now slot table v now is holds = subst (λ (s : SeatState). Holds s slot) (sym is) holds
+holds_now slot table v now is holds = sym (ap holds_of (account_there v slot)) ∙ subst (λ (s : SeatState). Holds s slot) (sym is) holds

@@ -1,9 +1,36 @@
 -- What follows from the claim rule for all seats together, in plain terms. Part of the promises.
-use Rattle.std.specs.Prelude.{◌≡◌, ℕ, ◌+◌, ◌<◌, true, List, sum_by, slice_index, slice_index_or}
+use Rattle.std.specs.Prelude.{◌≡◌, ℕ, ◌+◌, ◌<◌, ◌≤◌, true, false, List, All, sum_by, if◌then◌else◌, slice_index, slice_index_or}
+use Rattle.claims.specs.declared.view.Account.{Account}
 use Rattle.claims.specs.declared.view.View.{View}
-use Rattle.claims.specs.Words.{word_of, WordState}
-use Rattle.claims.specs.Views.{blank, posted_of, taken_of, minted_of, redeemed_of, column}
-use Rattle.claims.specs.Rule.{due, ClaimRule}
+use Rattle.claims.specs.Words.{one, some_wait, word_of, WordState}
+use Rattle.claims.specs.Views.{blank, posted_of, taken_of, minted_of, redeemed_of, holding_of, adopts_of, retires_of, column}
+use Rattle.claims.specs.Rule.{ClaimRule}
+
+-- how many tickets a slot needs: one while notes wait and nobody holds it
+abbrev pub due : WordState → ℕ
+due w = if w.held then 0 else one (some_wait w.pending)
+
+-- Who holds the slot knows of no more notes than wait. Who does not hold it knows of none
+abbrev pub Knows : ℕ → Account → Type 0
+Knows pending a = (a.known ≤ pending) × (a.holds ≡ false → a.known ≡ 0)
+
+-- what the word of a slot says, beside what all seats' accounts of it count
+pub record Counts (state : WordState) (accounts : List Account) : Type 0 where
+  -- the notes that wait are those that were posted and not taken
+  pub notes : state.pending + sum_by taken_of accounts ≡ sum_by posted_of accounts
+  -- A free slot is held and nobody holds it. A slot that is held and not free has one holder, any other none
+  pub holders : sum_by holding_of accounts + one state.free ≡ one state.held
+  -- the tickets that were made and not redeemed are those that the slot needs
+  pub tickets : sum_by minted_of accounts ≡ sum_by redeemed_of accounts + due state
+  pub known : All (Knows state.pending) accounts
+  -- a slot is free at the start, each retire frees it, and each adopt of the free slot ends that
+  pub freed : one state.free + sum_by adopts_of accounts ≡ 1 + sum_by retires_of accounts
+
+-- the history of each slot counts so
+abbrev pub HistoriesCount : Type 0
+HistoriesCount =
+    (slots : ℕ) (words : List ℕ) (views : List View) (rule : ClaimRule slots words views) →
+    (slot : ℕ) (inside : slot < slots) → Counts (rule.slot_rules slot inside).state (column slot views)
 
 -- the seat of this number holds the slot
 abbrev pub IsHolder : List View → ℕ → ℕ → Type 0

@@ -1,26 +1,32 @@
 -- What callers see of a seat, and how a call changes it. Part of the promises.
-use Rattle.std.specs.Prelude.{◌≡◌, ◌≢◌, ℕ, ◌+◌, ◌^◌, ◌≤◌, Bool, true, false, List, map, length, replicate, sum_by, slice_index, slice_index_or, slice_set}
+use Rattle.std.specs.Prelude.{◌≡◌, ◌≢◌, ℕ, ◌+◌, ◌^◌, ◌≤◌, Bool, true, false, List, [], ◌∷◌, ◌++◌, map, length, sum_by, slice_index, slice_index_or, slice_set}
 use mathlib.Core.Option.{some}
 use lib.ListN.{get_elem?}
 pub use Rattle.atomic_table.specs.Seated.{TableId}
 use Rattle.claims.specs.declared.view.Account.{Account}
+use Rattle.claims.specs.declared.view.Exchange.{Exchange}
 use Rattle.claims.specs.declared.view.View.{View}
 use Rattle.claims.specs.Words.{StepKind, Answer, WordStep}
-use Rattle.claims.specs.Views.{blank, posted_of, holds_of, account_after}
-use Rattle.claims.specs.Rule.{ClaimRule}
+use Rattle.claims.specs.Views.{blank, posted_of, holds_of, accounts_of, unused_view}
+use Rattle.claims.specs.Rule.{made, ClaimRule}
 
--- the claim words that the seat belongs to, its account of each slot, and how many exchanges it has made
+-- the claim words that the seat belongs to, its exchanges at each slot, what they say of each, and how many they are
 pub record SeatState : Type 0 where
   pub table : TableId
+  pub traces : List (List Exchange)
   pub accounts : List Account
   pub steps : ℕ
 
 abbrev pub seat_state : TableId → View → SeatState
-seat_state table v = record { table = table; accounts = v.accounts; steps = v.steps }
+seat_state table v = record { table = table; traces = v.traces; accounts = accounts_of v; steps = sum_by length v.traces }
 
 -- the view of such a seat, which makes no other seats
 abbrev pub view_of : SeatState → View
-view_of s = record { accounts = s.accounts; spare = 0; steps = s.steps }
+view_of s = record { traces = s.traces; spare = 0 }
+
+-- its exchanges at this slot, in order
+abbrev pub trace_at : SeatState → ℕ → List Exchange
+trace_at s slot = slice_index_or s.traces slot []
 
 -- the account of this slot
 abbrev pub account_at : SeatState → ℕ → Account
@@ -34,7 +40,7 @@ HoldsNot s slot = (account_at s slot).holds ≡ false
 
 -- a seat of these claim words that has done nothing yet
 abbrev pub fresh_seat : TableId → SeatState
-fresh_seat table = record { table = table; accounts = replicate table.words blank; steps = 0 }
+fresh_seat table = seat_state table (unused_view table.words 0)
 
 -- the seat holds no slot
 pub record HoldsNothing (s : SeatState) : Type 0 where
@@ -45,9 +51,11 @@ pub record OnlyAt (slot : ℕ) (old new : SeatState) : Type 0 where
   pub table : new.table ≡ old.table
   pub others : (other : ℕ) → other ≢ slot → account_at new other ≡ account_at old other
 
--- the seat as it was, but for one exchange more
-abbrev pub one_step_later : SeatState → SeatState
-one_step_later s = record s { steps = s.steps + 1 }
+-- one exchange more, at this slot
+pub record Adds (slot : ℕ) (exchange : Exchange) (old new : SeatState) : Type 0 where
+  pub table : new.table ≡ old.table
+  pub here : trace_at new slot ≡ trace_at old slot ++ exchange ∷ []
+  pub others : (other : ℕ) → other ≢ slot → trace_at new other ≡ trace_at old other
 
 -- by one exchange the account of this slot became `account`, and nothing else of the seat changed
 pub record Changed (slot : ℕ) (old new : SeatState) (account : Account) : Type 0 where
@@ -56,8 +64,8 @@ pub record Changed (slot : ℕ) (old new : SeatState) (account : Account) : Type
   pub others : (other : ℕ) → other ≢ slot → account_at new other ≡ account_at old other
   pub steps : new.steps ≡ old.steps + 1
 
--- In a state that met the rule the seat did one step of this kind at the slot's word, which answered so. Its account became what
--- the kind makes of it by what the word said, and the rule was kept. The state is some state, since no clause can name what other
+-- In a state that met the rule the seat did one step of this kind at the slot's word, which answered so. Its trace got the exchange
+-- that the kind makes by what the word said, and the rule was kept. The state is some state, since no clause can name what other
 -- threads do, but the seat's own view stands in it, before and after
 pub record KeepsRule (kind : StepKind) (slot : ℕ) (old new : SeatState) (answer : Answer) : Type 0 where
   pub words : List ℕ
@@ -67,7 +75,7 @@ pub record KeepsRule (kind : StepKind) (slot : ℕ) (old new : SeatState) (answe
   pub mine : get_elem? views seat ≡ some (view_of old)
   pub before : ClaimRule old.table.words words views
   pub step : WordStep kind (slice_index words slot) word answer
-  pub account : account_at new slot ≡ account_after kind step.found (account_at old slot)
+  pub trace : trace_at new slot ≡ trace_at old slot ++ made kind step.found ∷ []
   pub after : ClaimRule old.table.words (slice_set words slot word) (slice_set views seat (view_of new))
 
 -- the same, closed: a caller's proof does not open it unasked
@@ -76,8 +84,8 @@ Stepped kind slot old new answer = KeepsRule kind slot old new answer
 
 -- what a seat keeps beside its view: how often it has posted, and which slots it holds
 pub record SeatOk (posts : ℕ) (held : List Bool) (table : TableId) (v : View) : Type 0 where
-  pub counted : posts ≡ sum_by posted_of v.accounts
+  pub counted : posts ≡ sum_by posted_of (accounts_of v)
   pub unworn : posts ≤ 2 ^ 56
-  pub marked : held ≡ map holds_of v.accounts
+  pub marked : held ≡ map holds_of (accounts_of v)
   pub splits_no_more : v.spare ≡ 0
-  pub sized : length v.accounts ≡ table.words
+  pub sized : length v.traces ≡ table.words

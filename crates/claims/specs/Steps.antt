@@ -1,25 +1,15 @@
 -- What one exchange tells the seat that made it. Only for proofs.
-use Rattle.std.specs.Prelude.{◌≡◌, ℕ, ◌+◌, ◌-◌, ◌<◌, true, List, length, slice_index, slice_set}
+use Rattle.std.specs.Prelude.{◌≡◌, ℕ, ◌-◌, ◌<◌, List, [], ◌∷◌, ◌++◌, length, slice_index, slice_set}
 use mathlib.Core.Option.{some}
 use lib.ListN.{get_elem?}
-use Rattle.claims.specs.declared.view.Account.{Account}
 use Rattle.claims.specs.declared.view.View.{View}
-use Rattle.claims.specs.Words.{word_of, word_after, WordState, StepKind, post, claim, take, release, retire, adopt}
-use Rattle.claims.specs.Views.{unused_view, account_in, account_after}
-use Rattle.claims.specs.Rule.{ClaimRule}
+use Rattle.claims.specs.Words.{word_of, word_after, WordState, StepKind}
+use Rattle.claims.specs.Views.{unused_view, trace_in}
+use Rattle.claims.specs.Rule.{made, ClaimRule}
 
--- the view that a step of this kind leaves, with one step more
+-- the view that a step of this kind leaves, with one exchange more
 abbrev pub view_after : StepKind → WordState → ℕ → View → View
-view_after kind w slot v = record v { accounts = slice_set v.accounts slot (account_after kind w (account_in slot v)); steps = v.steps + 1 }
-
--- what each kind of step asks of its seat's account: take, release and retire are for the holder
-abbrev pub NeedsHolder : StepKind → Account → Type 0
-NeedsHolder post a = Unit {0}
-NeedsHolder claim a = Unit {0}
-NeedsHolder take a = a.holds ≡ true
-NeedsHolder release a = a.holds ≡ true
-NeedsHolder retire a = a.holds ≡ true
-NeedsHolder adopt a = Unit {0}
+view_after kind w slot v = record v { traces = slice_set v.traces slot (trace_in slot v ++ made kind w ∷ []) }
 
 -- what the word of this slot says
 abbrev pub state_at : {slots slot : ℕ} {words : List ℕ} {views : List View} → ClaimRule slots words views → slot < slots → WordState
@@ -47,4 +37,4 @@ abbrev pub one_spare_less : View → View
 one_spare_less v = record v { spare = v.spare - 1 }
 
 abbrev pub newcomer : View → View
-newcomer v = unused_view (length v.accounts) 0
+newcomer v = unused_view (length v.traces) 0

@@ -1,13 +1,59 @@
--- What a seat has done. Part of the promises. Its account is what it has done at one slot, and its view has an account
--- for each slot.
-use Rattle.std.specs.Prelude.{ℕ, ◌+◌, Bool, true, false, List, map, replicate, if◌then◌else◌, slice_index_or}
+-- What a seat has done. Part of the promises. Its trace of a slot is the list of its exchanges there, and its account what
+-- they say.
+use Rattle.std.specs.Prelude.{ℕ, ◌+◌, Bool, true, false, List, [], ◌∷◌, map, replicate, slice_index_or}
 use Rattle.claims.specs.declared.view.Account.{Account}
+use Rattle.claims.specs.declared.view.Exchange.{Exchange}
+use Rattle.claims.specs.declared.view.Exchange.TheVariants.{Post, Busy, Held, Take, Release, Retire, Adopted, NotFree}
 use Rattle.claims.specs.declared.view.View.{View}
-use Rattle.claims.specs.Words.{one, some_wait, wakes, WordState, StepKind, post, claim, take, release, retire, adopt}
+use Rattle.claims.specs.Words.{one, some_wait}
 
 -- the account of a seat that has done nothing at the slot
 abbrev pub blank : Account
 blank = record { posted = 0; taken = 0; minted = 0; redeemed = 0; holds = false; known = 0; adopts = 0; retires = 0 }
+
+-- What each exchange makes of the account
+
+-- a post, which answered Wake or Quiet
+abbrev pub after_post : Bool → Account → Account
+after_post woke a = record a { posted = a.posted + 1; minted = a.minted + one woke; known = a.known + one a.holds }
+
+-- a claim of a slot that was not held, where so many notes waited. It redeems the ticket that they had
+abbrev pub after_claim : ℕ → Account → Account
+after_claim pending a = record a { holds = true; known = pending; redeemed = a.redeemed + one (some_wait pending) }
+
+-- a take that answered so many notes
+abbrev pub after_take : ℕ → Account → Account
+after_take count a = record a { taken = a.taken + count; known = 0 }
+
+-- a release, which answered Wake or Quiet
+abbrev pub after_release : Bool → Account → Account
+after_release woke a = record a { holds = false; known = 0; minted = a.minted + one woke }
+
+-- a retire, which leaves the slot free
+abbrev pub after_retire : Account → Account
+after_retire a = record a { holds = false; known = 0; retires = a.retires + 1 }
+
+-- an adopt of a free slot where so many notes waited
+abbrev pub after_adopt : ℕ → Account → Account
+after_adopt pending a = record a { holds = true; known = pending; adopts = a.adopts + 1 }
+
+abbrev pub after : Exchange → Account → Account
+after (Post woke) a = after_post woke a
+after Busy a = a
+after (Held pending) a = after_claim pending a
+after (Take count) a = after_take count a
+after (Release woke) a = after_release woke a
+after Retire a = after_retire a
+after (Adopted pending) a = after_adopt pending a
+after NotFree a = a
+
+abbrev pub after_all : List Exchange → Account → Account
+after_all [] a = a
+after_all (e ∷ es) a = after_all es (after e a)
+
+-- the account that these exchanges of one seat at one slot are
+abbrev pub account_of : List Exchange → Account
+account_of trace = after_all trace blank
 
 abbrev pub posted_of : Account → ℕ
 posted_of a = a.posted
@@ -40,47 +86,24 @@ spare_of v = v.spare
 
 -- a seat that has done nothing at this many slots, and may make this many seats
 abbrev pub unused_view : ℕ → ℕ → View
-unused_view slots spare = record { accounts = replicate slots blank; spare = spare; steps = 0 }
+unused_view slots spare = record { traces = replicate slots []; spare = spare }
+
+-- its account of each slot
+abbrev pub accounts_of : View → List Account
+accounts_of v = map account_of v.traces
+
+-- its exchanges at this slot
+abbrev pub trace_in : ℕ → View → List Exchange
+trace_in slot v = slice_index_or v.traces slot []
+
+-- the traces of this slot, one for each view
+abbrev pub traces_at : ℕ → List View → List (List Exchange)
+traces_at slot views = map (trace_in slot) views
 
 -- the account of this slot
 abbrev pub account_in : ℕ → View → Account
-account_in slot v = slice_index_or v.accounts slot blank
+account_in slot v = account_of (trace_in slot v)
 
 -- the accounts of this slot, one for each view
 abbrev pub column : ℕ → List View → List Account
-column slot views = map (account_in slot) views
-
--- What each call makes of its caller's account
-
--- a post, which answered Wake or Quiet
-abbrev pub after_post : Bool → Account → Account
-after_post woke a = record a { posted = a.posted + 1; minted = a.minted + one woke; known = a.known + one a.holds }
-
--- a claim of a slot that was not held, where so many notes waited. It redeems the ticket that they had
-abbrev pub after_claim : ℕ → Account → Account
-after_claim pending a = record a { holds = true; known = pending; redeemed = a.redeemed + one (some_wait pending) }
-
--- a take that answered so many notes
-abbrev pub after_take : ℕ → Account → Account
-after_take count a = record a { taken = a.taken + count; known = 0 }
-
--- a release, which answered Wake or Quiet
-abbrev pub after_release : Bool → Account → Account
-after_release woke a = record a { holds = false; known = 0; minted = a.minted + one woke }
-
--- a retire, which leaves the slot free
-abbrev pub after_retire : Account → Account
-after_retire a = record a { holds = false; known = 0; retires = a.retires + 1 }
-
--- an adopt of a free slot where so many notes waited
-abbrev pub after_adopt : ℕ → Account → Account
-after_adopt pending a = record a { holds = true; known = pending; adopts = a.adopts + 1 }
-
--- the same by the kind of step and by what the word said
-abbrev pub account_after : StepKind → WordState → Account → Account
-account_after post w a = after_post (wakes w) a
-account_after claim w a = if w.held then a else after_claim w.pending a
-account_after take w a = after_take w.pending a
-account_after release w a = after_release (some_wait w.pending) a
-account_after retire w a = after_retire a
-account_after adopt w a = if w.free then after_adopt w.pending a else a
+column slot views = map account_of (traces_at slot views)

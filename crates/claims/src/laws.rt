@@ -1,7 +1,12 @@
 //! What is true in every state that meets the claim rule. The functions do nothing: the contract of each is the law
 //! that it is named after.
 
-ghost use Rattle.claims.specs.Laws.{OneHolderEach, NotesAreKept, TicketsAreNeeded};
+ghost use Rattle.claims.specs.Laws.{HistoriesCount, OneHolderEach, NotesAreKept, TicketsAreNeeded};
+
+/// The history of a slot gives the counts of its notes, its holders and its tickets.
+pub fn histories_count()
+    ensures { HistoriesCount }
+{}
 
 /// Two seats that hold the same slot are the same seat.
 #[tactic(auto, using(crate::proofs::States::one_holder_each))]
@@ -10,14 +15,12 @@ pub fn one_holder_each()
 {}
 
 /// The notes that wait at a slot, by its word, are those that were posted there and not taken.
-#[tactic(auto, using(crate::proofs::States::notes_are_kept))]
 pub fn notes_are_kept()
     ensures { NotesAreKept }
 {}
 
 /// The tickets that are out for a slot are those that its word needs: one while notes wait and nobody holds it,
 /// otherwise none.
-#[tactic(auto, using(crate::proofs::States::tickets_are_needed))]
 pub fn tickets_are_needed()
     ensures { TicketsAreNeeded }
 {}

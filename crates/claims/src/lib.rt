@@ -8,7 +8,10 @@
 //!
 //! # The rule
 //!
-//! Between any two exchanges, in every schedule, this is true of each slot:
+//! The exchanges of all seats at a slot stand in one order, the slot's history. Between any two exchanges, in every
+//! schedule, it leads from the word of an unused slot to today's word, and each exchange has answered what the word that
+//! it found says. Of each seat it has just the exchanges that this seat made there, in order: the seat's trace. And each
+//! seat takes, releases and retires only what it holds by its trace. From this follows for each slot:
 //!
 //! 1. The notes that wait are those that were posted and not taken. So none is dropped and none appears twice.
 //! 2. A slot that is held and not free has exactly one holder. Any other slot has none. A free slot is marked as held.
@@ -20,9 +23,9 @@
 //! 6. A slot is free at the start and after each retire, until it is adopted. So before any call each slot is free,
 //!    held and without notes: its word is 3.
 //!
-//! Each call makes exactly one exchange, whatever it answers, except that a post that answers Worn makes none. A seat
-//! counts its exchanges of the six kinds below, and the call's contract says that the count rose by one. So no call
-//! makes a second exchange, and none answers Busy or NotFree before it has made one. That is true of the source: in
+//! Each call makes exactly one exchange, whatever it answers, except that a post that answers Worn makes none. The
+//! call's contract says which exchange the caller's trace of the slot got, and that no other trace of it changed. So no
+//! call makes a second exchange, and none answers Busy or NotFree before it has made one. That is true of the source: in
 //! machine code an exchange may be a loop.
 //!
 //! # The exchanges, and the race that each closes
@@ -44,14 +47,14 @@
 //! # What is not promised
 //!
 //! That Busy or NotFree was necessary, any order between threads that never synchronized, or progress. A seat that is
-//! dropped while it holds a slot leaves the slot held. A [`Claims::peek`] is not an exchange, and is not counted.
+//! dropped while it holds a slot leaves the slot held. A [`Claims::peek`] is not an exchange, and in no trace.
 //!
 //! # Where to look
 //!
-//! `specs/Words.antt` has the word and its steps, `specs/Rule.antt` the rule, `specs/Calls.antt` and `specs/Views.antt`
-//! what each answer says about the caller's account of the slot, and `src/calls.rt` the calls. [`laws`] says in plain
-//! words what follows from the rule. For callers, `specs/Seats.antt` says when a seat holds nothing and when it changed
-//! at only one slot, and `proofs/Seats.antt` how this carries over from call to call.
+//! `specs/Words.antt` has the word and its steps, `specs/Rule.antt` the history and the rule, `specs/Views.antt` what a
+//! trace says, its account, `specs/Calls.antt` which exchange each answer is, and `src/calls.rt` the calls. [`laws`] says
+//! in plain words what follows from the rule. For callers, `specs/Seats.antt` says when a seat holds nothing and when it
+//! changed at only one slot, and `proofs/Seats.antt` how this carries over from call to call.
 #![tactic(auto)]
 
 mod answers;

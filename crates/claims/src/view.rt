@@ -1,7 +1,27 @@
 // The view of a seat: what its thread knows. It exists only in proofs: no value of it is ever made.
 use std::collections::LinkedList;
 
-/// What one seat has done at one slot.
+/// One exchange at a slot: its kind, with what it answered.
+pub enum Exchange {
+    /// A post, and whether it answered Wake.
+    Post(bool),
+    /// A claim that found the slot held.
+    Busy,
+    /// A claim that did not, and the notes that waited.
+    Held(u64),
+    /// A take, and its notes.
+    Take(u64),
+    /// A release, and whether it answered Wake.
+    Release(bool),
+    /// A retire.
+    Retire,
+    /// An adopt that found the slot free, and the notes that waited.
+    Adopted(u64),
+    /// An adopt that did not.
+    NotFree,
+}
+
+/// What one seat has done at one slot, as its exchanges there say.
 pub struct Account {
     /// Its posts.
     pub posted: u64,
@@ -23,10 +43,8 @@ pub struct Account {
 
 /// What one seat has done at all slots.
 pub struct View {
-    /// An account for each slot.
-    pub accounts: LinkedList<Account>,
+    /// For each slot its exchanges there, in order.
+    pub traces: LinkedList<LinkedList<Exchange>>,
     /// How many further seats it may still make.
     pub spare: u64,
-    /// The exchanges that it has made, at all slots together.
-    pub steps: u64,
 }

@@ -8,7 +8,8 @@ use Rattle.std.proofs.lemmas.Option.{none-some, same_Some}
 use mathlib.Core.Logic.{dite}
 use native.Mathlib.Decide.{ℕ_discrete}
 use Rattle.claims.specs.declared.view.Account.{Account}
-use Rattle.claims.specs.Seats.{SeatState, TableId, Changed, HoldsNothing, OnlyAt, account_at, one_step_later}
+use Rattle.claims.specs.declared.view.Exchange.TheVariants as exchange
+use Rattle.claims.specs.Seats.{SeatState, TableId, Changed, HoldsNothing, OnlyAt, Adds, account_at}
 use Rattle.claims.specs.Views.{after_adopt}
 use Rattle.ready.specs.declared.ticket.Ticket.{Ticket}
 use Rattle.dispatch.specs.declared.shared.Own.{Own}
@@ -414,7 +415,7 @@ dropped_counts p r q a b slots slot cause first one two = subst (λ (o : Option 
 )))
 
 pub placed_counts : {E : Type 0} (r : Result (Unit {0}) E) (p q : PollerState) (a b : SeatState) (slots : List ℕ) (slot : ℕ) → slice_get slots 0 ≡ Some slot
-    → OnOk r (IsOpened p q ⊎ (IsLost p q × (b ≡ one_step_later a))) → OnOk r (IfSome (slice_get slots 0) (IsCounted p q a b))
+    → OnOk r (IsOpened p q ⊎ (IsLost p q × Adds slot exchange.NotFree a b)) → OnOk r (IfSome (slice_get slots 0) (IsCounted p q a b))
 placed_counts (Ok done) p q a b slots slot first (inl opened) = subst (λ (o : Option ℕ). IfSome o (IsCounted p q a b)) (sym first) (inl opened)
 placed_counts (Ok done) p q a b slots slot first (inr lost) = subst (λ (o : Option ℕ). IfSome o (IsCounted p q a b)) (sym first) (inr (inr (lost.0, inr lost.1)))
 placed_counts (Err fault) p q a b slots slot first is = tt
@@ -465,18 +466,18 @@ pub places_told : (p r q : PollerState) (episodes : Episodes) → r ≡ places p
 places_told p r q episodes one two = subst (λ (s : PollerState). s ≡ places p s) (sym two) (ap (λ (s : PollerState). record s { episodes = episodes }) one)
 
 -- no connection was placed, since the slot was not free
-pub not_placed : (p q : PollerState) (a : Own) (seat : SeatState) (slot : ℕ) → q ≡ record p { lost = counted_up p.lost 1 } → seat ≡ one_step_later a.seat
+pub not_placed : (p q : PollerState) (a : Own) (seat : SeatState) (slot : ℕ) → q ≡ record p { lost = counted_up p.lost 1 } → Changed slot a.seat seat (account_at a.seat slot)
     → Connected [] (slot ∷ []) 1 p q a (record a { seat = seat })
 not_placed p q a seat slot lost step = record {
   some = omega arith;
-  exchanges = (let later : seat.steps ≡ a.seat.steps + 1 = ap (λ (s : SeatState). s.steps) step in omega arith);
+  exchanges = (let later = step.steps in omega arith);
   table = ap (λ (s : PollerState). s.table) lost;
   counted = counted_same p.opened q.opened (ap (λ (s : PollerState). s.opened) lost);
   unused = counted_one 18446744073709551615 p.lost q.lost (ap (λ (s : PollerState). s.lost) lost);
   batch = ap (λ (s : PollerState). s.batch) lost;
   part = ap (λ (s : PollerState). s.part) lost;
   own = λ s out. refl;
-  accounts = λ s. rose_none (account_at a.seat s) (account_at seat s) (ap (λ (x : SeatState). account_at x s) step);
+  accounts = λ s. rose_none (account_at a.seat s) (account_at seat s) (dite (ℕ_discrete s slot) (λ same. subst (λ (i : ℕ). account_at seat i ≡ account_at a.seat i) (sym same) step.here) (step.others s));
   tickets = sym (append-nil a.hand.tickets);
   ready = refl;
   gave = refl;

@@ -1,7 +1,8 @@
 -- What accepting and opening connections does to what the poller's thread owns. Part of the promises.
 use Rattle.std.specs.Prelude.{◌≡◌, ◌⊎◌, ℕ, ◌+◌, ◌*◌, ◌≤◌, ◌==◌, Bool, List, [], ◌∷◌, ◌++◌, length, map, None, slice_index, slice_set}
 use Rattle.std.specs.List.{count_by}
-use Rattle.claims.specs.Seats.{SeatState, TableId, account_at, HoldsNothing, one_step_later}
+use Rattle.claims.specs.declared.view.Exchange.TheVariants as exchange
+use Rattle.claims.specs.Seats.{SeatState, TableId, Adds, account_at, HoldsNothing}
 use Rattle.ready.specs.declared.ticket.Ticket.{Ticket}
 use Rattle.dispatch.specs.declared.shared.Own.{Own}
 use Rattle.rounds.specs.Deliveries.{at_slot}
@@ -110,7 +111,7 @@ IsSpent p slot = (IsIn p.part slot → ⊥) ⊎ ((length p.table ≤ slot) ⊎ (
 
 -- why a slot is lost: it is spent, or one exchange found that it is not free
 abbrev pub LostFor : PollerState → ℕ → SeatState → SeatState → Type 0
-LostFor p slot old new = IsSpent p slot ⊎ (new ≡ one_step_later old)
+LostFor p slot old new = IsSpent p slot ⊎ Adds slot exchange.NotFree old new
 
 -- What accepting did: connections were opened, and each slot that was taken was opened, or is in hand, or is no longer used. A
 -- connection whose opening failed leaves its slot in hand

@@ -2,7 +2,8 @@
 //! connection, the connection to the target, what the target is sent first, the pair, the place, and the one note that
 //! starts it.
 ghost use Rattle.std.specs.Prelude.{◌≡◌, ◌≢◌, ◌⊎◌, ◌+◌, ◌<◌, ◌≤◌, [], ◌∷◌, ◌++◌, length, Err, Some, None, IfOk, IfErr, OnOk, OnErr, OnSome, IfSome, IsNone, slice_get, slice_index};
-ghost use Rattle.claims.specs.Seats.{account_at, HoldsNothing, OnlyAt, one_step_later};
+ghost use Rattle.claims.specs.declared.view.Exchange.TheVariants as exchange;
+ghost use Rattle.claims.specs.Seats.{account_at, Adds, HoldsNothing, OnlyAt};
 ghost use Rattle.relay_core.specs.Pairs.{fresh};
 ghost use Rattle.dispatch.specs.Drops.{dropped_for};
 ghost use Rattle.dispatch.specs.Posts.{HoldsOnly, OnlyWorn, Released as ReleasedHere};
@@ -222,7 +223,7 @@ fn place<F: Front, R: Wait + Log>(
     ensures done { OnOk result (Connected (record { slot = berth.pair.slot; generation = berth.pair.generation } ∷ []) [] 0 poller.old poller.new own.old own.new ⊎ Connected [] (berth.pair.slot ∷ []) 1 poller.old poller.new own.old own.new) }
     ensures poller { poller.new ≡ record poller.old { table = poller.new.table; opened = poller.new.opened; lost = poller.new.lost; episodes = poller.new.episodes } }
     ensures ready { own.new.ready ≡ own.old.ready }
-    ensures counted { OnOk result (IsOpened poller.old poller.new ⊎ (IsLost poller.old poller.new × (own.new.seat ≡ one_step_later own.old.seat))) }
+    ensures counted { OnOk result (IsOpened poller.old poller.new ⊎ (IsLost poller.old poller.new × Adds berth.pair.slot exchange.NotFree own.old.seat own.new.seat)) }
     ensures free { OnOk result (own.new.free ≡ own.old.free) }
     ensures slots { OnOk result (own.new.hand.slots ≡ own.old.hand.slots) }
     ensures room { OnOk result (ticket_room own.old.hand ≤ ticket_room own.new.hand + 1) }

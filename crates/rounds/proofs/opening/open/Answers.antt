@@ -1,7 +1,8 @@
 use Rattle.std.proofs.Common.{◌≡◌, ◌+◌, ◌<◌, ◌≤◌, ℕ, List, OnOk, ◌⊎◌, slice_index, length, refl, subst, inr, ◌++◌, ◌∷◌, [], ap, sym, ◌∙◌}
 use Rattle.dispatch.specs.Hands.{HandState, ticket_room}
 use Rattle.dispatch.specs.Polls.{PollerState}
-use Rattle.claims.specs.Seats.{one_step_later}
+use Rattle.claims.specs.declared.view.Exchange.TheVariants as exchange
+use Rattle.claims.specs.Seats.{Adds}
 use Rattle.rounds.specs.Openings.{IsOpened, IsLost}
 use Rattle.token.specs.declared.token.Token.{Token}
 use Rattle.rounds.proofs.Connections.{some_first, opened_never, opened_not, opened_there, on_ok, same_dropped, opens_lost, opens_dropped, opens_placed, lost_counts, dropped_counts, placed_counts, no_names, room_still}
@@ -65,7 +66,8 @@ returns-in-Ok g c =
       between = c.place.ensures.between;
       worn = c.place.ensures.worn;
       counted = placed_counts c.place.result c.args.poller.now c.place.new.poller c.args.own.now.seat c.place.new.own.seat c.args.own.now.hand.slots c.in-Some.slot first
-          (subst (λ (p : PollerState). OnOk c.place.result (IsOpened p c.place.new.poller ⊎ (IsLost p c.place.new.poller × (c.place.new.own.seat ≡ one_step_later c.args.own.now.seat)))) c.in-Ok.ensures.same c.place.ensures.counted);
+          (subst (λ (p : PollerState). OnOk c.place.result (IsOpened p c.place.new.poller ⊎ (IsLost p c.place.new.poller × Adds c.in-Some.slot exchange.NotFree c.args.own.now.seat c.place.new.own.seat))) c.in-Ok.ensures.same
+          (subst (λ (slot : ℕ). OnOk c.place.result (IsOpened c.prepare.new.poller c.place.new.poller ⊎ (IsLost c.prepare.new.poller c.place.new.poller × Adds slot exchange.NotFree c.args.own.now.seat c.place.new.own.seat))) here c.place.ensures.counted));
       done = on_ok c.place.result
           (opened_there c.args.poller.now c.place.new.poller c.args.own.now c.prepare.new.hand hand c.in-Some.slot first
           c.prepare.new.poller c.place.new.own (record { slot = c.in-Ok.berth.pair.slot; generation = c.in-Ok.berth.pair.generation }) c.in-Ok.ensures.same here)

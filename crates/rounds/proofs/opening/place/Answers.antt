@@ -1,5 +1,8 @@
 use Rattle.std.proofs.Common.{◌≡◌, ◌∙◌, ℕ, ◌∷◌, [], ◌+◌, slice_index, ap, arith, inl, inr, length, refl, subst, sym}
-use Rattle.claims.specs.Seats.{SeatState, HoldsNothing}
+use Rattle.claims.specs.declared.view.Account.{Account}
+use Rattle.claims.specs.declared.view.Exchange.TheVariants as exchange
+use Rattle.claims.specs.Seats.{SeatState, Adds, Changed, HoldsNothing, account_at}
+use Rattle.claims.proofs.Seats.{only_at_changed, holds_nothing_again}
 use Rattle.ready.specs.declared.ticket.Ticket.{Ticket}
 use Rattle.dispatch.specs.Hands.{HandState}
 use Rattle.dispatch.specs.Polls.{PollerState, IsIn}
@@ -55,18 +58,19 @@ returns-in_err-start-in-Adopted g c =
 
 pub returns-in-NotFree : goal.returns-in-NotFree
 returns-in-NotFree g c =
-    let change = c.in-NotFree.ensures.change in
+    let change = subst (λ (slot : ℕ). Changed slot c.args.own.now.seat c.adopt.new.seat (account_at c.args.own.now.seat slot)) c.slot-slot.ensures c.in-NotFree.ensures.change in
+    let trace = subst (λ (slot : ℕ). Adds slot exchange.NotFree c.args.own.now.seat c.adopt.new.seat) c.slot-slot.ensures c.in-NotFree.ensures.trace in
     record {
       between = record {
-        same = ap (λ (s : SeatState). s.table) change ∙ c.requires.between.same;
-        idle = subst (λ (s : SeatState). HoldsNothing s) (sym change) (record { nowhere = c.requires.between.idle.nowhere });
+        same = change.table ∙ c.requires.between.same;
+        idle = holds_nothing_again c.requires.between.idle (only_at_changed change) (ap (λ (a : Account). a.holds) change.here ∙ c.requires.between.idle.nowhere c.args.berth.pair.slot);
         sized = ap (λ (s : PollerState). length s.table) c.count_lost.ensures ∙ c.requires.between.sized;
       };
       worn = tt;
       done = inr (not_placed c.args.poller.now c.count_lost.new.self c.args.own.now c.adopt.new.seat c.args.berth.pair.slot c.count_lost.ensures change);
       poller = places_lost c.args.poller.now c.count_lost.new.self _ c.count_lost.ensures;
       ready = refl;
-      counted = inr ((ap (λ (s : PollerState). s.opened) c.count_lost.ensures, ap (λ (s : PollerState). s.dropped) c.count_lost.ensures, ap (λ (s : PollerState). s.lost) c.count_lost.ensures, ap (λ (s : PollerState). s.episodes) c.count_lost.ensures), change);
+      counted = inr ((ap (λ (s : PollerState). s.opened) c.count_lost.ensures, ap (λ (s : PollerState). s.dropped) c.count_lost.ensures, ap (λ (s : PollerState). s.lost) c.count_lost.ensures, ap (λ (s : PollerState). s.episodes) c.count_lost.ensures), trace);
       free = refl;
       slots = refl;
       room = omega arith;

@@ -1,0 +1,5 @@
+use Rattle.claims.proofs.Histories.{histories_count}
+use Rattle.claims.proofs.laws.histories_count.Goals as goal
+
+pub returns : goal.returns
+returns c = histories_count
