@@ -10,7 +10,7 @@ use crate::forwarding::setting_text;
 use crate::streams::{Stream, log_error};
 use input::{InputFault, read_at_most};
 use log::{Log, error};
-use settings::{Key, LogLevel, OneLine, Settings, SettingsFault};
+use settings::{EndOfLine, Key, LogLevel, Settings, SettingsFault};
 use std::alloc::Global;
 use std::fmt;
 use std::fs::{self, File};
@@ -53,7 +53,7 @@ struct ConfigName<'a>(&'a str);
 
 impl fmt::Display for ConfigName<'_> {
     fn fmt<W: fmt::Write>(&self, f: &mut fmt::Formatter<W>) -> fmt::Result {
-        let path = OneLine(self.0);
+        let path = EndOfLine(self.0);
         write!(f, "config: {path}")
     }
 }
@@ -162,7 +162,7 @@ pub fn at_level<L: Log>(
 /// Logs the file and the line of a settings fault, and what it should say.
 fn log_cause(log: &impl Log, alloc: Global, path: &str, text: &[u8], fault: &SettingsFault) {
     if let Some(cause) = settings::cause(alloc, text, fault) {
-        let path = OneLine(path);
+        let path = EndOfLine(path);
         error!(log; target: "relayd", "settings: {path}: {cause}");
     }
 }

@@ -2,7 +2,7 @@
 //! the same ranges, defaults and faults.
 
 use clap::{Arg, ArgMatches};
-use settings::{ARGUMENTS, Argument, Key};
+use settings::{ARGUMENTS, Argument, Key, has_leading_zero};
 use std::alloc::{AllocError, Global};
 use std::fmt;
 
@@ -64,8 +64,8 @@ pub fn setting_text(alloc: Global, key: Key, value: &str) -> Result<String, Allo
     format!(in alloc; "{line}")
 }
 
-/// A key with a value as it was typed. A whole number stands for itself, and so do `true` and `false` for a key that takes
-/// them; anything else stands for a text.
+/// A key with a value as it was typed. A whole number without leading zeros stands for itself, and so do `true` and `false`
+/// for a key that takes them; anything else stands for a text.
 #[derive(Clone, Copy)]
 struct Assignment<'a> {
     key: Key,
@@ -82,8 +82,9 @@ impl Assignment<'_> {
 impl fmt::Display for Assignment<'_> {
     fn fmt<W: fmt::Write>(&self, f: &mut fmt::Formatter<W>) -> fmt::Result {
         let (key, value) = (self.key, self.value);
-        if let Ok(number) = value.parse::<i64>() {
-            return write!(f, "{key} = {number}");
+        match value.parse::<i64>() {
+            Ok(number) if !has_leading_zero(value) => return write!(f, "{key} = {number}"),
+            _ => {}
         }
         if self.is_true_or_false() {
             return write!(f, "{key} = {value}");

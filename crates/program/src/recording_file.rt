@@ -5,7 +5,7 @@ ghost use Rattle.program.specs.Statuses.{status_of};
 use crate::faults::ProgramFault;
 use crate::streams::log_error;
 use log::Log;
-use settings::OneLine;
+use settings::EndOfLine;
 use std::rt::Files;
 use std::{fmt, fs};
 
@@ -15,7 +15,7 @@ struct RecordName<'a>(&'a str);
 
 impl fmt::Display for RecordName<'_> {
     fn fmt<W: fmt::Write>(&self, f: &mut fmt::Formatter<W>) -> fmt::Result {
-        let path = OneLine(self.0);
+        let path = EndOfLine(self.0);
         write!(f, "record: {path}")
     }
 }

@@ -8,7 +8,7 @@ use crate::faults::ProgramFault;
 use crate::streams::{Stream, log_error};
 use log::Log;
 use records::{Outcome, Replay, ReplayFault, Wanted};
-use settings::OneLine;
+use settings::EndOfLine;
 use std::fs::File;
 use std::io::Write;
 use std::rt::Files;
@@ -25,7 +25,7 @@ pub(crate) fn replay_file<R: AllocGlobal + Files, L: Log, O: Write, P: Replay>(
     ensures done { IfOk result (λ status. IsCarriedOut status) }
     ensures fault { IfErr result (λ fault. status_of fault ≡ 1) }
 {
-    let name = OneLine(replayed.path);
+    let name = EndOfLine(replayed.path);
     let Some(wanted) = wanted_of(replayed) else {
         log_error(
             log,

@@ -51,7 +51,7 @@ fn octet(text: &str) -> Option<u8>
 }
 
 /// The number below 65,536 that a text stands for in decimal, without leading zeros.
-fn decimal_number(text: &str) -> Option<u16>
+pub(crate) fn decimal_number(text: &str) -> Option<u16>
     ensures some { IfSome result (λ n. text.now ≡ decimal n) }
     ensures none { IfNone result ((n : ℕ) → n < 2 ^ 16 → text.now ≢ decimal n) }
 {

@@ -1,9 +1,9 @@
 //! The causes of faults, for a person: the line, what it says, and what is expected there.
 
-use crate::addresses::address_of;
 use crate::limits::MAX_LOOKS;
-use crate::mistakes::Mistake;
-use crate::table::{ARGUMENTS, KEYS, TARGET, Takes};
+use crate::slips::Slip;
+use crate::table::{ARGUMENTS, KEYS};
+use crate::wanted::Wanted;
 use crate::{Key, OneLine, SettingsFault};
 use std::alloc::{AllocError, Global};
 use std::fmt;
@@ -41,15 +41,20 @@ fn line_at(bytes: &[u8], index: usize) -> usize {
     line
 }
 
-/// Where a text is not TOML, and what the parser says.
+/// Where a text is not TOML, and what is wrong there: what is known of that line, or else what the parser says.
 fn not_toml(alloc: Global, text: &str) -> Option<String> {
     let Err(error) = toml::table_from_str(alloc, text) else {
         return None;
     };
-    let span = error.span()?;
-    let line = line_at(text.as_bytes(), span.start);
-    let message = error.message();
-    format!(in alloc; "line {line}: {message}").ok()
+    let start = error.span()?.start;
+    let line = line_at(text.as_bytes(), start);
+    match Slip::of(alloc, text, start) {
+        Some(slip) => format!(in alloc; "line {line}: {slip}").ok(),
+        None => {
+            let message = error.message();
+            format!(in alloc; "line {line}: {message}").ok()
+        }
+    }
 }
 
 /// An unknown key, and the keys that are known.
@@ -79,7 +84,8 @@ fn refused_value(
     value: &Value,
     key: Key,
 ) -> Result<String, AllocError> {
-    let wanted = Wanted::in_place_of(value, key);
+    let typed = typed(alloc, value)?;
+    let wanted = Wanted::in_place_of(value, typed.as_str(), key);
     let value = format!(in alloc; "{value}")?;
     let value = OneLine(value.as_str());
     format!(in alloc; "{place}{key} = {value}: {wanted}")
@@ -101,8 +107,8 @@ pub fn argument_cause(alloc: Global, bytes: &[u8], fault: &SettingsFault) -> Opt
 /// An argument with a value that it does not take, and what it takes.
 fn refused_argument(alloc: Global, value: &Value, key: Key) -> Result<String, AllocError> {
     let name = ArgumentName(key);
-    let wanted = Wanted::in_place_of(value, key);
     let typed = typed(alloc, value)?;
+    let wanted = Wanted::in_place_of_word(typed.as_str(), key);
     let typed = OneLine(typed.as_str());
     format!(in alloc; "{name} {typed}: {wanted}")
 }
@@ -133,58 +139,6 @@ impl fmt::Display for ArgumentName {
     }
 }
 
-/// What is wanted in place of a value.
-#[derive(Clone, Copy)]
-enum Wanted<'a> {
-    /// What the key takes.
-    Value(Takes),
-    /// A port from this one up.
-    Port(u16),
-    /// An address without this mistake.
-    Without(Mistake<'a>),
-}
-
-impl Wanted<'_> {
-    /// What a key takes.
-    fn by(key: Key) -> Wanted<'static> {
-        Wanted::Value(Takes::of(key))
-    }
-
-    /// What is wanted in place of a value that a key refuses. A text that is an address all the same has a port to which no
-    /// connection can be made.
-    fn in_place_of(value: &Value, key: Key) -> Wanted<'_> {
-        let (Takes::Address(_), Some(text)) = (Takes::of(key), value.as_str()) else {
-            return Wanted::by(key);
-        };
-        if address_of(text).is_some() {
-            return Wanted::Port(TARGET.lowest_port);
-        }
-        match Mistake::of(text) {
-            Some(mistake) => Wanted::Without(mistake),
-            None => Wanted::by(key),
-        }
-    }
-}
-
-impl fmt::Display for Wanted<'_> {
-    fn fmt<W: fmt::Write>(&self, f: &mut fmt::Formatter<W>) -> fmt::Result {
-        match *self {
-            Wanted::Value(Takes::Address(example)) => {
-                write!(f, "four numbers and a port, as {example}, are wanted")
-            }
-            Wanted::Value(Takes::Number(low, high)) => {
-                write!(f, "a whole number from {low} to {high} is wanted")
-            }
-            Wanted::Value(Takes::Level) => {
-                f.write_str("off, error, warn, info, debug or trace is wanted")
-            }
-            Wanted::Value(Takes::Truth) => f.write_str("true or false is wanted"),
-            Wanted::Port(lowest) => write!(f, "a port from {lowest} up is wanted"),
-            Wanted::Without(mistake) => write!(f, "{mistake}"),
-        }
-    }
-}
-
 /// The words `line N: ` for the line that sets a key, or nothing if it is not found.
 fn place_of(alloc: Global, text: &str, name: &str) -> Result<String, AllocError> {
     match line_of(alloc, text, name)? {
@@ -196,7 +150,7 @@ fn place_of(alloc: Global, text: &str, name: &str) -> Result<String, AllocError>
 /// The first line, from 1, that begins what sets a key: the text up to its end, or up to the end of a value that spans
 /// lines, is TOML that has the key. Only lines that contain the name as it is are tried, and the text is parsed at most
 /// [`MAX_LOOKS`] times.
-fn line_of(alloc: Global, text: &str, name: &str) -> Result<Option<usize>, AllocError> {
+pub(crate) fn line_of(alloc: Global, text: &str, name: &str) -> Result<Option<usize>, AllocError> {
     let mut looks = 0usize;
     let mut start = 0usize;
     let mut number = 0usize;

@@ -17,14 +17,17 @@ mod mistakes;
 mod one_line;
 mod pollers;
 mod read;
+mod slips;
 mod table;
+mod wanted;
 
 pub use addresses::Address;
 pub use causes::{argument_cause, cause};
 pub use faults::{KeyText, SettingsFault};
 pub use fields::Settings;
 pub use levels::LogLevel;
-pub use one_line::OneLine;
+pub use mistakes::has_leading_zero;
+pub use one_line::{EndOfLine, OneLine};
 pub use pollers::pollers_for;
 pub use read::parse;
 pub use table::{ARGUMENTS, Argument, Key};

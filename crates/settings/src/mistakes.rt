@@ -1,37 +1,132 @@
-//! What is wrong with a text that is no address, where that can be told in a word.
+//! What is wrong with a text that is no address, where that can be said in a few words.
 
 use crate::one_line::OneLine;
 use std::fmt;
 use std::net::{Ipv4Addr, Ipv6Addr};
 
-/// What is wrong with a text that is no address.
+/// What is wrong with a text: the part that is wrong, and the words before and after that part.
 #[derive(Clone, Copy)]
-pub(crate) enum Mistake<'a> {
-    /// The port is left out.
-    NoPort,
-    /// The port is a number, and this one, over 65,535.
-    LargePort(&'a str),
-    /// There is this name in place of the four numbers.
-    Name(&'a str),
-    /// There is this IPv6 address in place of the four numbers.
-    Ipv6(&'a str),
+pub(crate) struct Mistake<'a> {
+    pub(crate) before: &'static str,
+    pub(crate) part: &'a str,
+    pub(crate) after: &'static str,
 }
 
-impl Mistake<'_> {
-    /// What is wrong with a text that is no address. None if it is something else than what has a word here.
-    pub(crate) fn of(text: &str) -> Option<Mistake<'_>> {
-        if let Some(address) = ipv6_in(text) {
-            return Some(Mistake::Ipv6(address));
+/// What can be wrong with a text that is no address.
+#[derive(Clone, Copy)]
+enum Kind {
+    /// It has blanks or line ends.
+    Blank,
+    /// A scheme stands in front, as in a URL.
+    Scheme,
+    /// There is an IPv6 address in place of the four numbers.
+    Ipv6,
+    /// A mask or a path stands behind a `/`.
+    Slash,
+    /// There is a name in place of the four numbers.
+    Name,
+    /// One of the five numbers has a leading zero.
+    Zero,
+    /// One of the four numbers is over 255.
+    LargeNumber,
+    /// The port is over 65,535.
+    LargePort,
+    /// The port is left out.
+    NoPort,
+    /// A second port stands behind a `-`.
+    Range,
+    /// The port is no number.
+    NoNumber,
+}
+
+/// What is looked for, in this order, and the words before and after the part that is wrong.
+static KINDS: [(Kind, &str, &str); 11] = [
+    (Kind::Blank, "an address has no blanks", ""),
+    (Kind::Scheme, "an address alone is wanted, without ", "://"),
+    (
+        Kind::Ipv6,
+        "",
+        " is an IPv6 address, and only IPv4 is spoken",
+    ),
+    (
+        Kind::Slash,
+        "one address and one port are wanted, without /",
+        "",
+    ),
+    (Kind::Name, "", " is a name, and names are not looked up"),
+    (Kind::Zero, "", LEADING_ZERO),
+    (Kind::LargeNumber, "", " is over 255"),
+    (Kind::LargePort, "port ", " is over 65535"),
+    (Kind::NoPort, "a port is wanted", ""),
+    (
+        Kind::Range,
+        "one address and one port are wanted, without -",
+        "",
+    ),
+    (Kind::NoNumber, "", " is no port, which has digits only"),
+];
+
+const LEADING_ZERO: &str = " has a leading zero";
+
+impl<'a> Mistake<'a> {
+    /// What is wrong with a text that is no address. None if it is something else than what has words here.
+    pub(crate) fn of(text: &'a str) -> Option<Mistake<'a>> {
+        for (kind, before, after) in &KINDS {
+            if let Some(part) = kind.part_of(text) {
+                return Some(Mistake {
+                    before,
+                    part,
+                    after,
+                });
+            }
         }
-        let (host, port) = text.split_once(':').unwrap_or((text, ""));
-        if is_name(host) {
-            return Some(Mistake::Name(host));
+        None
+    }
+
+    /// What is wrong with a number that has a leading zero. None if it has none.
+    pub(crate) fn of_number(text: &'a str) -> Option<Mistake<'a>> {
+        if has_leading_zero(text) {
+            Some(Mistake {
+                before: "",
+                part: text,
+                after: LEADING_ZERO,
+            })
+        } else {
+            None
         }
-        match host.parse::<Ipv4Addr>() {
-            Ok(_) if port.is_empty() => Some(Mistake::NoPort),
-            Ok(_) if is_large(port) => Some(Mistake::LargePort(port)),
+    }
+}
+
+impl Kind {
+    /// The part of a text that is wrong in this way. None if none is.
+    fn part_of(self, text: &str) -> Option<&str> {
+        let (host, port) = host_and_port(text);
+        match self {
+            Kind::Blank if text.contains(' ') || text.contains('\n') || text.contains('\t') => Some(
+                "",
+            ),
+            Kind::Scheme => Some(text.split_once("://")?.0),
+            Kind::Ipv6 => ipv6_in(text),
+            Kind::Slash => text.split_once('/')?.1.split(':').next(),
+            Kind::Name if is_name(host) => Some(host),
+            Kind::Zero if has_leading_zero(port) => Some(port),
+            Kind::Zero => host.split('.').find(|number| has_leading_zero(number)),
+            Kind::LargeNumber => host.split('.').find(|number| is_over(number, 255)),
+            Kind::LargePort if is_over(port, 65_535) => Some(port),
+            Kind::NoPort if port.is_empty() && is_ipv4(host) => Some(""),
+            Kind::Range if !port.starts_with('-') => Some(port.split_once('-')?.1),
+            Kind::NoNumber if is_ipv4(host) => Some(port),
             _ => None,
         }
+    }
+}
+
+/// What stands before and after the first `:` of a text. Digits alone are a port.
+pub(crate) fn host_and_port(text: &str) -> (&str, &str) {
+    match text.split_once(':') {
+        Some(parts) => parts,
+        None if are_digits(text) => ("", text),
+        None => (text, ""),
     }
 }
 
@@ -47,6 +142,11 @@ fn ipv6_in(text: &str) -> Option<&str> {
     }
 }
 
+/// Whether a text is four numbers, as an address has them.
+fn is_ipv4(text: &str) -> bool {
+    text.parse::<Ipv4Addr>().is_ok()
+}
+
 /// Whether a text is made as a host's name is: of letters, digits, `-`, `_` and `.`, with a letter among them.
 fn is_name(text: &str) -> bool {
     let bytes = text.as_bytes();
@@ -54,28 +154,31 @@ fn is_name(text: &str) -> bool {
         && bytes.iter().any(|byte| byte.is_ascii_alphabetic())
 }
 
-/// Whether a text is a number without leading zeros that no port has, since it is too large.
-fn is_large(text: &str) -> bool {
-    !text.starts_with('0')
-        && text.as_bytes().iter().all(|byte| byte.is_ascii_digit())
-        && text.parse::<u16>().is_err()
+/// Whether a text has digits only, or is empty.
+fn are_digits(text: &str) -> bool {
+    text.as_bytes().iter().all(|byte| byte.is_ascii_digit())
+}
+
+/// Whether a text is a number that is written with a zero in front, after a sign or none.
+pub fn has_leading_zero(text: &str) -> bool {
+    let digits = text.strip_prefix('-').unwrap_or(text);
+    matches!(digits.as_bytes(), [b'0', _, ..]) && are_digits(digits)
+}
+
+/// Whether a text is a number over this one.
+fn is_over(text: &str, most: u32) -> bool {
+    are_digits(text)
+        && match text.parse::<u32>() {
+            Ok(number) => number > most,
+            // Digits that are no number are too many, or none.
+            Err(_) => !text.is_empty(),
+        }
 }
 
 impl fmt::Display for Mistake<'_> {
     fn fmt<W: fmt::Write>(&self, f: &mut fmt::Formatter<W>) -> fmt::Result {
-        match *self {
-            Mistake::NoPort => f.write_str("a port is wanted"),
-            Mistake::LargePort(port) => {
-                let port = OneLine(port);
-                write!(f, "port {port} is over 65535")
-            }
-            Mistake::Name(host) => {
-                let host = OneLine(host);
-                write!(f, "{host} is a name, and names are not looked up")
-            }
-            Mistake::Ipv6(address) => {
-                write!(f, "{address} is an IPv6 address, and only IPv4 is spoken")
-            }
-        }
+        let (before, after) = (self.before, self.after);
+        let part = OneLine(self.part);
+        write!(f, "{before}{part}{after}")
     }
 }

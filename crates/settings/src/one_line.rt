@@ -1,6 +1,7 @@
 //! A text from outside, as shown to a person.
-ghost use Rattle.std.specs.Prelude.{Some};
-ghost use Rattle.settings.specs.Shown.{shown_character, one_line};
+ghost use Rattle.std.specs.Prelude.{◌≡◌, Some, [], length, drop, codes, nat_lt, if◌then◌else◌};
+ghost use Rattle.std.specs.Str.{chars};
+ghost use Rattle.settings.specs.Shown.{shown_character, one_line, end_of_line};
 
 use crate::limits::MAX_SHOWN;
 use std::fmt;
@@ -25,6 +26,46 @@ impl fmt::Display for OneLine<'_> {
         }
         Ok(())
     }
+}
+
+/// As [`OneLine`], but `..` stands for whatever precedes the last 64 characters: of a path the end says most.
+#[derive(Clone, Copy)]
+pub struct EndOfLine<'a>(pub &'a str);
+
+impl fmt::Display for EndOfLine<'_> {
+    ghost output = { λ text. Some (end_of_line text.0.now) };
+
+    fn fmt<W: fmt::Write>(&self, f: &mut fmt::Formatter<W>) -> fmt::Result {
+        let count = count_characters(self.0);
+        let dots = dots_before(count);
+        let end = OneLine(without_first(self.0, count.saturating_sub(MAX_SHOWN)));
+        write!(f, "{dots}{end}")
+    }
+}
+
+/// What stands for the first of so many characters, where these are not shown.
+fn dots_before(count: usize) -> &'static str
+    ensures { result.now ≡ (if nat_lt 64 count then codes ".." else []) }
+{
+    if count > MAX_SHOWN { ".." } else { "" }
+}
+
+/// How many characters a text has.
+fn count_characters(text: &str) -> usize
+    ensures { result ≡ length (chars text.now) }
+{
+    text.chars().count()
+}
+
+/// What follows the first characters of a text, so many of them.
+fn without_first(text: &str, count: usize) -> &str
+    ensures { chars result.now ≡ drop count (chars text.now) }
+{
+    let mut rest = text.chars();
+    for _ in 0..count {
+        rest.next();
+    }
+    rest.as_str()
 }
 
 /// A character as shown: a control character by its number.

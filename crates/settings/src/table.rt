@@ -116,6 +116,10 @@ pub(crate) struct AddressRow {
     pub(crate) lowest_port: u16,
     /// An address that it takes, as it is written.
     pub(crate) example: &'static str,
+    /// What a port alone lacks in front.
+    pub(crate) host: &'static str,
+    /// What it stands for then.
+    pub(crate) stands_for: &'static str,
 }
 
 /// A key that takes a whole number.
@@ -148,6 +152,8 @@ pub(crate) const LISTEN: AddressRow = AddressRow {
     key: Key::Listen,
     lowest_port: 0,
     example: "127.0.0.1:7000",
+    host: "0.0.0.0:",
+    stands_for: " stands for every address",
 };
 
 /// No connection can be made to port 0.
@@ -155,6 +161,8 @@ pub(crate) const TARGET: AddressRow = AddressRow {
     key: Key::Target,
     lowest_port: 1,
     example: "127.0.0.1:7001",
+    host: "127.0.0.1:",
+    stands_for: " stands for this machine",
 };
 
 pub(crate) const RING: NumberRow = NumberRow {
@@ -216,8 +224,8 @@ pub(crate) const PROXY: TruthRow = TruthRow {
 /// What a key takes.
 #[derive(Clone, Copy)]
 pub(crate) enum Takes {
-    /// An address, as this one.
-    Address(&'static str),
+    /// An address, as this row says.
+    Address(AddressRow),
     /// A whole number from the first to the second.
     Number(u32, u32),
     /// The name of a level.
@@ -232,8 +240,8 @@ impl Takes {
         ensures { Tells (row_of key).kind result }
     {
         match key {
-            Key::Listen => Takes::Address(LISTEN.example),
-            Key::Target => Takes::Address(TARGET.example),
+            Key::Listen => Takes::Address(LISTEN),
+            Key::Target => Takes::Address(TARGET),
             Key::Ring => Takes::Number(RING.low, RING.high),
             Key::Budget => Takes::Number(BUDGET.low, BUDGET.high),
             Key::Workers => Takes::Number(WORKERS.low, WORKERS.high),

@@ -1,0 +1,28 @@
+use Rattle.std.proofs.Common.{◌≡◌, ℕ, ◌≤◌, ◌-◌, List, [], ◌++◌, length, take, drop, chars, false, codes, nat_lt, if◌then◌else◌, arith, ap, ◌∙◌, append-nil, take_all}
+use Rattle.std.proofs.Output.{has_written_of_eq}
+use Rattle.std.proofs.lemmas.Bool.Decides.{nat_tests}
+use Rattle.std.proofs.lemmas.List.{length-drop}
+use Rattle.std.specs.List.{flat_map}
+use Rattle.settings.specs.Shown.{shown_character, one_line, end_of_line}
+use Rattle.settings.proofs.one_line.EndOfLineDisplay.fmt.Goals as goal
+
+is_whole : (cs : List ℕ) → length cs ≤ 64 → nat_lt 64 (length cs) ≡ false
+is_whole cs h = grind (arith, nat_tests)
+
+-- of 64 characters or fewer nothing is left out
+all_shown : (cs : List ℕ) → length cs ≤ 64 → flat_map shown_character (take 64 cs) ++ (if nat_lt 64 (length cs) then codes ".." else []) ≡ flat_map shown_character cs
+all_shown cs few =
+    let whole : nat_lt 64 (length cs) ≡ false = is_whole cs few in
+    rw whole (append-nil _ ∙ ap (flat_map shown_character) (take_all 64 cs few))
+
+-- the parts are the whole
+joined : (text end dots : List ℕ) (count left_out : ℕ) → count ≡ length (chars text) → left_out ≡ count - 64 → dots ≡ (if nat_lt 64 count then codes ".." else []) → chars end ≡ drop left_out (chars text)
+    → dots ++ one_line end ≡ end_of_line text
+joined text end dots count left_out counted less before after =
+    let same : chars end ≡ drop (length (chars text) - 64) (chars text) = after ∙ ap (λ (n : ℕ). drop n (chars text)) (less ∙ ap (λ (m : ℕ). m - 64) counted) in
+    let few : length (chars end) ≤ 64 = omega (arith, ap length same, length-drop (length (chars text) - 64) (chars text)) in
+    rw (before, counted) (ap (λ (x : List ℕ). (if nat_lt 64 (length (chars text)) then codes ".." else []) ++ x) (all_shown (chars end) few ∙ ap (flat_map shown_character) same))
+
+pub returns-clause-writes : goal.returns-clause-writes
+returns-clause-writes g c = λ plain is_ok.
+    has_written_of_eq _ _ _ _ _ (joined _ _ _ _ _ c.count_characters-count.ensures c.saturating_sub.ensures c.dots_before-dots.ensures c.without_first.ensures) (c.write.ensures.writes plain is_ok)
