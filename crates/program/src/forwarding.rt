@@ -2,7 +2,7 @@
 //! the same ranges, defaults and faults.
 
 use clap::{Arg, ArgMatches};
-use settings::{ARGUMENTS, Argument, Key, has_leading_zero};
+use settings::{Key, ROWS, Row, has_leading_zero};
 use std::alloc::{AllocError, Global};
 use std::fmt;
 
@@ -15,7 +15,7 @@ pub fn add_settings<'a>(alloc: Global, arguments: &mut Vec<Arg<'a>>) -> Result<(
 }
 
 /// The argument of a setting. Help shows its default.
-fn argument<'a>(alloc: Global, row: Argument) -> Arg<'a> {
+fn argument<'a>(alloc: Global, row: Row) -> Arg<'a> {
     let argument = without_default(alloc, row);
     match row.key.default() {
         Some(default) => argument.default_value(default),
@@ -24,7 +24,7 @@ fn argument<'a>(alloc: Global, row: Argument) -> Arg<'a> {
 }
 
 /// The argument of a setting, with no default.
-fn without_default<'a>(alloc: Global, row: Argument) -> Arg<'a> {
+fn without_default<'a>(alloc: Global, row: Row) -> Arg<'a> {
     let argument = Arg::new(alloc, row.key.name())
         .value_name(row.value_name)
         .help(row.help);
@@ -36,8 +36,8 @@ fn without_default<'a>(alloc: Global, row: Argument) -> Arg<'a> {
 }
 
 /// The arguments of all settings.
-fn all_arguments() -> &'static [Argument] {
-    &ARGUMENTS
+fn all_arguments() -> &'static [Row] {
+    &ROWS
 }
 
 /// The text of a settings file that says the same as the arguments.

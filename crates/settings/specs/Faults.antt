@@ -5,6 +5,13 @@ use Rattle.settings.specs.Table.{key_name}
 use Rattle.settings.specs.declared.faults.SettingsFault.{SettingsFault}
 use Rattle.settings.specs.declared.faults.SettingsFault.TheVariants.{NotToml, UnknownKey, Missing, WrongKind, OutOfRange, BadAddress, NoMemory}
 
+-- a key has a value, which it does not take
+abbrev pub IsOfValue : SettingsFault → Type 0
+IsOfValue (WrongKind key) = Unit {0}
+IsOfValue (OutOfRange key) = Unit {0}
+IsOfValue (BadAddress key) = Unit {0}
+IsOfValue _ = ⊥
+
 -- what is wrong with a name
 abbrev pub line_of : List ℕ → List ℕ → List ℕ
 line_of name wrong = codes "settings: " ++ (name ++ (codes ": " ++ wrong))

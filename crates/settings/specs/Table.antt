@@ -64,7 +64,7 @@ row_of Proxy = optional Proxy a_truth (truth false)
 -- what a person is told that a key of this kind takes, with its range
 abbrev pub Tells : ValueKind → Takes → Type 0
 Tells (an_address lowest) (takes.Address row) = row.lowest_port ≡ lowest
-Tells (a_number low high) (takes.Number least most) = (least ≡ low) × (most ≡ high)
+Tells (a_number low high) (takes.Number row) = (row.low ≡ low) × (row.high ≡ high)
 Tells a_level takes.Level = Unit {0}
 Tells a_truth takes.Truth = Unit {0}
 Tells _ _ = ⊥

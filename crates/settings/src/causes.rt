@@ -1,17 +1,22 @@
 //! The causes of faults, for a person: the line, what it says, and what is expected there.
+ghost use Rattle.std.specs.Prelude.{◌≡◌, None};
+ghost use Rattle.std.specs.Str.{IsUtf8};
+ghost use Rattle.settings.specs.Faults.{IsOfValue};
 
 use crate::limits::MAX_LOOKS;
 use crate::slips::Slip;
-use crate::table::{ARGUMENTS, KEYS};
+use crate::table::{Key, ROWS};
 use crate::wanted::Wanted;
-use crate::{Key, OneLine, SettingsFault};
+use crate::{OneLine, SettingsFault};
 use std::alloc::{AllocError, Global};
 use std::fmt;
 use toml::{Table, Value};
 
 /// The cause of a fault, for a person: the line, what it says, and what is expected there. `bytes` is the text with the
 /// fault. `None` if there is no memory for the cause.
-pub fn cause(alloc: Global, bytes: &[u8], fault: &SettingsFault) -> Option<String> {
+pub fn cause(alloc: Global, bytes: &[u8], fault: &SettingsFault) -> Option<String>
+    ensures memory { IsUtf8 bytes.now → fault.now ≡ SettingsFault.NoMemory → result ≡ None }
+{
     let text = match std::str::from_utf8(bytes) {
         Ok(text) => text,
         Err(error) => {
@@ -61,7 +66,8 @@ fn not_toml(alloc: Global, text: &str) -> Option<String> {
 fn unknown(alloc: Global, text: &str, name: &str) -> Option<String> {
     let place = place_of(alloc, text, name).ok()?;
     let name = OneLine(name);
-    format!(in alloc; "{place}{name}: one of {KEYS} is wanted").ok()
+    let names = KeyNames;
+    format!(in alloc; "{place}{name}: one of {names} is wanted").ok()
 }
 
 /// A required key, and what it takes.
@@ -93,7 +99,9 @@ fn refused_value(
 
 /// The cause of a fault in a text that says what the arguments of a command line say: the argument and its value, as they
 /// are typed, and what is expected there. `None` if it is no fault of a value, or there is no memory for the cause.
-pub fn argument_cause(alloc: Global, bytes: &[u8], fault: &SettingsFault) -> Option<String> {
+pub fn argument_cause(alloc: Global, bytes: &[u8], fault: &SettingsFault) -> Option<String>
+    ensures other { (IsOfValue fault.now → ⊥) → result ≡ None }
+{
     let (SettingsFault::WrongKind(key)
     | SettingsFault::OutOfRange(key)
     | SettingsFault::BadAddress(key)) = fault
@@ -127,12 +135,26 @@ struct ArgumentName(Key);
 
 impl fmt::Display for ArgumentName {
     fn fmt<W: fmt::Write>(&self, f: &mut fmt::Formatter<W>) -> fmt::Result {
-        for argument in &ARGUMENTS {
-            if argument.key == self.0 {
-                return match argument.option {
-                    Some(option) => write!(f, "--{option}"),
-                    None => f.write_str(argument.value_name),
-                };
+        let row = ROWS[self.0 as usize];
+        match row.option {
+            Some(option) => write!(f, "--{option}"),
+            None => f.write_str(row.value_name),
+        }
+    }
+}
+
+/// The names of all keys.
+#[derive(Clone, Copy)]
+struct KeyNames;
+
+impl fmt::Display for KeyNames {
+    fn fmt<W: fmt::Write>(&self, f: &mut fmt::Formatter<W>) -> fmt::Result {
+        for (index, row) in ROWS.iter().enumerate() {
+            let name = row.name;
+            match index {
+                0 => write!(f, "{name}")?,
+                _ if index == ROWS.len() - 1 => write!(f, " and {name}")?,
+                _ => write!(f, ", {name}")?,
             }
         }
         Ok(())

@@ -5,7 +5,7 @@ use crate::addresses::{Address, AddressText};
 use crate::faults::SettingsFault;
 use crate::levels::LogLevel;
 use crate::read::{address_at, level_at, number_at, truth_at};
-use crate::table::{BUDGET, IDLE, LISTEN, LOG, PROXY, RING, SLOTS, STOP_AFTER, TARGET, WORKERS};
+use crate::table::{BUDGET, IDLE, Key, LISTEN, RING, SLOTS, STOP_AFTER, TARGET, WORKERS};
 use std::fmt;
 use toml::Table;
 
@@ -60,9 +60,9 @@ impl Settings {
         let workers = number_at(document, WORKERS)?;
         let slots = number_at(document, SLOTS)?;
         let stop_after = number_at(document, STOP_AFTER)?;
-        let log = level_at(document, LOG)?;
+        let log = level_at(document, Key::Log, LogLevel::Info)?;
         let idle = number_at(document, IDLE)?;
-        let proxy = truth_at(document, PROXY)?;
+        let proxy = truth_at(document, Key::Proxy, false)?;
         Ok(Settings {
             listen,
             target,

@@ -30,4 +30,4 @@ pub use mistakes::has_leading_zero;
 pub use one_line::{EndOfLine, OneLine};
 pub use pollers::pollers_for;
 pub use read::parse;
-pub use table::{ARGUMENTS, Argument, Key};
+pub use table::{Key, ROWS, Row};

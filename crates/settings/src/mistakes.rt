@@ -15,27 +15,16 @@ pub(crate) struct Mistake<'a> {
 /// What can be wrong with a text that is no address.
 #[derive(Clone, Copy)]
 enum Kind {
-    /// It has blanks or line ends.
     Blank,
-    /// A scheme stands in front, as in a URL.
     Scheme,
-    /// There is an IPv6 address in place of the four numbers.
     Ipv6,
-    /// A mask or a path stands behind a `/`.
     Slash,
-    /// There is a name in place of the four numbers.
     Name,
-    /// One of the five numbers has a leading zero.
-    Zero,
-    /// One of the four numbers is over 255.
+    LeadingZero,
     LargeNumber,
-    /// The port is over 65,535.
     LargePort,
-    /// The port is left out.
     NoPort,
-    /// A second port stands behind a `-`.
     Range,
-    /// The port is no number.
     NoNumber,
 }
 
@@ -54,7 +43,7 @@ static KINDS: [(Kind, &str, &str); 11] = [
         "",
     ),
     (Kind::Name, "", " is a name, and names are not looked up"),
-    (Kind::Zero, "", LEADING_ZERO),
+    (Kind::LeadingZero, "", " has a leading zero"),
     (Kind::LargeNumber, "", " is over 255"),
     (Kind::LargePort, "port ", " is over 65535"),
     (Kind::NoPort, "a port is wanted", ""),
@@ -65,8 +54,6 @@ static KINDS: [(Kind, &str, &str); 11] = [
     ),
     (Kind::NoNumber, "", " is no port, which has digits only"),
 ];
-
-const LEADING_ZERO: &str = " has a leading zero";
 
 impl<'a> Mistake<'a> {
     /// What is wrong with a text that is no address. None if it is something else than what has words here.
@@ -82,19 +69,6 @@ impl<'a> Mistake<'a> {
         }
         None
     }
-
-    /// What is wrong with a number that has a leading zero. None if it has none.
-    pub(crate) fn of_number(text: &'a str) -> Option<Mistake<'a>> {
-        if has_leading_zero(text) {
-            Some(Mistake {
-                before: "",
-                part: text,
-                after: LEADING_ZERO,
-            })
-        } else {
-            None
-        }
-    }
 }
 
 impl Kind {
@@ -109,8 +83,8 @@ impl Kind {
             Kind::Ipv6 => ipv6_in(text),
             Kind::Slash => text.split_once('/')?.1.split(':').next(),
             Kind::Name if is_name(host) => Some(host),
-            Kind::Zero if has_leading_zero(port) => Some(port),
-            Kind::Zero => host.split('.').find(|number| has_leading_zero(number)),
+            Kind::LeadingZero if has_leading_zero(port) => Some(port),
+            Kind::LeadingZero => host.split('.').find(|number| has_leading_zero(number)),
             Kind::LargeNumber => host.split('.').find(|number| is_over(number, 255)),
             Kind::LargePort if is_over(port, 65_535) => Some(port),
             Kind::NoPort if port.is_empty() && is_ipv4(host) => Some(""),
@@ -165,14 +139,10 @@ pub fn has_leading_zero(text: &str) -> bool {
     matches!(digits.as_bytes(), [b'0', _, ..]) && are_digits(digits)
 }
 
-/// Whether a text is a number over this one.
+/// Whether a text is a number over this one. Digits that are no number are too many, or none.
 fn is_over(text: &str, most: u32) -> bool {
-    are_digits(text)
-        && match text.parse::<u32>() {
-            Ok(number) => number > most,
-            // Digits that are no number are too many, or none.
-            Err(_) => !text.is_empty(),
-        }
+    let is_within = matches!(text.parse::<u32>(), Ok(number) if number <= most);
+    are_digits(text) && !text.is_empty() && !is_within
 }
 
 impl fmt::Display for Mistake<'_> {

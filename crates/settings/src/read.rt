@@ -12,7 +12,7 @@ use crate::addresses::{Address, address_of};
 use crate::faults::{KeyText, SettingsFault};
 use crate::fields::Settings;
 use crate::levels::LogLevel;
-use crate::table::{AddressRow, Key, LevelRow, NumberRow, TruthRow};
+use crate::table::{AddressRow, Key, NumberRow};
 use std::alloc::Global;
 use toml::{Table, Value};
 
@@ -89,25 +89,29 @@ pub(crate) fn number_at(document: &Table, row: NumberRow) -> Result<u32, Setting
     }
 }
 
-/// The level of a row's key.
-pub(crate) fn level_at(document: &Table, row: LevelRow) -> Result<LogLevel, SettingsFault>
-    ensures gives { IfOk result (λ l. Gives (optional row.key a_level (level row.default)) (table_view document.now) (level l)) }
-    ensures fault { IfErr result (Faults (optional row.key a_level (level row.default)) (table_view document.now)) }
+/// The level of a key.
+pub(crate) fn level_at(
+    document: &Table,
+    key: Key,
+    default: LogLevel,
+) -> Result<LogLevel, SettingsFault>
+    ensures gives { IfOk result (λ l. Gives (optional key a_level (level default)) (table_view document.now) (level l)) }
+    ensures fault { IfErr result (Faults (optional key a_level (level default)) (table_view document.now)) }
 {
-    match value_at(document, row.key) {
-        Some(value) => as_level(value, row.key),
-        None => Ok(row.default),
+    match value_at(document, key) {
+        Some(value) => as_level(value, key),
+        None => Ok(default),
     }
 }
 
-/// The truth value of a row's key.
-pub(crate) fn truth_at(document: &Table, row: TruthRow) -> Result<bool, SettingsFault>
-    ensures gives { IfOk result (λ b. Gives (optional row.key a_truth (truth row.default)) (table_view document.now) (truth b)) }
-    ensures fault { IfErr result (Faults (optional row.key a_truth (truth row.default)) (table_view document.now)) }
+/// The truth value of a key.
+pub(crate) fn truth_at(document: &Table, key: Key, default: bool) -> Result<bool, SettingsFault>
+    ensures gives { IfOk result (λ b. Gives (optional key a_truth (truth default)) (table_view document.now) (truth b)) }
+    ensures fault { IfErr result (Faults (optional key a_truth (truth default)) (table_view document.now)) }
 {
-    match value_at(document, row.key) {
-        Some(value) => as_truth(value, row.key),
-        None => Ok(row.default),
+    match value_at(document, key) {
+        Some(value) => as_truth(value, key),
+        None => Ok(default),
     }
 }
 

@@ -23,15 +23,10 @@ impl<'a> Slip<'a> {
         let (before, line) = line_around(text, index)?;
         let (name, written) = line.split_once('=')?;
         let name = name.trim();
-        match line_of(alloc, before, name).ok()? {
-            Some(first) => Some(Slip::Twice(name, first)),
-            None => Slip::of_value(name, value_in(written)),
+        if let Some(first) = line_of(alloc, before, name).ok()? {
+            return Some(Slip::Twice(name, first));
         }
-    }
-
-    /// What is wrong in a line that has this for a name.
-    fn of_value(name: &str, written: &'a str) -> Option<Slip<'a>> {
-        let key = Key::named(name)?;
+        let (key, written) = (Key::named(name)?, value_in(written));
         let wanted = Wanted::in_place_of_written(written, key)?;
         Some(Slip::NoValue(key, written, wanted))
     }

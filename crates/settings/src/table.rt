@@ -1,15 +1,9 @@
-//! The table of the keys: the name of each, what it takes, what stands for it where a text leaves it out, and its argument
-//! on a command line.
+//! The table of the keys: a row has all that is fixed about a key.
 ghost use Rattle.std.specs.Prelude.{◌≡◌, ◌≢◌, ◌↔◌, IsTrue, Some, IfSome, IfNone, option_map};
 ghost use Rattle.settings.specs.Table.{key_name, row_of, a_truth, Tells};
 ghost use Rattle.settings.specs.Text.{setting_text};
 
-use crate::levels::LogLevel;
 use std::fmt;
-
-/// The keys, as they are told to a person.
-pub(crate) const KEYS: &str =
-    "listen, target, ring, budget, workers, slots, stop_after, log, idle and proxy";
 
 /// A key of a settings text, in the order in which keys are read and printed.
 #[derive(Clone, Copy, Debug, PartialEq, Eq)]
@@ -41,18 +35,7 @@ impl Key {
     pub fn name(self) -> &'static str
         ensures { result.now ≡ key_name self }
     {
-        match self {
-            Key::Listen => "listen",
-            Key::Target => "target",
-            Key::Ring => "ring",
-            Key::Budget => "budget",
-            Key::Workers => "workers",
-            Key::Slots => "slots",
-            Key::StopAfter => "stop_after",
-            Key::Log => "log",
-            Key::Idle => "idle",
-            Key::Proxy => "proxy",
-        }
+        ROWS[self as usize].name
     }
 
     /// The key with this name, if there is one.
@@ -79,24 +62,21 @@ impl Key {
     pub fn default(self) -> Option<&'static str>
         ensures { option_map (λ text. text.now) result ≡ option_map setting_text (row_of self).default }
     {
-        match self {
-            Key::Listen | Key::Target => None,
-            Key::Ring => Some("16384"),
-            Key::Budget => Some("64"),
-            Key::Workers => Some("4"),
-            Key::Slots => Some("1024"),
-            Key::StopAfter => Some("0"),
-            Key::Log => Some("info"),
-            Key::Idle => Some("0"),
-            Key::Proxy => Some("false"),
-        }
+        ROWS[self as usize].default
+    }
+
+    /// What the key takes.
+    pub(crate) fn takes(self) -> Takes
+        ensures { Tells (row_of self).kind result }
+    {
+        ROWS[self as usize].takes
     }
 
     /// Whether the key takes a truth value.
     pub fn takes_truth(self) -> bool
         ensures { IsTrue result ↔ ((row_of self).kind ≡ a_truth) }
     {
-        matches!(Takes::of(self), Takes::Truth)
+        matches!(self.takes(), Takes::Truth)
     }
 }
 
@@ -116,35 +96,18 @@ pub(crate) struct AddressRow {
     pub(crate) lowest_port: u16,
     /// An address that it takes, as it is written.
     pub(crate) example: &'static str,
-    /// What a port alone lacks in front.
+    /// What a port alone lacks in front, and what that address stands for.
     pub(crate) host: &'static str,
-    /// What it stands for then.
     pub(crate) stands_for: &'static str,
 }
 
-/// A key that takes a whole number.
+/// A key that takes a whole number, from the low one to the high one.
 #[derive(Clone, Copy)]
 pub(crate) struct NumberRow {
     pub(crate) key: Key,
-    /// The least number that it takes.
     pub(crate) low: u32,
-    /// The largest number that it takes.
     pub(crate) high: u32,
     pub(crate) default: u32,
-}
-
-/// A key that takes the name of a level.
-#[derive(Clone, Copy)]
-pub(crate) struct LevelRow {
-    pub(crate) key: Key,
-    pub(crate) default: LogLevel,
-}
-
-/// A key that takes a truth value.
-#[derive(Clone, Copy)]
-pub(crate) struct TruthRow {
-    pub(crate) key: Key,
-    pub(crate) default: bool,
 }
 
 /// With port 0 the system picks a port.
@@ -201,11 +164,6 @@ pub(crate) const STOP_AFTER: NumberRow = NumberRow {
     default: 0,
 };
 
-pub(crate) const LOG: LevelRow = LevelRow {
-    key: Key::Log,
-    default: LogLevel::Info,
-};
-
 /// In seconds; 0 stands for no limit. The most is a day.
 pub(crate) const IDLE: NumberRow = NumberRow {
     key: Key::Idle,
@@ -214,50 +172,28 @@ pub(crate) const IDLE: NumberRow = NumberRow {
     default: 0,
 };
 
-/// A target that does not expect the line would take it for the client's first bytes, so it is sent only where it is asked
-/// for.
-pub(crate) const PROXY: TruthRow = TruthRow {
-    key: Key::Proxy,
-    default: false,
-};
-
 /// What a key takes.
 #[derive(Clone, Copy)]
 pub(crate) enum Takes {
     /// An address, as this row says.
     Address(AddressRow),
-    /// A whole number from the first to the second.
-    Number(u32, u32),
+    /// A whole number, as this row says.
+    Number(NumberRow),
     /// The name of a level.
     Level,
     /// A truth value.
     Truth,
 }
 
-impl Takes {
-    /// By the rows of the table.
-    pub(crate) fn of(key: Key) -> Takes
-        ensures { Tells (row_of key).kind result }
-    {
-        match key {
-            Key::Listen => Takes::Address(LISTEN),
-            Key::Target => Takes::Address(TARGET),
-            Key::Ring => Takes::Number(RING.low, RING.high),
-            Key::Budget => Takes::Number(BUDGET.low, BUDGET.high),
-            Key::Workers => Takes::Number(WORKERS.low, WORKERS.high),
-            Key::Slots => Takes::Number(SLOTS.low, SLOTS.high),
-            Key::StopAfter => Takes::Number(STOP_AFTER.low, STOP_AFTER.high),
-            Key::Log => Takes::Level,
-            Key::Idle => Takes::Number(IDLE.low, IDLE.high),
-            Key::Proxy => Takes::Truth,
-        }
-    }
-}
-
-/// A key as an argument of a command line.
+/// A row of the table: a key in a settings text, and as an argument of a command line.
 #[derive(Clone, Copy)]
-pub struct Argument {
+pub struct Row {
     pub key: Key,
+    /// The key as written in a settings text.
+    pub(crate) name: &'static str,
+    pub(crate) takes: Takes,
+    /// What stands for the key where a text leaves it out, as it is printed. A key without it is required.
+    pub(crate) default: Option<&'static str>,
     /// Its option. An argument without one is required, and is known by its place.
     pub option: Option<&'static str>,
     /// What stands for its value in a help text.
@@ -265,64 +201,95 @@ pub struct Argument {
     pub help: &'static str,
 }
 
-/// The keys as arguments, in the order of a help text.
-pub static ARGUMENTS: [Argument; 10] = [
-    Argument {
+/// The rows, in the order of the keys.
+pub static ROWS: [Row; 10] = [
+    Row {
         key: Key::Listen,
+        name: "listen",
+        takes: Takes::Address(LISTEN),
+        default: None,
         option: None,
         value_name: "LISTEN",
         help: "Where clients connect: an IPv4 address and a port",
     },
-    Argument {
+    Row {
         key: Key::Target,
+        name: "target",
+        takes: Takes::Address(TARGET),
+        default: None,
         option: None,
         value_name: "TARGET",
         help: "Where each connection is forwarded to: an IPv4 address and a port",
     },
-    Argument {
+    Row {
         key: Key::Ring,
+        name: "ring",
+        takes: Takes::Number(RING),
+        default: Some("16384"),
         option: Some("ring"),
         value_name: "BYTES",
         help: "Bytes buffered for each direction of a connection, 1 to 65536",
     },
-    Argument {
+    Row {
         key: Key::Budget,
+        name: "budget",
+        takes: Takes::Number(BUDGET),
+        default: Some("64"),
         option: Some("budget"),
         value_name: "CALLS",
         help: "The most calls for one connection before another gets its turn, 1 to 1024",
     },
-    Argument {
+    Row {
         key: Key::Workers,
+        name: "workers",
+        takes: Takes::Number(WORKERS),
+        default: Some("4"),
         option: Some("workers"),
         value_name: "THREADS",
         help: "Worker threads, 1 to 16",
     },
-    Argument {
+    Row {
         key: Key::Slots,
+        name: "slots",
+        takes: Takes::Number(SLOTS),
+        default: Some("1024"),
         option: Some("slots"),
         value_name: "CONNECTIONS",
         help: "The most connections at a time, 1 to 4096",
     },
-    Argument {
+    Row {
         key: Key::StopAfter,
+        name: "stop_after",
+        takes: Takes::Number(STOP_AFTER),
+        default: Some("0"),
         option: Some("stop-after"),
         value_name: "CONNECTIONS",
         help: "End after this many connections, up to 4294967295; 0 for no limit",
     },
-    Argument {
+    Row {
         key: Key::Log,
+        name: "log",
+        takes: Takes::Level,
+        default: Some("info"),
         option: Some("log"),
         value_name: "LEVEL",
         help: "The least important messages that are logged: off, error, warn, info, debug or trace",
     },
-    Argument {
+    Row {
         key: Key::Idle,
+        name: "idle",
+        takes: Takes::Number(IDLE),
+        default: Some("0"),
         option: Some("idle"),
         value_name: "SECONDS",
         help: "Close a connection that moved nothing for so long, up to 86400; 0 for never",
     },
-    Argument {
+    Row {
         key: Key::Proxy,
+        name: "proxy",
+        // A target that does not expect the line would take it for the client's first bytes.
+        takes: Takes::Truth,
+        default: Some("false"),
         option: Some("proxy"),
         value_name: "BOOL",
         help: "Send the target a PROXY line with the client's address first: true or false",

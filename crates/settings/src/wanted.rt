@@ -1,7 +1,7 @@
 //! What is wanted in place of a value that a key does not take.
 
 use crate::addresses::{address_of, decimal_number};
-use crate::mistakes::{Mistake, host_and_port};
+use crate::mistakes::{Mistake, has_leading_zero, host_and_port};
 use crate::one_line::OneLine;
 use crate::table::{AddressRow, Key, Takes};
 use std::fmt;
@@ -18,19 +18,18 @@ pub(crate) enum Wanted<'a> {
     Without(Mistake<'a>),
     /// This text in quotes, for this key.
     Quotes(Key, &'a str),
-    /// A quote at the end.
     ClosingQuote,
 }
 
 impl<'a> Wanted<'a> {
     /// What a key takes.
     pub(crate) fn by(key: Key) -> Wanted<'a> {
-        Wanted::Value(Takes::of(key))
+        Wanted::Value(key.takes())
     }
 
     /// What is wanted in place of a value that a key refuses, and that is `word` without quotes.
     pub(crate) fn in_place_of(value: &Value, word: &'a str, key: Key) -> Wanted<'a> {
-        if !is_word(value) || !matches!(Takes::of(key), Takes::Address(_)) {
+        if !is_word(value) || !matches!(key.takes(), Takes::Address(_)) {
             return Wanted::by(key);
         }
         Wanted::in_place_of_word(word, key)
@@ -38,12 +37,12 @@ impl<'a> Wanted<'a> {
 
     /// What is wanted in place of a word that a key refuses, as it is typed on a command line.
     pub(crate) fn in_place_of_word(word: &'a str, key: Key) -> Wanted<'a> {
-        let mistake = match Takes::of(key) {
+        let mistake = match key.takes() {
             Takes::Address(row) if address_of(word).is_some() => {
                 return Wanted::Port(row.lowest_port);
             }
             Takes::Address(row) => port_alone(word, row).or(Mistake::of(word)),
-            Takes::Number(..) => Mistake::of_number(word),
+            Takes::Number(_) if has_leading_zero(word) => Mistake::of(word),
             _ => None,
         };
         match mistake {
@@ -55,7 +54,7 @@ impl<'a> Wanted<'a> {
     /// What is wanted in place of what a line has for a key, where that is no value of TOML. None if it is a text that is
     /// wrong in another way than by its quotes.
     pub(crate) fn in_place_of_written(written: &'a str, key: Key) -> Option<Wanted<'a>> {
-        match Takes::of(key) {
+        match key.takes() {
             Takes::Address(_) | Takes::Level if !written.is_empty() => quotes_of(written, key),
             _ => Some(Wanted::in_place_of_word(written, key)),
         }
@@ -98,7 +97,18 @@ fn quotes_of(written: &str, key: Key) -> Option<Wanted<'_>> {
 impl fmt::Display for Wanted<'_> {
     fn fmt<W: fmt::Write>(&self, f: &mut fmt::Formatter<W>) -> fmt::Result {
         match *self {
-            Wanted::Value(takes) => write!(f, "{takes}"),
+            Wanted::Value(Takes::Address(row)) => {
+                let example = row.example;
+                write!(f, "four numbers and a port, as {example}, are wanted")
+            }
+            Wanted::Value(Takes::Number(row)) => {
+                let (low, high) = (row.low, row.high);
+                write!(f, "a whole number from {low} to {high} is wanted")
+            }
+            Wanted::Value(Takes::Level) => {
+                f.write_str("off, error, warn, info, debug or trace is wanted")
+            }
+            Wanted::Value(Takes::Truth) => f.write_str("true or false is wanted"),
             Wanted::Port(lowest) => write!(f, "a port from {lowest} up is wanted"),
             Wanted::Without(mistake) => write!(f, "{mistake}"),
             Wanted::Quotes(key, text) => {
@@ -106,23 +116,6 @@ impl fmt::Display for Wanted<'_> {
                 write!(f, "a text stands in quotes: {key} = \"{text}\"")
             }
             Wanted::ClosingQuote => f.write_str("a quote is wanted at the end"),
-        }
-    }
-}
-
-/// As it is wanted.
-impl fmt::Display for Takes {
-    fn fmt<W: fmt::Write>(&self, f: &mut fmt::Formatter<W>) -> fmt::Result {
-        match *self {
-            Takes::Address(row) => {
-                let example = row.example;
-                write!(f, "four numbers and a port, as {example}, are wanted")
-            }
-            Takes::Number(low, high) => {
-                write!(f, "a whole number from {low} to {high} is wanted")
-            }
-            Takes::Level => f.write_str("off, error, warn, info, debug or trace is wanted"),
-            Takes::Truth => f.write_str("true or false is wanted"),
         }
     }
 }
