@@ -5,7 +5,7 @@ use engine::Wire;
 use log::sink::{Lines, Memory};
 use log::{Level, Log, Logged};
 use settings::parse;
-use sockets::{Forwarding, SocketWire, Sockets, Wakers, bind, open_all};
+use sockets::{Forwarding, Patience, SocketWire, Sockets, Wakers, bind, open_all};
 use std::alloc::{AllocError, Global};
 use std::io::{self, ErrorKind};
 use std::net::{SocketAddr, TcpListener, TcpStream};
@@ -29,6 +29,7 @@ fn fronts_to(rt: &HostRuntime, target: SocketAddr) -> Result<Fronts<'_>, ServerF
     let forwarding = Forwarding {
         target,
         proxy: false,
+        patience: Patience::NONE,
     };
     let (fronts, wakers) = open_all(rt, rt.alloc(), bound, forwarding, Split::new(130, 2))?;
     Ok(Fronts {

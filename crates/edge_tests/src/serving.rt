@@ -8,7 +8,7 @@ use log::sink::Discard;
 use log::{Level, Logged};
 use server::{Lent, serve};
 use settings::{Settings, parse};
-use sockets::bind;
+use sockets::{Patience, bind};
 use std::alloc::Global;
 use std::net::{Shutdown, SocketAddr, TcpListener, TcpStream};
 use std::sync::atomic::Ordering::SeqCst;
@@ -94,6 +94,7 @@ fn lend<'a>(gate: &'a Holding, is_stopped: &'a AtomicBool) -> Lent<'a, Holding, 
         clock: &Still,
         is_stopped,
         statistics: None,
+        patience: Patience::NONE,
     }
 }
 

@@ -4,6 +4,7 @@ use crate::constants::VERSION;
 use crate::forwarding::{add_settings, settings_text};
 use clap::builder::ValueParser;
 use clap::{Arg, ArgAction, ArgMatches, Error, value_parser};
+use sockets::Patience;
 use std::alloc::{AllocError, Global};
 
 /// A command of the program.
@@ -29,6 +30,8 @@ pub struct Extras {
     pub stats: Option<u64>,
     /// It opens no more connections once standard input has ended.
     pub until_eof: bool,
+    /// For how long it waits for peers that do not answer: up to 3600 seconds to connect, and 32767 of silence.
+    pub patience: Patience,
 }
 
 impl Extras {
@@ -37,6 +40,10 @@ impl Extras {
         Extras {
             stats: matches.get_one("stats"),
             until_eof: matches.get_flag("until-eof"),
+            patience: Patience {
+                connect: matches.get_one("connect-timeout"),
+                keepalive: matches.get_one("keepalive"),
+            },
         }
     }
 }
@@ -177,8 +184,8 @@ enum Form {
     Flag,
     /// `--NAME` and a value, which help calls so.
     Value(&'static [&'static str]),
-    /// `--NAME` and a number of seconds, up to a day.
-    Seconds,
+    /// `--NAME` and a number of seconds, from 1 up to this.
+    Seconds(u32),
     /// `-c` or `--NAME` and a file, which is required.
     NeededFile,
     /// A file alone, which is required.
@@ -199,7 +206,7 @@ impl Form {
         match self {
             Form::Flag => &[],
             Form::Value(names) => names,
-            Form::Seconds => &["SECONDS"],
+            Form::Seconds(_) => &["SECONDS"],
             Form::NeededFile | Form::File => &["FILE"],
         }
     }
@@ -219,7 +226,7 @@ const RECORD: ArgumentRow = ArgumentRow {
 /// How often statistics are logged.
 const STATS: ArgumentRow = ArgumentRow {
     name: "stats",
-    form: Form::Seconds,
+    form: Form::Seconds(86_400),
     help: "Log a line of statistics every so many seconds, 1 to 86400, and one at the end",
 };
 /// That the relay ends after standard input.
@@ -227,6 +234,18 @@ const UNTIL_EOF: ArgumentRow = ArgumentRow {
     name: "until-eof",
     form: Form::Flag,
     help: "Accept no more clients once standard input has ended, and end after the last",
+};
+/// How long the connection to the target may take.
+const CONNECT_TIMEOUT: ArgumentRow = ArgumentRow {
+    name: "connect-timeout",
+    form: Form::Seconds(3600),
+    help: "Give up a target that has not answered for so many seconds, 1 to 3600",
+};
+/// After how long a silent peer is probed.
+const KEEPALIVE: ArgumentRow = ArgumentRow {
+    name: "keepalive",
+    form: Form::Seconds(32_767),
+    help: "Probe a peer that is silent for so many seconds, 1 to 32767, and give it up if it is gone",
 };
 /// The settings file.
 const CONFIG: ArgumentRow = ArgumentRow {
@@ -277,14 +296,16 @@ static COMMANDS: [CommandRow; 5] = [
         about: "Forwards connections from one address to another",
         details: "Does the same as `relayd run` with a settings file that says what the arguments say.\n\nExample:\n  relayd forward 127.0.0.1:7000 127.0.0.1:7001 --slots 100\n\nSee relayd.toml(5) for the settings.",
         settings: true,
-        arguments: &[RECORD, STATS, UNTIL_EOF],
+        arguments: &[RECORD, STATS, UNTIL_EOF, CONNECT_TIMEOUT, KEEPALIVE],
     },
     CommandRow {
         name: "run",
         about: "Forwards connections as a settings file says",
         details: "Listens on the file's `listen` address and forwards each connection to `target`. Prints\n`listening A.B.C.D:PORT` once clients can connect, and writes log lines to standard error.\nIt ends once `stop_after` connections were opened and are all closed, if that is not 0, or\non a fault, with status 1.\n\nExample:\n  relayd run --config examples/relayd.toml\n\nSee relayd(1) for details and relayd.toml(5) for the settings.",
         settings: false,
-        arguments: &[CONFIG, LEVEL, RECORD, STATS, UNTIL_EOF],
+        arguments: &[
+            CONFIG, LEVEL, RECORD, STATS, UNTIL_EOF, CONNECT_TIMEOUT, KEEPALIVE,
+        ],
     },
     CommandRow {
         name: "check",
@@ -349,7 +370,7 @@ fn argument_of<'a>(alloc: Global, row: ArgumentRow) -> Arg<'a> {
     match row.form {
         Form::File => argument,
         Form::NeededFile => argument.long(row.name).short('c'),
-        Form::Seconds => argument.long(row.name).value_parser(seconds()),
+        Form::Seconds(most) => argument.long(row.name).value_parser(seconds(most)),
         _ => argument.long(row.name),
     }
 }
@@ -363,7 +384,7 @@ fn described<'a>(alloc: Global, row: ArgumentRow) -> Arg<'a> {
         .required(row.form.is_needed())
 }
 
-/// What reads a number of seconds.
-fn seconds<'a>() -> ValueParser<'a> {
-    value_parser!(u64).range(1..=86_400)
+/// What reads a number of seconds, from 1 up to this.
+fn seconds<'a>(most: u32) -> ValueParser<'a> {
+    value_parser!(u64).range(1..=i64::from(most))
 }

@@ -39,6 +39,7 @@ fn main(rt: HostRuntime) -> ExitCode {
             clock: &MonotonicClock(rt),
             is_stopped: &is_stopped,
             statistics: counted,
+            patience: extras.patience,
         };
         let served = match file {
             None => server::serve(&logged, rt.alloc(), &settings, bound, lent),

@@ -110,7 +110,7 @@ fn serve_into<G: Gate + Sync, C: Clock + Sync, R: Net + Dial + Wait + Threads + 
     lent: Lent<'_, G, C>,
     queue: &RecordQueue,
 ) -> Result<(), ServerFault> {
-    let forwarding = Forwarding::of(settings);
+    let forwarding = Forwarding::of(settings, lent.patience);
     let (fronts, wakers) = open_all(rt, alloc, bound, forwarding, split_of(settings))?;
     run_recorded(rt, alloc, settings, fronts, wakers, lent, queue)
 }
@@ -139,6 +139,7 @@ where
         clock: &RecordedClock::new(lent.clock, recorder.again(), settings.idle > 0),
         is_stopped: lent.is_stopped,
         statistics: lent.statistics,
+        patience: lent.patience,
     };
     run_on(rt, alloc, settings, fronts, waker, lent)
 }

@@ -6,7 +6,7 @@ use crate::making::{build, split_of};
 use dispatch::{Clock, Front, Gate, ServerFault, Shared, Timing};
 use log::Log;
 use settings::Settings;
-use sockets::{Bound, Dial, Forwarding, open_all};
+use sockets::{Bound, Dial, Forwarding, Patience, open_all};
 use statistics::Statistics;
 use std::alloc::{AllocError, Global};
 use std::net::Net;
@@ -26,6 +26,8 @@ pub struct Lent<'a, G, C> {
     pub is_stopped: &'a AtomicBool,
     /// Where what becomes of the connections is counted, if it is, with a place for each of the settings' slots.
     pub statistics: Option<&'a Arc<Statistics>>,
+    /// For how long targets and clients that do not answer are waited for.
+    pub patience: Patience,
 }
 
 /// Serves on the bound socket: accepts connections and forwards each one to the settings' target, with the settings'
@@ -47,7 +49,7 @@ pub fn serve<G: Gate + Sync, C: Clock + Sync, R: Net + Dial + Wait + Threads + L
     bound: Bound,
     lent: Lent<'_, G, C>,
 ) -> Result<(), ServerFault> {
-    let forwarding = Forwarding::of(settings);
+    let forwarding = Forwarding::of(settings, lent.patience);
     let (fronts, wakers) = open_all(rt, alloc, bound, forwarding, split_of(settings))?;
     run_on(rt, alloc, settings, fronts, wakers, lent)
 }

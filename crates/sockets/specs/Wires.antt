@@ -1,6 +1,6 @@
 -- What a wire over a socket knows of it, what each call on it changes, and the system calls that it makes. Part of the
 -- promises.
-use Rattle.std.specs.Prelude.{◌≡◌, ℕ, ◌==◌, Bool, true, false, if◌then◌else◌, length, Option, Some, None, Result, Ok, Err}
+use Rattle.std.specs.Prelude.{◌≡◌, ◌≢◌, ℕ, ◌*◌, ◌==◌, Bool, true, false, if◌then◌else◌, length, Option, Some, None, Result, Ok, Err}
 use Rattle.std.specs.declared.io.Error.{Error}
 use Rattle.std.specs.declared.io.ErrorKind.TheVariants.{WouldBlock}
 use Rattle.std.specs.declared.net.SocketAddr.{SocketAddr}
@@ -16,25 +16,35 @@ use Rattle.engine.specs.declared.class.Class.TheVariants as class
 use Rattle.engine.specs.Classes.{class_of, pending_kind}
 use Rattle.engine.specs.Tallies.{Tallied, tally, connected, counted, fault_more}
 use Rattle.engine.specs.Wires.{call_gave}
+use Rattle.sockets.specs.declared.patience.Patience.{Patience}
 use Rattle.sockets.specs.Delays.{Sending, waiting, prompt, IsOffered}
 
 -- the count of its answers, when it sends, whether it reads the socket or answers "would block" to reads by itself, the
--- address at its other end, where it was told, and the name under which it is reported, if it is
+-- address at its other end, where it was told, the name under which it is reported, if it is, and for how long the socket was
+-- given to wait for its peer
 pub record Socket : Type 0 where
   pub tally : Tallied
   pub sending : Sending
   pub reads : Bool
   pub peer : Option SocketAddr
   pub watched : Option EndName
+  pub patience : Patience
 
 -- a wire: the system's socket, and what is known of it
 pub record Wired (S : Type 0) : Type 0 where
   pub stream : S
   pub socket : Socket
 
--- a new one, which is known to be connected or not, reads, and is not reported
+-- no time was given, or none for the connection to be made
+abbrev pub unset : Patience
+unset = record { connect = None; keepalive = None }
+
+abbrev pub unlimited : Patience → Patience
+unlimited patience = record patience { connect = None }
+
+-- a new one, which is known to be connected or not, reads, is not reported, and whose socket was given no time
 abbrev pub fresh_wire : Bool → Option SocketAddr → Socket
-fresh_wire joined peer = record { tally = tally joined 0 0; sending = waiting; reads = true; peer = peer; watched = None }
+fresh_wire joined peer = record { tally = tally joined 0 0; sending = waiting; reads = true; peer = peer; watched = None; patience = unset }
 
 -- one that sends at once
 abbrev pub promptly : Socket → Socket
@@ -43,6 +53,10 @@ promptly socket = record socket { sending = prompt }
 -- one that is reported under this name
 abbrev pub under : EndName → Socket → Socket
 under name socket = record socket { watched = Some name }
+
+-- one whose socket was given this time
+abbrev pub patient : Patience → Socket → Socket
+patient patience socket = record socket { patience = patience }
 
 -- the same, but for the name under which it is reported
 abbrev pub SameButWatched : Socket → Socket → Type 0
@@ -104,15 +118,20 @@ pub record IsCalled (asked : Asked) (given : Given) (old new : Socket) : Type 0 
   pub reads : ReadsAfter asked given old new
   pub peer : new.peer ≡ old.peer
   pub watched : new.watched ≡ old.watched
+  pub patience : new.patience ≡ old.patience
 
 -- One system call on a socket, with its answer: read(2), write(2) or shutdown(2); SO_ERROR of socket(7); getpeername(2);
--- TCP_NODELAY of tcp(7), on or off; and epoll_ctl(2), which registered the socket under this number, to be told at this word,
--- if at any. And a look, which is no system call: whether a report that names reading was told since the last one
+-- TCP_NODELAY of tcp(7), on or off; TCP_USER_TIMEOUT, in milliseconds, where 0 is no limit of the socket's own; and epoll_ctl(2),
+-- which registered the socket under this number, to be told at this word, if at any. And SO_KEEPALIVE of socket(7), with the first
+-- probe after so many seconds, which takes a call for each of its numbers. And a look, which is no system call: whether a report
+-- that names reading was told since the last one
 pub data Made : Type 0 where
   Called : Asked → Given → Made
   Pending : Result (Option Error) Error → Made
   Named : Result SocketAddr Error → Made
   SentAtOnce : Bool → Made
+  GivesUpAfter : ℕ → Made
+  Probes : ℕ → Made
   Registered : ℕ → Option WordName → Made
   Looked : Bool → Made
 
@@ -122,6 +141,24 @@ module _ {S : Type 0} where
   pub record Switches (did : Made → S → S → Type 0) (was is : Bool) (before after : S) : Type 0 where
     pub on : was ≡ false → is ≡ true → did (SentAtOnce true) before after
     pub off : was ≡ true → is ≡ false → did (SentAtOnce false) before after
+    pub kept : is ≡ was → after ≡ before
+
+  -- a socket is given so many seconds to wait for its connection, or for a silent peer, and is left alone where none are given
+  abbrev pub Limits : (Made → S → S → Type 0) → Option ℕ → S → S → Type 0
+  Limits did (Some seconds) before after = did (GivesUpAfter (seconds * 1000)) before after
+  Limits did None before after = after ≡ before
+
+  abbrev pub Probing : (Made → S → S → Type 0) → Option ℕ → S → S → Type 0
+  Probing did (Some seconds) before after = did (Probes seconds) before after
+  Probing did None before after = after ≡ before
+
+  abbrev pub Waits : (Made → S → S → Type 0) → Patience → S → S → Type 0
+  Waits did patience before after = (limited : S) × Limits did patience.connect before limited × Probing did patience.keepalive limited after
+
+  -- a limit that the socket was given is lifted where the wire comes to know that it is connected, and else it is left alone
+  pub record Lifts (did : Made → S → S → Type 0) (limit : Option ℕ) (was is : Bool) (before after : S) : Type 0 where
+    pub lifted : limit ≢ None → was ≡ false → is ≡ true → did (GivesUpAfter 0) before after
+    pub unlimited : limit ≡ None → after ≡ before
     pub kept : is ≡ was → after ≡ before
 
   -- a pending error is a failure; without one the socket has a peer, or the question for it says why not
@@ -147,14 +184,20 @@ module _ {S : Type 0} where
   Joins did given before after =
       (pending : Result (Option Error) Error) × did (Pending pending) before after × JoinGives did pending given after
 
-  -- The system calls of a call on the wire. A write and a shutdown are one, for all that was asked, and give what it gave.
-  -- After a write the socket option may change
-  abbrev pub Makes : (Made → S → S → Type 0) → Asked → Given → Socket → Socket → S → S → Type 0
-  Makes did (Read most) given old new before after = Reads did most given old.tally.joined old.reads new.reads before after
-  Makes did (Write offer) given old new before after =
+  -- The system calls that a call on the wire asks for. A write and a shutdown are one, for all that was asked, and give what it
+  -- gave. After a write the socket may start to wait
+  abbrev pub Asks : (Made → S → S → Type 0) → Asked → Given → Socket → Socket → S → S → Type 0
+  Asks did (Read most) given old new before after = Reads did most given old.tally.joined old.reads new.reads before after
+  Asks did (Write offer) given old new before after =
       (written : S) × did (Called (Write offer) given) before written × Switches did old.sending.at_once new.sending.at_once written after
-  Makes did Join given old new before after = Joins did given before after
-  Makes did Shut given old new before after = did (Called Shut given) before after
+  Asks did Join given old new before after = Joins did given before after
+  Asks did Shut given old new before after = did (Called Shut given) before after
+
+  -- all system calls of a call on the wire: behind those that it asks for, the limit may be lifted
+  abbrev pub Makes : (Made → S → S → Type 0) → Asked → Given → Socket → Socket → S → S → Type 0
+  Makes did asked given old new before after =
+      (asked_for : S) × Asks did asked given old new before asked_for
+      × Lifts did old.patience.connect old.tally.joined new.tally.joined asked_for after
 
   -- all that a call on the wire does
   abbrev pub IsDone : (Made → S → S → Type 0) → Asked → Given → Wired S → Wired S → Type 0

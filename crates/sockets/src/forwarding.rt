@@ -1,27 +1,32 @@
 ghost use Rattle.std.specs.Prelude.{◌≡◌};
 ghost use Rattle.sockets.specs.Fronts.{IsAt};
 
+use crate::patience::Patience;
 use settings::Settings;
 use std::net::SocketAddr;
 
-/// Where the connections of clients go, and whether their addresses are told.
+/// Where the connections of clients go, whether their addresses are told, and for how long a peer is waited for.
 #[derive(Clone, Copy)]
 pub struct Forwarding {
     /// The address to which each client is connected.
     pub target: SocketAddr,
     /// Whether the targets are sent a line with the addresses of their clients' connections, for which the system is asked.
     pub proxy: bool,
+    /// For how long a target or a client that does not answer is waited for.
+    pub patience: Patience,
 }
 
 impl Forwarding {
-    /// As the settings say.
-    pub fn of(settings: &Settings) -> Forwarding
+    /// As the settings say, with this patience.
+    pub fn of(settings: &Settings, patience: Patience) -> Forwarding
         ensures target { IsAt settings.now.target result.target }
         ensures proxy { result.proxy ≡ settings.now.proxy }
+        ensures patience { result.patience ≡ patience }
     {
         Forwarding {
             target: SocketAddr::from(settings.target),
             proxy: settings.proxy,
+            patience,
         }
     }
 }

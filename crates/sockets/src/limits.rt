@@ -10,3 +10,6 @@ pub(crate) const MAX_POLLERS: usize = 16;
 /// After this many full offers in a row, the bytes count as bulk, which is sent in larger parts if the socket may wait
 /// for more.
 pub(crate) const BULK: u8 = 4;
+
+/// So many probes without an answer end a connection.
+pub(crate) const PROBES: u32 = 5;

@@ -7,7 +7,7 @@ ghost use Rattle.token.specs.Numbers.{name_of};
 ghost use Rattle.sockets.specs.Fronts.{Fails, end_in, heard_of, names_reading, numbers, v4_of, wait_of, IsRoute, MayTell};
 ghost use Rattle.dispatch.specs.Splits.{parts_of};
 ghost use Rattle.dispatch.specs.declared.front.Unopened.TheVariants.{Connect, Register};
-ghost use Rattle.sockets.specs.Wires.{SameButWatched, fresh_wire, under};
+ghost use Rattle.sockets.specs.Wires.{SameButWatched, fresh_wire, patient, under, unlimited};
 
 use crate::bound::Bound;
 use crate::dial::Dial;
@@ -172,14 +172,19 @@ fn watched<R: Net + Log>(rt: &R, listener: &mut TcpListener) -> Result<(Poll, Wa
 }
 
 impl<R: Dial> Sockets<'_, R> {
-    /// Starts the connection to the target. If that fails, the client's wire keeps the cause.
+    /// Starts the connection to the target, with the limit that it is to have. The system looks at that when it sends again, so
+    /// it may come after the start. If the start fails, the client's wire keeps the cause.
     fn begin<N: Log>(&self, rt: &N, client: &mut SocketWire) -> Result<SocketWire, Unopened>
         ensures client { client.new ≡ client.old }
-        ensures begun { IfOk result (λ target. target.socket ≡ fresh_wire false None) }
+        ensures begun { IfOk result (λ target. target.socket ≡ patient self.now.forwarding.patience (fresh_wire false None)) }
         ensures refused { IfErr result (λ why. why ≡ Unopened.Connect) }
     {
         match self.rt.dial(self.forwarding.target) {
-            Ok(stream) => Ok(SocketWire::connecting(Socket::new(stream))),
+            Ok(stream) => {
+                let mut target = SocketWire::connecting(Socket::new(stream));
+                target.wait_for_peer(rt, self.forwarding.patience);
+                Ok(target)
+            }
             Err(error) => {
                 log_failure_at(rt, Level::Debug, "connect", self.forwarding.target, &error);
                 client.keep(&error);
@@ -366,11 +371,11 @@ impl<R: Dial> Front for Sockets<'_, R> {
         client_token: Token,
         target_token: Token,
     ) -> Result<Opened<SocketWire>, Unopened>
-        ensures opened { IfOk result (λ opened. opened.target.socket ≡ under target_token (fresh_wire false None)) }
+        ensures opened { IfOk result (λ opened. opened.target.socket ≡ under target_token (patient self.old.forwarding.patience (fresh_wire false None))) }
         ensures route { IfOk result (λ opened. IsRoute self.old.forwarding.proxy client.old.socket.peer opened.route) }
         ensures told { IfOk result (λ opened. MayTell client.old.socket.peer opened.route) }
         ensures refused { IfErr result (λ why. (why ≡ Unopened.Connect) ⊎ (why ≡ Unopened.Register)) }
-        ensures client { OnOk result (client.new.socket ≡ under client_token client.old.socket) }
+        ensures client { OnOk result (client.new.socket ≡ patient (unlimited self.old.forwarding.patience) (under client_token client.old.socket)) }
         ensures unopened { OnErr result (SameButWatched client.old.socket client.new.socket) }
         ensures same { client.new.socket.tally ≡ client.old.socket.tally }
         ensures kept { self.new ≡ self.old }
@@ -378,6 +383,7 @@ impl<R: Dial> Front for Sockets<'_, R> {
         let mut target = self.begin(rt, client)?;
         self.watch(rt, client, client_token)?;
         self.watch(rt, &mut target, target_token)?;
+        client.wait_for_peer(rt, self.forwarding.patience.of_client());
         let route = self.route(client);
         Ok(Opened { target, route })
     }

@@ -1,3 +1,4 @@
+use crate::options;
 use crate::stream::Stream;
 use mio::net::TcpStream;
 use mio::{Interest, Registry, Token};
@@ -54,6 +55,14 @@ impl Stream for Socket {
 
     fn send_at_once(&mut self, at_once: bool) {
         let _ = self.stream.set_nodelay(at_once);
+    }
+
+    fn give_up_after(&mut self, millis: u64) -> io::Result<()> {
+        options::give_up_after(&self.stream, millis)
+    }
+
+    fn probe(&mut self, seconds: u32) -> io::Result<()> {
+        options::probe(&self.stream, seconds)
     }
 
     fn register(

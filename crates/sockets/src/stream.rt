@@ -2,15 +2,15 @@ ghost use Rattle.std.specs.Prelude.{◌≡◌, length, OnOk};
 ghost use Rattle.std.specs.Io.{WritesAtMost};
 ghost use Rattle.engine.specs.Asked as ask;
 ghost use Rattle.engine.specs.Wires.{read_gave, write_gave, call_gave};
-ghost use Rattle.sockets.specs.Wires.{Made, Called, Pending, Named, SentAtOnce, Registered, Looked};
+ghost use Rattle.sockets.specs.Wires.{Made, Called, Pending, Named, SentAtOnce, GivesUpAfter, Probes, Registered, Looked};
 
 use mio::{Registry, Token};
 use readiness::Told;
 use std::io;
 use std::net::SocketAddr;
 
-/// A stream socket of the system, and what is told of its reports, as a wire uses them. Each method but `is_told` is one
-/// system call, which never waits.
+/// A stream socket of the system, and what is told of its reports, as a wire uses them. Each method but `is_told` and `probe`
+/// is one system call, which never waits.
 ///
 /// Only the system knows what a call does, so the trait leaves that open. What is proved of a wire over any such socket
 /// therefore says which calls it makes, with all that it was asked for, and that it gives their answers unchanged.
@@ -44,6 +44,16 @@ pub trait Stream {
     /// system refuses.
     fn send_at_once(&mut self, at_once: bool)
         ensures { did (SentAtOnce at_once) self.old self.new };
+
+    /// Has the connection fail once it has waited for so many milliseconds to be made, or for what it sent to be taken
+    /// (TCP_USER_TIMEOUT of tcp(7)); after 0, as the system does by itself. It stays as it was if the system refuses.
+    fn give_up_after(&mut self, millis: u64) -> io::Result<()>
+        ensures { did (GivesUpAfter millis) self.old self.new };
+
+    /// Has a peer that is silent for so many seconds probed (SO_KEEPALIVE of socket(7)), by up to four system calls. The socket
+    /// does not probe if the system refuses one of them.
+    fn probe(&mut self, seconds: u32) -> io::Result<()>
+        ensures { did (Probes seconds) self.old self.new };
 
     /// Has the socket reported for reading and writing, edge-triggered, under a token (epoll_ctl(2)). Those of its reports
     /// that name reading are told by `told`. Without it, each look finds that one was told.

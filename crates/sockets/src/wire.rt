@@ -4,16 +4,19 @@ ghost use Rattle.token.specs.Names.{end_number};
 ghost use Rattle.relay_core.specs.Calls.{side_of};
 ghost use Rattle.engine.specs.Asked as ask;
 ghost use Rattle.engine.specs.Classes.{class_of, pending_kind};
-ghost use Rattle.engine.specs.Tallies.{counted};
+ghost use Rattle.engine.specs.Tallies.{connected, counted};
 ghost use Rattle.engine.specs.Wires.{call_gave};
 ghost use Rattle.sockets.specs.Delays.{IsOffered};
-ghost use Rattle.sockets.specs.Wires.{Registered, Switches, Joins, fresh_wire, promptly, took, under, goes_on, goes_on_after, Looked};
+ghost use Rattle.sockets.specs.Wires.{Registered, Switches, Joins, Lifts, Limits, Probing, Waits, fresh_wire, patient, promptly, took, under, goes_on, goes_on_after, Looked};
 
 use crate::delay::Delay;
+use crate::failure::log_failure;
+use crate::patience::Patience;
 use crate::socket::Socket;
 use crate::stream::Stream;
 use dispatch::Settle;
 use engine::{Class, Tally, Wire, class_of};
+use log::{Level, Log};
 use mio::Registry;
 use readiness::{Attention, Told};
 use relay_core::{Call, Side};
@@ -36,6 +39,8 @@ pub struct SocketWire<S = Socket> {
     attention: Attention,
     peer: Option<SocketAddr>,
     watched: Option<Token>,
+    // For how long its socket was given to wait for its peer.
+    patience: Patience,
     // The system's error of the last call that failed, by its number. It is only for the log.
     error: Option<i32>,
 }
@@ -45,7 +50,7 @@ impl<S> Model for SocketWire<S> {
 
     ghost Value = { Wired S };
 
-    ghost view = { λ w. record { stream = w.stream; socket = record { tally = w.tally; sending = w.delay; reads = w.attention; peer = w.peer; watched = w.watched } } };
+    ghost view = { λ w. record { stream = w.stream; socket = record { tally = w.tally; sending = w.delay; reads = w.attention; peer = w.peer; watched = w.watched; patience = w.patience } } };
 }
 
 impl<S: Stream> SocketWire<S> {
@@ -60,6 +65,7 @@ impl<S: Stream> SocketWire<S> {
             attention: Attention::new(),
             peer: Some(peer),
             watched: None,
+            patience: Patience::NONE,
             error: None,
         }
     }
@@ -75,6 +81,7 @@ impl<S: Stream> SocketWire<S> {
             attention: Attention::new(),
             peer: None,
             watched: None,
+            patience: Patience::NONE,
             error: None,
         }
     }
@@ -112,6 +119,56 @@ impl<S: Stream> SocketWire<S> {
         Ok(())
     }
 
+    /// Gives the socket so long to wait for its peer. If the system refuses, that is logged at level debug, and the socket waits
+    /// as the system does by itself.
+    pub(crate) fn wait_for_peer<N: Log>(&mut self, rt: &N, patience: Patience)
+        ensures waits { Waits S.did patience self.old.stream self.new.stream }
+        ensures given { self.new.socket ≡ patient patience self.old.socket }
+    {
+        self.limit(rt, patience.connect);
+        self.probe(rt, patience.keepalive);
+        self.patience = patience;
+    }
+
+    /// Gives the connection so many seconds to be made, if it is to have a limit.
+    fn limit<N: Log>(&mut self, rt: &N, seconds: Option<u32>)
+        ensures limited { Limits S.did seconds self.old.stream self.new.stream }
+        ensures same { self.new.socket ≡ self.old.socket }
+    {
+        let Some(seconds) = seconds else {
+            return;
+        };
+        if let Err(error) = self.stream.give_up_after(u64::from(seconds) * 1000) {
+            log_failure(rt, Level::Debug, "connect-timeout", &error);
+        }
+    }
+
+    /// Has the peer probed after it was silent for so many seconds, if it is to be.
+    fn probe<N: Log>(&mut self, rt: &N, seconds: Option<u32>)
+        ensures probed { Probing S.did seconds self.old.stream self.new.stream }
+        ensures same { self.new.socket ≡ self.old.socket }
+    {
+        let Some(seconds) = seconds else {
+            return;
+        };
+        if let Err(error) = self.stream.probe(seconds) {
+            log_failure(rt, Level::Debug, "keepalive", &error);
+        }
+    }
+
+    /// The socket is known to be connected. If it had a limit for that, it loses it: the limit also ends a connection whose
+    /// peer takes nothing.
+    fn connect(&mut self)
+        ensures connected { self.new.socket ≡ record self.old.socket { tally = connected self.old.socket.tally } }
+        ensures lifted { Lifts S.did self.old.socket.patience.connect self.old.socket.tally.joined true self.old.stream self.new.stream }
+    {
+        let is_lifted = self.patience.connect.is_some() && !self.tally.joined();
+        self.tally.connect();
+        if is_lifted {
+            let _ = self.stream.give_up_after(0);
+        }
+    }
+
     /// The log may tell this error of the connection from now on.
     pub(crate) fn keep(&mut self, error: &io::Error)
         ensures { self.new ≡ self.old }
@@ -141,6 +198,7 @@ impl<S: Stream> SocketWire<S> {
         ensures same { result ≡ error }
         ensures counted { self.new.socket.tally ≡ counted (class_of call self.old.socket.tally.joined (error_kind error)) self.old.socket.tally }
         ensures reads { self.new.socket.reads ≡ goes_on call (class_of call self.old.socket.tally.joined (error_kind error)) self.old.socket.reads }
+        ensures joined { self.new.socket.tally.joined ≡ self.old.socket.tally.joined }
         ensures rest { self.new.socket ≡ record self.old.socket { tally = self.new.socket.tally; reads = self.new.socket.reads } }
         ensures stream { self.new.stream ≡ self.old.stream }
     {
@@ -170,10 +228,10 @@ impl<S: Stream> SocketWire<S> {
     /// A write took `count` of the bytes that were offered.
     fn took(&mut self, count: usize, offered: usize)
         ensures counted { self.new.socket ≡ record self.old.socket { tally = took count offered self.old.socket.tally; reads = goes_on_after count offered self.old.socket.reads } }
-        ensures stream { self.new.stream ≡ self.old.stream }
+        ensures lifted { Lifts S.did self.old.socket.patience.connect self.old.socket.tally.joined self.new.socket.tally.joined self.old.stream self.new.stream }
     {
         if count > 0 {
-            self.tally.connect();
+            self.connect();
         } else if offered > 0 {
             self.attention.wake();
             self.tally.none_taken();
@@ -231,7 +289,7 @@ impl<S: Stream> Wire for SocketWire<S> {
         }
         match self.stream.read(buffer) {
             Ok(count) => {
-                self.tally.connect();
+                self.connect();
                 Ok(count)
             }
             Err(error) => Err(self.refuse(Call::Read(Side::Target, buffer.len()), error)),
@@ -260,7 +318,7 @@ impl<S: Stream> Wire for SocketWire<S> {
     fn joined(&mut self) -> io::Result<()> {
         match stand(&mut self.stream) {
             Ok(()) => {
-                self.tally.connect();
+                self.connect();
                 Ok(())
             }
             Err(error) => Err(self.refuse(Call::Join(Side::Target), error)),

@@ -1,0 +1,46 @@
+//! The options of a TCP socket that say for how long its peer is waited for. Neither the standard library nor `mio` sets them.
+ghost use Rattle.libc.specs.Net.{SockOption};
+
+use crate::limits::PROBES;
+use libc::net as system;
+use mio::net::TcpStream;
+use std::io;
+use std::os::fd::{AsRawFd, RawFd};
+
+/// Has the connection fail once it has waited for so many milliseconds to be made, or for what it sent to be taken
+/// (TCP_USER_TIMEOUT of tcp(7)); after 0, as the system does by itself. The most that the system takes is 2^31 - 1.
+pub(crate) fn give_up_after(socket: &TcpStream, millis: u64) -> io::Result<()> {
+    let most = i32::MAX as u64;
+    let value = millis.min(most) as u32;
+    set(
+        socket.as_raw_fd(),
+        system::IPPROTO_TCP,
+        system::TCP_USER_TIMEOUT,
+        value,
+    )
+}
+
+/// Has the peer probed after it was silent for so many seconds, then at every fifth of that, and given up after five probes
+/// without an answer (SO_KEEPALIVE of socket(7), TCP_KEEPIDLE, TCP_KEEPINTVL and TCP_KEEPCNT of tcp(7)). The switch comes
+/// last, so that a socket never probes by the system's own numbers.
+pub(crate) fn probe(socket: &TcpStream, seconds: u32) -> io::Result<()> {
+    let socket = socket.as_raw_fd();
+    let between = (seconds / PROBES).max(1);
+    set(socket, system::IPPROTO_TCP, system::TCP_KEEPIDLE, seconds)?;
+    set(socket, system::IPPROTO_TCP, system::TCP_KEEPINTVL, between)?;
+    set(socket, system::IPPROTO_TCP, system::TCP_KEEPCNT, PROBES)?;
+    set(socket, system::SOL_SOCKET, system::SO_KEEPALIVE, 1)
+}
+
+/// Sets an option to a number (setsockopt(2)).
+fn set(socket: RawFd, level: i32, option: i32, value: u32) -> io::Result<()>
+    requires { SockOption level option }
+{
+    let mut bytes = [0; 16];
+    bytes[..4].copy_from_slice(&value.to_ne_bytes());
+    let status = unsafe { system::setsockopt(socket, level, option, &bytes, 4) };
+    if status < 0 {
+        return Err(io::Error::from_raw_os_error(os::errno()));
+    }
+    Ok(())
+}
