@@ -221,6 +221,18 @@ def unheard():
     return found
 
 
+@contextlib.contextmanager
+def unanswered():
+    """The port of a server that answers no connect, for a while: its backlog is full."""
+    with unheard() as full:
+        full.listen(0)
+        fillers = []
+        with contextlib.suppress(TimeoutError):
+            for _ in range(8):
+                fillers.append(socket.create_connection(full.getsockname(), timeout=0.3))
+        yield port_of(full)
+
+
 def target(handle, listener=None):
     """A server that hands each connection to `handle`, in a thread of its own; answers its port."""
     listener = listener or unheard()
