@@ -8,7 +8,8 @@ pub struct Standing {
     pub is_refused: bool,
     /// How many connections it may still open.
     left: u64,
-    /// The second of its last sweep, at first that at which the server began.
+    /// The second of its last round, and that of its last sweep, at first those at which the server began.
+    second: u64,
     swept: u64,
     /// Whether its front listens, and whether it may: not once a round has ended behind all that it may open.
     pub listens: bool,
@@ -29,6 +30,7 @@ impl Standing {
         Standing {
             is_refused: false,
             left,
+            second: START,
             swept: START,
             listens: true,
             may_listen: true,
@@ -59,12 +61,14 @@ impl Standing {
         self.left = 0;
     }
 
-    /// Whether a sweep is due at this second, which is then the last one. Without a limit none is.
+    /// Whether a sweep was due at the second of its last round, which is then that of the last sweep. Without a limit none is. Its
+    /// round goes on at this second.
     pub fn falls_due(&mut self, second: u64, limit: u64) -> bool {
-        let is_due = limit > 0 && second.saturating_sub(self.swept) >= limit;
+        let is_due = limit > 0 && self.second.saturating_sub(self.swept) >= limit;
         if is_due {
-            self.swept = second;
+            self.swept = self.second;
         }
+        self.second = second;
         is_due
     }
 

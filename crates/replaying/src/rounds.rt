@@ -112,7 +112,8 @@ impl Rounds<'_> {
         u64::MAX
     }
 
-    /// The round behind a poll may have made a sweep. Where the second is in doubt, it may or may not.
+    /// The round behind a poll may have made a sweep, by the second that the round before it read. Where that is in doubt, it may or
+    /// may not.
     fn sweep(&mut self, before: u64, poll: &Post) -> Option<Post> {
         let limit = self.recording.header.idle;
         let (first, last) = match self.swept {
@@ -120,7 +121,8 @@ impl Rounds<'_> {
             None => self.clock.between(0, before),
         };
         self.swept = Some((first, last));
-        let (least, most) = self.clock.between(poll.from, poll.to);
+        let round = self.poll?;
+        let (least, most) = self.clock.between(round.from, round.to);
         if limit == 0 || most.saturating_sub(first) < limit {
             return None;
         }

@@ -20,7 +20,7 @@ use Rattle.dispatch.specs.declared.part.Part.{Part}
 use Rattle.dispatch.specs.Polls.{IsIn, IsOwnTable, PollerState}
 use Rattle.rounds.specs.Openings.{AreIn}
 use Rattle.rounds.specs.Deliveries.{reported, all_reported, at_slot, IsSubsequence, raised, ArePosted, Delivered}
-use Rattle.rounds.specs.Sweeps.{last_in, opened_in, opened_below, all_opened, sweep_of, swept_after}
+use Rattle.rounds.specs.Sweeps.{is_due, last_in, opened_in, opened_below, all_opened, sweep_of, swept_after}
 
 raised_none : (a : Account) → a ≡ raised 0 0 a
 raised_none a =
@@ -254,41 +254,31 @@ past_later second limit last past same = grind (arith, nat_tests)
 a_sweep : (old new : PollerState) (limit : ℕ) → is_past new.swept limit old.swept ≡ true → sweep_of old new ≡ all_opened old.table
 a_sweep old new limit past = ap (λ (b : Bool). if b then [] else all_opened old.table) (ne_eqb new.swept old.swept (past_later new.swept limit old.swept past))
 
--- Behind a look at the clock, and what the test whether the limit has passed says then
-module _ (p q : PollerState) (second : ℕ) (set : q ≡ record p { second = second }) where
-  pub set_only : q ≡ record p { second = q.second; swept = q.swept }
-  set_only = subst (λ (s : PollerState). s ≡ record p { second = s.second; swept = s.swept }) (sym set) refl
+-- What the test whether a sweep is due says
+module _ (p : PollerState) (limit : ℕ) (due : Bool) (test : due ≡ is_due limit p) where
+  pub not_swept : due ≡ false → p.swept ≡ swept_after limit p.second p.swept
+  not_swept not = sym (ap (λ (b : Bool). if b then p.second else p.swept) (sym test ∙ not))
 
-  module _ (limit last l : ℕ) (passed : Bool) (test : passed ≡ is_past second limit last) (was : last ≡ q.swept) (is : limit ≡ l) where
-    is_test : passed ≡ is_past second l p.swept
-    is_test = subst (λ (n : ℕ). passed ≡ is_past second l n) (was ∙ ap (λ (s : PollerState). s.swept) set)
-        (subst (λ (n : ℕ). passed ≡ is_past second n last) is test)
+  module _ (r : PollerState) (counted : r ≡ record p { swept = p.second }) (yes : due ≡ true) where
+    late : is_past p.second limit p.swept ≡ true
+    late = sym test ∙ yes
 
-    pub not_swept : passed ≡ false → q.swept ≡ swept_after l q.second p.swept
-    not_swept not =
-        let late : is_past second l p.swept ≡ false = sym is_test ∙ not in
-        let still : swept_after l second p.swept ≡ p.swept = ap (λ (b : Bool). if b then second else p.swept) late in
-        subst (λ (s : PollerState). s.swept ≡ swept_after l s.second p.swept) (sym set) (sym still)
+    swept_is_second : r.swept ≡ p.second
+    swept_is_second = ap (λ (s : PollerState). s.swept) counted
 
-    module _ (r : PollerState) (counted : r ≡ record q { swept = q.second }) (yes_passed : passed ≡ true) where
-      pub swept_is_now : r.swept ≡ second
-      swept_is_now = ap (λ (s : PollerState). s.swept) counted ∙ ap (λ (s : PollerState). s.second) set
+    pub swept_only : r ≡ record p { swept = r.swept }
+    swept_only = subst (λ (s : PollerState). s ≡ record p { swept = s.swept }) (sym counted) refl
 
-      pub second_is_now : r.second ≡ second
-      second_is_now = ap (λ (s : PollerState). s.second) counted ∙ ap (λ (s : PollerState). s.second) set
+    pub swept : r.swept ≡ swept_after limit p.second p.swept
+    swept = swept_is_second ∙ sym (ap (λ (b : Bool). if b then p.second else p.swept) late)
 
-      pub both_only : r ≡ record p { second = r.second; swept = r.swept }
-      both_only = subst (λ (s : PollerState). s ≡ record p { second = s.second; swept = s.swept }) (sym counted)
-          (subst (λ (s : PollerState). record s { swept = s.second } ≡ record p { second = s.second; swept = s.second }) (sym set) refl)
+    pub sweep_is : sweep_of p r ≡ all_opened p.table
+    sweep_is = a_sweep p r limit (subst (λ (n : ℕ). is_past n limit p.swept ≡ true) (sym swept_is_second) late)
 
-      late : is_past second l p.swept ≡ true
-      late = sym is_test ∙ yes_passed
-
-      pub swept : r.swept ≡ swept_after l r.second p.swept
-      swept = swept_is_now ∙ sym (ap (λ (b : Bool). if b then second else p.swept) late) ∙ ap (λ (n : ℕ). swept_after l n p.swept) (sym second_is_now)
-
-      pub sweep_is : sweep_of p r ≡ all_opened p.table
-      sweep_is = a_sweep p r l (subst (λ (n : ℕ). is_past n l p.swept ≡ true) (sym swept_is_now) late)
+-- a sweep or none, and then the second was read
+pub second_read : (p q r : PollerState) (second : ℕ) → q ≡ record p { swept = q.swept } → r ≡ record q { second = second } → r ≡ record p { second = r.second; swept = r.swept }
+second_read p q r second swept read = subst (λ (s : PollerState). s ≡ record p { second = s.second; swept = s.swept }) (sym read)
+    (subst (λ (s : PollerState). record s { second = second } ≡ record p { second = second; swept = s.swept }) (sym swept) refl)
 
 -- the listener was not reported
 pub flag_still : (told flag : Bool) (batch : List ℕ) → (IsTrue told ↔ Contains batch 0) → told ≡ false → IsTrue flag ↔ (IsTrue flag ⊎ Contains batch 0)

@@ -39,6 +39,7 @@ pub record SameTable (old new : PollerState) : Type 0 where
   pub opened : new.opened ≡ old.opened
   pub lost : new.lost ≡ old.lost
   pub part : new.part ≡ old.part
+  pub second : new.second ≡ old.second
   pub swept : new.swept ≡ old.swept
 
 pub begun_is : {p q : PollerState} → q ≡ record p { batch = [] } → SameTable p q
@@ -47,6 +48,7 @@ begun_is same = record {
   opened = ap (λ (s : PollerState). s.opened) same;
   lost = ap (λ (s : PollerState). s.lost) same;
   part = ap (λ (s : PollerState). s.part) same;
+  second = ap (λ (s : PollerState). s.second) same;
   swept = ap (λ (s : PollerState). s.swept) same;
 }
 
@@ -56,6 +58,7 @@ looked_is begun looked = record {
   opened = ap (λ (s : PollerState). s.opened) looked ∙ ap (λ (s : PollerState). s.opened) begun;
   lost = ap (λ (s : PollerState). s.lost) looked ∙ ap (λ (s : PollerState). s.lost) begun;
   part = ap (λ (s : PollerState). s.part) looked ∙ ap (λ (s : PollerState). s.part) begun;
+  second = ap (λ (s : PollerState). s.second) looked ∙ ap (λ (s : PollerState). s.second) begun;
   swept = ap (λ (s : PollerState). s.swept) looked ∙ ap (λ (s : PollerState). s.swept) begun;
 }
 
@@ -159,11 +162,11 @@ round_ended p q a b begun none took =
     refl refl (λ slot out. ap (λ (ts : List Ticket). at_slot slot ts) unswept) still
     (accept_none q q b still) refl
 
--- the second of the last sweep, if what came before the look at the clock left it, and what comes after leaves both seconds
-pub swept_is : (limit : ℕ) (p r s t : PollerState) → r.swept ≡ p.swept → s.swept ≡ swept_after limit s.second r.swept
-    → t.swept ≡ s.swept → t.second ≡ s.second → t.swept ≡ swept_after limit t.second p.swept
-swept_is limit p r s t was swept still second =
-    still ∙ swept ∙ ap (λ (n : ℕ). swept_after limit n r.swept) (sym second) ∙ ap (λ (n : ℕ). swept_after limit t.second n) was
+-- the second of the last sweep, if what came before the sweep left both seconds, and what comes after leaves that one
+pub swept_is : (limit : ℕ) (p r s t : PollerState) → r.second ≡ p.second → r.swept ≡ p.swept → s.swept ≡ swept_after limit r.second r.swept
+    → t.swept ≡ s.swept → t.swept ≡ swept_after limit p.second p.swept
+swept_is limit p r s t second was swept still =
+    still ∙ swept ∙ ap (λ (n : ℕ). swept_after limit n r.swept) second ∙ ap (λ (n : ℕ). swept_after limit p.second n) was
 
 -- why accepting ended stays the reason, since the slots are taken back only once all connections were opened
 pub ended_still : (p q : PollerState) (a b : Own) → AcceptEnded p a → q ≡ record p { listening = q.listening; over = q.over }

@@ -9,7 +9,7 @@ use Rattle.dispatch.specs.Hands.{HasRoom, ticket_room}
 use Rattle.rounds.specs.Openings.{AreIn, AreOpened, SlotsCounted}
 use Rattle.dispatch.specs.Outgoing.{tickets_out}
 use Rattle.dispatch.specs.Polls.{PollerState, HasOpenedAll, Counted}
-use Rattle.rounds.specs.Sweeps.{sweep_of}
+use Rattle.rounds.specs.Sweeps.{is_due, sweep_of}
 use Rattle.dispatch.specs.Posts.{Rose}
 
 -- The reports of the batch were delivered: each that is for a connection was posted at its slot, and those that woke made their
@@ -60,9 +60,9 @@ NoneToAccept p own = (p.accepting ≡ false) ⊎ (NoSlot own ⊎ HasOpenedAll p)
 abbrev pub AcceptMayEnd : PollerState → Own → Type 0
 AcceptMayEnd p own = (p.starved ≡ true) ⊎ NoneToAccept p own
 
--- the poller waits only with no ticket in hand, and where accepting may end
-abbrev pub MayWait : PollerState → Own → Type 0
-MayWait p own = (own.hand.tickets ≡ []) × AcceptMayEnd p own
+-- the poller waits only where no sweep is due, with no ticket in hand, and where accepting may end
+abbrev pub MayWait : ℕ → PollerState → Own → Type 0
+MayWait limit p own = (is_due limit p ≡ false) × (own.hand.tickets ≡ []) × AcceptMayEnd p own
 
 -- why accepting ends: it may, or it was tried 4 times
 abbrev pub AcceptEnded : PollerState → Own → Type 0
@@ -78,9 +78,10 @@ pub record MayAccept (p : PollerState) (own : Own) : Type 0 where
   pub left : HasOpenedAll p → ⊥
   pub slot : 1 ≤ length own.hand.slots
 
--- why the poller does not wait: a ticket is in hand, or a connection may be accepted now, and the system did not lack what that needs
-abbrev pub MayNotWait : PollerState → Own → Type 0
-MayNotWait p own = (own.hand.tickets ≢ []) ⊎ ((p.starved ≡ false) × MayAccept p own)
+-- why the poller does not wait: a sweep is due, or a ticket is in hand, or a connection may be accepted now, and the system did not
+-- lack what that needs
+abbrev pub MayNotWait : ℕ → PollerState → Own → Type 0
+MayNotWait limit p own = (is_due limit p ≡ true) ⊎ ((own.hand.tickets ≢ []) ⊎ ((p.starved ≡ false) × MayAccept p own))
 
 -- a client waits for a slot: the listener was reported, and connections would be opened, but no slot was free even before any was
 pub record IsFull (p : PollerState) (own : Own) : Type 0 where

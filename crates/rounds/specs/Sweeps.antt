@@ -1,6 +1,6 @@
 -- What a round posts for time: a connection whose sockets report nothing is looked at again once the idle limit has
 -- passed. Part of the promises.
-use Rattle.std.specs.Prelude.{ℕ, zero, suc, ◌==◌, List, [], ◌∷◌, ◌++◌, length, nat_lt, if◌then◌else◌, slice_index}
+use Rattle.std.specs.Prelude.{ℕ, Bool, zero, suc, ◌==◌, List, [], ◌∷◌, ◌++◌, length, nat_lt, if◌then◌else◌, slice_index}
 use Rattle.ready.specs.declared.ticket.Ticket.{Ticket}
 use Rattle.relay_core.specs.Idle.{is_past}
 use Rattle.dispatch.specs.Polls.{PollerState}
@@ -20,6 +20,11 @@ opened_below table (suc slots) = opened_below table slots ++ opened_in table slo
 
 abbrev pub all_opened : List ℕ → List Ticket
 all_opened table = opened_below table (length table)
+
+-- A sweep is due in a round: at the second that the round before it read, the limit had passed since the last sweep. The round
+-- has asked for reports since then
+abbrev pub is_due : ℕ → PollerState → Bool
+is_due limit p = is_past p.second limit p.swept
 
 -- the second of the last sweep, after a look: this one, if the limit has passed since the one before
 abbrev pub swept_after : ℕ → ℕ → ℕ → ℕ

@@ -17,7 +17,7 @@ ghost use Rattle.dispatch.specs.Posts.{OnlyWorn};
 use crate::accepting::{Accepted, accepted_of};
 use crate::delivering::deliver;
 use crate::opening::open;
-use crate::sweeping::sweep_if_due;
+use crate::sweeping::{is_due, keep_time};
 use dispatch::{
     Clock, Front, Hand, LISTENER, MAX_ACCEPTS, Own, Poller, ROUND_ROOM, Shared, Timing,
 };
@@ -31,9 +31,9 @@ use std::sync::Wait;
 ///
 /// The tickets in hand stay there, in front of those of the round; if the hand has no room for a ticket of each slot and 512
 /// more, the round ends there. Then it asks once for reports and delivers them ([`deliver`]); it waits for them only if no
-/// ticket is in hand and no connection can be accepted now. If at least the idle limit has passed since the last sweep, or since the poller began,
-/// it makes one: it posts a note at each slot in which it has opened a connection, in rising order. Without a limit none
-/// is made. While connections may be waiting and a slot is free, it accepts and opens them, with
+/// sweep is due, no ticket is in hand and no connection can be accepted now. A sweep is due if at the second of the round before at
+/// least the idle limit had passed since the last sweep, or since the poller began: it posts a note at each slot in which it has opened
+/// a connection, in rising order. Without a limit none is made. Then it reads its second. While connections may be waiting and a slot is free, it accepts and opens them, with
 /// at most 4 calls of accept(2).
 ///
 /// Once all connections that the poller may open were opened, its front no longer listens.
@@ -62,8 +62,8 @@ pub fn poller_round<F: Front, C: Clock, R: Wait + Log>(
     ensures round { result ≢ Err ServerFault.Worn → RoundDone poller.old poller.new own.old own.new }
     ensures batch { result ≢ Err ServerFault.Worn → EndedEarly shared.now.claims.words own.new ⊎ (poller.new.batch ≡ poller.new.reported) }
     ensures told { OnOk result (EndedEarly shared.now.claims.words own.new ⊎ C.tells timing.now.clock.now poller.new.second) }
-    ensures swept { OnOk result (EndedEarly shared.now.claims.words own.new ⊎ (poller.new.swept ≡ swept_after timing.now.limit poller.new.second poller.old.swept)) }
-    ensures unswept { (poller.new.swept ≡ poller.old.swept) ⊎ (poller.new.swept ≡ swept_after timing.now.limit poller.new.second poller.old.swept) }
+    ensures swept { OnOk result (EndedEarly shared.now.claims.words own.new ⊎ (poller.new.swept ≡ swept_after timing.now.limit poller.old.second poller.old.swept)) }
+    ensures unswept { (poller.new.swept ≡ poller.old.swept) ⊎ (poller.new.swept ≡ swept_after timing.now.limit poller.old.second poller.old.swept) }
     ensures accepted { OnOk result (EndedEarly shared.now.claims.words own.new ⊎ AcceptEnded poller.new own.new) }
     ensures over { OnOk result (poller.new.over ≡ true → (poller.old.over ≡ true) ⊎ IsOver poller.new own.new) }
     ensures listens { ListenerKept poller.old poller.new }
@@ -79,9 +79,9 @@ pub fn poller_round<F: Front, C: Clock, R: Wait + Log>(
     if !begin(&own.hand, poller, shared.claims.slots()) {
         return Ok(());
     }
-    look(rt, own, poller)?;
+    look(rt, own, poller, timing.limit)?;
     deliver_batch(shared, own, poller)?;
-    sweep_if_due(shared, own, poller, timing)?;
+    keep_time(shared, own, poller, timing)?;
     accept(rt, alloc, shared, own, poller)?;
     take_back(rt, own, poller);
     Ok(())
@@ -97,11 +97,12 @@ fn begin<F: Front>(hand: &Hand, poller: &mut Poller<F>, slots: usize) -> bool
     room >= ROUND_ROOM && room - ROUND_ROOM >= slots
 }
 
-/// Takes the reports. It waits for them, unless a ticket is in hand or a connection can be accepted now.
+/// Takes the reports. It waits for them, unless a sweep is due, a ticket is in hand, or a connection can be accepted now.
 fn look<F: Front, R: Wait + Log>(
     rt: &R,
     own: &mut Own,
     poller: &mut Poller<F>,
+    limit: u64,
 ) -> Result<(), ServerFault>
     requires room { 1 ≤ ticket_room own.old.hand }
     ensures took { OnlyTook own.old own.new }
@@ -110,30 +111,33 @@ fn look<F: Front, R: Wait + Log>(
     ensures failed { IfErr result (λ fault. (fault ≡ ServerFault.Poll) × (poller.new.failed ≡ true) × (poller.new.batch ≡ [])) }
     ensures few { length poller.new.batch ≤ 256 }
 {
-    let wait = may_wait(rt, own, poller);
-    poll(rt, own, poller, wait)
+    let wait = may_wait(rt, own, poller, limit);
+    poll(rt, own, poller, limit, wait)
 }
 
 /// Whether the poller may wait for reports.
-fn may_wait<F: Front, R: Wait>(rt: &R, own: &mut Own, poller: &Poller<F>) -> bool
+fn may_wait<F: Front, R: Wait>(rt: &R, own: &mut Own, poller: &Poller<F>, limit: u64) -> bool
     requires room { 1 ≤ ticket_room own.old.hand }
     ensures took { OnlyTook own.old own.new }
-    ensures reason { result ≡ true → MayWait poller.now own.new }
-    ensures haste { result ≡ false → MayNotWait poller.now own.new }
+    ensures reason { result ≡ true → MayWait limit poller.now own.new }
+    ensures haste { result ≡ false → MayNotWait limit poller.now own.new }
 {
-    own.hand.tickets() == 0 && (poller.is_starved() || !may_accept(rt, own, poller))
+    !is_due(poller, limit)
+        && own.hand.tickets() == 0
+        && (poller.is_starved() || !may_accept(rt, own, poller))
 }
 
-/// Asks for reports. After a signal the batch is empty. While it waits no ticket is in hand, and no connection is to be
-/// accepted, unless the system lacked what accept(2) needs.
+/// Asks for reports. After a signal the batch is empty. While it waits no sweep is due, no ticket is in hand, and no connection is
+/// to be accepted, unless the system lacked what accept(2) needs.
 fn poll<F: Front, R: Log>(
     rt: &R,
     _own: &Own,
     poller: &mut Poller<F>,
+    _limit: u64,
     wait: bool,
 ) -> Result<(), ServerFault>
-    requires wait { wait ≡ true → MayWait poller.old _own.now }
-    requires haste { wait ≡ false → MayNotWait poller.old _own.now }
+    requires wait { wait ≡ true → MayWait _limit poller.old _own.now }
+    requires haste { wait ≡ false → MayNotWait _limit poller.old _own.now }
     ensures same { poller.new ≡ record poller.old { reported = poller.new.reported; failed = poller.new.failed; batch = poller.new.batch } }
     ensures batch { poller.new.batch ≡ poller.new.reported }
     ensures failed { OnErr result ((poller.new.failed ≡ true) × (poller.new.batch ≡ [])) }

@@ -2,23 +2,22 @@
 ghost use Rattle.std.specs.Prelude.{◌≡◌, ◌⊎◌, ◌^◌, ◌<◌, ◌≤◌, length, IfErr, OnErr, OnOk, sum_by};
 ghost use Rattle.claims.specs.Views.{posted_of};
 ghost use Rattle.claims.specs.Seats.{HoldsNothing};
-ghost use Rattle.relay_core.specs.Idle.{is_past};
 ghost use Rattle.rounds.specs.Deliveries.{ArePosted};
 ghost use Rattle.dispatch.specs.Hands.{ticket_room};
 ghost use Rattle.rounds.specs.Openings.{AreIn, Between};
 ghost use Rattle.dispatch.specs.Posts.{OnlyWorn};
-ghost use Rattle.rounds.specs.Sweeps.{all_opened, opened_in, swept_after, sweep_of};
+ghost use Rattle.rounds.specs.Sweeps.{all_opened, is_due, opened_in, swept_after, sweep_of};
 
 use crate::delivering::post_note;
 use claims::{ClaimSeat, Claims};
 use dispatch::{Clock, Front, Hand, Own, Poller, Shared, Timing};
-use engine::Moment;
 use ready::Ticket;
 use relay_log::ServerFault;
 
-/// Reads the second of the round, and makes a sweep if the idle limit has passed since the last one. The poller opened
-/// no connection in the slots of another one, and posts none there.
-pub(crate) fn sweep_if_due<F: Front, C: Clock>(
+/// Makes a sweep if one is due, and reads the second of the round. The next round's sweep goes by that second, and this one's by
+/// the one before, so a round has asked for reports since: whatever came while the relay was stopped (SIGSTOP, a paused machine) is a
+/// note before a sweep says that the limit has passed.
+pub(crate) fn keep_time<F: Front, C: Clock>(
     shared: &Shared<F>,
     own: &mut Own,
     poller: &mut Poller<F>,
@@ -28,18 +27,40 @@ pub(crate) fn sweep_if_due<F: Front, C: Clock>(
     requires room { length poller.old.table ≤ ticket_room own.old.hand }
     ensures between { Between shared.now.claims own.new poller.new }
     ensures poller { poller.new ≡ record poller.old { second = poller.new.second; swept = poller.new.swept } }
-    ensures told { C.tells timing.now.clock.now poller.new.second }
+    ensures told { OnOk result (C.tells timing.now.clock.now poller.new.second) }
     ensures worn { IfErr result (λ fault. OnlyWorn fault own.new.seat) }
     ensures posted { OnOk result (ArePosted (sweep_of poller.old poller.new) own.old.seat own.new.seat own.old.hand own.new.hand) }
-    ensures swept { OnOk result (poller.new.swept ≡ swept_after timing.now.limit poller.new.second poller.old.swept) }
+    ensures swept { OnOk result (poller.new.swept ≡ swept_after timing.now.limit poller.old.second poller.old.swept) }
     ensures unswept { OnErr result (poller.new.swept ≡ poller.old.swept) }
     ensures own { AreIn poller.old.part (sweep_of poller.old poller.new) }
     ensures ready { own.new.ready ≡ own.old.ready }
     ensures free { own.new.free ≡ own.old.free }
 {
-    let moment = timing.moment();
-    poller.set_second(moment.second);
-    if !has_passed(moment, poller.swept()) {
+    sweep_if_due(shared, own, poller, timing.limit)?;
+    poller.set_second(timing.moment().second);
+    Ok(())
+}
+
+/// Makes a sweep if one is due. The poller opened no connection in the slots of another one, and posts none there.
+fn sweep_if_due<F: Front>(
+    shared: &Shared<F>,
+    own: &mut Own,
+    poller: &mut Poller<F>,
+    limit: u64,
+) -> Result<(), ServerFault>
+    requires between { Between shared.now.claims own.old poller.old }
+    requires room { length poller.old.table ≤ ticket_room own.old.hand }
+    ensures between { Between shared.now.claims own.new poller.new }
+    ensures poller { poller.new ≡ record poller.old { swept = poller.new.swept } }
+    ensures worn { IfErr result (λ fault. OnlyWorn fault own.new.seat) }
+    ensures posted { OnOk result (ArePosted (sweep_of poller.old poller.new) own.old.seat own.new.seat own.old.hand own.new.hand) }
+    ensures swept { OnOk result (poller.new.swept ≡ swept_after limit poller.old.second poller.old.swept) }
+    ensures unswept { OnErr result (poller.new.swept ≡ poller.old.swept) }
+    ensures own { AreIn poller.old.part (sweep_of poller.old poller.new) }
+    ensures ready { own.new.ready ≡ own.old.ready }
+    ensures free { own.new.free ≡ own.old.free }
+{
+    if !is_due(poller, limit) {
         return Ok(());
     }
     sweep(&shared.claims, &mut own.seat, poller.table(), &mut own.hand)?;
@@ -47,11 +68,12 @@ pub(crate) fn sweep_if_due<F: Front, C: Clock>(
     Ok(())
 }
 
-/// Whether the limit, if there is one, has passed since that second.
-fn has_passed(moment: Moment, last: u64) -> bool
-    ensures { result ≡ is_past moment.second moment.limit last }
+/// Whether a sweep is due: at the second of the last round the limit, if there is one, had passed since the last sweep.
+pub(crate) fn is_due<F: Front>(poller: &Poller<F>, limit: u64) -> bool
+    ensures { result ≡ is_due limit poller.now }
 {
-    moment.limit > 0 && moment.second >= last && moment.second - last >= moment.limit
+    let (second, last) = (poller.second(), poller.swept());
+    limit > 0 && second >= last && second - last >= limit
 }
 
 /// Posts a note at each slot in which a connection was opened, in rising order.

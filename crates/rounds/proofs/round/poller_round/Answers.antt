@@ -93,8 +93,8 @@ returns-in_err-deliver_batch g c =
       refused = passed_up c.from_residual-in_err-deliver_batch.result c.in_err-deliver_batch.field-0.0 _ failed (inr c.in_err-deliver_batch.ensures.worn);
     }
 
-pub sweep_if_due-requires-clause-room : goal.sweep_if_due-requires-clause-room
-sweep_if_due-requires-clause-room g c =
+pub keep_time-requires-clause-room : goal.keep_time-requires-clause-room
+keep_time-requires-clause-room g c =
     let few = few_tickets c.in_ok-deliver_batch.ensures.delivered in
     let same = capacity_kept c.in_ok-deliver_batch.ensures.delivered in
     let reported = reported_le c.look.new.poller.table c.look.new.poller.batch in
@@ -104,31 +104,31 @@ sweep_if_due-requires-clause-room g c =
     let sized = c.deliver_batch.ensures.between.sized in
     omega arith
 
-pub returns-in_err-sweep_if_due : goal.returns-in_err-sweep_if_due
-returns-in_err-sweep_if_due g c =
+pub returns-in_err-keep_time : goal.returns-in_err-keep_time
+returns-in_err-keep_time g c =
     let looked : SameTable c.args.poller.now c.look.new.poller = looked_is c.begin.ensures.poller c.look.ensures.poller in
-    let same = swept_lasts (delivered_lasts (looked_lasts c.args.poller.now c.begin.new.poller c.look.new.poller c.begin.ensures.poller c.look.ensures.poller) c.deliver_batch.ensures.poller) c.sweep_if_due.ensures.poller in
-    let failed = c.from_residual-in_err-sweep_if_due.ensures.1 in
+    let same = swept_lasts (delivered_lasts (looked_lasts c.args.poller.now c.begin.new.poller c.look.new.poller c.begin.ensures.poller c.look.ensures.poller) c.deliver_batch.ensures.poller) c.keep_time.ensures.poller in
+    let failed = c.from_residual-in_err-keep_time.ensures.1 in
     record {
-      same = c.sweep_if_due.ensures.between.same ∙ sym c.requires.same;
-      idle = c.sweep_if_due.ensures.between.idle;
-      sized = c.sweep_if_due.ensures.between.sized ∙ sym c.requires.sized;
-      round = but_worn c.from_residual-in_err-sweep_if_due.result c.in_err-sweep_if_due.field-0.0 failed c.in_err-sweep_if_due.ensures.worn.0;
-      batch = but_worn c.from_residual-in_err-sweep_if_due.result c.in_err-sweep_if_due.field-0.0 failed c.in_err-sweep_if_due.ensures.worn.0;
-      told = not_ok c.from_residual-in_err-sweep_if_due.result _ c.from_residual-in_err-sweep_if_due.ensures.0;
-      swept = not_ok c.from_residual-in_err-sweep_if_due.result _ c.from_residual-in_err-sweep_if_due.ensures.0;
-      unswept = inl (c.in_err-sweep_if_due.ensures.unswept ∙ ap (λ (s : PollerState). s.swept) c.deliver_batch.ensures.poller ∙ looked.swept);
-      accepted = not_ok c.from_residual-in_err-sweep_if_due.result _ c.from_residual-in_err-sweep_if_due.ensures.0;
-      over = not_ok c.from_residual-in_err-sweep_if_due.result _ c.from_residual-in_err-sweep_if_due.ensures.0;
+      same = c.keep_time.ensures.between.same ∙ sym c.requires.same;
+      idle = c.keep_time.ensures.between.idle;
+      sized = c.keep_time.ensures.between.sized ∙ sym c.requires.sized;
+      round = but_worn c.from_residual-in_err-keep_time.result c.in_err-keep_time.field-0.0 failed c.in_err-keep_time.ensures.worn.0;
+      batch = but_worn c.from_residual-in_err-keep_time.result c.in_err-keep_time.field-0.0 failed c.in_err-keep_time.ensures.worn.0;
+      told = not_ok c.from_residual-in_err-keep_time.result _ c.from_residual-in_err-keep_time.ensures.0;
+      swept = not_ok c.from_residual-in_err-keep_time.result _ c.from_residual-in_err-keep_time.ensures.0;
+      unswept = inl (c.in_err-keep_time.ensures.unswept ∙ ap (λ (s : PollerState). s.swept) c.deliver_batch.ensures.poller ∙ looked.swept);
+      accepted = not_ok c.from_residual-in_err-keep_time.result _ c.from_residual-in_err-keep_time.ensures.0;
+      over = not_ok c.from_residual-in_err-keep_time.result _ c.from_residual-in_err-keep_time.ensures.0;
       listens = inl (same.listening);
-      closed = not_ok c.from_residual-in_err-sweep_if_due.result _ c.from_residual-in_err-sweep_if_due.ensures.0;
-      ended = not_ok c.from_residual-in_err-sweep_if_due.result _ c.from_residual-in_err-sweep_if_due.ensures.0;
-      told_drops = not_ok c.from_residual-in_err-sweep_if_due.result _ c.from_residual-in_err-sweep_if_due.ensures.0;
+      closed = not_ok c.from_residual-in_err-keep_time.result _ c.from_residual-in_err-keep_time.ensures.0;
+      ended = not_ok c.from_residual-in_err-keep_time.result _ c.from_residual-in_err-keep_time.ensures.0;
+      told_drops = not_ok c.from_residual-in_err-keep_time.result _ c.from_residual-in_err-keep_time.ensures.0;
       opening = same.opening;
       most = same.most;
       heavy = same.heavy;
-      took = ap (λ (q : EndState Ticket). q.history.taken) (c.sweep_if_due.ensures.ready ∙ c.deliver_batch.ensures.ready ∙ c.look.ensures.took.ready);
-      refused = passed_up c.from_residual-in_err-sweep_if_due.result c.in_err-sweep_if_due.field-0.0 _ failed (inr c.in_err-sweep_if_due.ensures.worn);
+      took = ap (λ (q : EndState Ticket). q.history.taken) (c.keep_time.ensures.ready ∙ c.deliver_batch.ensures.ready ∙ c.look.ensures.took.ready);
+      refused = passed_up c.from_residual-in_err-keep_time.result c.in_err-keep_time.field-0.0 _ failed (inr c.in_err-keep_time.ensures.worn);
     }
 
 pub accept-requires-clause-room : goal.accept-requires-clause-room
@@ -140,15 +140,15 @@ accept-requires-clause-room g c =
     let room = c.begin.ensures.room.0 c.if-not-begin.false in
     let looked = room_same c.args.own.now c.look.new.own c.look.ensures.took in
     let sized = c.deliver_batch.ensures.between.sized in
-    let roused = few_tickets c.in_ok-sweep_if_due.ensures.posted in
-    let still = capacity_kept c.in_ok-sweep_if_due.ensures.posted in
-    let slots = few_sweep c.deliver_batch.new.poller c.sweep_if_due.new.poller in
+    let roused = few_tickets c.in_ok-keep_time.ensures.posted in
+    let still = capacity_kept c.in_ok-keep_time.ensures.posted in
+    let slots = few_sweep c.deliver_batch.new.poller c.keep_time.new.poller in
     omega arith
 
 pub returns-in_err-accept : goal.returns-in_err-accept
 returns-in_err-accept g c =
     let looked : SameTable c.args.poller.now c.look.new.poller = looked_is c.begin.ensures.poller c.look.ensures.poller in
-    let same = accepted_lasts (swept_lasts (delivered_lasts (looked_lasts c.args.poller.now c.begin.new.poller c.look.new.poller c.begin.ensures.poller c.look.ensures.poller) c.deliver_batch.ensures.poller) c.sweep_if_due.ensures.poller) c.accept.ensures.poller in
+    let same = accepted_lasts (swept_lasts (delivered_lasts (looked_lasts c.args.poller.now c.begin.new.poller c.look.new.poller c.begin.ensures.poller c.look.ensures.poller) c.deliver_batch.ensures.poller) c.keep_time.ensures.poller) c.accept.ensures.poller in
     let failed = c.from_residual-in_err-accept.ensures.1 in
     record {
       same = c.accept.ensures.between.same ∙ sym c.requires.same;
@@ -158,11 +158,11 @@ returns-in_err-accept g c =
       batch = but_worn c.from_residual-in_err-accept.result c.in_err-accept.field-0.0 failed c.in_err-accept.ensures.worn.0;
       told = not_ok c.from_residual-in_err-accept.result _ c.from_residual-in_err-accept.ensures.0;
       swept = not_ok c.from_residual-in_err-accept.result _ c.from_residual-in_err-accept.ensures.0;
-      unswept = inr (swept_is c.args.timing.now.limit c.args.poller.now c.deliver_batch.new.poller c.sweep_if_due.new.poller c.accept.new.poller
+      unswept = inr (swept_is c.args.timing.now.limit c.args.poller.now c.deliver_batch.new.poller c.keep_time.new.poller c.accept.new.poller
+          (ap (λ (s : PollerState). s.second) c.deliver_batch.ensures.poller ∙ looked.second)
           (ap (λ (s : PollerState). s.swept) c.deliver_batch.ensures.poller ∙ looked.swept)
-          c.in_ok-sweep_if_due.ensures.swept
-          (ap (λ (s : PollerState). s.swept) c.accept.ensures.poller)
-          (ap (λ (s : PollerState). s.second) c.accept.ensures.poller));
+          c.in_ok-keep_time.ensures.swept
+          (ap (λ (s : PollerState). s.swept) c.accept.ensures.poller));
       accepted = not_ok c.from_residual-in_err-accept.result _ c.from_residual-in_err-accept.ensures.0;
       over = not_ok c.from_residual-in_err-accept.result _ c.from_residual-in_err-accept.ensures.0;
       listens = inl (same.listening);
@@ -172,20 +172,20 @@ returns-in_err-accept g c =
       opening = same.opening;
       most = same.most;
       heavy = same.heavy;
-      took = ap (λ (q : EndState Ticket). q.history.taken) (c.accept.ensures.ready ∙ c.sweep_if_due.ensures.ready ∙ c.deliver_batch.ensures.ready ∙ c.look.ensures.took.ready);
+      took = ap (λ (q : EndState Ticket). q.history.taken) (c.accept.ensures.ready ∙ c.keep_time.ensures.ready ∙ c.deliver_batch.ensures.ready ∙ c.look.ensures.took.ready);
       refused = passed_up c.from_residual-in_err-accept.result c.in_err-accept.field-0.0 _ failed (inr c.in_err-accept.ensures.worn);
     }
 
 pub returns : goal.returns
 returns g c =
     let looked : SameTable c.args.poller.now c.look.new.poller = looked_is c.begin.ensures.poller c.look.ensures.poller in
-    let same = accepted_lasts (swept_lasts (delivered_lasts (looked_lasts c.args.poller.now c.begin.new.poller c.look.new.poller c.begin.ensures.poller c.look.ensures.poller) c.deliver_batch.ensures.poller) c.sweep_if_due.ensures.poller) c.accept.ensures.poller in
+    let same = accepted_lasts (swept_lasts (delivered_lasts (looked_lasts c.args.poller.now c.begin.new.poller c.look.new.poller c.begin.ensures.poller c.look.ensures.poller) c.deliver_batch.ensures.poller) c.keep_time.ensures.poller) c.accept.ensures.poller in
     let second = ap (λ (s : PollerState). s.second) c.take_back.ensures.poller ∙ ap (λ (s : PollerState). s.second) c.accept.ensures.poller in
-    let swept = swept_is c.args.timing.now.limit c.args.poller.now c.deliver_batch.new.poller c.sweep_if_due.new.poller c.take_back.new.poller
+    let swept = swept_is c.args.timing.now.limit c.args.poller.now c.deliver_batch.new.poller c.keep_time.new.poller c.take_back.new.poller
+    (ap (λ (s : PollerState). s.second) c.deliver_batch.ensures.poller ∙ looked.second)
     (ap (λ (s : PollerState). s.swept) c.deliver_batch.ensures.poller ∙ looked.swept)
-    c.in_ok-sweep_if_due.ensures.swept
-    (ap (λ (s : PollerState). s.swept) c.take_back.ensures.poller ∙ ap (λ (s : PollerState). s.swept) c.accept.ensures.poller)
-    (second) in
+    c.in_ok-keep_time.ensures.swept
+    (ap (λ (s : PollerState). s.swept) c.take_back.ensures.poller ∙ ap (λ (s : PollerState). s.swept) c.accept.ensures.poller) in
     let flags : SamePoller c.accept.new.poller c.take_back.new.poller = record {
       table = ap (λ (s : PollerState). s.table) c.take_back.ensures.poller;
       opened = ap (λ (s : PollerState). s.opened) c.take_back.ensures.poller;
@@ -197,8 +197,8 @@ returns g c =
       same = ap (λ (s : SeatState). s.table) c.take_back.ensures.took.seat ∙ c.accept.ensures.between.same ∙ sym c.requires.same;
       idle = subst (λ (s : SeatState). HoldsNothing s) (sym c.take_back.ensures.took.seat) c.accept.ensures.between.idle;
       sized = ap (λ (s : PollerState). length s.table) c.take_back.ensures.poller ∙ c.accept.ensures.between.sized ∙ sym c.requires.sized;
-      round = λ _. round_of c.args.poller.now c.look.new.poller c.deliver_batch.new.poller c.sweep_if_due.new.poller c.take_back.new.poller
-          c.args.own.now c.look.new.own c.deliver_batch.new.own c.sweep_if_due.new.own c.take_back.new.own
+      round = λ _. round_of c.args.poller.now c.look.new.poller c.deliver_batch.new.poller c.keep_time.new.poller c.take_back.new.poller
+          c.args.own.now c.look.new.own c.deliver_batch.new.own c.keep_time.new.own c.take_back.new.own
           looked
           c.look.ensures.took
           c.in_ok-deliver_batch.ensures.delivered
@@ -213,21 +213,21 @@ returns g c =
             part = ap (λ (s : PollerState). s.part) c.deliver_batch.ensures.poller;
           })
           (ap (λ (s : PollerState). s.swept) c.deliver_batch.ensures.poller)
-          c.in_ok-sweep_if_due.ensures.posted
-          c.sweep_if_due.ensures.ready
-          c.sweep_if_due.ensures.free
-          c.sweep_if_due.ensures.own
+          c.in_ok-keep_time.ensures.posted
+          c.keep_time.ensures.ready
+          c.keep_time.ensures.free
+          c.keep_time.ensures.own
           (record {
-            table = ap (λ (s : PollerState). s.table) c.sweep_if_due.ensures.poller;
-            opened = ap (λ (s : PollerState). s.opened) c.sweep_if_due.ensures.poller;
-            lost = ap (λ (s : PollerState). s.lost) c.sweep_if_due.ensures.poller;
-            batch = ap (λ (s : PollerState). s.batch) c.sweep_if_due.ensures.poller;
-            part = ap (λ (s : PollerState). s.part) c.sweep_if_due.ensures.poller;
+            table = ap (λ (s : PollerState). s.table) c.keep_time.ensures.poller;
+            opened = ap (λ (s : PollerState). s.opened) c.keep_time.ensures.poller;
+            lost = ap (λ (s : PollerState). s.lost) c.keep_time.ensures.poller;
+            batch = ap (λ (s : PollerState). s.batch) c.keep_time.ensures.poller;
+            part = ap (λ (s : PollerState). s.part) c.keep_time.ensures.poller;
           })
           (accept_both c.in_ok-accept.ensures.done (accept_took c.accept.new.poller c.take_back.new.poller c.accept.new.own c.take_back.new.own flags c.take_back.ensures.took))
           (ap (λ (s : PollerState). s.swept) c.take_back.ensures.poller ∙ ap (λ (s : PollerState). s.swept) c.accept.ensures.poller);
-      batch = λ _. inr (still_read c.look.new.poller c.deliver_batch.new.poller c.sweep_if_due.new.poller c.accept.new.poller c.take_back.new.poller c.look.ensures.batch c.deliver_batch.ensures.poller c.sweep_if_due.ensures.poller c.accept.ensures.poller c.take_back.ensures.poller);
-      told = inr (subst (λ (n : ℕ). g.C.Clock.tells c.args.timing.now.clock.now n) (sym second) c.sweep_if_due.ensures.told);
+      batch = λ _. inr (still_read c.look.new.poller c.deliver_batch.new.poller c.keep_time.new.poller c.accept.new.poller c.take_back.new.poller c.look.ensures.batch c.deliver_batch.ensures.poller c.keep_time.ensures.poller c.accept.ensures.poller c.take_back.ensures.poller);
+      told = inr (subst (λ (n : ℕ). g.C.Clock.tells c.args.timing.now.clock.now n) (sym second) c.in_ok-keep_time.ensures.told);
       swept = inr swept;
       unswept = inr swept;
       accepted = inr (ended_still c.accept.new.poller c.take_back.new.poller c.accept.new.own c.take_back.new.own
@@ -241,7 +241,7 @@ returns g c =
       opening = ap (λ (s : PollerState). s.opening) c.take_back.ensures.poller ∙ same.opening;
       most = ap (λ (s : PollerState). s.most) c.take_back.ensures.poller ∙ same.most;
       heavy = ap (λ (s : PollerState). s.heavy) c.take_back.ensures.poller ∙ same.heavy;
-      took = ap (λ (q : EndState Ticket). q.history.taken) (c.take_back.ensures.took.ready ∙ c.accept.ensures.ready ∙ c.sweep_if_due.ensures.ready ∙ c.deliver_batch.ensures.ready ∙ c.look.ensures.took.ready);
+      took = ap (λ (q : EndState Ticket). q.history.taken) (c.take_back.ensures.took.ready ∙ c.accept.ensures.ready ∙ c.keep_time.ensures.ready ∙ c.deliver_batch.ensures.ready ∙ c.look.ensures.took.ready);
       refused = tt;
     }
 
@@ -257,8 +257,8 @@ deliver_batch-requires g c =
       room = omega arith;
     }
 
-pub sweep_if_due-requires-clause-between : goal.sweep_if_due-requires-clause-between
-sweep_if_due-requires-clause-between g c = c.deliver_batch.ensures.between
+pub keep_time-requires-clause-between : goal.keep_time-requires-clause-between
+keep_time-requires-clause-between g c = c.deliver_batch.ensures.between
 
 pub accept-requires-clause-between : goal.accept-requires-clause-between
-accept-requires-clause-between g c = c.sweep_if_due.ensures.between
+accept-requires-clause-between g c = c.keep_time.ensures.between
