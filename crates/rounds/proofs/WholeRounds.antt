@@ -52,7 +52,7 @@ begun_is same = record {
   swept = ap (λ (s : PollerState). s.swept) same;
 }
 
-pub looked_is : {p q r : PollerState} → q ≡ record p { batch = [] } → r ≡ record q { reported = r.reported; failed = r.failed; batch = r.batch } → SameTable p r
+pub looked_is : {p q r : PollerState} → q ≡ record p { batch = [] } → r ≡ record q { listening = r.listening; reported = r.reported; failed = r.failed; batch = r.batch } → SameTable p r
 looked_is begun looked = record {
   table = ap (λ (s : PollerState). s.table) looked ∙ ap (λ (s : PollerState). s.table) begun;
   opened = ap (λ (s : PollerState). s.opened) looked ∙ ap (λ (s : PollerState). s.opened) begun;
@@ -178,21 +178,29 @@ ended_still p q a b ended is left = by_count (cases_lt p.opened p.most) where
       subst (λ (s : PollerState). AcceptEnded s b) (sym same.1) (subst (λ (o : Own). AcceptEnded p o) (sym same.0) ended)
   by_count (inr all) = inl (inr (inr (inr (subst (λ (s : PollerState). HasOpenedAll s) (sym is) all))))
 
--- what the steps of a round leave as it is: the last two only its end may change
+-- the front listens as before, unless all was opened before
+abbrev pub Listens : PollerState → PollerState → Type 0
+Listens old new = (new.listening ≡ old.listening) ⊎ (HasOpenedAll old × (new.listening ≡ false))
+
+pub kept : (p q : PollerState) → Listens p q → ListenerKept p q
+kept p q (inl same) = inl same
+kept p q (inr closed) = inr (inl closed.0, closed.1)
+
+-- what the steps of a round leave as it is, but that a front may listen no longer; the end of a round may change the last two
 pub record Lasting (old new : PollerState) : Type 0 where
   pub opening : new.opening ≡ old.opening
   pub most : new.most ≡ old.most
   pub heavy : new.heavy ≡ old.heavy
   pub over : new.over ≡ old.over
-  pub listening : new.listening ≡ old.listening
+  pub listening : Listens old new
 
-pub looked_lasts : (p q r : PollerState) → q ≡ record p { batch = [] } → r ≡ record q { reported = r.reported; failed = r.failed; batch = r.batch } → Lasting p r
-looked_lasts p q r begun looked = record {
+pub looked_lasts : (p q r : PollerState) → q ≡ record p { batch = [] } → r ≡ record q { listening = r.listening; reported = r.reported; failed = r.failed; batch = r.batch } → Listens q r → Lasting p r
+looked_lasts p q r begun looked listens = record {
   opening = ap (λ (s : PollerState). s.opening) looked ∙ ap (λ (s : PollerState). s.opening) begun;
   most = ap (λ (s : PollerState). s.most) looked ∙ ap (λ (s : PollerState). s.most) begun;
   heavy = ap (λ (s : PollerState). s.heavy) looked ∙ ap (λ (s : PollerState). s.heavy) begun;
   over = ap (λ (s : PollerState). s.over) looked ∙ ap (λ (s : PollerState). s.over) begun;
-  listening = ap (λ (s : PollerState). s.listening) looked ∙ ap (λ (s : PollerState). s.listening) begun;
+  listening = subst (λ (s : PollerState). Listens s r) begun listens;
 }
 
 pub delivered_lasts : {p q r : PollerState} → Lasting p q → r ≡ record q { accepting = r.accepting } → Lasting p r
@@ -228,11 +236,11 @@ over_before same (inl over) = inl (sym same ∙ over)
 over_before same (inr now) = inr now
 
 -- the front listens as before, since it ends only once all connections were opened
-pub listens_still : (p q r : PollerState) (a b : Own) → q.listening ≡ p.listening → r ≡ record q { listening = r.listening; over = r.over }
+pub listens_still : (p q r : PollerState) (a b : Own) → Listens p q → r ≡ record q { listening = r.listening; over = r.over }
     → ((HasOpenedAll q → ⊥) → (b ≡ a) × (r ≡ q)) → ListensToOpen r → ListenerKept p r
 listens_still p q r a b same is left closed = by_count (cases_lt q.opened q.most) where
   by_count : (q.opened < q.most) ⊎ (q.most ≤ q.opened) → ListenerKept p r
-  by_count (inl some) = inl (ap (λ (s : PollerState). s.listening) (left (λ all. omega (arith, some, all))).1 ∙ same)
+  by_count (inl some) = kept p r (subst (λ (s : PollerState). Listens p s) (sym (left (λ all. omega (arith, some, all))).1) same)
   by_count (inr all) =
       let all_then : HasOpenedAll r = subst (λ (s : PollerState). HasOpenedAll s) (sym is) all in
-      inr (all_then, closed all_then)
+      inr (inr all_then, closed all_then)

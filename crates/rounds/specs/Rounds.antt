@@ -44,9 +44,9 @@ pub record NoSlot (own : Own) : Type 0 where
   pub hand : own.hand.slots ≡ []
   pub queue : HeldOnce 0 own.free.history
 
--- the front listens as before, or no longer: then all connections that the poller may open were opened
+-- the front listens as before, or no longer: then all connections that the poller may open were opened, before or now
 abbrev pub ListenerKept : PollerState → PollerState → Type 0
-ListenerKept old new = (new.listening ≡ old.listening) ⊎ (HasOpenedAll new × (new.listening ≡ false))
+ListenerKept old new = (new.listening ≡ old.listening) ⊎ ((HasOpenedAll old ⊎ HasOpenedAll new) × (new.listening ≡ false))
 
 -- once all connections that the poller may open were opened, its front does not listen
 abbrev pub ListensToOpen : PollerState → Type 0

@@ -36,7 +36,8 @@ use std::sync::Wait;
 /// a connection, in rising order. Without a limit none is made. Then it reads its second. While connections may be waiting and a slot is free, it accepts and opens them, with
 /// at most 4 calls of accept(2).
 ///
-/// Once all connections that the poller may open were opened, its front no longer listens.
+/// Once all connections that the poller may open were opened, its front no longer listens: neither at the round's end, nor while it
+/// asks for reports, where that was so before.
 ///
 /// An opened connection has the slot's next generation, one note and one ticket, and is logged. A connection whose
 /// opening fails is closed and logged or counted, and its slot is as it was, and in hand. At its end the log is told of what is
@@ -97,7 +98,7 @@ fn begin<F: Front>(hand: &Hand, poller: &mut Poller<F>, slots: usize) -> bool
     room >= ROUND_ROOM && room - ROUND_ROOM >= slots
 }
 
-/// Takes the reports. It waits for them, unless a sweep is due, a ticket is in hand, or a connection can be accepted now.
+/// Takes the reports, with a front that listens no longer where no connection is to be opened. It waits for them, unless a sweep is due, a ticket is in hand, or a connection can be accepted now.
 fn look<F: Front, R: Wait + Log>(
     rt: &R,
     own: &mut Own,
@@ -106,13 +107,26 @@ fn look<F: Front, R: Wait + Log>(
 ) -> Result<(), ServerFault>
     requires room { 1 ≤ ticket_room own.old.hand }
     ensures took { OnlyTook own.old own.new }
-    ensures poller { poller.new ≡ record poller.old { reported = poller.new.reported; failed = poller.new.failed; batch = poller.new.batch } }
+    ensures poller { poller.new ≡ record poller.old { listening = poller.new.listening; reported = poller.new.reported; failed = poller.new.failed; batch = poller.new.batch } }
+    ensures listens { (poller.new.listening ≡ poller.old.listening) ⊎ (HasOpenedAll poller.old × (poller.new.listening ≡ false)) }
     ensures batch { poller.new.batch ≡ poller.new.reported }
     ensures failed { IfErr result (λ fault. (fault ≡ ServerFault.Poll) × (poller.new.failed ≡ true) × (poller.new.batch ≡ [])) }
     ensures few { length poller.new.batch ≤ 256 }
 {
+    listen_to_open(poller);
     let wait = may_wait(rt, own, poller, limit);
     poll(rt, own, poller, limit, wait)
+}
+
+/// Once all connections that it may open have been opened, the poller's front listens no longer.
+fn listen_to_open<F: Front>(poller: &mut Poller<F>)
+    ensures poller { poller.new ≡ record poller.old { listening = poller.new.listening } }
+    ensures listens { (poller.new.listening ≡ poller.old.listening) ⊎ (HasOpenedAll poller.old × (poller.new.listening ≡ false)) }
+    ensures closed { ListensToOpen poller.new }
+{
+    if poller.has_opened_all() {
+        poller.stop_listening();
+    }
 }
 
 /// Whether the poller may wait for reports.
@@ -127,7 +141,7 @@ fn may_wait<F: Front, R: Wait>(rt: &R, own: &mut Own, poller: &Poller<F>, limit:
         && (poller.is_starved() || !may_accept(rt, own, poller))
 }
 
-/// Asks for reports. After a signal the batch is empty. While it waits no sweep is due, no ticket is in hand, and no connection is
+/// Asks for reports, with a front that does not listen where all was opened. After a signal the batch is empty. While it waits no sweep is due, no ticket is in hand, and no connection is
 /// to be accepted, unless the system lacked what accept(2) needs.
 fn poll<F: Front, R: Log>(
     rt: &R,
@@ -138,6 +152,7 @@ fn poll<F: Front, R: Log>(
 ) -> Result<(), ServerFault>
     requires wait { wait ≡ true → MayWait _limit poller.old _own.now }
     requires haste { wait ≡ false → MayNotWait _limit poller.old _own.now }
+    requires closed { ListensToOpen poller.old }
     ensures same { poller.new ≡ record poller.old { reported = poller.new.reported; failed = poller.new.failed; batch = poller.new.batch } }
     ensures batch { poller.new.batch ≡ poller.new.reported }
     ensures failed { OnErr result ((poller.new.failed ≡ true) × (poller.new.batch ≡ [])) }
@@ -412,7 +427,7 @@ fn take_back<F: Front, R: Wait>(rt: &R, own: &mut Own, poller: &mut Poller<F>)
     if !poller.has_opened_all() {
         return;
     }
-    poller.stop_listening();
+    listen_to_open(poller);
     let part = poller.part();
     take_all(rt, own, part.slots);
     let slots = own.hand.slots() as u64;

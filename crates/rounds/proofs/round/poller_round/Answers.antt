@@ -7,7 +7,7 @@ use Rattle.dispatch.specs.Hands.{ticket_room}
 use Rattle.dispatch.specs.Polls.{PollerState}
 use Rattle.rounds.proofs.Connections.{SamePoller, accept_both, accept_took, between_took, room_same, took_none, passed_up, not_ok}
 use Rattle.rounds.proofs.Reports.{few_tickets, capacity_kept, reported_le, few_sweep}
-use Rattle.rounds.proofs.WholeRounds.{SameTable, begun_is, ended_still, looked_is, round_of, round_ended, swept_is, looked_lasts, delivered_lasts, swept_lasts, accepted_lasts, still_read, ended_early, but_worn, over_before, listens_still}
+use Rattle.rounds.proofs.WholeRounds.{SameTable, begun_is, ended_still, looked_is, round_of, round_ended, swept_is, looked_lasts, delivered_lasts, swept_lasts, accepted_lasts, still_read, ended_early, but_worn, kept, over_before, listens_still}
 use Rattle.rounds.proofs.round.poller_round.Goals as goal
 
 pub returns-then-not-begin : goal.returns-then-not-begin
@@ -42,7 +42,7 @@ returns-then-not-begin g c =
 pub returns-in_err-look : goal.returns-in_err-look
 returns-in_err-look g c =
     let looked : SameTable c.args.poller.now c.look.new.poller = looked_is c.begin.ensures.poller c.look.ensures.poller in
-    let same = looked_lasts c.args.poller.now c.begin.new.poller c.look.new.poller c.begin.ensures.poller c.look.ensures.poller in
+    let same = looked_lasts c.args.poller.now c.begin.new.poller c.look.new.poller c.begin.ensures.poller c.look.ensures.poller c.look.ensures.listens in
     let failed = c.from_residual.ensures.1 in
     record {
       same = ap (λ (s : SeatState). s.table) c.look.ensures.took.seat;
@@ -55,7 +55,7 @@ returns-in_err-look g c =
       unswept = inl looked.swept;
       accepted = not_ok c.from_residual.result _ c.from_residual.ensures.0;
       over = not_ok c.from_residual.result _ c.from_residual.ensures.0;
-      listens = inl (same.listening);
+      listens = kept c.args.poller.now c.look.new.poller same.listening;
       closed = not_ok c.from_residual.result _ c.from_residual.ensures.0;
       ended = not_ok c.from_residual.result _ c.from_residual.ensures.0;
       told_drops = not_ok c.from_residual.result _ c.from_residual.ensures.0;
@@ -69,7 +69,7 @@ returns-in_err-look g c =
 pub returns-in_err-deliver_batch : goal.returns-in_err-deliver_batch
 returns-in_err-deliver_batch g c =
     let looked : SameTable c.args.poller.now c.look.new.poller = looked_is c.begin.ensures.poller c.look.ensures.poller in
-    let same = delivered_lasts (looked_lasts c.args.poller.now c.begin.new.poller c.look.new.poller c.begin.ensures.poller c.look.ensures.poller) c.deliver_batch.ensures.poller in
+    let same = delivered_lasts (looked_lasts c.args.poller.now c.begin.new.poller c.look.new.poller c.begin.ensures.poller c.look.ensures.poller c.look.ensures.listens) c.deliver_batch.ensures.poller in
     let failed = c.from_residual-in_err-deliver_batch.ensures.1 in
     record {
       same = c.deliver_batch.ensures.between.same ∙ sym c.requires.same;
@@ -82,7 +82,7 @@ returns-in_err-deliver_batch g c =
       unswept = inl (ap (λ (s : PollerState). s.swept) c.deliver_batch.ensures.poller ∙ looked.swept);
       accepted = not_ok c.from_residual-in_err-deliver_batch.result _ c.from_residual-in_err-deliver_batch.ensures.0;
       over = not_ok c.from_residual-in_err-deliver_batch.result _ c.from_residual-in_err-deliver_batch.ensures.0;
-      listens = inl (same.listening);
+      listens = kept c.args.poller.now c.deliver_batch.new.poller same.listening;
       closed = not_ok c.from_residual-in_err-deliver_batch.result _ c.from_residual-in_err-deliver_batch.ensures.0;
       ended = not_ok c.from_residual-in_err-deliver_batch.result _ c.from_residual-in_err-deliver_batch.ensures.0;
       told_drops = not_ok c.from_residual-in_err-deliver_batch.result _ c.from_residual-in_err-deliver_batch.ensures.0;
@@ -107,7 +107,7 @@ keep_time-requires-clause-room g c =
 pub returns-in_err-keep_time : goal.returns-in_err-keep_time
 returns-in_err-keep_time g c =
     let looked : SameTable c.args.poller.now c.look.new.poller = looked_is c.begin.ensures.poller c.look.ensures.poller in
-    let same = swept_lasts (delivered_lasts (looked_lasts c.args.poller.now c.begin.new.poller c.look.new.poller c.begin.ensures.poller c.look.ensures.poller) c.deliver_batch.ensures.poller) c.keep_time.ensures.poller in
+    let same = swept_lasts (delivered_lasts (looked_lasts c.args.poller.now c.begin.new.poller c.look.new.poller c.begin.ensures.poller c.look.ensures.poller c.look.ensures.listens) c.deliver_batch.ensures.poller) c.keep_time.ensures.poller in
     let failed = c.from_residual-in_err-keep_time.ensures.1 in
     record {
       same = c.keep_time.ensures.between.same ∙ sym c.requires.same;
@@ -120,7 +120,7 @@ returns-in_err-keep_time g c =
       unswept = inl (c.in_err-keep_time.ensures.unswept ∙ ap (λ (s : PollerState). s.swept) c.deliver_batch.ensures.poller ∙ looked.swept);
       accepted = not_ok c.from_residual-in_err-keep_time.result _ c.from_residual-in_err-keep_time.ensures.0;
       over = not_ok c.from_residual-in_err-keep_time.result _ c.from_residual-in_err-keep_time.ensures.0;
-      listens = inl (same.listening);
+      listens = kept c.args.poller.now c.keep_time.new.poller same.listening;
       closed = not_ok c.from_residual-in_err-keep_time.result _ c.from_residual-in_err-keep_time.ensures.0;
       ended = not_ok c.from_residual-in_err-keep_time.result _ c.from_residual-in_err-keep_time.ensures.0;
       told_drops = not_ok c.from_residual-in_err-keep_time.result _ c.from_residual-in_err-keep_time.ensures.0;
@@ -148,7 +148,7 @@ accept-requires-clause-room g c =
 pub returns-in_err-accept : goal.returns-in_err-accept
 returns-in_err-accept g c =
     let looked : SameTable c.args.poller.now c.look.new.poller = looked_is c.begin.ensures.poller c.look.ensures.poller in
-    let same = accepted_lasts (swept_lasts (delivered_lasts (looked_lasts c.args.poller.now c.begin.new.poller c.look.new.poller c.begin.ensures.poller c.look.ensures.poller) c.deliver_batch.ensures.poller) c.keep_time.ensures.poller) c.accept.ensures.poller in
+    let same = accepted_lasts (swept_lasts (delivered_lasts (looked_lasts c.args.poller.now c.begin.new.poller c.look.new.poller c.begin.ensures.poller c.look.ensures.poller c.look.ensures.listens) c.deliver_batch.ensures.poller) c.keep_time.ensures.poller) c.accept.ensures.poller in
     let failed = c.from_residual-in_err-accept.ensures.1 in
     record {
       same = c.accept.ensures.between.same ∙ sym c.requires.same;
@@ -165,7 +165,7 @@ returns-in_err-accept g c =
           (ap (λ (s : PollerState). s.swept) c.accept.ensures.poller));
       accepted = not_ok c.from_residual-in_err-accept.result _ c.from_residual-in_err-accept.ensures.0;
       over = not_ok c.from_residual-in_err-accept.result _ c.from_residual-in_err-accept.ensures.0;
-      listens = inl (same.listening);
+      listens = kept c.args.poller.now c.accept.new.poller same.listening;
       closed = not_ok c.from_residual-in_err-accept.result _ c.from_residual-in_err-accept.ensures.0;
       ended = not_ok c.from_residual-in_err-accept.result _ c.from_residual-in_err-accept.ensures.0;
       told_drops = not_ok c.from_residual-in_err-accept.result _ c.from_residual-in_err-accept.ensures.0;
@@ -179,7 +179,7 @@ returns-in_err-accept g c =
 pub returns : goal.returns
 returns g c =
     let looked : SameTable c.args.poller.now c.look.new.poller = looked_is c.begin.ensures.poller c.look.ensures.poller in
-    let same = accepted_lasts (swept_lasts (delivered_lasts (looked_lasts c.args.poller.now c.begin.new.poller c.look.new.poller c.begin.ensures.poller c.look.ensures.poller) c.deliver_batch.ensures.poller) c.keep_time.ensures.poller) c.accept.ensures.poller in
+    let same = accepted_lasts (swept_lasts (delivered_lasts (looked_lasts c.args.poller.now c.begin.new.poller c.look.new.poller c.begin.ensures.poller c.look.ensures.poller c.look.ensures.listens) c.deliver_batch.ensures.poller) c.keep_time.ensures.poller) c.accept.ensures.poller in
     let second = ap (λ (s : PollerState). s.second) c.take_back.ensures.poller ∙ ap (λ (s : PollerState). s.second) c.accept.ensures.poller in
     let swept = swept_is c.args.timing.now.limit c.args.poller.now c.deliver_batch.new.poller c.keep_time.new.poller c.take_back.new.poller
     (ap (λ (s : PollerState). s.second) c.deliver_batch.ensures.poller ∙ looked.second)
