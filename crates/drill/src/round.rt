@@ -24,6 +24,9 @@ impl Outside {
         if station.standing.in_round {
             self.book.blame("a second poll in a round");
         }
+        if !station.standing.begin_poll() {
+            self.book.blame("a poll while the front listens for clients that may not be opened");
+        }
         let polled = match self.plan.next(Call::Poll(poller)) {
             Some(Planned::Poll(Polled::Failed)) => {
                 station.standing.has_failed = true;

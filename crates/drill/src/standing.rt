@@ -11,7 +11,7 @@ pub struct Standing {
     /// The second of its last round, and that of its last sweep, at first those at which the server began.
     second: u64,
     swept: u64,
-    /// Whether its front listens, and whether it may: not once a round has ended behind all that it may open.
+    /// Whether its front listens, and whether it may: not once all that it may open was opened, at the end of a round and in a poll.
     pub listens: bool,
     pub may_listen: bool,
     /// Whether a client was accepted of which nothing has become yet.
@@ -70,6 +70,13 @@ impl Standing {
         }
         self.second = second;
         is_due
+    }
+
+    /// It asks for reports. Answers whether its front may listen meanwhile, or does not: it may not once all that the poller may
+    /// open was opened.
+    pub fn begin_poll(&mut self) -> bool {
+        self.may_listen = !self.has_opened_all();
+        self.may_listen || !self.listens
     }
 
     /// Its round has ended, behind which all its slots are free, or not.
