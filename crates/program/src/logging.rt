@@ -3,10 +3,9 @@
 //! The thread is never waited for but at the end, and then for a second: a write to a pipe that nobody reads may not end.
 ghost use Rattle.std.specs.Prelude.{◌≡◌, ◌⊎◌, IfErr};
 
-use crate::streams::log_error;
 use log::sink::Console;
 use log_queue::{LogQueue, write_lines};
-use relay_log::ServerFault;
+use relay_log::{ServerFault, log_no_thread};
 use std::alloc::AllocGlobal;
 use std::cell::Cell;
 use std::io::{self, Eprint, Write};
@@ -28,9 +27,11 @@ where
 {
     let queue = Arc::new(rt.alloc(), LogQueue::new(rt.alloc())?)?;
     let lines = queue.clone()?;
-    if let Err(error) = Builder::new().spawn(&rt, move || write_lines(&rt, &lines)) {
-        log_error(&Console(rt), &"threads", &error);
-        return Err(ServerFault::Threads);
+    if Builder::new()
+        .spawn(&rt, move || write_lines(&rt, &lines))
+        .is_err()
+    {
+        return Err(log_no_thread(&Console(rt)));
     }
     Ok(queue)
 }

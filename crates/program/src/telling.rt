@@ -2,11 +2,10 @@
 ghost use Rattle.std.specs.Prelude.{◌≡◌, ◌⊎◌, IfErr};
 
 use crate::command_line::Extras;
-use crate::streams::log_error;
 use log::info;
 use log::sink::Console;
 use log_queue::{LogQueue, Queued};
-use relay_log::ServerFault;
+use relay_log::{ServerFault, log_no_thread};
 use settings::{LogLevel, Settings};
 use statistics::Statistics;
 use std::alloc::{AllocError, AllocGlobal, Global};
@@ -58,12 +57,11 @@ where
     ensures refused { IfErr result (λ fault. (fault ≡ ServerFault.NoMemory) ⊎ (fault ≡ ServerFault.Threads)) }
 {
     let (counted, lines) = (statistics.clone()?, queue.clone()?);
-    if let Err(error) = Builder::new().spawn(
-        &rt,
-        move || tell_every(&rt, rhythm, &counted, &lines),
-    ) {
-        log_error(&Console(rt), &"threads", &error);
-        return Err(ServerFault::Threads);
+    if Builder::new()
+        .spawn(&rt, move || tell_every(&rt, rhythm, &counted, &lines))
+        .is_err()
+    {
+        return Err(log_no_thread(&Console(rt)));
     }
     Ok(())
 }

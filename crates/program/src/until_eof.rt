@@ -4,11 +4,10 @@
 ghost use Rattle.std.specs.Prelude.{◌≡◌, ◌⊎◌, IfErr};
 
 use crate::command_line::Extras;
-use crate::streams::log_error;
 use log::sink::Console;
 use log::{LevelFilter, Logged, info, warn};
 use log_queue::{LogQueue, Queued};
-use relay_log::ServerFault;
+use relay_log::{ServerFault, log_no_thread};
 use std::alloc::AllocGlobal;
 use std::io::{self, Eprint, Stdin};
 use std::sync::atomic::AtomicBool;
@@ -42,9 +41,8 @@ where
         read_to_end(&rt, input, level, &lines);
         sign.store(true, SeqCst);
     };
-    if let Err(error) = Builder::new().spawn(&rt, read) {
-        log_error(&Console(rt), &"threads", &error);
-        return Err(ServerFault::Threads);
+    if Builder::new().spawn(&rt, read).is_err() {
+        return Err(log_no_thread(&Console(rt)));
     }
     Ok(has_ended)
 }

@@ -1,8 +1,17 @@
 // Each call asks the log first: a message that is off is never printed, and none takes memory.
-use crate::{AllTaken, Cause, Done, Dropped, Failed, Gone, MoreDropped, Opened, Peer};
-use log::{Level, Log, debug, info, log_enabled, warn};
+ghost use Rattle.std.specs.Prelude.{◌≡◌};
+
+use crate::{
+    AllTaken, Cause, Done, Dropped, Failed, Gone, MoreDropped, Opened, Peer, ServerFault,
+};
+use log::{Level, Log, debug, error, info, log_enabled, warn};
 use relay_core::Fault;
 use std::fmt::Display;
+use std::io;
+
+/// Why a thread is not started: "resource temporarily unavailable" (EAGAIN of pthread_create(3)). Its other errors are of attributes
+/// that no thread here has, and the number itself is not handed on.
+const NO_THREAD: i32 = 11;
 
 /// Passes the `open` message to the log, at level info.
 pub fn log_open(rt: &impl Log, slot: usize, generation: u64) {
@@ -47,4 +56,13 @@ pub fn log_gone<D: Display, E: Display>(rt: &impl Log, gone: Gone<'_, D, E>) {
 /// Whether the log takes messages at level debug.
 pub fn logs_gone(rt: &impl Log) -> bool {
     log_enabled!(rt; target: "relayd", Level::Debug)
+}
+
+/// Passes to the log, at level error, that the system did not start a thread, and answers the fault that this is.
+pub fn log_no_thread(rt: &impl Log) -> ServerFault
+    ensures { result ≡ ServerFault.Threads }
+{
+    let error = io::Error::from_raw_os_error(NO_THREAD);
+    error!(rt; target: "relayd", "threads: {error}");
+    ServerFault::Threads
 }

@@ -25,7 +25,8 @@ mod messages;
 mod texts;
 
 pub use calls::{
-    log_all_taken, log_done, log_drop, log_drops, log_fail, log_gone, log_open, log_peer, logs_gone,
+    log_all_taken, log_done, log_drop, log_drops, log_fail, log_gone, log_no_thread, log_open,
+    log_peer, logs_gone,
 };
 pub use cause::Cause;
 pub use faults::ServerFault;

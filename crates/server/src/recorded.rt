@@ -5,17 +5,17 @@ ghost use Rattle.std.specs.Prelude.{◌≡◌, length};
 use crate::making::split_of;
 use crate::serving::{Lent, run_on};
 use dispatch::{Clock, Front, Gate, ServerFault, Split};
-use log::{Log, error};
+use log::Log;
 use recording::{RecordQueue, RecordedClock, RecordedGate, Recorder, record_all, write_records};
 use records::Header;
+use relay_log::log_no_thread;
 use settings::Settings;
 use sockets::{Bound, Dial, Forwarding, open_all};
 use std::alloc::Global;
 use std::io::Write;
 use std::net::Net;
 use std::sync::{Mutex, Wait};
-use std::thread::Threads;
-use std::{fmt, thread};
+use std::thread::{self, Threads};
 
 /// Serves as [`serve`](crate::serve) does, and records into the file what each thread does, until the server ends: then the
 /// last line says that all is recorded. One thread more writes the file, and the call returns once it has written all.
@@ -85,20 +85,14 @@ where
         move |scope|
             requires { S.IsAlwaysCallable serve }
         {
-            if let Err(error) = scope.spawn(move || recording.write()) {
-                return Err(not_started(recording.rt, &error));
+            if scope.spawn(move || recording.write()).is_err() {
+                return Err(log_no_thread(recording.rt));
             }
             let served = serve();
             recording.queue.close();
             served
         },
     )
-}
-
-/// The fault of a thread that was not started. The cause is logged.
-fn not_started<E: fmt::Display>(rt: &impl Log, error: &E) -> ServerFault {
-    error!(rt; target: "relayd", "threads: {error}");
-    ServerFault::Threads
 }
 
 /// Serves, and records into the queue.

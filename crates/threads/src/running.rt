@@ -5,13 +5,13 @@ use crate::crew::Crew;
 use crate::dividing::{Cast, Rest, divide};
 use crate::ending::Ending;
 use dispatch::{Clock, Front, Gate, Parts, Poller, ServerFault, Shared, Split, Timing};
-use log::{Log, error};
+use log::Log;
 use ready::FreeQueue;
+use relay_log::log_no_thread;
 use std::alloc::Global;
 use std::sync::atomic::AtomicBool;
 use std::sync::{Arc, Mutex, Wait};
-use std::thread::Threads;
-use std::{fmt, thread};
+use std::thread::{self, Threads};
 
 /// A server before its threads run: what they share, what they are made from, and the pollers.
 #[derive(Drop)]
@@ -114,13 +114,13 @@ where
     let pollers = company.crew.split.pollers();
     thread::scope(thread::scope_env(), company.crew.rt, move |scope| {
         for _worker in 0..workers {
-            if let Err(error) = scope.spawn(move || company.work()) {
-                not_started(&company.crew, &error);
+            if scope.spawn(move || company.work()).is_err() {
+                not_started(&company.crew);
             }
         }
         for _poller in 1..pollers {
-            if let Err(error) = scope.spawn(move || company.poll()) {
-                not_started(&company.crew, &error);
+            if scope.spawn(move || company.poll()).is_err() {
+                not_started(&company.crew);
             }
         }
         company.poll()
@@ -158,7 +158,7 @@ where
 }
 
 /// A thread that was not started is a fault.
-fn not_started<G, C, R: Wait + Log, E: fmt::Display>(crew: &Crew<G, C, R>, error: &E) {
-    error!(crew.rt; target: "relayd", "threads: {error}");
-    crew.ending.record(crew.rt, 0, ServerFault::Threads).spend();
+fn not_started<G, C, R: Wait + Log>(crew: &Crew<G, C, R>) {
+    let fault = log_no_thread(crew.rt);
+    crew.ending.record(crew.rt, 0, fault).spend();
 }
