@@ -5,8 +5,8 @@ use log::{Level, Log, Logged};
 use log_queue::LogLine;
 use relay_core::{CallKind, Fault, Kind, Side};
 use relay_log::{
-    Cause, done_text, drop_text, fail_text, log_all_taken, log_done, log_drop, log_drops, log_fail,
-    log_open, log_peer, open_text,
+    Cause, ClientsAt, Gone, Why, done_text, drop_text, fail_text, log_all_taken, log_done,
+    log_drop, log_drops, log_fail, log_gone, log_open, log_peer, open_text,
 };
 use std::alloc::{AllocError, Global};
 use std::cell::Cell;
@@ -23,9 +23,13 @@ const FAULT: Fault = Fault::Broken {
     kind: Kind::Pipe,
 };
 
-/// Each message, after its level. The counts of the third are more than 32 bits count, and the most that are counted.
-static LINES: [&str; 7] = [
+/// Each message, after its level. The counts of those that have any are more than 32 bits count, and the most that are counted.
+static LINES: [&str; 11] = [
     "[DEBUG relayd] peer s=32767 g=140737488355327 from=192.0.2.7:50000",
+    "[DEBUG relayd] gone s=32767 g=140737488355327 from=192.0.2.8:1 connected=unknown up=4294967296 down=18446744073709551615 seconds=7 cause=idle",
+    "[DEBUG relayd] gone from=192.0.2.8:1 connected=no up=4294967296 down=18446744073709551615 seconds=7 cause=memory",
+    "[INFO  relayd] peer s=32767 g=140737488355327 from=192.0.2.8:1",
+    "[INFO  relayd] gone s=32767 g=140737488355327 from=192.0.2.8:1 connected=yes up=4294967296 down=18446744073709551615 seconds=7 cause=done",
     "[INFO  relayd] open s=32767 g=140737488355327",
     "[INFO  relayd] done s=32767 g=140737488355327 up=4294967296 down=18446744073709551615",
     "[WARN  relayd] fail s=32767 g=140737488355327 side=target call=write kind=pipe",
@@ -38,9 +42,9 @@ static LINES: [&str; 7] = [
 static LEVELS: [(Level, usize); 5] = [
     (Level::Trace, 0),
     (Level::Debug, 0),
-    (Level::Info, 1),
-    (Level::Warn, 3),
-    (Level::Error, 7),
+    (Level::Info, 3),
+    (Level::Warn, 7),
+    (Level::Error, 11),
 ];
 
 /// An address that notes that it is printed.
@@ -54,8 +58,26 @@ impl fmt::Display for Noting {
     }
 }
 
+fn log_ended(log: &impl Log, clients: ClientsAt, connected: Option<bool>, word: &'static str) {
+    let cause = Why { error: None, word };
+    let gone = Gone {
+        opened: (connected != Some(false)).then_some((SLOT, GENERATION)),
+        from: &"192.0.2.8:1",
+        connected,
+        up: 4_294_967_296,
+        down: u64::MAX,
+        seconds: 7,
+        cause: &cause,
+    };
+    log_gone(log, clients, gone);
+}
+
 fn log_each(log: &impl Log, from: &Noting) {
-    log_peer(log, SLOT, GENERATION, from);
+    log_peer(log, ClientsAt::Debug, SLOT, GENERATION, from);
+    log_ended(log, ClientsAt::Debug, None, "idle");
+    log_ended(log, ClientsAt::Debug, Some(false), "memory");
+    log_peer(log, ClientsAt::Info, SLOT, GENERATION, &"192.0.2.8:1");
+    log_ended(log, ClientsAt::Info, Some(true), "done");
     log_open(log, SLOT, GENERATION);
     log_done(log, SLOT, GENERATION, 4_294_967_296, u64::MAX);
     log_fail(log, SLOT, GENERATION, FAULT);
@@ -84,7 +106,7 @@ fn missing_at(rt: &HostRuntime, level: Level, first: usize) -> Option<usize> {
     if from.0.get() && first > 0 {
         return None;
     }
-    missing(&sink.into_lines(), &LINES[first % 8..])
+    missing(&sink.into_lines(), &LINES[first % 12..])
 }
 
 /// How many messages are missing at all levels.
@@ -100,6 +122,7 @@ fn all_missing(rt: &HostRuntime) -> Option<usize> {
 // refuses fail_names_the_other_side: a failure names the other side
 // refuses peer_without_generation: a message names the slot in place of the generation
 // refuses drop_by_another_word: a cause is told by another word
+// refuses clients_always_at_debug: the level of what is logged of clients is debug, though it is to be info
 // A message is handed over whole, or left out where a growth is refused. At most one growth is, under
 // `rt try --test --fail-alloc N`, and none otherwise: so of all messages at most one is missing.
 #[test]

@@ -28,6 +28,12 @@ pub trait Settle: Wire {
     fn error(&self) -> Option<i32> {
         None
     }
+
+    /// Whether the system says that the socket is connected (getpeername(2)), if it says that. It is no call of the connection, and
+    /// only for the log.
+    fn is_connected(&self) -> Option<bool> {
+        None
+    }
 }
 
 /// Why an accepted connection could not be opened.

@@ -47,7 +47,7 @@ pub use part::Part;
 pub use parts::Parts;
 pub use poller::Poller;
 pub use putting::{give_slots, put_tickets};
-pub use relay_log::ServerFault;
+pub use relay_log::{ClientsAt, ServerFault};
 pub use route::Route;
 pub use shared::{Own, Shared};
 pub use split::Split;

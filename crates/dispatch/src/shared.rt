@@ -8,6 +8,7 @@ use berths::Berths;
 use claims::{ClaimSeat, Claims};
 use ready::{FreeQueue, ReadyQueue};
 use relay_core::{MAX_READ, Pair};
+use relay_log::ClientsAt;
 use statistics::{Event, Statistics};
 use std::sync::Arc;
 
@@ -26,6 +27,8 @@ pub struct Shared<F: Front> {
     pub statistics: Option<Arc<Statistics>>,
     /// How many pollers found all their slots taken.
     pub full: Fullness,
+    /// What the log has of clients.
+    pub clients: ClientsAt,
     pub ghost sized: { berths ≡ claims.words },
     pub ghost least_budget: { 1 ≤ budget },
     pub ghost most_budget: { budget ≤ 1024 },

@@ -95,6 +95,7 @@ fn lend<'a>(gate: &'a Holding, is_stopped: &'a AtomicBool) -> Lent<'a, Holding, 
         is_stopped,
         statistics: None,
         patience: Patience::NONE,
+        log_clients: false,
     }
 }
 

@@ -32,6 +32,8 @@ pub struct Extras {
     pub until_eof: bool,
     /// For how long it waits for peers that do not answer: up to 3600 seconds to connect, and 32767 of silence.
     pub patience: Patience,
+    /// The log has each client at level info, as it comes and as it goes.
+    pub log_clients: bool,
 }
 
 impl Extras {
@@ -44,6 +46,7 @@ impl Extras {
                 connect: matches.get_one("connect-timeout"),
                 keepalive: matches.get_one("keepalive"),
             },
+            log_clients: matches.get_flag("log-clients"),
         }
     }
 }
@@ -247,6 +250,12 @@ const KEEPALIVE: ArgumentRow = ArgumentRow {
     form: Form::Seconds(32_767),
     help: "Probe a peer that is silent for so many seconds, 1 to 32767, and give it up if it is gone",
 };
+/// That the log has all clients.
+const LOG_CLIENTS: ArgumentRow = ArgumentRow {
+    name: "log-clients",
+    form: Form::Flag,
+    help: "Log each client's address at level info, as it comes and as it goes",
+};
 /// The settings file.
 const CONFIG: ArgumentRow = ArgumentRow {
     name: "config",
@@ -296,7 +305,9 @@ static COMMANDS: [CommandRow; 5] = [
         about: "Forwards connections from one address to another",
         details: "Does the same as `relayd run` with a settings file that says what the arguments say.\n\nExample:\n  relayd forward 127.0.0.1:7000 127.0.0.1:7001 --slots 100\n\nSee relayd.toml(5) for the settings.",
         settings: true,
-        arguments: &[RECORD, STATS, UNTIL_EOF, CONNECT_TIMEOUT, KEEPALIVE],
+        arguments: &[
+            RECORD, STATS, UNTIL_EOF, LOG_CLIENTS, CONNECT_TIMEOUT, KEEPALIVE,
+        ],
     },
     CommandRow {
         name: "run",
@@ -304,7 +315,7 @@ static COMMANDS: [CommandRow; 5] = [
         details: "Listens on the file's `listen` address and forwards each connection to `target`. Prints\n`listening A.B.C.D:PORT` once clients can connect, and writes log lines to standard error.\nIt ends once `stop_after` connections were opened and are all closed, if that is not 0, or\non a fault, with status 1.\n\nExample:\n  relayd run --config examples/relayd.toml\n\nSee relayd(1) for details and relayd.toml(5) for the settings.",
         settings: false,
         arguments: &[
-            CONFIG, LEVEL, RECORD, STATS, UNTIL_EOF, CONNECT_TIMEOUT, KEEPALIVE,
+            CONFIG, LEVEL, RECORD, STATS, UNTIL_EOF, LOG_CLIENTS, CONNECT_TIMEOUT, KEEPALIVE,
         ],
     },
     CommandRow {

@@ -141,4 +141,8 @@ impl<W: Settle + Drop, R: Wait + Log> Settle for RecordedWire<'_, W, R> {
     fn error(&self) -> Option<i32> {
         self.inner.error()
     }
+
+    fn is_connected(&self) -> Option<bool> {
+        self.inner.is_connected()
+    }
 }

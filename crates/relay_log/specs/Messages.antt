@@ -49,14 +49,16 @@ drops_message cause more = codes "drops kind=" ++ (cause_name cause ++ (codes " 
 abbrev pub full_message : ℕ → List ℕ
 full_message slots = codes "slots: all " ++ (decimal slots ++ codes " are taken; further clients wait")
 
--- whose connection did not end well: its slot and generation, if it was opened, and then its client's address, as it is written
+-- whose connection has ended: its slot and generation, if it was opened, and then its client's address, as it is written
 abbrev pub gone_begins : Option (ℕ × ℕ) → List ℕ
 gone_begins (Some name) = codes "gone s=" ++ (decimal name.0 ++ (codes " g=" ++ (decimal name.1 ++ codes " from=")))
 gone_begins None = codes "gone from="
 
-abbrev pub yes_or_no : Bool → List ℕ
-yes_or_no true = codes "yes"
-yes_or_no false = codes "no"
+-- if that is known
+abbrev pub yes_or_no : Option Bool → List ℕ
+yes_or_no (Some true) = codes "yes"
+yes_or_no (Some false) = codes "no"
+yes_or_no None = codes "unknown"
 
 -- what stands between that address and the cause: whether its target was ever connected, in such a word, bytes each way, and how
 -- long it was open
@@ -65,5 +67,5 @@ gone_counts connected up down seconds =
     codes " connected=" ++ (connected ++ (codes " up=" ++ (decimal up ++ (codes " down=" ++ (decimal down
     ++ (codes " seconds=" ++ (decimal seconds ++ codes " cause=")))))))
 
-abbrev pub gone_between : Bool → ℕ → ℕ → ℕ → List ℕ
+abbrev pub gone_between : Option Bool → ℕ → ℕ → ℕ → List ℕ
 gone_between connected up down seconds = gone_counts (yes_or_no connected) up down seconds

@@ -2,9 +2,9 @@
 ghost use Rattle.std.specs.Prelude.{◌≡◌};
 
 use crate::{
-    AllTaken, Cause, Done, Dropped, Failed, Gone, MoreDropped, Opened, Peer, ServerFault,
+    AllTaken, Cause, ClientsAt, Done, Dropped, Failed, Gone, MoreDropped, Opened, Peer, ServerFault,
 };
-use log::{Level, Log, debug, error, info, log_enabled, warn};
+use log::{Log, error, info, log_enabled, warn};
 use relay_core::Fault;
 use std::fmt::Display;
 use std::io;
@@ -18,9 +18,15 @@ pub fn log_open(rt: &impl Log, slot: usize, generation: u64) {
     info!(rt; target: "relayd", "{}", Opened { slot, generation });
 }
 
-/// Passes the `peer` message to the log, at level debug.
-pub fn log_peer<D: Display>(rt: &impl Log, slot: usize, generation: u64, from: &D) {
-    debug!(rt; target: "relayd", "{}", Peer { slot, generation, from });
+/// Passes the `peer` message to the log, at the level of what it has of clients.
+pub fn log_peer<D: Display>(
+    rt: &impl Log,
+    clients: ClientsAt,
+    slot: usize,
+    generation: u64,
+    from: &D,
+) {
+    log::log!(rt; target: "relayd", clients.level(), "{}", Peer { slot, generation, from });
 }
 
 /// Passes the `done` message to the log, at level info.
@@ -48,14 +54,14 @@ pub fn log_all_taken(rt: &impl Log, slots: usize) {
     warn!(rt; target: "relayd", "{}", AllTaken { slots });
 }
 
-/// Passes the `gone` message to the log, at level debug.
-pub fn log_gone<D: Display, E: Display>(rt: &impl Log, gone: Gone<'_, D, E>) {
-    debug!(rt; target: "relayd", "{}", gone);
+/// Passes the `gone` message to the log, at the level of what it has of clients.
+pub fn log_gone<D: Display, E: Display>(rt: &impl Log, clients: ClientsAt, gone: Gone<'_, D, E>) {
+    log::log!(rt; target: "relayd", clients.level(), "{}", gone);
 }
 
-/// Whether the log takes messages at level debug.
-pub fn logs_gone(rt: &impl Log) -> bool {
-    log_enabled!(rt; target: "relayd", Level::Debug)
+/// Whether the log takes messages at that level.
+pub fn logs_gone(rt: &impl Log, clients: ClientsAt) -> bool {
+    log_enabled!(rt; target: "relayd", clients.level())
 }
 
 /// Passes to the log, at level error, that the system did not start a thread, and answers the fault that this is.

@@ -1,20 +1,45 @@
-// What the log has of a connection that did not end well.
+// What the log has of clients: a connection that has ended, and at which level.
 ghost use Rattle.std.specs.Prelude.{◌≡◌, Some};
 ghost use Rattle.std.specs.Fmt.{◌++?◌};
 ghost use Rattle.relay_log.specs.Messages.{gone_begins, gone_between, gone_counts, yes_or_no};
 
+use log::Level;
 use std::fmt::{self, Display};
 use std::io;
 
-/// A connection that did not end well: whose it was, how far it got, and what the system says of the cause.
+/// What the log has of clients, and at which level: the messages `peer` and `gone`.
+#[derive(Clone, Copy)]
+pub enum ClientsAt {
+    /// At debug: each client as its connection is opened, and one whose connection did not end well.
+    Debug,
+    /// At info: each client as its connection is opened, and as it ends, however it ends.
+    Info,
+}
+
+impl ClientsAt {
+    /// The level.
+    pub fn level(self) -> Level {
+        match self {
+            ClientsAt::Debug => Level::Debug,
+            ClientsAt::Info => Level::Info,
+        }
+    }
+
+    /// Whether a connection that is done has its `gone`, too.
+    pub fn has_done(self) -> bool {
+        matches!(self, ClientsAt::Info)
+    }
+}
+
+/// A connection that has ended: whose it was, how far it got, and what the system says of the cause.
 #[derive(Clone, Copy)]
 pub struct Gone<'a, D, E> {
     /// Its slot and generation, if it was opened.
     pub opened: Option<(usize, u64)>,
     /// The client's address, as it prints.
     pub from: &'a D,
-    /// Whether its target was ever connected.
-    pub connected: bool,
+    /// Whether its target was ever connected, if that is known.
+    pub connected: Option<bool>,
     /// Bytes sent to the target.
     pub up: u64,
     /// Bytes sent to the client.
@@ -81,10 +106,14 @@ impl Display for Between {
     }
 }
 
-fn yes_or_no(is_so: bool) -> &'static str
+fn yes_or_no(is_so: Option<bool>) -> &'static str
     ensures { result.now ≡ yes_or_no is_so }
 {
-    if is_so { "yes" } else { "no" }
+    match is_so {
+        Some(true) => "yes",
+        Some(false) => "no",
+        None => "unknown",
+    }
 }
 
 /// What is known, as it prints, or that it is unknown.
@@ -100,7 +129,7 @@ impl<D: Display> Display for Known<D> {
     }
 }
 
-/// Why a connection did not end well: what the system says of an error with this number (errno(3)), or a word where there is
+/// Why a connection ended: what the system says of an error with this number (errno(3)), or a word where there is
 /// none.
 #[derive(Clone, Copy)]
 pub struct Why {

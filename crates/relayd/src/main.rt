@@ -40,6 +40,7 @@ fn main(rt: HostRuntime) -> ExitCode {
             is_stopped: &is_stopped,
             statistics: counted,
             patience: extras.patience,
+            log_clients: extras.log_clients,
         };
         let served = match file {
             None => server::serve(&logged, rt.alloc(), &settings, bound, lent),

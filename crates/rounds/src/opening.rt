@@ -19,7 +19,9 @@ use dispatch::{Dropped, Front, Hand, Opened, Own, Poller, Settle, Shared, Uncoun
 use log::Log;
 use ready::Ticket;
 use relay_core::Pair;
-use relay_log::{Cause, Gone, Known, ServerFault, Why, log_gone, log_open, log_peer, logs_gone};
+use relay_log::{
+    Cause, ClientsAt, Gone, Known, ServerFault, Why, log_gone, log_open, log_peer, logs_gone,
+};
 use std::alloc::Global;
 use std::sync::Wait;
 use token::{Side, Token, next_gen};
@@ -70,7 +72,15 @@ pub(crate) fn open<F: Front, R: Wait + Log>(
         poller.count_lost(uncounted);
         return Ok(());
     };
-    match prepare(rt, alloc, &mut own.hand, poller, client, names) {
+    match prepare(
+        rt,
+        alloc,
+        shared.clients,
+        &mut own.hand,
+        poller,
+        client,
+        names,
+    ) {
         Ok(berth) => place(rt, shared, own, poller, berth, uncounted),
         Err(dropped) => {
             poller.count_dropped(shared, slot, dropped, uncounted);
@@ -84,6 +94,7 @@ pub(crate) fn open<F: Front, R: Wait + Log>(
 fn prepare<F: Front, N: Log>(
     rt: &N,
     alloc: Global,
+    clients: ClientsAt,
     hand: &mut Hand,
     poller: &mut Poller<F>,
     client: F::Client,
@@ -99,7 +110,7 @@ fn prepare<F: Front, N: Log>(
     ensures told { IfErr result (λ dropped. poller.new ≡ record poller.old { episodes = record poller.old.episodes { drops = dropped_for dropped poller.old.second poller.old.episodes.drops } }) }
 {
     let slot = names.client.slot();
-    match connect(rt, alloc, poller, client, names) {
+    match connect(rt, alloc, clients, poller, client, names) {
         Ok(berth) => Ok(berth),
         Err(cause) => {
             hand.keep_slot(slot);
@@ -128,6 +139,7 @@ pub(crate) fn next_names(table: &[u64], slot: usize) -> Option<Names>
 pub(crate) fn connect<F: Front, N: Log>(
     rt: &N,
     alloc: Global,
+    clients: ClientsAt,
     poller: &mut Poller<F>,
     mut client: F::Client,
     names: Names,
@@ -147,7 +159,7 @@ pub(crate) fn connect<F: Front, N: Log>(
             target,
         }),
         Err(cause) => {
-            log_unopened::<F, N>(rt, &client, cause);
+            log_unopened::<F, N>(rt, clients, &client, cause);
             Err(cause)
         }
     }
@@ -185,12 +197,12 @@ fn reach<F: Front, N: Log>(
 }
 
 /// Logs whose connection could not be opened, and why, if the log takes that.
-fn log_unopened<F: Front, N: Log>(rt: &N, client: &F::Client, cause: Cause) {
-    if logs_gone(rt) {
+fn log_unopened<F: Front, N: Log>(rt: &N, clients: ClientsAt, client: &F::Client, cause: Cause) {
+    if logs_gone(rt, clients) {
         let gone = Gone {
             opened: None,
             from: &Known(F::peer(client)),
-            connected: false,
+            connected: Some(false),
             up: 0,
             down: 0,
             seconds: 0,
@@ -199,7 +211,7 @@ fn log_unopened<F: Front, N: Log>(rt: &N, client: &F::Client, cause: Cause) {
                 word: cause.name(),
             },
         };
-        log_gone(rt, gone);
+        log_gone(rt, clients, gone);
     }
 }
 
@@ -230,7 +242,7 @@ fn place<F: Front, R: Wait + Log>(
 {
     let (slot, generation) = (berth.pair.slot(), berth.pair.generation());
     if let Some(from) = F::peer(&berth.client) {
-        log_peer(rt, slot, generation, &from);
+        log_peer(rt, shared.clients, slot, generation, &from);
     }
     match shared.claims.adopt(&mut own.seat, slot) {
         Adopted::NotFree => poller.count_lost(uncounted),

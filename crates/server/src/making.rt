@@ -11,7 +11,7 @@ ghost use Rattle.settings.specs.Pollers.{pollers_for};
 
 use berths::Berths;
 use claims::Claims;
-use dispatch::{Front, Fullness, Opening, Parts, Poller, ServerFault, Shared, Split};
+use dispatch::{ClientsAt, Front, Fullness, Opening, Parts, Poller, ServerFault, Shared, Split};
 use ready::{FreeQueue, ReadyQueue};
 use settings::{Settings, pollers_for};
 use std::alloc::{AllocError, Global};
@@ -198,6 +198,7 @@ where
         budget: settings.budget as usize,
         statistics: None,
         full,
+        clients: ClientsAt::Debug,
     };
     Ok((shared, parts))
 }

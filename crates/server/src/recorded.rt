@@ -134,6 +134,7 @@ where
         is_stopped: lent.is_stopped,
         statistics: lent.statistics,
         patience: lent.patience,
+        log_clients: lent.log_clients,
     };
     run_on(rt, alloc, settings, fronts, waker, lent)
 }

@@ -3,7 +3,7 @@ ghost use Rattle.settings.specs.Pollers.{pollers_for};
 ghost use Rattle.std.specs.Prelude.{◌≡◌, length};
 
 use crate::making::{build, split_of};
-use dispatch::{Clock, Front, Gate, ServerFault, Shared, Timing};
+use dispatch::{ClientsAt, Clock, Front, Gate, ServerFault, Shared, Timing};
 use log::Log;
 use settings::Settings;
 use sockets::{Bound, Dial, Forwarding, Patience, open_all};
@@ -28,6 +28,8 @@ pub struct Lent<'a, G, C> {
     pub statistics: Option<&'a Arc<Statistics>>,
     /// For how long targets and clients that do not answer are waited for.
     pub patience: Patience,
+    /// Whether the log has each client at level info, as it comes and as it goes.
+    pub log_clients: bool,
 }
 
 /// Serves on the bound socket: accepts connections and forwards each one to the settings' target, with the settings'
@@ -89,6 +91,9 @@ where
     F::Waker: Send + Sync + Drop,
 {
     count_in(&mut server.shared, lent.statistics)?;
+    if lent.log_clients {
+        server.shared.clients = ClientsAt::Info;
+    }
     let timing = timing_of(settings, lent.clock);
     run_threads(rt, alloc, lent.gate, timing, lent.is_stopped, server)
 }

@@ -348,4 +348,12 @@ impl<S: Stream> Settle for SocketWire<S> {
     fn error(&self) -> Option<i32> {
         self.error
     }
+
+    fn is_connected(&self) -> Option<bool> {
+        match self.stream.peer() {
+            Ok(_) => Some(true),
+            Err(error) if error.kind() == io::ErrorKind::NotConnected => Some(false),
+            Err(_) => None,
+        }
+    }
 }

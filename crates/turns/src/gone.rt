@@ -1,47 +1,76 @@
-//! What the log has of a connection that has failed.
+//! What the log has of a connection that has ended.
 
 use crate::visit::Visit;
-use dispatch::Front;
+use dispatch::{ClientsAt, Front};
 use log::Log;
 use relay_core::{Fault, Verdict};
 use relay_log::{Gone, Known, Why, logs_gone};
 use token::Side;
 
-/// Logs whose connection has failed by this second, how far it got, and why. Nothing is looked up where the log does not take
-/// that, and nothing is said of a connection that is done.
-pub(crate) fn log_gone<F: Front, R: Log>(rt: &R, visit: &Visit<F>, second: u64) {
-    if let Verdict::Failed(fault) = visit.pair().verdict() {
-        if logs_gone(rt) {
-            log_fault(rt, visit, fault, second);
-        }
+/// Logs whose connection has ended by this second, how far it got, and why. Nothing is looked up where the log does not take
+/// that, and of a connection that is done it is said only where the log has all clients.
+pub(crate) fn log_gone<F: Front, R: Log>(
+    rt: &R,
+    clients: ClientsAt,
+    visit: &Visit<F>,
+    second: u64,
+) {
+    if !logs_gone(rt, clients) {
+        return;
+    }
+    match visit.pair().verdict() {
+        Verdict::Failed(fault) => log_ended(rt, clients, visit, why(visit, fault), second),
+        Verdict::Done if clients.has_done() => log_ended(rt, clients, visit, said("done"), second),
+        Verdict::Done | Verdict::Live => {}
     }
 }
 
-fn log_fault<F: Front, R: Log>(rt: &R, visit: &Visit<F>, fault: Fault, second: u64) {
+fn log_ended<F: Front, R: Log>(
+    rt: &R,
+    clients: ClientsAt,
+    visit: &Visit<F>,
+    cause: Why,
+    second: u64,
+) {
     let pair = visit.pair();
     let (up, down) = pair.counts();
     let gone = Gone {
         opened: Some((pair.slot(), pair.generation())),
         from: &Known(visit.peer()),
-        connected: pair.joined(Side::Target),
+        connected: connected(visit),
         up,
         down,
         seconds: second.saturating_sub(visit.opened()),
-        cause: &why(visit, fault),
+        cause: &cause,
     };
-    relay_log::log_gone(rt, gone);
+    relay_log::log_gone(rt, clients, gone);
+}
+
+/// Whether the target was ever connected. Where no call has shown that, and none has failed, the system is asked: a target that accepted and
+/// says nothing is another case than one that never answered.
+fn connected<F: Front>(visit: &Visit<F>) -> Option<bool> {
+    let pair = visit.pair();
+    if pair.joined(Side::Target) {
+        return Some(true);
+    }
+    match pair.verdict() {
+        Verdict::Failed(Fault::Idle) => visit.is_connected(),
+        _ => Some(false),
+    }
 }
 
 /// Why a connection failed.
 fn why<F: Front>(visit: &Visit<F>, fault: Fault) -> Why {
     match fault {
-        Fault::Idle => Why {
-            error: None,
-            word: "idle",
-        },
+        Fault::Idle => said("idle"),
         Fault::Broken { side, kind, .. } => Why {
             error: visit.error(side),
             word: kind.name(),
         },
     }
+}
+
+/// What the relay itself says of a cause, in a word.
+fn said(word: &'static str) -> Why {
+    Why { error: None, word }
 }

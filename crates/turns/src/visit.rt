@@ -154,6 +154,11 @@ impl<F: Front> Visit<F> {
         F::peer(&self.berth.client)
     }
 
+    /// Whether the target's socket is connected, as the system says, if it says that.
+    pub(crate) fn is_connected(&self) -> Option<bool> {
+        self.berth.target.is_connected()
+    }
+
     /// The system's error of the last call that failed on a side's socket, by its number, if it is known.
     pub(crate) fn error(&self, side: Side) -> Option<i32> {
         match side {

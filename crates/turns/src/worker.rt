@@ -185,7 +185,7 @@ fn run<F: Front, G: Gate, R: Wait + Log>(
         &mut own.buffer,
     ) {
         Turn::Done | Turn::Failed => {
-            log_gone(rt, &visit, terms.moment.second);
+            log_gone(rt, shared.clients, &visit, terms.moment.second);
             end(rt, shared, own, visit);
             Ok(Worked::Ended)
         }
