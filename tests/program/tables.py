@@ -30,7 +30,8 @@ in which nothing has happened: lists are empty, workers idle, directions have no
 
 `recordings` has the acts of recordings. They get the counts from 0 up, but for one with counts before it, which has those;
 reports get those of their poll. Behind `rests:`, in place of `begins:`, all has come to rest when the relay is stopped.
-WANTED is `N connections; LINES`, lines of the output, or `WHOSE: ACT: WHY` of the act that can stand nowhere.
+WANTED is `N connections; LINES`, lines of the output, or `WHOSE: ACT: WHY` of the act that can stand nowhere, or `malformed: CAUSE`,
+where CAUSE has the act in place of its line.
 
 `settings` has settings texts, on which `relayd check` is run. WANTED is the fault that is told, and behind ` | ` the cause that
 the log tells, or the settings that differ from their defaults, as `ring=1 log=off`.
@@ -253,8 +254,20 @@ def numbered(acts):
     return "".join(f"{line}\n" for line in lines)
 
 
-def is_told(wanted, status, output, errors):
+def is_malformed(wanted, text, status, output, errors):
+    """Whether a text is told to be no recording for this cause, in which the act of the line stands for its number."""
+
+    def act(line):
+        return re.sub(r"^\d+ \d+ ", "", text.split("\n")[int(line[1]) - 1]) + ": "
+
+    found = re.fullmatch(r"\[ERROR relayd\] t\.record: (.*)\nrelayd: recording: malformed\n", errors.decode())
+    return (status, output) == (1, b"") and bool(found) and re.sub(r"^line (\d+): ", act, found[1]) == wanted
+
+
+def is_told(wanted, text, status, output, errors):
     """Whether this is told of a recording."""
+    if wanted.startswith("malformed: "):
+        return is_malformed(wanted[11:], text, status, output, errors)
     first, *lines = output.decode().split("\n")
     connections, _, more = wanted.partition("; ")
     if connections.endswith(" connections"):
@@ -270,7 +283,7 @@ def recordings(lines):
     for mark, name, acts, wanted in sides(lines):
         words = [b"replay", *([b"--rest"] if mark == "rests" else []), b"t.record"]
         text = numbered(acts.split(" | "))
-        yield Row(name, words, files={"t.record": bytes_of(text)}, will_do=functools.partial(is_told, wanted))
+        yield Row(name, words, files={"t.record": bytes_of(text)}, will_do=functools.partial(is_told, wanted, text))
 
 
 def error(cause):

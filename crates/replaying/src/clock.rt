@@ -3,12 +3,14 @@ use crate::recording::Numbered;
 use records::Act;
 use std::alloc::{AllocError, Global};
 
-/// The readings of the clock, by the counts around them. Each list rises by its first number, and has with it the latest
-/// second up to there.
+/// The readings of the clock, by the counts around them. The lists `before` and `after` rise by their first numbers, and have with
+/// each the latest second up to there.
 #[derive(Drop)]
 pub(crate) struct Clock {
     before: Vec<(u64, u64)>,
     after: Vec<(u64, u64)>,
+    /// For each reading of `before` the least count after it or a later one.
+    least: Vec<u64>,
 }
 
 impl Clock {
@@ -17,6 +19,7 @@ impl Clock {
         let mut clock = Clock {
             before: Vec::new(alloc),
             after: Vec::new(alloc),
+            least: Vec::new(alloc),
         };
         clock.take(records)?;
         Ok(clock)
@@ -27,11 +30,13 @@ impl Clock {
             if let Act::Second(second) = numbered.record.act {
                 self.before.push((numbered.record.before, second))?;
                 self.after.push((numbered.record.after, second))?;
+                self.least.push(numbered.record.after)?;
             }
         }
         self.after.sort()?;
         rise(self.before.as_mut_slice());
         rise(self.after.as_mut_slice());
+        least_behind(self.least.as_mut_slice());
         Ok(())
     }
 
@@ -48,11 +53,39 @@ impl Clock {
         (self.earliest(from), latest)
     }
 
+    /// Whether it was read between these two counts.
+    pub(crate) fn is_read(&self, from: u64, to: u64) -> bool {
+        match self.least.get(count_below(self.before.as_slice(), from)) {
+            Some(after) => *after < to,
+            None => false,
+        }
+    }
+
+    /// The first of the records that its readings are from whose second is before one that was read before.
+    pub(crate) fn first_back(&self, records: &[Numbered]) -> Option<Numbered> {
+        for numbered in records {
+            if let Act::Second(second) = numbered.record.act {
+                if second < self.latest_read(numbered.record.before) {
+                    return Some(*numbered);
+                }
+            }
+        }
+        None
+    }
+
     /// The earliest second that it can have shown once the count had this value.
     pub(crate) fn earliest(&self, count: u64) -> u64 {
         match count_below(self.after.as_slice(), count.saturating_add(1)).checked_sub(1) {
             Some(last) => second_at(self.after.as_slice(), last),
             None => second_at(self.before.as_slice(), 0),
+        }
+    }
+
+    /// The latest second that had been read when the count had this value, 0 if none had.
+    fn latest_read(&self, count: u64) -> u64 {
+        match count_below(self.after.as_slice(), count).checked_sub(1) {
+            Some(last) => second_at(self.after.as_slice(), last),
+            None => 0,
         }
     }
 }
@@ -63,6 +96,15 @@ fn rise(readings: &mut [(u64, u64)]) {
     for reading in readings.iter_mut() {
         most = most.max(reading.1);
         reading.1 = most;
+    }
+}
+
+/// Gives each place the least number from there on.
+fn least_behind(counts: &mut [u64]) {
+    let mut least = u64::MAX;
+    for count in counts.iter_mut().rev() {
+        least = least.min(*count);
+        *count = least;
     }
 }
 

@@ -29,8 +29,12 @@ impl Player<'_> {
         if let Some(why) = self.state.unopened(generation) {
             return Err(Flaw::Because(why));
         }
-        if opening != Opening::Opened || is_void(self.next, generation) {
+        if opening != Opening::Opened {
+            return Ok(());
+        }
+        if is_void(self.next, generation) {
             self.state.void = generation;
+            self.state.phase = Phase::Void(None);
             return Ok(());
         }
         let Some(limits) = limits_of(
@@ -49,7 +53,7 @@ impl Player<'_> {
 
     /// Time begins at the second of the poller's round.
     fn enter(&mut self, record: Record, generation: u64) {
-        let since = self.polled_before(record.before);
+        let since = self.second_last_poll(record.before);
         let (earliest, latest) = self.score.clock.between(since, record.before);
         self.posted = self.last;
         self.state = State {
@@ -65,13 +69,18 @@ impl Player<'_> {
         };
     }
 
-    /// The count when the last poll of the slot's poller before this count had ended.
-    fn polled_before(&self, count: u64) -> u64 {
+    /// The count when the poll before the last one of the slot's poller had ended, both before this count. The round has read its
+    /// second since then, before its poll or after it. A round has few acts, so the search is short.
+    fn second_last_poll(&self, count: u64) -> u64 {
         let acts = self.score.recording.poller(self.poller);
         let place = acts.partition_point(|own| own.record.before < count);
+        let mut is_last = true;
         for own in acts.get(..place).unwrap_or(&[]).iter().rev() {
             if polled(&own.record.act).is_some() {
-                return own.record.after;
+                if !is_last {
+                    return own.record.after;
+                }
+                is_last = false;
             }
         }
         0
@@ -93,7 +102,7 @@ impl State {
         if !matches!(self.phase, Phase::Free) {
             return Some("the slot is not free");
         }
-        if self.generation > 0 && generation != self.generation.saturating_add(1) {
+        if generation != self.generation.saturating_add(1) {
             return Some("the generation is not the slot's next one");
         }
         None
@@ -130,7 +139,7 @@ fn first_offer(next: &[Numbered], generation: u64) -> usize
 }
 
 /// The limits of the world of one slot, which begins before this generation.
-fn limits_of(header: &Header, generation: u64, lead: Lead) -> Option<Limits>
+pub(crate) fn limits_of(header: &Header, generation: u64, lead: Lead) -> Option<Limits>
     ensures { IfSome result (λ limits. IsWithinLimits limits) }
 {
     let Header {

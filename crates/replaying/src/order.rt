@@ -1,32 +1,33 @@
 //! Puts records in order, and finds out where a recording is no longer complete.
+ghost use Rattle.std.specs.Prelude.{◌≡◌, ◌≢◌, ◌-◌, ◌<◌, ◌≤◌, ℕ, length, slice_index};
+
+use crate::reading::{broken, wanted};
 use crate::recording::{Last, Numbered, Recording, is_twice};
-use records::{Act, Made, Polling, ReplayFault};
+use crate::sequence::{first_overlap, is_report};
+use records::{Act, Made, ReplayFault};
 use std::alloc::{AllocError, Global};
 
-/// Puts the lists of a recording in the order of the counts before the records. Refuses with `Broken` if two acts have the same
-/// count, or if a recording that says it is complete is not.
+/// Puts the lists of a recording in the order of the counts before the records. Refuses with `Broken` if what one thread at a time
+/// does overlaps, if two acts have the same count, if the last record has not the greatest counts, or if a recording that says it
+/// is complete is not.
 ///
 /// Where a recording was stopped, threads lost what they had not handed over: then only the records before the first lost
 /// one are left. Answers how many were left out.
 pub(crate) fn put_in_order(alloc: Global, recording: &mut Recording) -> Result<usize, ReplayFault> {
     sort(recording)?;
-    let wrong = match first_gap(alloc, recording)? {
-        Gap::None => return Ok(0),
-        Gap::Lost(lost) if recording.last != Last::Ended => return Ok(leave_out(recording, lost)),
-        Gap::Lost(lost) => format!(in alloc; "the record with the count {lost} is missing")?,
-        Gap::Twice(count) => format!(in alloc; "two acts have the count {count}")?,
-    };
-    Err(ReplayFault::Broken(wrong))
-}
-
-/// What is wrong with the counts, at the first such place.
-#[derive(Clone, Copy)]
-enum Gap {
-    None,
-    /// Two acts have this count.
-    Twice(u64),
-    /// This count is of no record.
-    Lost(u64),
+    check_sequences(alloc, recording)?;
+    let counts = counts_of(alloc, recording)?;
+    check_counts(alloc, recording, counts.as_slice())?;
+    recording.whole = first_missing(counts.as_slice()) as u64;
+    let begun = begun(alloc, recording)?;
+    match first_lost(counts.as_slice(), begun.as_slice()) {
+        None => Ok(0),
+        Some(lost) if recording.last != Last::Ended => Ok(leave_out(recording, lost)),
+        Some(lost) => {
+            let wrong = format!(in alloc; "the record with the count {lost} is missing")?;
+            Err(ReplayFault::Broken(wrong))
+        }
+    }
 }
 
 fn sort(recording: &mut Recording) -> Result<(), AllocError> {
@@ -36,16 +37,45 @@ fn sort(recording: &mut Recording) -> Result<(), AllocError> {
     Ok(())
 }
 
-fn first_gap(alloc: Global, recording: &Recording) -> Result<Gap, AllocError> {
-    let counts = counts_of(alloc, recording)?;
-    if let Some(count) = first_twice(counts.as_slice()) {
-        return Ok(Gap::Twice(count));
+/// Refuses two acts at once at a slot, or of a poller. Of the last list nothing is known.
+fn check_sequences(alloc: Global, recording: &Recording) -> Result<(), ReplayFault> {
+    let sequences = recording.lists.len().saturating_sub(1);
+    for list in recording.lists.iter().take(sequences) {
+        if let Some(numbered) = list.get(first_overlap(list.as_slice())) {
+            let wrong = wanted("the act before it at its slot, or of its poller, has not ended");
+            return Err(broken(alloc, numbered.line, wrong));
+        }
     }
-    let begun = begun(alloc, recording)?;
-    match first_lost(counts.as_slice(), begun.as_slice()) {
-        Some(lost) => Ok(Gap::Lost(lost)),
-        None => Ok(Gap::None),
+    Ok(())
+}
+
+/// Refuses a count that two acts have, and a last record that has not the greatest.
+fn check_counts(alloc: Global, recording: &Recording, counts: &[u64]) -> Result<(), ReplayFault> {
+    if let Some(count) = counts.get(first_twice(counts)) {
+        let wrong = format!(in alloc; "two acts have the count {count}")?;
+        return Err(ReplayFault::Broken(wrong));
     }
+    match early_end(recording, counts) {
+        Some(line) => Err(broken(
+            alloc,
+            line,
+            wanted("the last record has the greatest counts"),
+        )),
+        None => Ok(()),
+    }
+}
+
+/// The line of the record `end` or `full`, if its counts are not the greatest.
+fn early_end(recording: &Recording, counts: &[u64]) -> Option<u64> {
+    let greatest = counts.last()?;
+    for numbered in recording.others() {
+        if matches!(numbered.record.act, Act::Ended | Act::Full)
+            && numbered.record.after != *greatest
+        {
+            return Some(numbered.line);
+        }
+    }
+    None
 }
 
 /// All counts, in order. Reports have those of their poll.
@@ -69,40 +99,54 @@ fn add_counts(counts: &mut Vec<u64>, list: &[Numbered], of_slot: bool) -> Result
     Ok(())
 }
 
-fn is_report(act: &Act) -> bool {
-    matches!(act, Act::Poller(_, Polling::Reported(_)))
-}
-
-/// The first of these counts that is there twice.
-fn first_twice(counts: &[u64]) -> Option<u64> {
-    let mut last = None;
-    for count in counts {
-        if last == Some(*count) {
-            return last;
+/// The place of the first of these counts, which rise, that is the one before it, too, or how many there are.
+fn first_twice(counts: &[u64]) -> usize
+    ensures within { result ≤ length counts.now }
+    ensures once { (place : ℕ) → place < result → 1 ≤ place → slice_index counts.now (place - 1) ≢ slice_index counts.now place }
+    ensures twice { result < length counts.now → (1 ≤ result) × (slice_index counts.now (result - 1) ≡ slice_index counts.now result) }
+{
+    for place in 1..counts.len() {
+        if counts[place - 1] == counts[place] {
+            return place;
         }
-        last = Some(*count);
     }
-    None
+    counts.len()
 }
 
-/// For each act that may have been begun and not ended when the relay was stopped, a count that is below its own, in order.
+/// How many of these counts, which rise, are those from 0 up: the next one is missing.
+fn first_missing(counts: &[u64]) -> usize
+    ensures within { result ≤ length counts.now }
+    ensures there { (count : ℕ) → count < result → slice_index counts.now count ≡ count }
+    ensures missing { result < length counts.now → slice_index counts.now result ≢ result }
+{
+    for (place, count) in counts.iter().enumerate() {
+        if *count != place as u64 {
+            return place;
+        }
+    }
+    counts.len()
+}
+
+/// For each act that may have been begun and not ended when the relay was stopped, the least count that it can have, in order.
 fn begun(alloc: Global, recording: &Recording) -> Result<Vec<u64>, AllocError> {
     let mut begun = vec![in alloc; u64::MAX; recording.lists.len()]?;
     if recording.last != Last::Ended {
         for (at, count) in begun.iter_mut().enumerate() {
-            *count = last_begun(recording, at);
+            *count = next_begun(recording, at);
         }
     }
     begun.sort_unstable();
     Ok(begun)
 }
 
-/// The last count of a poller, which may have been waiting for reports, or that of a turn which has not ended, or else no count
-/// that is below any.
-fn last_begun(recording: &Recording, at: usize) -> u64 {
+/// The count behind the last of a poller, which may have been waiting for reports, or behind that of a turn which has not ended, or
+/// else the greatest.
+fn next_begun(recording: &Recording, at: usize) -> u64 {
     let is_poller = at >= recording.header.slots && at < recording.lists.len().saturating_sub(1);
     match recording.list(at).last() {
-        Some(last) if is_poller || is_of_turn(&last.record.act) => last.record.after,
+        Some(last) if is_poller || is_of_turn(&last.record.act) => {
+            last.record.after.saturating_add(1)
+        }
         None if is_poller => 0,
         _ => u64::MAX,
     }
@@ -117,15 +161,15 @@ fn is_of_turn(act: &Act) -> bool {
     }
 }
 
-/// The first count between these that is of no record, where each act that was begun lacks one.
+/// The first count from 0 up, below the greatest of these, that is of no record, where each act that was begun lacks one.
 fn first_lost(counts: &[u64], begun: &[u64]) -> Option<u64> {
     let mut begun = begun.iter();
-    let mut next = *counts.first()?;
+    let mut next: u64 = 0;
     for count in counts {
         // Each count that is missing here uses up one act that was begun, so there are few of them.
         for missing in next..*count {
             match begun.next() {
-                Some(below) if *below < missing => {}
+                Some(least) if *least <= missing => {}
                 _ => return Some(missing),
             }
         }

@@ -2,7 +2,7 @@
 use crate::clock::Clock;
 use crate::flaw::Flaw;
 use crate::posts::{Post, Posts, posts_at};
-use crate::recording::{Numbered, Recording};
+use crate::recording::{Last, Numbered, Recording};
 use crate::stage::Stage;
 use crate::told::Told;
 use records::{Act, Made, Opening, Polling, Record};
@@ -23,6 +23,8 @@ pub(crate) struct Score<'a> {
 pub(crate) enum Phase {
     /// No connection is open.
     Free,
+    /// A connection came to nothing, or the relay failed while it was open, and this end was dropped.
+    Void(Option<Side>),
     /// A connection is open, and no turn of it is in progress.
     Open,
     /// A turn has made so many calls.
@@ -37,7 +39,7 @@ pub(crate) enum Phase {
 #[derive(Clone, Copy)]
 pub(crate) struct State {
     pub phase: Phase,
-    /// Its generation, 0 before the first one, and that of the last opening that came to nothing.
+    /// Its generation, 0 before the first one, and that of the connection that came to nothing.
     pub generation: u64,
     pub void: u64,
     /// Between these two counts the last turn took its notes.
@@ -84,12 +86,11 @@ impl State {
 
     /// Whether this is an end of the connection in the slot.
     fn has(&self, token: Token) -> bool {
-        token.generation() == self.generation && !matches!(self.phase, Phase::Free)
-    }
-
-    /// Whether this is an end of a connection that came to nothing.
-    fn had(&self, token: Token) -> bool {
-        token.generation() == self.void && matches!(self.phase, Phase::Free)
+        match self.phase {
+            Phase::Free => false,
+            Phase::Void(_) => token.generation() == self.void,
+            _ => token.generation() == self.generation,
+        }
     }
 }
 
@@ -110,7 +111,7 @@ fn opening_of(act: &Act) -> Option<(u64, Opening)> {
 impl<'a> Player<'a> {
     /// A slot that is to be played, whose first act is this one.
     pub(crate) fn new(score: Score<'a>, slot: usize, first: Numbered, stage: Stage) -> Player<'a> {
-        let poller = score.recording.opener(slot).unwrap_or(usize::MAX);
+        let poller = score.recording.split.poller_of(slot);
         let posted = first;
         Player {
             score,
@@ -139,7 +140,10 @@ impl<'a> Player<'a> {
             self.act(first.record, told)?;
         }
         if self.score.rests {
-            return self.rest();
+            self.rest()?;
+        }
+        if self.score.recording.last == Last::Ended {
+            return self.ended();
         }
         Ok(())
     }
@@ -161,9 +165,6 @@ impl<'a> Player<'a> {
     /// Something was done with a wire.
     fn wire(&mut self, record: Record, token: Token, made: Made) -> Result<(), Flaw> {
         if !self.state.has(token) {
-            if matches!(made, Made::Drop) && self.state.had(token) {
-                return Ok(());
-            }
             return Err(Flaw::Because("it is no end of the connection in the slot"));
         }
         match made {

@@ -16,8 +16,8 @@ pub(crate) struct Post {
     /// The count when the poll had ended, and the one before the next thing that the poller did: it was made between these.
     pub from: u64,
     pub to: u64,
-    /// Whether it is certain that it was made: a sweep, where the seconds leave no doubt.
-    pub is_certain: bool,
+    /// If it is certain that it was made, or for a sweep one before it, that happened from this count on.
+    pub since: Option<u64>,
 }
 
 /// Posts in the order in which they were made, without those that are played.
@@ -32,6 +32,14 @@ pub(crate) struct Posts<'a> {
 }
 
 impl Post {
+    /// Whether a post was made for certain after the last turn took its notes.
+    fn is_behind(&self, state: &State) -> bool {
+        match self.since {
+            Some(since) => since >= state.taken_by && self.is_of(state),
+            None => false,
+        }
+    }
+
     /// Whether it can be for the connection, and came after the last turn took its notes or was put off then.
     fn is_of(&self, state: &State) -> bool {
         match self.generation {
@@ -76,7 +84,7 @@ impl Queue<'_> {
     /// The first post that was made for certain after the last turn took its notes.
     fn first_behind(&self, state: &State) -> Option<Post> {
         for post in self.0 {
-            if post.is_certain && post.from >= state.taken_by && post.is_of(state) {
+            if post.is_behind(state) {
                 return Some(*post);
             }
         }

@@ -1,5 +1,6 @@
 //! A recording is read line by line, so that its text is never all in memory.
-use crate::recording::{Last, Recording};
+use crate::recording::{Last, Recording, split_of};
+use dispatch::Split;
 use records::{
     Act, Header, MAX_RECORD, Polling, Record, ReplayFault, Wrong, read_header, read_line,
 };
@@ -86,8 +87,10 @@ impl Lines {
     fn end_line(&mut self, line: &[u8]) -> Result<(), ReplayFault> {
         let (alloc, number) = (self.alloc, self.number);
         match &mut self.recording {
-            None => match read_header(line) {
-                Ok(header) => self.recording = Some(Recording::new(alloc, header)?),
+            None => match sizes(line) {
+                Ok((header, split)) => {
+                    self.recording = Some(Recording::new(alloc, header, split)?);
+                }
                 Err(wrong) => return Err(broken(alloc, number, wrong)),
             },
             Some(recording) => match record_of(recording, line) {
@@ -97,6 +100,18 @@ impl Lines {
         }
         self.number = number.saturating_add(1);
         Ok(())
+    }
+}
+
+/// The sizes in a first line, and how the slots are dealt then.
+fn sizes(line: &[u8]) -> Result<(Header, Split), Wrong<'_>> {
+    let header = match read_header(line) {
+        Ok(header) => header,
+        Err(wrong) => return Err(wrong),
+    };
+    match split_of(&header) {
+        Some(split) => Ok((header, split)),
+        None => Err(wanted("a relay with these slots and workers has another number of pollers")),
     }
 }
 
@@ -112,7 +127,7 @@ fn record_of<'a>(recording: &Recording, line: &'a [u8]) -> Result<Record, Wrong<
     if record.before >= record.after {
         return Err(wanted("the count before an act is below the one after it"));
     }
-    match outside(&recording.header, &record.act) {
+    match outside(recording, &record.act) {
         Some(text) => Err(wanted(text)),
         None => Ok(record),
     }
@@ -123,20 +138,38 @@ pub(crate) fn wanted<'a>(wanted: &'static str) -> Wrong<'a> {
     Wrong { word: None, wanted }
 }
 
-/// What is wanted of a record that names what this relay does not have.
-fn outside(header: &Header, act: &Act) -> Option<&'static str> {
-    let slot = match *act {
+/// What is wanted of a record that names what this relay, or this poller, does not have.
+fn outside(recording: &Recording, act: &Act) -> Option<&'static str> {
+    let header = &recording.header;
+    match *act {
         Act::Poller(poller, _) if poller >= header.pollers => {
             return Some("a poller of this relay is wanted");
         }
-        Act::Poller(_, Polling::Open(slot, _, _)) | Act::Begin(slot) | Act::End(slot) => slot,
-        Act::Poller(_, Polling::Reported(Name::End(token))) | Act::Wire(token, _) => token.slot(),
-        _ => return None,
-    };
-    if slot < header.slots {
-        None
-    } else {
-        Some("a slot of this relay is wanted")
+        Act::Second(_) if header.idle == 0 => {
+            return Some("no second is read where there is no idle limit");
+        }
+        _ => {}
+    }
+    let slot = slot_of(act)?;
+    if slot >= header.slots {
+        return Some("a slot of this relay is wanted");
+    }
+    match *act {
+        Act::Poller(poller, _) if recording.split.poller_of(slot) != poller => {
+            Some("a slot of this poller is wanted")
+        }
+        _ => None,
+    }
+}
+
+/// The slot that a record names.
+fn slot_of(act: &Act) -> Option<usize> {
+    match *act {
+        Act::Poller(_, Polling::Open(slot, _, _)) | Act::Begin(slot) | Act::End(slot) => Some(slot),
+        Act::Poller(_, Polling::Reported(Name::End(token))) | Act::Wire(token, _) => {
+            Some(token.slot())
+        }
+        _ => None,
     }
 }
 

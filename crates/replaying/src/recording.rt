@@ -1,5 +1,7 @@
 //! A recording, as it is read.
+use dispatch::Split;
 use records::{Act, Header, Polling, Record};
+use settings::pollers_for;
 use std::alloc::{AllocError, Global};
 
 /// A record, and its line in the file, from 1.
@@ -24,25 +26,52 @@ pub(crate) enum Last {
 #[derive(Drop)]
 pub(crate) struct Recording {
     pub header: Header,
+    /// Which slots are which poller's.
+    pub split: Split,
     /// A list for each slot, of openings, turns, calls and drops; behind them one for each poller, of all that it did; and one of
     /// what belongs to neither: readings of the clock, and the last record.
     pub lists: Vec<Vec<Numbered>>,
     pub last: Last,
+    /// The count after the first wait for reports that failed, if one did: then the relay ended before all was done.
+    pub failed: Option<u64>,
+    /// The first count that is of no record: what ended before is all there.
+    pub whole: u64,
     /// The last line, if it is cut off.
     pub cut: Option<u64>,
 }
 
+/// How the slots are dealt in a relay of these sizes, if there is such a relay.
+pub(crate) fn split_of(header: &Header) -> Option<Split> {
+    let (slots, workers) = (header.slots, header.workers);
+    if slots == 0 || slots > 4_096 || workers == 0 || workers > 16 {
+        return None;
+    }
+    let split = Split::new(slots, pollers_for(slots, workers));
+    if split.pollers() == header.pollers {
+        Some(split)
+    } else {
+        None
+    }
+}
+
 impl Recording {
     /// The recording of a relay of these sizes, without any record.
-    pub(crate) fn new(alloc: Global, header: Header) -> Result<Recording, AllocError> {
+    pub(crate) fn new(
+        alloc: Global,
+        header: Header,
+        split: Split,
+    ) -> Result<Recording, AllocError> {
         let count = header
             .slots
             .saturating_add(header.pollers)
             .saturating_add(1);
         Ok(Recording {
             header,
+            split,
             lists: lists(alloc, count)?,
             last: Last::Stopped,
+            failed: None,
+            whole: 0,
             cut: None,
         })
     }
@@ -52,6 +81,7 @@ impl Recording {
         match record.act {
             Act::Ended => self.last = Last::Ended,
             Act::Full => self.last = Last::Full,
+            Act::Poller(_, Polling::Failed) => self.fail(record.after),
             _ => {}
         }
         let (first, second) = self.lists_of(&record.act);
@@ -60,6 +90,14 @@ impl Recording {
             Some(second) => self.add_to(second, line, record),
             None => Ok(()),
         }
+    }
+
+    /// A wait for reports had failed by this count.
+    fn fail(&mut self, count: u64) {
+        self.failed = match self.failed {
+            Some(first) => Some(first.min(count)),
+            None => Some(count),
+        };
     }
 
     fn lists_of(&self, act: &Act) -> (usize, Option<usize>) {
@@ -81,6 +119,11 @@ impl Recording {
         }
     }
 
+    /// Whether each turn and each round is known to have read the clock, if it was over by this count.
+    pub(crate) fn reads_seconds(&self, count: u64) -> bool {
+        self.header.idle > 0 && count < self.whole
+    }
+
     /// What happened at a slot.
     pub(crate) fn slot(&self, slot: usize) -> &[Numbered] {
         if slot < self.header.slots {
@@ -98,14 +141,6 @@ impl Recording {
     /// What a poller did.
     pub(crate) fn poller(&self, poller: usize) -> &[Numbered] {
         self.list(self.at_poller(poller))
-    }
-
-    /// The poller that opens a slot: that of the first act there.
-    pub(crate) fn opener(&self, slot: usize) -> Option<usize> {
-        match self.slot(slot).first()?.record.act {
-            Act::Poller(poller, _) => Some(poller),
-            _ => None,
-        }
     }
 
     /// What belongs to neither.

@@ -1,17 +1,23 @@
 //! A whole recording.
+ghost use Rattle.world.specs.States.{IsWithinLimits};
+
 use crate::clock::Clock;
+use crate::crew::check_crew;
 use crate::flaw::Flaw;
+use crate::opening::limits_of;
 use crate::order::put_in_order;
 use crate::player::{Player, Score};
-use crate::reading::read;
+use crate::reading::{broken, read, wanted};
 use crate::recording::{Last, Recording};
+use crate::round::check_rounds;
 use crate::rounds::play_rounds;
 use crate::stage::Stage;
 use crate::telling::{tell, tell_flaw};
 use crate::told::{Flawed, Told, Whose};
-use records::{Outcome, Replay, ReplayFault, Wanted};
+use records::{Header, Outcome, Replay, ReplayFault, Wanted};
 use std::alloc::Global;
 use std::io::{Read, Write};
+use world::{Lead, Limits};
 
 /// The machine on which recordings are played: what each slot and each poller's listener did, on a world of its own, event by
 /// event. What is told of a slot is read off that world, whose events all happened there ([`world::Tape`]).
@@ -22,7 +28,8 @@ impl Replay for OnMachine {
     ///
     /// With `rests`, or where the recording ends with the record `end`, the relay had come to rest: nothing may be left to do
     /// at any slot. With `rests` alone nothing is asked of that where records behind a lost one were left out, since what was
-    /// left to do may have been done there.
+    /// left to do may have been done there, and in neither case where a wait for reports had failed, since that ends a relay
+    /// before all is done.
     ///
     /// Refuses with `Read` if the reader gives an error, `Broken` if the file is no recording, `Unknown` if it lacks the
     /// connection that is wanted, `Write` if the outcome could not be written, and `NoMemory`.
@@ -36,7 +43,8 @@ impl Replay for OnMachine {
     ) -> Result<Outcome, ReplayFault> {
         let mut recording = read(alloc, input)?;
         let left_out = put_in_order(alloc, &mut recording)?;
-        let rests = recording.last == Last::Ended || rests && left_out == 0;
+        let rests = recording.failed.is_none()
+            && (recording.last == Last::Ended || rests && left_out == 0);
         let outcome = deal(alloc, &recording, wanted, rests, left_out, output)?;
         match output.flush() {
             Ok(()) => Ok(outcome),
@@ -54,7 +62,9 @@ fn deal<W: Write>(
     left_out: usize,
     output: &mut W,
 ) -> Result<Outcome, ReplayFault> {
-    let clock = Clock::new(alloc, recording.others())?;
+    let clock = read_clock(alloc, recording)?;
+    check_rounds(alloc, recording, &clock)?;
+    check_crew(alloc, recording)?;
     let posts = play_rounds(alloc, recording, &clock)?;
     let score = Score {
         recording,
@@ -63,6 +73,15 @@ fn deal<W: Write>(
         rests,
     };
     play_and_tell(alloc, score, wanted, left_out, output)
+}
+
+/// What the clock showed. It does not go back.
+fn read_clock(alloc: Global, recording: &Recording) -> Result<Clock, ReplayFault> {
+    let clock = Clock::new(alloc, recording.others())?;
+    match clock.first_back(recording.others()) {
+        Some(back) => Err(broken(alloc, back.line, wanted("the clock does not go back"))),
+        None => Ok(clock),
+    }
 }
 
 /// Plays what is wanted, and writes what that comes to.
@@ -144,7 +163,7 @@ fn play_slot(alloc: Global, score: Score<'_>, told: &mut Told, slot: usize) -> R
     let Some(first) = score.recording.slot(slot).first() else {
         return Ok(());
     };
-    let stage = Stage::new(alloc, Stage::LIMITS)?;
+    let stage = Stage::new(alloc, limits_at_first(&score.recording.header))?;
     let mut player = Player::new(score, slot, *first, stage);
     let result = player.play(told);
     let Player {
@@ -157,4 +176,11 @@ fn play_slot(alloc: Global, score: Score<'_>, told: &mut Told, slot: usize) -> R
         Ok(()) => told.take(slot, stage.tape),
         Err(flaw) => told.end(flaw, Whose::Slot(slot, state.generation), last, stage),
     }
+}
+
+/// The limits of the world that a slot has before anything is opened there.
+fn limits_at_first(header: &Header) -> Limits
+    ensures { IsWithinLimits result }
+{
+    limits_of(header, 1, Lead::NONE).unwrap_or(Stage::LIMITS)
 }

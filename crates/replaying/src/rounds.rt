@@ -3,6 +3,7 @@ use crate::clock::Clock;
 use crate::posts::Post;
 use crate::reading::{broken, wanted};
 use crate::recording::{Last, Numbered, Recording, lists};
+use crate::swept::Swept;
 use records::{Act, Polling, ReplayFault};
 use std::alloc::{AllocError, Global};
 use token::Name;
@@ -19,8 +20,8 @@ struct Rounds<'a> {
     /// The last poll, and how many of its reports are missing.
     poll: Option<Post>,
     missing: usize,
-    /// The earliest and the latest second of the last sweep, at first of the thread's beginning.
-    swept: Option<(u64, u64)>,
+    /// When it last made a sweep. None before its first round.
+    swept: Option<Swept>,
 }
 
 /// What was posted in the rounds of a recording: a list for each slot, of the reports that its poller was given, and behind
@@ -87,7 +88,7 @@ impl Rounds<'_> {
             generation: None,
             from: numbered.record.after,
             to: self.next_count(place, numbered.record.before),
-            is_certain: true,
+            since: Some(numbered.record.after),
         };
         let sweep = self.sweep(numbered.record.before, &poll);
         self.poll = Some(poll);
@@ -112,26 +113,22 @@ impl Rounds<'_> {
         u64::MAX
     }
 
-    /// The round behind a poll may have made a sweep, by the second that the round before it read. Where that is in doubt, it may or
-    /// may not.
+    /// The round after a poll may have made a sweep, by the second that the round before it read. Where that is in doubt, it may
+    /// or may not.
     fn sweep(&mut self, before: u64, poll: &Post) -> Option<Post> {
         let limit = self.recording.header.idle;
-        let (first, last) = match self.swept {
-            Some(seconds) => seconds,
-            None => self.clock.between(0, before),
-        };
-        self.swept = Some((first, last));
-        let round = self.poll?;
-        let (least, most) = self.clock.between(round.from, round.to);
-        if limit == 0 || most.saturating_sub(first) < limit {
+        if limit == 0 {
             return None;
         }
-        let is_certain = least.saturating_sub(last) >= limit;
-        self.swept = Some((if is_certain { least } else { first }, most));
-        Some(Post {
-            is_certain,
-            ..*poll
-        })
+        let mut swept = match self.swept {
+            Some(swept) => swept,
+            None => Swept::at(self.clock.between(0, before)),
+        };
+        self.swept = Some(swept);
+        let round = self.poll?;
+        let since = swept.pass(limit, self.clock.between(round.from, round.to), poll.from);
+        self.swept = Some(swept);
+        since.map(|since| Post { since, ..*poll })
     }
 
     /// The last poll reported this. Answers to which slot the poller may have posted that.
@@ -148,7 +145,7 @@ impl Rounds<'_> {
         };
         self.missing = missing.saturating_sub(1);
         match name {
-            Name::End(token) if self.recording.opener(token.slot()) == Some(self.poller) => {
+            Name::End(token) => {
                 let report = Post {
                     place,
                     generation: Some(token.generation()),

@@ -37,9 +37,6 @@ pub(crate) fn tell_flaw<W: Write>(
 ) -> Result<(), ReplayFault> {
     let record = text_of(alloc, flawed.numbered.record)?;
     write(output, first_line(alloc, flawed, flaw, record.as_str()))?;
-    if let Whose::Slot(_, 0) = flawed.whose {
-        return Ok(());
-    }
     tell_script(alloc, output, &flawed.stage.tape)?;
     write(output, refused(alloc, &flawed.stage))
 }

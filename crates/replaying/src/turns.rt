@@ -18,6 +18,14 @@ impl Player<'_> {
             Phase::Free => return Err(Flaw::Because("no connection is open in the slot")),
             _ => return Err(Flaw::Because("the turn before has not ended")),
         }
+        if self.score.recording.reads_seconds(record.before)
+            && !self
+                .score
+                .clock
+                .is_read(self.state.free_from, record.before)
+        {
+            return Err(Flaw::Because("the clock was not read for this turn"));
+        }
         let since = self.gather_notes(record.before)?;
         let (earliest, latest) = self.score.clock.between(since, record.before);
         self.pass_to(earliest)?;
@@ -103,6 +111,12 @@ impl Player<'_> {
     pub(crate) fn drop_end(&mut self, side: Side, record: Record) -> Result<(), Flaw> {
         let phase = self.state.phase;
         match phase {
+            Phase::Open if self.has_failed(record.before) => {
+                self.state.void = self.state.generation;
+                self.state.phase = Phase::Void(Some(side));
+                Ok(())
+            }
+            Phase::Void(dropped) => self.drop_void(side, dropped),
             Phase::Closing(None) => {
                 self.state.phase = Phase::Closing(Some(side));
                 self.state.taken_by = record.before;
@@ -120,11 +134,38 @@ impl Player<'_> {
         }
     }
 
+    /// Whether the relay had failed by this count, so that it closed what was open.
+    fn has_failed(&self, count: u64) -> bool {
+        match self.score.recording.failed {
+            Some(failed) => failed < count,
+            None => false,
+        }
+    }
+
+    /// An end is dropped outside a turn. Behind the second one the slot is free.
+    fn drop_void(&mut self, side: Side, dropped: Option<Side>) -> Result<(), Flaw> {
+        self.state.phase = match dropped {
+            None => Phase::Void(Some(side)),
+            Some(other) if other != side => Phase::Free,
+            Some(_) => return Err(Flaw::Because("the same end is dropped twice")),
+        };
+        Ok(())
+    }
+
+    /// The relay has ended, and closed all its sockets.
+    pub(crate) fn ended(&self) -> Result<(), Flaw> {
+        match self.state.phase {
+            Phase::Free => Ok(()),
+            _ => Err(Flaw::Because("the relay has ended, and the connection is not closed")),
+        }
+    }
+
     /// Nothing is left to do in the slot. What is left is told of the record that it came from.
     pub(crate) fn rest(&mut self) -> Result<(), Flaw> {
         match self.state.phase {
             Phase::Free => return Ok(()),
             Phase::Open => {}
+            Phase::Void(_) => return Err(Flaw::Because("the other end is not dropped")),
             _ => return Err(Flaw::Because("its turn has not ended")),
         }
         self.note_the_rest()?;

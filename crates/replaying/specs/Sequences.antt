@@ -1,0 +1,19 @@
+-- What one thread at a time does is one act after another. Part of the promises.
+use Rattle.std.specs.Prelude.{◌≡◌, ◌⊎◌, ◌-◌, ◌<◌, ℕ, Bool, true, false, List, Some, slice_get}
+use Rattle.records.specs.declared.act.Record.{Record}
+use Rattle.records.specs.declared.act.Act.{Act}
+use Rattle.records.specs.declared.act.Act.TheVariants.{Poller}
+use Rattle.records.specs.declared.act.Polling.TheVariants as polling
+use Rattle.replaying.specs.declared.recording.Numbered.{Numbered}
+
+abbrev pub is_report : Act → Bool
+is_report (Poller number (polling.Reported name)) = true
+is_report act = false
+
+-- one act has ended when the next one begins, or the next is a report, which has the counts of its wait
+abbrev pub Follows : Record → Record → Type 0
+Follows last next = (last.after < next.before) ⊎ ((is_report next.act ≡ true) × (next.before ≡ last.before) × (next.after ≡ last.after))
+
+-- the act at a place, of which 0 is the first, follows the one before it
+abbrev pub FollowsAt : List Numbered → ℕ → Type 0
+FollowsAt list place = (last next : Numbered) → slice_get list (place - 1) ≡ Some last → slice_get list place ≡ Some next → Follows last.record next.record

@@ -1,0 +1,160 @@
+//! What a poller does in a round, one act after the other: it waits for reports once, and then accepts connections, each of
+//! which it opens at once.
+use crate::clock::Clock;
+use crate::reading::{broken, wanted};
+use crate::recording::{Last, Recording};
+use records::{Accepted, Act, Opening, Polling, Record, ReplayFault};
+use std::alloc::{AllocError, Global};
+use token::Name;
+
+/// The most calls of accept(2) in a round.
+const MAX_ACCEPTS: usize = 4;
+
+/// A poller in its round.
+#[derive(Drop)]
+struct Round<'a> {
+    recording: &'a Recording,
+    clock: &'a Clock,
+    /// The generation of the last connection that it opened in each slot, 0 where it opened none.
+    opened: Vec<u64>,
+    /// The wait with which the round began, if it has begun, and what that reported so far.
+    poll: Option<Record>,
+    reported: Vec<Name>,
+    /// How many calls of accept(2) the round may still make.
+    accepts: usize,
+    /// Whether an accepted connection is in hand.
+    accepted: bool,
+}
+
+/// Refuses with `Broken` for the first act of a poller that it does not do in its round.
+pub(crate) fn check_rounds(
+    alloc: Global,
+    recording: &Recording,
+    clock: &Clock,
+) -> Result<(), ReplayFault> {
+    for poller in 0..recording.header.pollers {
+        let mut round = Round {
+            recording,
+            clock,
+            opened: vec![in alloc; 0; recording.header.slots]?,
+            poll: None,
+            reported: Vec::new(alloc),
+            accepts: 0,
+            accepted: false,
+        };
+        round.check(alloc, poller)?;
+    }
+    Ok(())
+}
+
+impl Round<'_> {
+    fn check(&mut self, alloc: Global, poller: usize) -> Result<(), ReplayFault> {
+        let acts = self.recording.poller(poller);
+        for numbered in acts {
+            if let Some(why) = self.act(&numbered.record)? {
+                return Err(broken(alloc, numbered.line, wanted(why)));
+            }
+        }
+        match acts.last() {
+            Some(last) if self.accepted && self.recording.last == Last::Ended => {
+                Err(broken(
+                    alloc,
+                    last.line,
+                    wanted("the accepted connection is never opened"),
+                ))
+            }
+            _ => Ok(()),
+        }
+    }
+
+    /// Why an act does not follow those before it, if that is so.
+    fn act(&mut self, record: &Record) -> Result<Option<&'static str>, AllocError> {
+        let Act::Poller(_, did) = record.act else {
+            return Ok(None);
+        };
+        if let Polling::Reported(name) = did {
+            return self.report(name);
+        }
+        if self.has_failed() {
+            return Ok(Some("a poller ends once its wait for reports has failed"));
+        }
+        Ok(match did {
+            Polling::Accept(answer) => self.accept(answer),
+            Polling::Open(slot, generation, opening) => {
+                self.open(slot, generation, opening);
+                None
+            }
+            _ => self.begin(record),
+        })
+    }
+
+    fn has_failed(&self) -> bool {
+        match &self.poll {
+            Some(poll) => matches!(poll.act, Act::Poller(_, Polling::Failed)),
+            None => false,
+        }
+    }
+
+    /// A round begins.
+    fn begin(&mut self, poll: &Record) -> Option<&'static str> {
+        if self.accepted {
+            return Some("the accepted connection is opened before the next wait");
+        }
+        if self.lacks_second(poll) {
+            return Some("the clock was not read since the wait before");
+        }
+        self.poll = Some(*poll);
+        self.reported.clear();
+        self.accepts = MAX_ACCEPTS;
+        None
+    }
+
+    /// Whether no second was read since the wait before this one: each round reads one, before its wait or after it.
+    fn lacks_second(&self, poll: &Record) -> bool {
+        match &self.poll {
+            Some(last) if self.recording.reads_seconds(poll.before) => {
+                !self.clock.is_read(last.after, poll.before)
+            }
+            _ => false,
+        }
+    }
+
+    /// The wait reported this.
+    fn report(&mut self, name: Name) -> Result<Option<&'static str>, AllocError> {
+        if let Name::End(token) = name {
+            match self.opened.get(token.slot()) {
+                Some(opened) if token.generation() <= *opened => {}
+                _ => return Ok(Some("what is reported was not opened before")),
+            }
+        }
+        if self.reported.contains(&name) {
+            return Ok(Some("a wait reports each end once"));
+        }
+        self.reported.push(name)?;
+        Ok(None)
+    }
+
+    /// What accept(2) answered. Where it was starved the round calls it no more.
+    fn accept(&mut self, answer: Accepted) -> Option<&'static str> {
+        if self.accepts == 0 {
+            return Some("no more calls of accept(2) are made in this round");
+        }
+        self.accepts -= 1;
+        match answer {
+            Accepted::Taken => self.accepted = true,
+            Accepted::Starved => self.accepts = 0,
+            Accepted::Blocked | Accepted::Again => {}
+        }
+        None
+    }
+
+    /// The connection in hand is opened, or was tried to be.
+    fn open(&mut self, slot: usize, generation: u64, opening: Opening) {
+        self.accepted = false;
+        if matches!(opening, Opening::Opened) {
+            if let Some(opened) = self.opened.get_mut(slot) {
+                *opened = generation;
+            }
+        }
+    }
+}
