@@ -20,6 +20,8 @@ import time
 TESTS = os.path.dirname(os.path.abspath(__file__))
 WAIT = 40  # the longest that anything here is waited for, in seconds
 STARTED = []  # the processes of the check in progress
+# The first line of a relay's log.
+STARTED_LINE = re.compile(r"\[INFO  relayd\] relayd \d")
 # What a relay at rest records: waits for reports that gave none.
 AT_REST = re.compile(r"(\d+ \d+ (p\d+ poll 0|second \d+)\n)+")
 
@@ -68,17 +70,24 @@ def settings_file(settings):
         yield file.name
 
 
-def allowed(descriptors):
-    """What allows so many descriptors to the process that calls it, if there is to be a limit."""
-    hard = resource.getrlimit(resource.RLIMIT_NOFILE)[1]
-    return None if descriptors is None else lambda: resource.setrlimit(resource.RLIMIT_NOFILE, (descriptors, hard))
+def allowed(descriptors, closed=()):
+    """What allows so many descriptors to the process that calls it, if there is to be a limit, and closes these."""
+
+    def prepare():
+        if descriptors is not None:
+            hard = resource.getrlimit(resource.RLIMIT_NOFILE)[1]
+            resource.setrlimit(resource.RLIMIT_NOFILE, (descriptors, hard))
+        for number in closed:
+            os.close(number)
+
+    return prepare
 
 
 class Relay:
     """A relay that forwards to a port, or to this process itself, with these settings beside the two addresses or in their
     place: from a file, with other options behind it, or on the command line; and with the library put before others, told by
     these variables. It records what it does, unless it is to have no thread and no descriptor beyond those of a relay that
-    does not."""
+    does not. It begins with these standard streams closed, and inherits these descriptors."""
 
     program = None
     library = None
@@ -87,7 +96,7 @@ class Relay:
 
     def __init__(
         self, port=None, preload=None, errors=subprocess.PIPE, options=(), typed=False, descriptors=None, stdin=None,
-        recorded=True, **settings
+        recorded=True, closed=(), inherited=(), **settings
     ):
         if port is None:
             self.listener = socket.create_server(("127.0.0.1", 0))
@@ -110,7 +119,8 @@ class Relay:
                 stdout=subprocess.PIPE,
                 stderr=errors,
                 env={**os.environ, **({"LD_PRELOAD": Relay.library, **preload} if preload else {})},
-                preexec_fn=allowed(descriptors),
+                preexec_fn=allowed(descriptors, closed),
+                pass_fds=inherited,
             )
             Relay.begun.append(self)
             # It says where it listens, and nothing else, unless it cannot serve.
@@ -133,11 +143,13 @@ class Relay:
         return self.ended(status=None)
 
     def ended(self, status=0, within=WAIT):
-        """The log lines of a relay that ends, with this status if one is given."""
+        """The log lines of a relay that ends, with this status if one is given, but for the one that it begins with."""
         self.is_over = not self.rests
         wrote, complained = self.process.communicate(timeout=within)
         assert not wrote and status in (None, self.process.returncode)
-        self.told = (complained or "").splitlines()
+        lines = (complained or "").splitlines()
+        self.begun_with = [line for line in lines if STARTED_LINE.match(line)]
+        self.told = [line for line in lines if line not in self.begun_with]
         return self.told
 
     def come_to_rest(self):

@@ -4,3 +4,4 @@ pub mod Arguments
 pub mod Descriptors
 pub mod Meeting
 pub mod Statuses
+pub mod Streams

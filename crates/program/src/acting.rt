@@ -10,7 +10,7 @@ use crate::command_line::{Command, Extras, read_command};
 use crate::config;
 use crate::constants::{DONE, FAULT, USAGE};
 use crate::faults::ProgramFault;
-use crate::level::level_filter;
+use crate::level::starting_filter;
 use crate::process_arguments::ArgumentsFault;
 use crate::recording_file::create;
 use crate::replaying_file::replay_file;
@@ -187,7 +187,7 @@ where
     ensures fault { IfErr result (λ fault. status_of fault ≡ 1) }
 {
     let settings = config::load(rt, log, path)?;
-    foresee(rt, log, &settings);
+    foresee(rt, log, &settings)?;
     print(rt.alloc(), &settings, &mut stream("output", writer, log))
 }
 
@@ -283,9 +283,9 @@ where
     ensures done { IfOk result (λ status. status ≡ 0) }
     ensures fault { IfErr result (λ fault. status_of fault ≡ 1) }
 {
-    let log = Logged::new(*rt, level_filter(settings.log), Console(*rt));
+    let log = Logged::new(*rt, starting_filter(settings.log), Console(*rt));
     let bound = bind(&log, &settings).map_err(ProgramFault::Server)?;
-    let settings = prepare(rt, &log, settings);
+    let settings = prepare(rt, &log, settings, record.map_or(0, |_| 1))?;
     let file = create(rt, &log, record)?;
     announce(rt.alloc(), &bound, writer)?;
     match serve(settings, bound, extras, file) {

@@ -6,6 +6,7 @@ ghost use Rattle.program.specs.Files.{FileSets, HasFault};
 
 use crate::constants::MAX_CONFIG_BYTES;
 use crate::faults::ConfigFault;
+use crate::file_names::Unopened;
 use crate::forwarding::setting_text;
 use crate::streams::{Stream, log_error};
 use input::{InputFault, read_at_most};
@@ -41,7 +42,7 @@ pub fn load<R: AllocGlobal + Files, L: Log>(
             answer
         }
         Err(error) => {
-            log_error(log, &name, &error);
+            log_error(log, &"config", &Unopened { path, error });
             Err(ConfigFault::Read)
         }
     }

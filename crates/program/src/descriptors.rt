@@ -1,6 +1,6 @@
 //! How many connections the descriptors of the process are enough for. A client beyond them waits in the backlog, as it
 //! does if all slots are taken, and is not accepted only to be closed.
-ghost use Rattle.std.specs.Prelude.{◌≡◌, ◌≤◌, ◌<◌, ◌+◌, ◌⊎◌};
+ghost use Rattle.std.specs.Prelude.{◌≡◌, ◌≤◌, ◌<◌, ◌+◌};
 ghost use Rattle.program.specs.Descriptors.{HasFor, needed};
 
 use settings::pollers_for;
@@ -49,17 +49,17 @@ pub(crate) fn soft_limit(text: &str) -> Option<u64> {
 }
 
 /// How many slots the descriptors are enough for, with the pollers of so many slots: as many as are set, or else the most
-/// that have descriptors, and at least one.
+/// that have descriptors. It is 0 where there are none for one.
 pub(crate) fn covered(slots: usize, workers: usize, descriptors: Descriptors) -> usize
     requires slots { (1 ≤ slots) × (slots ≤ 4096) }
     requires workers { (1 ≤ workers) × (workers ≤ 16) }
-    ensures range { (1 ≤ result) × (result ≤ slots) }
-    ensures enough { (result ≡ 1) ⊎ HasFor descriptors.most descriptors.in_use result workers }
+    ensures range { result ≤ slots }
+    ensures enough { 1 ≤ result → HasFor descriptors.most descriptors.in_use result workers }
     ensures most { result < slots → ¬ (HasFor descriptors.most descriptors.in_use (result + 1) workers) }
 {
     let left = descriptors.most.saturating_sub(descriptors.in_use);
     let mut covered = slots;
-    while covered > 1 && needed(covered, workers) > left {
+    while covered > 0 && needed(covered, workers) > left {
         covered -= 1;
     }
     covered

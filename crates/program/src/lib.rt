@@ -6,7 +6,8 @@
 //!
 //! - `command_line` finds the command in them; `forwarding` has the settings that they may give.
 //! - [`config`] reads the settings, and `starting` looks at what they need before a relay serves by them.
-//! - `recording_file` makes the file of a recording, and `replaying_file` replays one.
+//! - `recording_file` makes the file of a recording, and `replaying_file` replays one; `file_names` is how the log calls them.
+//! - [`hold_closed`] keeps the numbers of closed standard streams from whatever is opened.
 //! - [`until_eof`] waits for the end of standard input.
 //! - [`logging`] is the log of a relay that serves, and [`level_filter`] its level; [`telling`] its statistics; `streams` logs
 //!   what is wrong with an input or an output.
@@ -19,6 +20,7 @@ pub mod config;
 mod constants;
 mod descriptors;
 mod faults;
+mod file_names;
 mod forwarding;
 mod level;
 pub mod logging;
@@ -26,6 +28,7 @@ mod meeting;
 mod process_arguments;
 mod recording_file;
 mod replaying_file;
+mod standard_streams;
 mod starting;
 mod streams;
 pub mod telling;
@@ -36,4 +39,5 @@ pub use command_line::Extras;
 pub use faults::{ConfigFault, ProgramFault};
 pub use level::level_filter;
 pub use process_arguments::{ArgumentsFault, arguments};
-pub use starting::{foresee, prepare};
+pub use standard_streams::{hold_closed, report_unheld};
+pub use starting::{foresee, log_start, prepare};

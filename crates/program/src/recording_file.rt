@@ -1,27 +1,53 @@
-//! The file that a relay records into.
-ghost use Rattle.std.specs.Prelude.{◌≡◌, IfErr};
+//! The file that a relay records into. No file is emptied for it: a recording that is there is kept under another name, and
+//! any other file that is not empty is refused.
+ghost use Rattle.std.specs.Prelude.{◌≡◌, IfErr, true, false};
+ghost use Rattle.std.specs.Fs.{asks_read, asks_write, asks_append, asks_truncate, asks_create, asks_create_new};
 ghost use Rattle.program.specs.Statuses.{status_of};
 
 use crate::faults::ProgramFault;
+use crate::file_names::Unopened;
 use crate::streams::log_error;
-use log::Log;
+use log::{Log, error, info};
 use settings::EndOfLine;
+use std::alloc::{AllocError, Global};
+use std::fs::{self, File, OpenOptions};
+use std::io::{self, ErrorKind, Read};
 use std::rt::Files;
-use std::{fmt, fs};
 
-/// What the log calls a file that is recorded into.
-#[derive(Clone, Copy)]
-struct RecordName<'a>(&'a str);
+/// What every recording begins with.
+const FIRST_WORDS: [u8; 17] = *b"relayd recording ";
 
-impl fmt::Display for RecordName<'_> {
-    fn fmt<W: fmt::Write>(&self, f: &mut fmt::Formatter<W>) -> fmt::Result {
-        let path = EndOfLine(self.0);
-        write!(f, "record: {path}")
+/// The greatest number of a recording that is kept.
+const MOST_KEPT: u32 = 9_999;
+
+/// Why a file cannot be recorded into.
+#[derive(Drop)]
+enum Unmade {
+    /// The system gave an error.
+    System(io::Error),
+    /// A file is there that is neither empty nor a recording.
+    Taken,
+    /// Memory ran out.
+    NoMemory,
+}
+
+impl From<io::Error> for Unmade {
+    fn from(error: io::Error) -> Unmade {
+        Unmade::System(error)
     }
 }
 
-/// The empty file at a path, if one is given. Refuses with `Record` if it cannot be made, whose cause is logged.
-pub(crate) fn create<R: Files>(
+impl From<AllocError> for Unmade {
+    fn from(_error: AllocError) -> Unmade {
+        Unmade::NoMemory
+    }
+}
+
+/// The file to record into at a path, if one is given.
+///
+/// Refuses with `Record` if it cannot be made, or if a file is there that is neither empty nor a recording, whose cause is
+/// logged; and with `NoMemory`.
+pub(crate) fn create<R: AllocGlobal + Files>(
     rt: &R,
     log: &impl Log,
     path: Option<&str>,
@@ -31,11 +57,75 @@ pub(crate) fn create<R: Files>(
     let Some(path) = path else {
         return Ok(None);
     };
-    match fs::create(rt, path) {
-        Ok(file) => Ok(Some(file)),
-        Err(error) => {
-            log_error(log, &RecordName(path), &error);
-            Err(ProgramFault::Record)
+    match open_new(rt, log, path) {
+        Ok(file) => return Ok(Some(file)),
+        Err(Unmade::NoMemory) => return Err(ProgramFault::from(AllocError)),
+        Err(Unmade::System(error)) => log_error(log, &"record", &Unopened { path, error }),
+        Err(Unmade::Taken) => {
+            let name = EndOfLine(path);
+            error!(log; target: "relayd", "record: {name}: is there, and is no recording");
         }
     }
+    Err(ProgramFault::Record)
+}
+
+/// The file to record into at a path, once a recording that is there has another name.
+fn open_new<R: AllocGlobal + Files>(rt: &R, log: &impl Log, path: &str) -> Result<R::File, Unmade> {
+    let is_there = match fs::metadata(rt, path) {
+        Ok(found) if found.is_file() && found.len() > 0 => {
+            keep(rt, log, path)?;
+            false
+        }
+        // A file without bytes, or a pipe or a device.
+        Ok(_) => true,
+        Err(error) if error.kind() == ErrorKind::NotFound => false,
+        Err(error) => return Err(Unmade::from(error)),
+    };
+    Ok(how_to_open(is_there).open(rt, path)?)
+}
+
+/// How a file is opened to record into: one that is there, or one that is not, which is then made. Whatever is there by now, it
+/// is not emptied (open(2), `O_APPEND` and `O_EXCL`).
+fn how_to_open(is_there: bool) -> OpenOptions
+    ensures whole { (asks_truncate result ≡ false) × (asks_create result ≡ false) }
+    ensures behind { (asks_append result ≡ true) × (asks_write result ≡ false) × (asks_read result ≡ false) }
+    ensures there { is_there ≡ true → asks_create_new result ≡ false }
+    ensures made { is_there ≡ false → asks_create_new result ≡ true }
+{
+    let mut how = OpenOptions::new();
+    how.append(true).create_new(!is_there);
+    how
+}
+
+/// Gives the recording at a path the first free name of `PATH.1`, `PATH.2` and so on, and logs which.
+fn keep<R: AllocGlobal + Files>(rt: &R, log: &impl Log, path: &str) -> Result<(), Unmade> {
+    if !is_recording(rt, path)? {
+        return Err(Unmade::Taken);
+    }
+    let kept = free_name(rt, rt.alloc(), path)?;
+    // What has that name is the empty file that was just made.
+    fs::rename(rt, path, kept.as_str())?;
+    let (name, kept) = (EndOfLine(path), EndOfLine(kept.as_str()));
+    info!(log; target: "relayd", "record: {name}: was there, and is {kept} now");
+    Ok(())
+}
+
+/// Whether the file at a path begins as a recording does.
+fn is_recording(rt: &impl Files, path: &str) -> io::Result<bool> {
+    let mut first = [0u8; 17];
+    let length = File::open(rt, path)?.read(&mut first)?;
+    Ok(length == first.len() && first == FIRST_WORDS)
+}
+
+/// The first free name behind a path. An empty file has it now, so that nobody else takes it.
+fn free_name(rt: &impl Files, alloc: Global, path: &str) -> Result<String, Unmade> {
+    for number in 1..=MOST_KEPT {
+        let name = format!(in alloc; "{path}.{number}")?;
+        match how_to_open(false).open(rt, name.as_str()) {
+            Ok(_) => return Ok(name),
+            Err(error) if error.kind() == ErrorKind::AlreadyExists => {}
+            Err(error) => return Err(Unmade::from(error)),
+        }
+    }
+    Err(Unmade::from(io::Error::from(ErrorKind::AlreadyExists)))
 }

@@ -5,6 +5,7 @@ ghost use Rattle.program.specs.Statuses.{IsCarriedOut, status_of};
 use crate::command_line::Replayed;
 use crate::constants::{DONE, FAULT};
 use crate::faults::ProgramFault;
+use crate::file_names::Unopened;
 use crate::streams::{Stream, log_error};
 use log::Log;
 use records::{Outcome, Replay, ReplayFault, Wanted};
@@ -25,7 +26,7 @@ pub(crate) fn replay_file<R: AllocGlobal + Files, L: Log, O: Write, P: Replay>(
     ensures done { IfOk result (λ status. IsCarriedOut status) }
     ensures fault { IfErr result (λ fault. status_of fault ≡ 1) }
 {
-    let name = EndOfLine(replayed.path);
+    let path = replayed.path;
     let Some(wanted) = wanted_of(replayed) else {
         log_error(
             log,
@@ -34,13 +35,14 @@ pub(crate) fn replay_file<R: AllocGlobal + Files, L: Log, O: Write, P: Replay>(
         );
         return Err(ProgramFault::Replay(ReplayFault::Unknown));
     };
-    let file = match File::open(rt, replayed.path) {
+    let file = match File::open(rt, path) {
         Ok(file) => file,
         Err(error) => {
-            log_error(log, &name, &error);
+            log_error(log, &"recording", &Unopened { path, error });
             return Err(ProgramFault::Replay(ReplayFault::Read));
         }
     };
+    let name = EndOfLine(path);
     let mut file = Stream {
         name,
         inner: file,

@@ -8,7 +8,7 @@ use clock::MonotonicClock;
 use log::Logged;
 use log_queue::Queued;
 use program::logging::{self, Errors};
-use program::{Extras, telling, until_eof};
+use program::{Extras, report_unheld, telling, until_eof};
 use replaying::OnMachine;
 use server::{Bound, Lent, OpenGate, ServerFault};
 use settings::Settings;
@@ -19,6 +19,11 @@ use std::process::ExitCode;
 fn main(rt: HostRuntime) -> ExitCode {
     let mut input = rt.stdin();
     let mut output = rt.stdout();
+    // Before anything is opened, which would get the number of a closed stream.
+    let _held = match program::hold_closed(&rt, &input, &output, &rt.stderr()) {
+        Ok(held) => held,
+        Err(fault) => return ExitCode::from(report_unheld(&mut output, &mut rt.stderr(), &fault)),
+    };
     let is_stuck = Cell::new(false);
     let mut errors = Errors {
         inner: rt.stderr(),
@@ -30,9 +35,10 @@ fn main(rt: HostRuntime) -> ExitCode {
     > {
         let queue = logging::start(rt)?;
         let level = program::level_filter(settings.log);
+        let logged = Logged::new(rt, level, Queued { rt, queue: &queue });
+        program::log_start(&logged, bound.text(), &settings);
         let is_stopped = until_eof::watch(rt, rt.stdin(), level, extras, &queue)?;
         let statistics = telling::start(rt, &settings, extras, &queue)?;
-        let logged = Logged::new(rt, level, Queued { rt, queue: &queue });
         let counted = statistics.as_ref();
         let lent = Lent {
             gate: &OpenGate,

@@ -5,7 +5,7 @@ use Rattle.program.proofs.descriptors.covered.Given as goal
 -- so many slots are left to try, and one more has no descriptors
 abbrev pub invariant-loop-covered : goal.invariant-loop-covered
 invariant-loop-covered l =
-    (1 ≤ l.covered) × (l.covered ≤ l.fn.slots)
+    (l.covered ≤ l.fn.slots)
     × (l.covered < l.fn.slots → ¬ (HasFor l.fn.descriptors.most l.fn.descriptors.in_use (l.covered + 1) l.fn.workers))
 
 abbrev pub decreases-loop-covered : goal.decreases-loop-covered

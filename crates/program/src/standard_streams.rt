@@ -1,0 +1,141 @@
+//! Standard streams that are closed when the program starts. A file or a socket that it opens gets the lowest number that is
+//! not open (open(2), socket(2)): it would be read, written or logged to in the place of such a stream.
+ghost use Rattle.std.specs.Prelude.{◌≡◌, ℤ, IfOk, IfSome};
+ghost use Rattle.program.specs.Streams.{number, Refuses};
+
+use crate::constants::FAULT;
+use std::fmt;
+use std::fs::OpenOptions;
+use std::io::{self, ErrorKind, Write};
+use std::os::fd::{AsFd, AsRawFd};
+use std::rt::Files;
+
+/// What stands in for a closed stream.
+const NOWHERE: &str = "/dev/null";
+
+/// The error of a call on a descriptor that is not open (errno(3)).
+const EBADF: i32 = 9;
+
+/// A standard stream.
+#[derive(Clone, Copy)]
+pub enum StandardStream {
+    Input,
+    Output,
+    Errors,
+}
+
+impl StandardStream {
+    /// Its descriptor.
+    fn number(self) -> i32
+        ensures { result ≡ number self }
+    {
+        match self {
+            StandardStream::Input => 0,
+            StandardStream::Output => 1,
+            StandardStream::Errors => 2,
+        }
+    }
+
+    /// How the file is opened that stands in for it: so that each use of the stream fails as that of a closed one.
+    fn refusing(self) -> OpenOptions
+        ensures { Refuses self result }
+    {
+        let mut how = OpenOptions::new();
+        match self {
+            StandardStream::Input => how.write(true),
+            StandardStream::Output | StandardStream::Errors => how.read(true),
+        };
+        how
+    }
+}
+
+impl fmt::Display for StandardStream {
+    fn fmt<W: fmt::Write>(&self, f: &mut fmt::Formatter<W>) -> fmt::Result {
+        f.write_str(match self {
+            StandardStream::Input => "input",
+            StandardStream::Output => "output",
+            StandardStream::Errors => "errors",
+        })
+    }
+}
+
+/// A closed stream for which nothing can stand in.
+#[derive(Drop)]
+pub struct Unheld {
+    stream: StandardStream,
+    cause: io::Error,
+}
+
+/// The files that stand in for the closed streams. As long as they are held, nothing else gets the streams' numbers.
+#[derive(Drop)]
+pub struct Held<F> {
+    input: Option<F>,
+    output: Option<F>,
+    errors: Option<F>,
+}
+
+/// Has a file stand in for each standard stream that is closed. The program has opened nothing before.
+///
+/// Refuses where `/dev/null` cannot be opened, or does not get the number of the stream.
+pub fn hold_closed<R, I: AsFd, O: AsFd, E: AsFd>(
+    rt: &R,
+    input: &I,
+    output: &O,
+    errors: &E,
+) -> Result<Held<R::File>, Unheld>
+where
+    R: Files,
+    R::File: AsRawFd,
+{
+    // In this order: the lowest number that is not open is always that of the first that is left.
+    Ok(Held {
+        input: stand_in(rt, StandardStream::Input, input)?,
+        output: stand_in(rt, StandardStream::Output, output)?,
+        errors: stand_in(rt, StandardStream::Errors, errors)?,
+    })
+}
+
+/// What stands in for a stream, if it is closed: a file with its number.
+fn stand_in<R, S: AsFd>(rt: &R, stream: StandardStream, open: &S) -> Result<Option<R::File>, Unheld>
+where
+    R: Files,
+    R::File: AsRawFd,
+    ensures { IfOk result (λ held. IfSome held (λ file. IfSome (R.File.raw_fd file) (λ fd. fd ≡ number stream))) }
+{
+    if !is_closed(open) {
+        return Ok(None);
+    }
+    let cause = match stream.refusing().open(rt, NOWHERE) {
+        Ok(file) if file.as_raw_fd() == stream.number() => return Ok(Some(file)),
+        Ok(_) => io::Error::from(ErrorKind::AlreadyExists),
+        Err(error) => error,
+    };
+    Err(Unheld { stream, cause })
+}
+
+/// Whether a stream is closed: there is nothing that a copy of it could be made of (fcntl(2), `F_DUPFD`).
+fn is_closed(stream: &impl AsFd) -> bool {
+    match stream.as_fd().try_clone_to_owned() {
+        Ok(_) => false,
+        Err(error) => error.raw_os_error() == Some(EBADF),
+    }
+}
+
+/// Writes to a standard stream that is open that nothing can stand in for a closed one, and returns the exit status.
+pub fn report_unheld(output: &mut impl Write, errors: &mut impl Write, fault: &Unheld) -> u8
+    ensures { result ≡ 1 }
+{
+    if write_unheld(errors, fault).is_err() {
+        // If this cannot be written either, only the status is left to report it.
+        let _ = write_unheld(output, fault);
+    }
+    FAULT
+}
+
+fn write_unheld(stream: &mut impl Write, fault: &Unheld) -> io::Result<()> {
+    let (closed, cause) = (fault.stream, &fault.cause);
+    writeln!(
+        stream,
+        "relayd: {closed}: is closed, and {NOWHERE} cannot be opened in its place: {cause}"
+    )
+}
