@@ -1,5 +1,5 @@
 //! A text from outside, as shown to a person.
-ghost use Rattle.std.specs.Prelude.{◌≡◌, Some, [], length, drop, codes, nat_lt, if◌then◌else◌};
+ghost use Rattle.std.specs.Prelude.{◌≡◌, Some, [], drop, codes, nat_lt, if◌then◌else◌};
 ghost use Rattle.std.specs.Str.{chars};
 ghost use Rattle.settings.specs.Shown.{shown_character, one_line, end_of_line};
 
@@ -36,7 +36,7 @@ impl fmt::Display for EndOfLine<'_> {
     ghost output = { λ text. Some (end_of_line text.0.now) };
 
     fn fmt<W: fmt::Write>(&self, f: &mut fmt::Formatter<W>) -> fmt::Result {
-        let count = count_characters(self.0);
+        let count = self.0.chars().count();
         let dots = dots_before(count);
         let end = OneLine(without_first(self.0, count.saturating_sub(MAX_SHOWN)));
         write!(f, "{dots}{end}")
@@ -48,13 +48,6 @@ fn dots_before(count: usize) -> &'static str
     ensures { result.now ≡ (if nat_lt 64 count then codes ".." else []) }
 {
     if count > MAX_SHOWN { ".." } else { "" }
-}
-
-/// How many characters a text has.
-fn count_characters(text: &str) -> usize
-    ensures { result ≡ length (chars text.now) }
-{
-    text.chars().count()
 }
 
 /// What follows the first characters of a text, so many of them.

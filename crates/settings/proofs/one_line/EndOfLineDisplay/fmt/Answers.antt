@@ -1,7 +1,8 @@
-use Rattle.std.proofs.Common.{◌≡◌, ℕ, ◌≤◌, ◌-◌, List, [], ◌++◌, length, take, drop, chars, false, codes, nat_lt, if◌then◌else◌, arith, ap, ◌∙◌, append-nil, take_all}
+use Rattle.std.proofs.Common.{◌≡◌, ℕ, ◌≤◌, ◌-◌, List, [], ◌++◌, length, take, drop, chars, false, codes, nat_lt, if◌then◌else◌, arith, ap, ◌∙◌, append-nil, take_all, IsUtf8, rules, sym}
 use Rattle.std.proofs.Output.{has_written_of_eq}
 use Rattle.std.proofs.lemmas.Bool.Decides.{nat_tests}
 use Rattle.std.proofs.lemmas.List.{length-drop}
+use Rattle.std.proofs.lemmas.Str.{Chars-Drains, encodes-chars}
 use Rattle.std.specs.List.{flat_map}
 use Rattle.settings.specs.Shown.{shown_character, one_line, end_of_line}
 use Rattle.settings.proofs.one_line.EndOfLineDisplay.fmt.Goals as goal
@@ -25,4 +26,7 @@ joined text end dots count left_out counted less before after =
 
 pub returns-clause-writes : goal.returns-clause-writes
 returns-clause-writes g c = λ plain is_ok.
-    has_written_of_eq _ _ _ _ _ (joined _ _ _ _ _ c.count_characters-count.ensures c.saturating_sub.ensures c.dots_before-dots.ensures c.without_first.ensures) (c.write.ensures.writes plain is_ok)
+    let utf8 : IsUtf8 c.args.self.now.0.now = search rules in
+    let (cs, drains, counted) = c.count-count.ensures.ran in
+    let all = Chars-Drains _ cs c.chars.result (encodes-chars _ utf8 ∙ sym c.chars.ensures.rest) drains in
+    has_written_of_eq _ _ _ _ _ (joined _ _ _ _ _ (counted ∙ ap length all) c.saturating_sub.ensures c.dots_before-dots.ensures c.without_first.ensures) (c.write.ensures.writes plain is_ok)
