@@ -1,5 +1,6 @@
 //! Puts records in order, and finds out where a recording is no longer complete.
-ghost use Rattle.std.specs.Prelude.{◌≡◌, ◌≢◌, ◌-◌, ◌<◌, ◌≤◌, ℕ, length, slice_index};
+ghost use Rattle.std.specs.Prelude.{◌≡◌, ◌≢◌, ◌-◌, ◌<◌, ◌≤◌, ◌↔◌, ℕ, IfNone, IfSome, IsTrue, length, slice_index};
+ghost use Rattle.replaying.specs.Counts.{IsBegun, IsMissing};
 
 use crate::reading::{broken, wanted};
 use crate::recording::{Last, Numbered, Recording, is_twice};
@@ -162,20 +163,42 @@ fn is_of_turn(act: &Act) -> bool {
 }
 
 /// The first count from 0 up, below the greatest of these, that is of no record, where each act that was begun lacks one.
-fn first_lost(counts: &[u64], begun: &[u64]) -> Option<u64> {
-    let mut begun = begun.iter();
-    let mut next: u64 = 0;
-    for count in counts {
-        // Each count that is missing here uses up one act that was begun, so there are few of them.
-        for missing in next..*count {
-            match begun.next() {
-                Some(least) if *least <= missing => {}
-                _ => return Some(missing),
-            }
+fn first_lost(counts: &[u64], begun: &[u64]) -> Option<u64>
+    ensures none { IfNone result ((place count : ℕ) → IsMissing counts.now place count → IsBegun begun.now place count) }
+    ensures some { IfSome result (λ lost. (place : ℕ) × IsMissing counts.now place lost × (IsBegun begun.now place lost → ⊥)) }
+{
+    for place in 0..counts.len() {
+        if let Some(lost) = lost_before(counts, place, begun) {
+            return Some(lost);
         }
-        next = count.saturating_add(1);
     }
     None
+}
+
+/// The same between the count at a place and the one before it. Each count that is missing uses up one act that was begun, so there
+/// are few of them.
+fn lost_before(counts: &[u64], place: usize, begun: &[u64]) -> Option<u64>
+    requires { place < length counts.now }
+    ensures none { IfNone result ((count : ℕ) → IsMissing counts.now place count → IsBegun begun.now place count) }
+    ensures some { IfSome result (λ lost. IsMissing counts.now place lost × (IsBegun begun.now place lost → ⊥)) }
+{
+    let first = match place.checked_sub(1) {
+        Some(last) => counts[last].saturating_add(1),
+        None => 0,
+    };
+    for missing in first..counts[place] {
+        if !is_begun(begun, missing.saturating_sub(place as u64), missing) {
+            return Some(missing);
+        }
+    }
+    None
+}
+
+/// Whether the act at a place among those that were begun can have this count.
+fn is_begun(begun: &[u64], place: u64, count: u64) -> bool
+    ensures { IsTrue result ↔ (place < length begun.now) × (slice_index begun.now place ≤ count) }
+{
+    (place as usize) < begun.len() && begun[place as usize] <= count
 }
 
 /// Leaves out the records from this count on, and answers how many those are.
