@@ -87,7 +87,7 @@ class Relay:
     """A relay that forwards to a port, or to this process itself, with these settings beside the two addresses or in their
     place: from a file, with other options behind it, or on the command line; and with the library put before others, told by
     these variables. It records what it does, unless it is to have no thread and no descriptor beyond those of a relay that
-    does not. It begins with these standard streams closed, and inherits these descriptors."""
+    does not. It begins with these standard streams closed, and inherits these descriptors and variables."""
 
     program = None
     library = None
@@ -96,7 +96,7 @@ class Relay:
 
     def __init__(
         self, port=None, preload=None, errors=subprocess.PIPE, options=(), typed=False, descriptors=None, stdin=None,
-        recorded=True, closed=(), inherited=(), **settings
+        recorded=True, closed=(), inherited=(), variables=None, **settings
     ):
         if port is None:
             self.listener = socket.create_server(("127.0.0.1", 0))
@@ -118,7 +118,7 @@ class Relay:
                 stdin=stdin,
                 stdout=subprocess.PIPE,
                 stderr=errors,
-                env={**os.environ, **({"LD_PRELOAD": Relay.library, **preload} if preload else {})},
+                env={**os.environ, **({"LD_PRELOAD": Relay.library, **preload} if preload else {}), **(variables or {})},
                 preexec_fn=allowed(descriptors, closed),
                 pass_fds=inherited,
             )

@@ -11,6 +11,7 @@
 //! ```
 #![tactic(auto)]
 
+mod form;
 mod left_out;
 mod limits;
 mod line;
@@ -18,8 +19,9 @@ mod queue;
 mod sink;
 mod writing;
 
+pub use form::Form;
 pub use limits::{MAX_LINE, MAX_LINES};
 pub use line::{LeftOut, LogLine};
 pub use queue::LogQueue;
-pub use sink::Queued;
+pub use sink::{Direct, Queued};
 pub use writing::write_lines;

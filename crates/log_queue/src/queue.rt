@@ -2,6 +2,7 @@
 ghost use Rattle.std.specs.Prelude.{◌≡◌, IfOk, true, false};
 ghost use Rattle.crossbeam_queue.specs.Passes.{queue_capacity};
 
+use crate::form::Form;
 use crate::left_out::Missing;
 use crate::limits::{MAX_LINES, soon};
 use crate::line::LogLine;
@@ -32,6 +33,8 @@ pub(crate) struct Found {
 #[derive(Drop)]
 pub struct LogQueue {
     lines: ArrayQueue<LogLine>,
+    /// How they begin.
+    form: Form,
     /// Lines that found the queue full, and were not told yet.
     left_out: Missing,
     is_closed: AtomicBool,
@@ -43,18 +46,24 @@ pub struct LogQueue {
 }
 
 impl LogQueue {
-    /// An empty queue. It takes memory for all its lines; no later call takes any.
-    pub fn new(alloc: Global) -> Result<LogQueue, AllocError>
+    /// An empty queue, for lines of this form. It takes memory for all its lines; no later call takes any.
+    pub fn new(alloc: Global, form: Form) -> Result<LogQueue, AllocError>
         ensures room { IfOk result (λ queue. queue_capacity queue.lines ≡ 4096) }
     {
         Ok(LogQueue {
             lines: ArrayQueue::new(alloc, MAX_LINES)?,
+            form,
             left_out: Missing::none(),
             is_closed: AtomicBool::new(false),
             is_written: AtomicBool::new(false),
             is_asleep: AtomicBool::new(false),
             writer: Parker::new(),
         })
+    }
+
+    /// How its lines begin.
+    pub fn form(&self) -> Form {
+        self.form
     }
 
     /// Puts a line behind the others, or counts it if the queue is full. A writer that sleeps is woken; one that has

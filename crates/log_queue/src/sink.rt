@@ -1,12 +1,14 @@
 // The sink that threads log to.
 ghost use Rattle.std.specs.Prelude.{Some, true, []};
 
+use crate::form::Form;
 use crate::line::LogLine;
 use crate::queue::LogQueue;
 use log::kv::Source;
 use log::span::Spans;
 use log::{Line, Log, Metadata, Record};
 use std::fmt::{Display, Write};
+use std::io::Eprint;
 use std::sync::Wait;
 
 /// Puts each record into the queue as the line that a console would show. It takes no memory, and no system call unless the
@@ -29,8 +31,39 @@ impl<'q, R: Wait> Log for Queued<'q, R> {
     fn log<D: Display, K: Source, S: Spans>(&self, record: &Record<'_, D, K, S>) {
         let mut line = LogLine::new();
         // Only a value whose own printing fails can fail here. What was printed of it is kept.
-        let _ = write!(line, "{}", Line::new(record));
+        let mark = self.queue.form().mark(record.level());
+        let _ = write!(line, "{mark}{}", Line::new(record));
         self.queue.put(&self.rt, line);
+    }
+
+    fn flush(&self) {}
+
+    fn target(&self) -> &str {
+        ""
+    }
+}
+
+/// Writes each record to standard error at once, by one write, in a form. It may wait for whoever reads there.
+#[derive(Clone, Copy, Drop)]
+pub struct Direct<R> {
+    pub rt: R,
+    pub form: Form,
+}
+
+impl<R: Eprint> Log for Direct<R> {
+    ghost enables = { λ _ _ _. Some true };
+
+    ghost target_of = { λ _. Some [] };
+
+    fn enabled(&self, _metadata: &Metadata<'_>) -> bool {
+        true
+    }
+
+    fn log<D: Display, K: Source, S: Spans>(&self, record: &Record<'_, D, K, S>) {
+        let mark = self.form.mark(record.level());
+        let line = Line::new(record);
+        // A line that cannot be written is lost.
+        let _ = self.rt.eprintln(format_args!("{mark}{line}"));
     }
 
     fn flush(&self) {}

@@ -3,7 +3,7 @@ ghost use Rattle.std.specs.Prelude.{◌≡◌, true};
 
 use crate::line::LeftOut;
 use crate::queue::{Found, LogQueue, Look};
-use log::sink::Console;
+use crate::sink::Direct;
 use log::warn;
 use std::io::Eprint;
 use std::sync::Wait;
@@ -60,6 +60,7 @@ fn write_all<R: Eprint + Wait>(rt: &R, queue: &LogQueue) -> bool {
 fn tell_left_out<R: Eprint>(rt: &R, queue: &LogQueue) {
     let count = queue.take_left_out();
     if count > 0 {
-        warn!(Console(rt); target: "relayd", "{}", LeftOut(count));
+        let form = queue.form();
+        warn!(Direct { rt, form }; target: "relayd", "{}", LeftOut(count));
     }
 }

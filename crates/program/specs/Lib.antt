@@ -3,5 +3,6 @@ pub mod Files
 pub mod Arguments
 pub mod Descriptors
 pub mod Meeting
+pub mod Seconds
 pub mod Statuses
 pub mod Streams

@@ -1,30 +1,32 @@
 //! What the program does, from its arguments to its status.
-ghost use Rattle.std.specs.Prelude.{◌≡◌, ◌≢◌, ◌⊎◌, IfSome, IfOk, IfErr, Ok};
-ghost use Rattle.clap.specs.Values.{kind_of};
+ghost use Rattle.std.specs.Prelude.{◌≡◌, ◌⊎◌, IfSome, IfOk, IfErr, Ok};
 ghost use Rattle.script.specs.Each.{WritesEach, WritesEachFault};
 ghost use Rattle.script.specs.Runs.{WritesReport, WritesFault};
 ghost use Rattle.program.specs.Statuses.{IsCarriedOut, status_of};
 
 use crate::causes::LoggedCauses;
-use crate::command_line::{Command, Extras, read_command};
+use crate::command_line::{Command, read_command};
 use crate::config;
 use crate::constants::{DONE, FAULT, USAGE};
+use crate::extras::{Extras, extras_of};
 use crate::faults::ProgramFault;
+use crate::journal::log_form;
 use crate::level::starting_filter;
 use crate::process_arguments::ArgumentsFault;
 use crate::recording_file::create;
-use crate::replaying_file::replay_file;
+use crate::replaying_file::{find_wanted, replay_file};
 use crate::starting::{foresee, prepare};
 use crate::streams::Stream;
-use clap::error::ErrorKind;
-use log::sink::Console;
+use crate::usage::answer_usage;
 use log::{LevelFilter, Log, Logged};
+use log_queue::Direct;
 use records::Replay;
 use relay_log::ServerFault;
 use script::Outcome;
 use settings::Settings;
 use sockets::{Bound, bind};
 use std::alloc::{AllocError, Global};
+use std::env::Env;
 use std::io::{Eprint, IsTerminal, Read, Write};
 use std::net::Net;
 use std::rt::Files;
@@ -72,7 +74,7 @@ pub fn act<R, S, P: Replay, I: Read + IsTerminal, O: Write, E: Write>(
     player: &P,
 ) -> u8
 where
-    R: AllocGlobal + Files + Eprint + Net + Copy + Drop,
+    R: AllocGlobal + Env + Files + Eprint + Net + Copy + Drop,
     S: Fn(Settings, Bound, Extras, Option<R::File>) -> Result<(), ServerFault>,
     requires { S.IsAlwaysCallable serve.now }
     ensures status { IsCarriedOut result ⊎ (result ≡ 2) }
@@ -82,13 +84,23 @@ where
     let Ok(arguments) = texts(rt.alloc(), arguments) else {
         return report_fault(errors, ProgramFault::from(AllocError));
     };
-    let log = Logged::new(*rt, LevelFilter::Warn, Console(*rt));
+    let form = log_form(rt);
+    let log = Logged::new(*rt, LevelFilter::Warn, Direct { rt: *rt, form });
     let outcome = match read_command(rt.alloc(), arguments.as_slice()) {
         Ok(command) => {
             tell_if_typed(&command, reader, errors);
             carry_out(rt, &log, command, reader, writer, serve, player)
         }
-        Err(error) => return answer_usage(&log, &error, writer, errors),
+        Err(error) => {
+            return answer_usage(
+                rt.alloc(),
+                &log,
+                arguments.as_slice(),
+                &error,
+                writer,
+                errors,
+            );
+        }
     };
     match outcome {
         Ok(status) => status,
@@ -108,7 +120,7 @@ fn tell_if_typed<I: IsTerminal, E: Write>(command: &Command<'_>, reader: &I, err
 }
 
 /// The arguments as string slices, which the parser of the command line takes.
-fn texts(alloc: Global, arguments: &[String]) -> Result<Vec<&str>, AllocError> {
+pub(crate) fn texts(alloc: Global, arguments: &[String]) -> Result<Vec<&str>, AllocError> {
     arguments
         .iter()
         .map(|argument| argument.as_str())
@@ -127,7 +139,7 @@ fn carry_out<R, S, P: Replay, L: Log, I: Read, O: Write>(
     player: &P,
 ) -> Result<u8, ProgramFault>
 where
-    R: AllocGlobal + Files + Eprint + Net + Copy + Drop,
+    R: AllocGlobal + Env + Files + Eprint + Net + Copy + Drop,
     S: Fn(Settings, Bound, Extras, Option<R::File>) -> Result<(), ServerFault>,
     requires { S.IsAlwaysCallable serve.now }
     ensures done { IfOk result (λ status. IsCarriedOut status) }
@@ -137,19 +149,22 @@ where
     match command {
         Command::Simulate { each } => simulate_by(rt.alloc(), log, each, reader, writer),
         Command::Check(path) => check(rt, log, path, writer),
-        Command::Run(path, level, record, extras) => {
+        Command::Run(path, level, record, typed) => {
+            let extras = extras_of(log, typed)?;
             let settings = settings_of_file(rt, log, path, level)?;
             let mut writer = stream("output", writer, log);
             run(rt, settings, record, extras, &mut writer, serve)
         }
-        Command::Forward(text, record, extras) => {
+        Command::Forward(text, record, typed) => {
+            let extras = extras_of(log, typed)?;
             let settings = settings_of_arguments(rt.alloc(), log, text.as_str())?;
             let mut writer = stream("output", writer, log);
             run(rt, settings, record, extras, &mut writer, serve)
         }
         Command::Replay(replayed) => {
+            let wanted = find_wanted(log, replayed)?;
             let mut writer = stream("output", writer, log);
-            replay_file(rt, log, replayed, &mut writer, player)
+            replay_file(rt, log, replayed, wanted, &mut writer, player)
         }
     }
 }
@@ -212,7 +227,11 @@ fn simulate_by<L: Log, I: Read, O: Write>(
 }
 
 /// A stream of this name whose errors are logged.
-fn stream<'a, S, L>(name: &'static str, inner: S, log: &'a L) -> Stream<'a, S, &'static str, L> {
+pub(crate) fn stream<'a, S, L>(
+    name: &'static str,
+    inner: S,
+    log: &'a L,
+) -> Stream<'a, S, &'static str, L> {
     Stream { name, inner, log }
 }
 
@@ -277,13 +296,14 @@ fn run<R, S, O: Write>(
     serve: &S,
 ) -> Result<u8, ProgramFault>
 where
-    R: AllocGlobal + Files + Eprint + Net + Copy + Drop,
+    R: AllocGlobal + Env + Files + Eprint + Net + Copy + Drop,
     S: Fn(Settings, Bound, Extras, Option<R::File>) -> Result<(), ServerFault>,
     requires { S.IsAlwaysCallable serve.now }
     ensures done { IfOk result (λ status. status ≡ 0) }
     ensures fault { IfErr result (λ fault. status_of fault ≡ 1) }
 {
-    let log = Logged::new(*rt, starting_filter(settings.log), Console(*rt));
+    let form = log_form(rt);
+    let log = Logged::new(*rt, starting_filter(settings.log), Direct { rt: *rt, form });
     let bound = bind(&log, &settings).map_err(ProgramFault::Server)?;
     let settings = prepare(rt, &log, settings, record.map_or(0, |_| 1))?;
     let file = create(rt, &log, record)?;
@@ -313,36 +333,8 @@ fn write(writer: &mut impl Write, text: &str) -> Result<(), ProgramFault>
     Ok(())
 }
 
-/// Prints a usage text: help and the version to `writer`, a usage error to `errors`. Returns the exit status.
-fn answer_usage<L: Log, O: Write, E: Write>(
-    log: &L,
-    error: &clap::Error,
-    writer: &mut O,
-    errors: &mut E,
-) -> u8
-    ensures memory { kind_of error.now ≡ ErrorKind.OutOfMemory → result ≡ 1 }
-    ensures help { (kind_of error.now ≡ ErrorKind.DisplayHelp) ⊎ (kind_of error.now ≡ ErrorKind.DisplayVersion) → (result ≡ 0) ⊎ (result ≡ 1) }
-    ensures refused { kind_of error.now ≢ ErrorKind.OutOfMemory → kind_of error.now ≢ ErrorKind.DisplayHelp → kind_of error.now ≢ ErrorKind.DisplayVersion → result ≡ 2 }
-    ensures status { IsCarriedOut result ⊎ (result ≡ 2) }
-    ensures unwritten { result ≡ 2 → O.contents writer.new ≡ O.contents writer.old }
-{
-    if error.kind() == ErrorKind::OutOfMemory {
-        return report_fault(errors, ProgramFault::from(AllocError));
-    }
-    if error.use_stderr() {
-        // If this cannot be written either, only the status is left to report it.
-        let _ = write!(errors, "{error}");
-        return USAGE;
-    }
-    let mut writer = stream("output", writer, log);
-    if write!(writer, "{error}").is_err() || writer.flush().is_err() {
-        return report_fault(errors, ProgramFault::Write);
-    }
-    DONE
-}
-
 /// Writes a fault to `errors`, and returns its status.
-fn report_fault(errors: &mut impl Write, fault: ProgramFault) -> u8
+pub(crate) fn report_fault(errors: &mut impl Write, fault: ProgramFault) -> u8
     ensures { result ≡ status_of fault }
 {
     // If this can't be written either, only the status is left to report it.

@@ -1,10 +1,9 @@
 //! The command line: its commands, their options and their help.
 
 use crate::constants::VERSION;
+use crate::extras::TypedExtras;
 use crate::forwarding::{add_settings, settings_text};
-use clap::builder::ValueParser;
-use clap::{Arg, ArgAction, ArgMatches, Error, value_parser};
-use sockets::Patience;
+use clap::{Arg, ArgAction, ArgMatches, Error};
 use std::alloc::{AllocError, Global};
 
 /// A command of the program.
@@ -16,39 +15,11 @@ pub enum Command<'a> {
     Check(&'a str),
     /// Read this settings file and serve as it says, with the messages of another level if one is named, and record into a
     /// file if one is named.
-    Run(&'a str, Option<&'a str>, Option<&'a str>, Extras),
+    Run(&'a str, Option<&'a str>, Option<&'a str>, TypedExtras<'a>),
     /// Serve as this text of settings says, and record into a file if one is named.
-    Forward(String, Option<&'a str>, Extras),
+    Forward(String, Option<&'a str>, TypedExtras<'a>),
     /// Replay the recording in a file.
     Replay(Replayed<'a>),
-}
-
-/// What a relay does beside what its settings say.
-#[derive(Clone, Copy)]
-pub struct Extras {
-    /// After how many seconds a line of statistics is logged each time, 1 to 86,400; none if nothing is counted.
-    pub stats: Option<u64>,
-    /// It opens no more connections once standard input has ended.
-    pub until_eof: bool,
-    /// For how long it waits for peers that do not answer: up to 3600 seconds to connect, and 32767 of silence.
-    pub patience: Patience,
-    /// The log has each client at level info, as it comes and as it goes.
-    pub log_clients: bool,
-}
-
-impl Extras {
-    /// As the arguments of a command say.
-    fn of(matches: &ArgMatches<'_>) -> Extras {
-        Extras {
-            stats: matches.get_one("stats"),
-            until_eof: matches.get_flag("until-eof"),
-            patience: Patience {
-                connect: matches.get_one("connect-timeout"),
-                keepalive: matches.get_one("keepalive"),
-            },
-            log_clients: matches.get_flag("log-clients"),
-        }
-    }
 }
 
 /// What is replayed, and what is told of it.
@@ -88,7 +59,7 @@ fn command_of<'a>(alloc: Global, matches: &ArgMatches<'a>) -> Result<Command<'a>
     match matches.subcommand_matches("forward") {
         Some(forward) => {
             let text = settings_text(alloc, forward)?;
-            Ok(Command::Forward(text, forward.get_str("record"), Extras::of(forward)))
+            Ok(Command::Forward(text, forward.get_str("record"), TypedExtras::of(forward)))
         }
         None => Ok(chosen(matches)),
     }
@@ -99,7 +70,7 @@ fn chosen<'a>(matches: &ArgMatches<'a>) -> Command<'a> {
     if let Some(run) = matches.subcommand_matches("run") {
         if let Some(path) = run.get_str("config") {
             let (level, record) = (run.get_str("log"), run.get_str("record"));
-            return Command::Run(path, level, record, Extras::of(run));
+            return Command::Run(path, level, record, TypedExtras::of(run));
         }
     }
     if let Some(replay) = matches.subcommand_matches("replay") {
@@ -187,8 +158,8 @@ enum Form {
     Flag,
     /// `--NAME` and a value, which help calls so.
     Value(&'static [&'static str]),
-    /// `--NAME` and a number of seconds, from 1 up to this.
-    Seconds(u32),
+    /// `--NAME` and a number of seconds.
+    Seconds,
     /// `-c` or `--NAME` and a file, which is required.
     NeededFile,
     /// A file alone, which is required.
@@ -209,7 +180,7 @@ impl Form {
         match self {
             Form::Flag => &[],
             Form::Value(names) => names,
-            Form::Seconds(_) => &["SECONDS"],
+            Form::Seconds => &["SECONDS"],
             Form::NeededFile | Form::File => &["FILE"],
         }
     }
@@ -229,7 +200,7 @@ const RECORD: ArgumentRow = ArgumentRow {
 /// How often statistics are logged.
 const STATS: ArgumentRow = ArgumentRow {
     name: "stats",
-    form: Form::Seconds(86_400),
+    form: Form::Seconds,
     help: "Log a line of statistics every so many seconds, 1 to 86400, and one at the end",
 };
 /// That the relay ends after standard input.
@@ -241,13 +212,13 @@ const UNTIL_EOF: ArgumentRow = ArgumentRow {
 /// How long the connection to the target may take.
 const CONNECT_TIMEOUT: ArgumentRow = ArgumentRow {
     name: "connect-timeout",
-    form: Form::Seconds(3600),
+    form: Form::Seconds,
     help: "Give up a target that has not answered for so many seconds, 1 to 3600",
 };
 /// After how long a silent peer is probed.
 const KEEPALIVE: ArgumentRow = ArgumentRow {
     name: "keepalive",
-    form: Form::Seconds(32_767),
+    form: Form::Seconds,
     help: "Probe a peer that is silent for so many seconds, 1 to 32767, and give it up if it is gone",
 };
 /// That the log has all clients.
@@ -312,7 +283,7 @@ static COMMANDS: [CommandRow; 5] = [
     CommandRow {
         name: "run",
         about: "Forwards connections as a settings file says",
-        details: "Listens on the file's `listen` address and forwards each connection to `target`. Prints\n`listening A.B.C.D:PORT` once clients can connect, and writes log lines to standard error.\nIt ends once `stop_after` connections were opened and are all closed, if that is not 0, or\non a fault, with status 1.\n\nExample:\n  relayd run --config examples/relayd.toml\n\nSee relayd(1) for details and relayd.toml(5) for the settings.",
+        details: "Listens on the file's `listen` address and forwards each connection to `target`. Prints `listening A.B.C.D:PORT` once clients can connect, and writes log lines to standard error. It ends once `stop_after` connections were opened and are all closed, if that is not 0, or on a fault, with status 1.\n\nExample:\n  relayd run --config examples/relayd.toml\n\nSee relayd(1) for details and relayd.toml(5) for the settings.",
         settings: false,
         arguments: &[
             CONFIG, LEVEL, RECORD, STATS, UNTIL_EOF, LOG_CLIENTS, CONNECT_TIMEOUT, KEEPALIVE,
@@ -321,21 +292,21 @@ static COMMANDS: [CommandRow; 5] = [
     CommandRow {
         name: "check",
         about: "Reads a settings file and prints every setting, or what is wrong",
-        details: "Prints a line KEY=VALUE for each setting, defaults included. If the file has a fault, the\nfirst one is written to standard error, with its key if it has one, and the status is 1.\nWarns of what `relayd run` would warn of at its start.\n\nExample:\n  relayd check --config examples/relayd.toml\n\nSee relayd.toml(5) for the settings.",
+        details: "Prints a line KEY=VALUE for each setting, defaults included. If the file has a fault, the first one is written to standard error, with its key if it has one, and the status is 1. Warns of what `relayd run` would warn of at its start.\n\nExample:\n  relayd check --config examples/relayd.toml\n\nSee relayd.toml(5) for the settings.",
         settings: false,
         arguments: &[CONFIG],
     },
     CommandRow {
         name: "sim",
         about: "Runs the script on standard input and prints its report",
-        details: "A script is a header and steps, one per line: what comes from the network, and what the\nsockets reply to the relay. The report says where every byte is after the last step. For\na script with a fault, one line that names the fault is printed, and the status is 1.\n\nExamples:\n  relayd sim < examples/one-direction.flow\n  relayd sim --each < examples/half-close.world\n\nrelayd(1) lists the steps.",
+        details: "A script is a header and steps, one per line: what comes from the network, and what the sockets reply to the relay. The report says where every byte is after the last step. For a script with a fault, one line that names the fault is printed, and the status is 1.\n\nExamples:\n  relayd sim < examples/one-direction.flow\n  relayd sim --each < examples/half-close.world\n\nrelayd(1) lists the steps.",
         settings: false,
         arguments: &[EACH],
     },
     CommandRow {
         name: "replay",
         about: "Checks a recording of a relay against the modelled machine",
-        details: "Plays what each connection did on the machine of `relayd sim`. If each is a run of it, prints\nhow many events of each kind that were, and how many bytes the relay read and wrote. If not,\nprints the first record that can stand nowhere, and the script that leads there, and the\nstatus is 1.\n\nExamples:\n  relayd replay relay.record\n  relayd replay --script 0.1 relay.record | relayd sim --each\n\nSee relayd(1) for recordings.",
+        details: "Plays what each connection did on the machine of `relayd sim`. If each is a run of it, prints how many events of each kind that were, and how many bytes the relay read and wrote. If not, prints the first record that can stand nowhere, and the script that leads there, and the status is 1.\n\nExamples:\n  relayd replay relay.record\n  relayd replay --script 0.1 relay.record | relayd sim --each\n\nSee relayd(1) for recordings.",
         settings: false,
         arguments: &RECORDING,
     },
@@ -381,7 +352,8 @@ fn argument_of<'a>(alloc: Global, row: ArgumentRow) -> Arg<'a> {
     match row.form {
         Form::File => argument,
         Form::NeededFile => argument.long(row.name).short('c'),
-        Form::Seconds(most) => argument.long(row.name).value_parser(seconds(most)),
+        // A negative number is a value that is out of range, and no option that is unknown.
+        Form::Seconds => argument.long(row.name).allow_negative_numbers(true),
         _ => argument.long(row.name),
     }
 }
@@ -393,9 +365,4 @@ fn described<'a>(alloc: Global, row: ArgumentRow) -> Arg<'a> {
         .action(row.form.action())
         .value_names(row.form.value_names())
         .required(row.form.is_needed())
-}
-
-/// What reads a number of seconds, from 1 up to this.
-fn seconds<'a>(most: u32) -> ValueParser<'a> {
-    value_parser!(u64).range(1..=i64::from(most))
 }

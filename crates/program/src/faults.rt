@@ -6,6 +6,7 @@ ghost use Rattle.program.specs.declared.faults.ConfigFault.TheVariants.{NoMemory
 ghost use Rattle.program.specs.declared.faults.ProgramFault.TheVariants.{Config};
 
 use crate::constants::{FAULT, USAGE};
+use crate::extras::SecondsOption;
 use records::ReplayFault;
 use relay_log::ServerFault;
 use script::ScriptFault;
@@ -25,12 +26,21 @@ pub enum ProgramFault {
     /// An argument of the command line has a value that its setting does not take.
     #[error(transparent)]
     Argument(SettingsFault),
+    /// This option has a value that is no number of seconds in its range.
+    #[error("options: {0}: out of range")]
+    Seconds(SecondsOption),
+    /// `--script` has a value that names no connection.
+    #[error("options: script: wrong kind")]
+    Connection,
     /// The server could not start, or failed.
     #[error(transparent)]
     Server(ServerFault),
     /// A recording could not be replayed.
     #[error(transparent)]
     Replay(ReplayFault),
+    /// The file to replay does not begin as a recording does.
+    #[error("recording: malformed")]
+    NoRecording,
     /// The file to record into could not be created.
     #[error("record: cannot be created")]
     Record,
@@ -75,7 +85,7 @@ impl ProgramFault {
         ensures { result ≡ status_of self.now }
     {
         match self {
-            ProgramFault::Argument(_) => USAGE,
+            ProgramFault::Argument(_) | ProgramFault::Seconds(_) | ProgramFault::Connection => USAGE,
             _ => FAULT,
         }
     }

@@ -4,7 +4,8 @@
 //! [`act`] does all of that: from its arguments, a reader, two writers and a closure that serves, to a status.
 //! [`arguments`] are those of the process, and [`report_arguments_fault`] reports that they cannot be read.
 //!
-//! - `command_line` finds the command in them; `forwarding` has the settings that they may give.
+//! - `command_line` finds the command in them; `forwarding` has the settings that they may give, and `extras` the other options.
+//! - `usage` prints help, and why words are refused; `tips` what to type instead.
 //! - [`config`] reads the settings, and `starting` looks at what they need before a relay serves by them.
 //! - `recording_file` makes the file of a recording, and `replaying_file` replays one; `file_names` is how the log calls them.
 //! - [`hold_closed`] keeps the numbers of closed standard streams from whatever is opened.
@@ -19,9 +20,11 @@ mod command_line;
 pub mod config;
 mod constants;
 mod descriptors;
+mod extras;
 mod faults;
 mod file_names;
 mod forwarding;
+mod journal;
 mod level;
 pub mod logging;
 mod meeting;
@@ -32,10 +35,12 @@ mod standard_streams;
 mod starting;
 mod streams;
 pub mod telling;
+mod tips;
 pub mod until_eof;
+mod usage;
 
 pub use acting::{act, report_arguments_fault};
-pub use command_line::Extras;
+pub use extras::{Extras, SecondsOption};
 pub use faults::{ConfigFault, ProgramFault};
 pub use level::level_filter;
 pub use process_arguments::{ArgumentsFault, arguments};

@@ -3,12 +3,14 @@
 //! The thread is never waited for but at the end, and then for a second: a write to a pipe that nobody reads may not end.
 ghost use Rattle.std.specs.Prelude.{◌≡◌, ◌⊎◌, IfErr};
 
-use log::sink::Console;
-use log_queue::{LogQueue, write_lines};
+use crate::journal::log_form;
+use log_queue::{Direct, LogQueue, write_lines};
 use relay_log::{ServerFault, log_no_thread};
 use std::alloc::AllocGlobal;
 use std::cell::Cell;
+use std::env::Env;
 use std::io::{self, Eprint, Write};
+use std::rt::Files;
 use std::sync::{Arc, Wait};
 use std::thread::{Builder, Parker, Threads};
 use std::time::Duration;
@@ -22,16 +24,14 @@ const LAST_WAIT: u64 = 1_000;
 /// logged.
 pub fn start<R>(rt: R) -> Result<Arc<LogQueue>, ServerFault>
 where
-    R: AllocGlobal + Threads + Eprint + Wait + Send + Copy + Drop + 'static,
+    R: AllocGlobal + Threads + Eprint + Wait + Env + Files + Send + Copy + Drop + 'static,
     ensures refused { IfErr result (λ fault. (fault ≡ ServerFault.NoMemory) ⊎ (fault ≡ ServerFault.Threads)) }
 {
-    let queue = Arc::new(rt.alloc(), LogQueue::new(rt.alloc())?)?;
+    let form = log_form(&rt);
+    let queue = Arc::new(rt.alloc(), LogQueue::new(rt.alloc(), form)?)?;
     let lines = queue.clone()?;
-    if Builder::new()
-        .spawn(&rt, move || write_lines(&rt, &lines))
-        .is_err()
-    {
-        return Err(log_no_thread(&Console(rt)));
+    if Builder::new().spawn(&rt, move || write_lines(&rt, &lines)).is_err() {
+        return Err(log_no_thread(&Direct { rt, form }));
     }
     Ok(queue)
 }

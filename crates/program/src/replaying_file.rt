@@ -6,11 +6,12 @@ use crate::command_line::Replayed;
 use crate::constants::{DONE, FAULT};
 use crate::faults::ProgramFault;
 use crate::file_names::Unopened;
+use crate::recording_file::is_recording;
 use crate::streams::{Stream, log_error};
 use log::Log;
 use records::{Outcome, Replay, ReplayFault, Wanted};
 use settings::EndOfLine;
-use std::fs::File;
+use std::fs::{self, File};
 use std::io::Write;
 use std::rt::Files;
 
@@ -20,6 +21,7 @@ pub(crate) fn replay_file<R: AllocGlobal + Files, L: Log, O: Write, P: Replay>(
     rt: &R,
     log: &L,
     replayed: Replayed<'_>,
+    wanted: Wanted,
     writer: &mut O,
     player: &P,
 ) -> Result<u8, ProgramFault>
@@ -27,14 +29,6 @@ pub(crate) fn replay_file<R: AllocGlobal + Files, L: Log, O: Write, P: Replay>(
     ensures fault { IfErr result (λ fault. status_of fault ≡ 1) }
 {
     let path = replayed.path;
-    let Some(wanted) = wanted_of(replayed) else {
-        log_error(
-            log,
-            &"--script",
-            &"a slot and a generation are wanted, as in 3.1",
-        );
-        return Err(ProgramFault::Replay(ReplayFault::Unknown));
-    };
     let file = match File::open(rt, path) {
         Ok(file) => file,
         Err(error) => {
@@ -43,6 +37,10 @@ pub(crate) fn replay_file<R: AllocGlobal + Files, L: Log, O: Write, P: Replay>(
         }
     };
     let name = EndOfLine(path);
+    if is_other_file(rt, path) {
+        log_error(log, &name, &"is no recording");
+        return Err(ProgramFault::NoRecording);
+    }
     let mut file = Stream {
         name,
         inner: file,
@@ -60,7 +58,29 @@ pub(crate) fn replay_file<R: AllocGlobal + Files, L: Log, O: Write, P: Replay>(
     }
 }
 
-/// What is wanted of a recording. None if it is the script of what is no name of a connection.
+/// Whether a file does not begin as a recording does. Of a pipe nothing is read for that.
+fn is_other_file(rt: &impl Files, path: &str) -> bool {
+    match fs::metadata(rt, path) {
+        Ok(found) => found.is_file() && matches!(is_recording(rt, path), Ok(false)),
+        Err(_) => false,
+    }
+}
+
+/// What is wanted of a recording. Refuses with `Connection` the script of what is no name of a connection, whose cause is logged.
+pub(crate) fn find_wanted(log: &impl Log, replayed: Replayed<'_>) -> Result<Wanted, ProgramFault>
+    ensures { IfErr result (λ fault. fault ≡ ProgramFault.Connection) }
+{
+    let cause = "a slot and a generation are wanted, as in 3.1";
+    match wanted_of(replayed) {
+        Some(wanted) => Ok(wanted),
+        None => {
+            log_error(log, &"options: --script", &cause);
+            Err(ProgramFault::Connection)
+        }
+    }
+}
+
+/// The same. None if it is the script of what is no name of a connection.
 fn wanted_of(replayed: Replayed<'_>) -> Option<Wanted> {
     match replayed.script {
         Some(name) => {

@@ -1,10 +1,9 @@
 //! The statistics of a relay that serves: what its threads count, and a thread that logs the sums from time to time.
 ghost use Rattle.std.specs.Prelude.{◌≡◌, ◌⊎◌, IfErr};
 
-use crate::command_line::Extras;
+use crate::extras::Extras;
 use log::info;
-use log::sink::Console;
-use log_queue::{LogQueue, Queued};
+use log_queue::{Direct, LogQueue, Queued};
 use relay_log::{ServerFault, log_no_thread};
 use settings::{LogLevel, Settings};
 use statistics::Statistics;
@@ -36,7 +35,7 @@ where
         return Ok(None);
     }
     let statistics = made(rt.alloc(), settings.slots)?;
-    tell_from_now(rt, Duration::from_secs(seconds), &statistics, queue)?;
+    tell_from_now(rt, Duration::from_secs(u64::from(seconds)), &statistics, queue)?;
     Ok(Some(statistics))
 }
 
@@ -57,11 +56,12 @@ where
     ensures refused { IfErr result (λ fault. (fault ≡ ServerFault.NoMemory) ⊎ (fault ≡ ServerFault.Threads)) }
 {
     let (counted, lines) = (statistics.clone()?, queue.clone()?);
-    if Builder::new()
-        .spawn(&rt, move || tell_every(&rt, rhythm, &counted, &lines))
-        .is_err()
-    {
-        return Err(log_no_thread(&Console(rt)));
+    if Builder::new().spawn(
+        &rt,
+        move || tell_every(&rt, rhythm, &counted, &lines),
+    ).is_err() {
+        let form = queue.form();
+        return Err(log_no_thread(&Direct { rt, form }));
     }
     Ok(())
 }

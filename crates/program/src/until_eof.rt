@@ -3,10 +3,9 @@
 //! The thread that reads is never waited for: standard input may never end.
 ghost use Rattle.std.specs.Prelude.{◌≡◌, ◌⊎◌, IfErr};
 
-use crate::command_line::Extras;
-use log::sink::Console;
+use crate::extras::Extras;
 use log::{LevelFilter, Logged, info, warn};
-use log_queue::{LogQueue, Queued};
+use log_queue::{Direct, LogQueue, Queued};
 use relay_log::{ServerFault, log_no_thread};
 use std::alloc::AllocGlobal;
 use std::io::{self, Eprint, Stdin};
@@ -42,7 +41,8 @@ where
         sign.store(true, SeqCst);
     };
     if Builder::new().spawn(&rt, read).is_err() {
-        return Err(log_no_thread(&Console(rt)));
+        let form = queue.form();
+        return Err(log_no_thread(&Direct { rt, form }));
     }
     Ok(has_ended)
 }

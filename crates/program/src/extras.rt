@@ -1,0 +1,128 @@
+//! The options of a relay that are no settings.
+ghost use Rattle.std.specs.Prelude.{◌≡◌, ◌≤◌, IfOk, IfErr, IfSome};
+ghost use Rattle.program.specs.Seconds.{most};
+ghost use Rattle.program.specs.Statuses.{status_of};
+
+use crate::faults::ProgramFault;
+use clap::ArgMatches;
+use log::{Log, error};
+use settings::OneLine;
+use sockets::Patience;
+use std::fmt;
+
+/// What a relay does beside what its settings say.
+#[derive(Clone, Copy)]
+pub struct Extras {
+    /// After how many seconds a line of statistics is logged each time, 1 to 86,400; none if nothing is counted.
+    pub stats: Option<u32>,
+    /// It opens no more connections once standard input has ended.
+    pub until_eof: bool,
+    /// For how long it waits for peers that do not answer: up to 3,600 seconds to connect, and 32,767 of silence.
+    pub patience: Patience,
+    /// The log has each client at level info, as it comes and as it goes.
+    pub log_clients: bool,
+}
+
+/// The same, as it was typed.
+#[derive(Clone, Copy)]
+pub(crate) struct TypedExtras<'a> {
+    stats: Option<&'a str>,
+    until_eof: bool,
+    connect_timeout: Option<&'a str>,
+    keepalive: Option<&'a str>,
+    log_clients: bool,
+}
+
+impl<'a> TypedExtras<'a> {
+    /// As the arguments of a command say.
+    pub(crate) fn of(matches: &ArgMatches<'a>) -> TypedExtras<'a> {
+        TypedExtras {
+            stats: matches.get_str(SecondsOption::Stats.name()),
+            until_eof: matches.get_flag("until-eof"),
+            connect_timeout: matches.get_str(SecondsOption::ConnectTimeout.name()),
+            keepalive: matches.get_str(SecondsOption::Keepalive.name()),
+            log_clients: matches.get_flag("log-clients"),
+        }
+    }
+}
+
+/// An option whose value is a number of seconds.
+#[derive(Clone, Copy, Debug)]
+pub enum SecondsOption {
+    Stats,
+    ConnectTimeout,
+    Keepalive,
+}
+
+impl SecondsOption {
+    /// Its name on the command line.
+    fn name(self) -> &'static str {
+        match self {
+            SecondsOption::Stats => "stats",
+            SecondsOption::ConnectTimeout => "connect-timeout",
+            SecondsOption::Keepalive => "keepalive",
+        }
+    }
+
+    /// The most seconds that it may be.
+    fn most(self) -> u32
+        ensures { result ≡ most self }
+    {
+        match self {
+            SecondsOption::Stats => 86_400,
+            SecondsOption::ConnectTimeout => 3_600,
+            SecondsOption::Keepalive => 32_767,
+        }
+    }
+}
+
+impl fmt::Display for SecondsOption {
+    fn fmt<W: fmt::Write>(&self, f: &mut fmt::Formatter<W>) -> fmt::Result {
+        f.write_str(self.name())
+    }
+}
+
+/// What was typed. Refuses with `Seconds` what is no number of seconds in its option's range, whose cause is logged.
+pub(crate) fn extras_of(log: &impl Log, typed: TypedExtras<'_>) -> Result<Extras, ProgramFault>
+    ensures stats { IfOk result (λ extras. IfSome extras.stats (λ n. (1 ≤ n) × (n ≤ 86400))) }
+    ensures connect { IfOk result (λ extras. IfSome extras.patience.connect (λ n. (1 ≤ n) × (n ≤ 3600))) }
+    ensures keepalive { IfOk result (λ extras. IfSome extras.patience.keepalive (λ n. (1 ≤ n) × (n ≤ 32767))) }
+    ensures refused { IfErr result (λ fault. status_of fault ≡ 2) }
+{
+    let stats = seconds_of(log, SecondsOption::Stats, typed.stats)?;
+    let connect = seconds_of(log, SecondsOption::ConnectTimeout, typed.connect_timeout)?;
+    let keepalive = seconds_of(log, SecondsOption::Keepalive, typed.keepalive)?;
+    Ok(Extras {
+        stats,
+        until_eof: typed.until_eof,
+        patience: Patience { connect, keepalive },
+        log_clients: typed.log_clients,
+    })
+}
+
+/// The seconds that were typed for an option, if any were.
+fn seconds_of(
+    log: &impl Log,
+    option: SecondsOption,
+    typed: Option<&str>,
+) -> Result<Option<u32>, ProgramFault>
+    ensures range { IfOk result (λ seconds. IfSome seconds (λ n. (1 ≤ n) × (n ≤ most option))) }
+    ensures refused { IfErr result (λ fault. fault ≡ ProgramFault.Seconds option) }
+{
+    let Some(text) = typed else {
+        return Ok(None);
+    };
+    match text.parse::<u32>() {
+        Ok(seconds) if seconds >= 1 && seconds <= option.most() => Ok(Some(seconds)),
+        _ => {
+            log_range(log, option, text);
+            Err(ProgramFault::Seconds(option))
+        }
+    }
+}
+
+/// Logs which seconds are wanted of an option in place of what was typed.
+fn log_range(log: &impl Log, option: SecondsOption, text: &str) {
+    let (text, most) = (OneLine(text), option.most());
+    error!(log; target: "relayd", "options: --{option} {text}: a whole number from 1 to {most} is wanted");
+}

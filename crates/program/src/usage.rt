@@ -1,0 +1,195 @@
+//! What is printed of the command line: help, the version, and why it is refused.
+ghost use Rattle.std.specs.Prelude.{◌≡◌, ◌≢◌, ◌⊎◌};
+ghost use Rattle.clap.specs.Values.{kind_of};
+ghost use Rattle.program.specs.Statuses.{IsCarriedOut, status_of};
+
+use crate::acting::{report_fault, stream, texts};
+use crate::command_line::read_command;
+use crate::constants::{DONE, USAGE};
+use crate::faults::ProgramFault;
+use crate::file_names::write_shown;
+use crate::tips::{Tip, find_tip};
+use clap::Error;
+use clap::error::ErrorKind;
+use log::Log;
+use std::alloc::{AllocError, Global};
+use std::fmt;
+use std::io::Write;
+
+/// The most columns of a line of help.
+const COLUMNS: usize = 80;
+
+/// The most columns that the lines after the first are indented by.
+const MOST_INDENT: usize = 40;
+
+/// Prints what the parser answers to the arguments of a command line in place of a command: help and the version to `writer`,
+/// and to `errors` why they are refused, with what to type instead. Returns the exit status.
+pub(crate) fn answer_usage<L: Log, O: Write, E: Write>(
+    alloc: Global,
+    log: &L,
+    arguments: &[&str],
+    error: &Error,
+    writer: &mut O,
+    errors: &mut E,
+) -> u8
+    ensures memory { kind_of error.now ≡ ErrorKind.OutOfMemory → result ≡ 1 }
+    ensures refused { kind_of error.now ≢ ErrorKind.OutOfMemory → kind_of error.now ≢ ErrorKind.DisplayHelp → kind_of error.now ≢ ErrorKind.DisplayVersion → result ≡ 2 }
+    ensures status { IsCarriedOut result ⊎ (result ≡ 2) }
+    ensures unwritten { result ≡ 2 → O.contents writer.new ≡ O.contents writer.old }
+{
+    if error.kind() == ErrorKind::OutOfMemory {
+        return report_fault(errors, ProgramFault::from(AllocError));
+    }
+    if error.use_stderr() {
+        print_refused(alloc, arguments, error, errors);
+        return USAGE;
+    }
+    let mut writer = stream("output", writer, log);
+    let Ok(text) = format!(in alloc; "{error}") else {
+        return report_fault(errors, ProgramFault::from(AllocError));
+    };
+    let text = Wrapped(text.as_str());
+    if write!(writer, "{text}").is_err() || writer.flush().is_err() {
+        return report_fault(errors, ProgramFault::Write);
+    }
+    DONE
+}
+
+/// Prints why arguments are refused. Where one has control characters, the parser is asked again, with these escaped.
+fn print_refused(alloc: Global, arguments: &[&str], error: &Error, errors: &mut impl Write) {
+    if arguments.iter().any(|argument| has_control(argument)) {
+        if let Ok(escaped) = escape_all(alloc, arguments) {
+            if let Ok(escaped) = texts(alloc, escaped.as_slice()) {
+                if let Err(error) = read_command(alloc, escaped.as_slice()) {
+                    print_error(alloc, &error, find_tip(escaped.as_slice()), errors);
+                    return;
+                }
+            }
+        }
+    }
+    print_error(alloc, error, find_tip(arguments), errors);
+}
+
+/// Whether a text has control characters.
+fn has_control(text: &str) -> bool {
+    text.chars().any(|character| character.is_control())
+}
+
+/// The arguments with their control characters escaped.
+fn escape_all(alloc: Global, arguments: &[&str]) -> Result<Vec<String>, AllocError> {
+    let mut all = Vec::new(alloc);
+    for argument in arguments {
+        let argument = Escaped(argument);
+        all.push(format!(in alloc; "{argument}")?)?;
+    }
+    Ok(all)
+}
+
+/// A text whose control characters are escaped.
+#[derive(Clone, Copy)]
+struct Escaped<'a>(&'a str);
+
+impl fmt::Display for Escaped<'_> {
+    fn fmt<W: fmt::Write>(&self, f: &mut fmt::Formatter<W>) -> fmt::Result {
+        for character in self.0.chars() {
+            write_shown(f, character)?;
+        }
+        Ok(())
+    }
+}
+
+/// Prints why arguments are refused. What to type instead stands below the first paragraph, in place of a tip of the parser's.
+fn print_error(alloc: Global, error: &Error, tip: Option<Tip<'_>>, errors: &mut impl Write) {
+    // If this cannot be written, only the status is left to report it.
+    let Some(tip) = tip else {
+        let _ = write!(errors, "{error}");
+        return;
+    };
+    match format!(in alloc; "{error}") {
+        Ok(text) => {
+            let (why, rest) = text
+                .as_str()
+                .split_once("\n\n")
+                .unwrap_or((text.as_str(), ""));
+            let rest = without_tip(rest);
+            let _ = write!(errors, "{why}\n\n  tip: {tip}\n\n{rest}");
+        }
+        Err(_) => {
+            let _ = write!(errors, "{error}");
+        }
+    }
+}
+
+/// The paragraphs of an error below its first one, but for the parser's own tip.
+fn without_tip(rest: &str) -> &str {
+    if !rest.starts_with("  tip:") {
+        return rest;
+    }
+    match rest.split_once("\n\n") {
+        Some((_, rest)) => rest,
+        None => rest,
+    }
+}
+
+/// A text whose long lines are broken between words. What is broken off stands below the beginning of the description, where the
+/// line is that of an option.
+#[derive(Clone, Copy)]
+struct Wrapped<'a>(&'a str);
+
+impl fmt::Display for Wrapped<'_> {
+    fn fmt<W: fmt::Write>(&self, f: &mut fmt::Formatter<W>) -> fmt::Result {
+        let mut is_first = true;
+        for line in self.0.split('\n') {
+            if !is_first {
+                f.write_char('\n')?;
+            }
+            is_first = false;
+            write_line(f, line)?;
+        }
+        Ok(())
+    }
+}
+
+/// Writes a line, broken between words where it is too long.
+fn write_line<W: fmt::Write>(f: &mut fmt::Formatter<W>, line: &str) -> fmt::Result {
+    if line.chars().count() <= COLUMNS {
+        return f.write_str(line);
+    }
+    let indent = indent_of(line);
+    let mut column = 0usize;
+    let mut is_first = true;
+    for word in line.split(' ') {
+        let length = word.chars().count();
+        if length > 0 && column > indent && column.saturating_add(length) >= COLUMNS {
+            f.write_char('\n')?;
+            write_spaces(f, indent)?;
+            column = indent;
+        } else if !is_first {
+            f.write_char(' ')?;
+            column = column.saturating_add(1);
+        }
+        is_first = false;
+        f.write_str(word)?;
+        column = column.saturating_add(length);
+    }
+    Ok(())
+}
+
+/// Writes so many spaces.
+fn write_spaces<W: fmt::Write>(f: &mut fmt::Formatter<W>, many: usize) -> fmt::Result {
+    for _ in 0..many {
+        f.write_char(' ')?;
+    }
+    Ok(())
+}
+
+/// The column at which the description of an option begins, or else that of the line's first word.
+fn indent_of(line: &str) -> usize {
+    let rest = line.trim_start();
+    let lead = line.len().saturating_sub(rest.len());
+    let described = match rest.split_once("  ") {
+        Some((_, about)) => line.len().saturating_sub(about.trim_start().len()),
+        None => lead,
+    };
+    described.min(MOST_INDENT)
+}
