@@ -277,7 +277,12 @@ static COMMANDS: [CommandRow; 5] = [
         details: "Does the same as `relayd run` with a settings file that says what the arguments say.\n\nExample:\n  relayd forward 127.0.0.1:7000 127.0.0.1:7001 --slots 100\n\nSee relayd.toml(5) for the settings.",
         settings: true,
         arguments: &[
-            RECORD, STATS, UNTIL_EOF, LOG_CLIENTS, CONNECT_TIMEOUT, KEEPALIVE,
+            RECORD,
+            STATS,
+            UNTIL_EOF,
+            LOG_CLIENTS,
+            CONNECT_TIMEOUT,
+            KEEPALIVE,
         ],
     },
     CommandRow {
@@ -286,7 +291,14 @@ static COMMANDS: [CommandRow; 5] = [
         details: "Listens on the file's `listen` address and forwards each connection to `target`. Prints `listening A.B.C.D:PORT` once clients can connect, and writes log lines to standard error. It ends once `stop_after` connections were opened and are all closed, if that is not 0, or on a fault, with status 1.\n\nExample:\n  relayd run --config examples/relayd.toml\n\nSee relayd(1) for details and relayd.toml(5) for the settings.",
         settings: false,
         arguments: &[
-            CONFIG, LEVEL, RECORD, STATS, UNTIL_EOF, LOG_CLIENTS, CONNECT_TIMEOUT, KEEPALIVE,
+            CONFIG,
+            LEVEL,
+            RECORD,
+            STATS,
+            UNTIL_EOF,
+            LOG_CLIENTS,
+            CONNECT_TIMEOUT,
+            KEEPALIVE,
         ],
     },
     CommandRow {

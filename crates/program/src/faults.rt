@@ -85,7 +85,8 @@ impl ProgramFault {
         ensures { result ≡ status_of self.now }
     {
         match self {
-            ProgramFault::Argument(_) | ProgramFault::Seconds(_) | ProgramFault::Connection => USAGE,
+            ProgramFault::Argument(_) | ProgramFault::Seconds(_) | ProgramFault::Connection =>
+                USAGE,
             _ => FAULT,
         }
     }

@@ -36,7 +36,7 @@ fn without_default<'a>(alloc: Global, row: Row) -> Arg<'a> {
 }
 
 /// The arguments of all settings.
-fn all_arguments() -> &'static [Row] {
+pub(crate) fn all_arguments() -> &'static [Row] {
     &ROWS
 }
 

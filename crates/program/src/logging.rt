@@ -30,7 +30,10 @@ where
     let form = log_form(&rt);
     let queue = Arc::new(rt.alloc(), LogQueue::new(rt.alloc(), form)?)?;
     let lines = queue.clone()?;
-    if Builder::new().spawn(&rt, move || write_lines(&rt, &lines)).is_err() {
+    if Builder::new()
+        .spawn(&rt, move || write_lines(&rt, &lines))
+        .is_err()
+    {
         return Err(log_no_thread(&Direct { rt, form }));
     }
     Ok(queue)

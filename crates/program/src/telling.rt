@@ -35,7 +35,12 @@ where
         return Ok(None);
     }
     let statistics = made(rt.alloc(), settings.slots)?;
-    tell_from_now(rt, Duration::from_secs(u64::from(seconds)), &statistics, queue)?;
+    tell_from_now(
+        rt,
+        Duration::from_secs(u64::from(seconds)),
+        &statistics,
+        queue,
+    )?;
     Ok(Some(statistics))
 }
 
@@ -56,10 +61,10 @@ where
     ensures refused { IfErr result (λ fault. (fault ≡ ServerFault.NoMemory) ⊎ (fault ≡ ServerFault.Threads)) }
 {
     let (counted, lines) = (statistics.clone()?, queue.clone()?);
-    if Builder::new().spawn(
-        &rt,
-        move || tell_every(&rt, rhythm, &counted, &lines),
-    ).is_err() {
+    if Builder::new()
+        .spawn(&rt, move || tell_every(&rt, rhythm, &counted, &lines))
+        .is_err()
+    {
         let form = queue.form();
         return Err(log_no_thread(&Direct { rt, form }));
     }

@@ -1,6 +1,6 @@
 //! What to type in place of words that are refused.
 
-use settings::ARGUMENTS;
+use crate::forwarding::all_arguments;
 use std::fmt;
 
 /// What to type.
@@ -80,15 +80,10 @@ fn setting_in<'a>(arguments: &[&'a str]) -> Option<&'a str> {
 
 /// Whether a setting has this option.
 fn is_setting(name: &str) -> bool {
-    for row in all_settings() {
+    for row in all_arguments() {
         if row.option == Some(name) {
             return true;
         }
     }
     false
-}
-
-/// The arguments of all settings.
-fn all_settings() -> &'static [settings::Argument] {
-    &ARGUMENTS
 }

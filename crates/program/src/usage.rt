@@ -7,11 +7,11 @@ use crate::acting::{report_fault, stream, texts};
 use crate::command_line::read_command;
 use crate::constants::{DONE, USAGE};
 use crate::faults::ProgramFault;
-use crate::file_names::write_shown;
 use crate::tips::{Tip, find_tip};
 use clap::Error;
 use clap::error::ErrorKind;
 use log::Log;
+use settings::ShownCharacter;
 use std::alloc::{AllocError, Global};
 use std::fmt;
 use std::io::Write;
@@ -92,7 +92,8 @@ struct Escaped<'a>(&'a str);
 impl fmt::Display for Escaped<'_> {
     fn fmt<W: fmt::Write>(&self, f: &mut fmt::Formatter<W>) -> fmt::Result {
         for character in self.0.chars() {
-            write_shown(f, character)?;
+            let shown = ShownCharacter(character);
+            write!(f, "{shown}")?;
         }
         Ok(())
     }

@@ -27,7 +27,7 @@ pub use faults::{KeyText, SettingsFault};
 pub use fields::Settings;
 pub use levels::LogLevel;
 pub use mistakes::has_leading_zero;
-pub use one_line::{EndOfLine, OneLine};
+pub use one_line::{EndOfLine, OneLine, ShownCharacter};
 pub use pollers::pollers_for;
 pub use read::parse;
 pub use table::{Key, ROWS, Row};

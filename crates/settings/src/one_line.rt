@@ -63,7 +63,7 @@ fn without_first(text: &str, count: usize) -> &str
 
 /// A character as shown: a control character by its number.
 #[derive(Clone, Copy)]
-struct ShownCharacter(char);
+pub struct ShownCharacter(pub char);
 
 impl fmt::Display for ShownCharacter {
     ghost output = { λ character. Some (shown_character character.0) };
