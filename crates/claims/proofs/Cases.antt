@@ -1,5 +1,5 @@
 -- The contracts of the calls by cases on what the word said.
-use Rattle.std.proofs.Common.{◌≡◌, ℕ, zero, suc, Bool, true, false, if◌then◌else◌, refl, sym, subst, ap}
+use Rattle.std.proofs.Common.{◌≡◌, ℕ, zero, suc, Bool, true, false, if◌then◌else◌, refl, sym, subst, ap, [], ◌∷◌}
 use Rattle.claims.specs.declared.view.Account.{Account}
 use Rattle.claims.specs.declared.view.Exchange.TheVariants as exchange
 use Rattle.claims.specs.declared.answers.Posted.{Posted}
@@ -7,29 +7,25 @@ use Rattle.claims.specs.declared.answers.Released.{Released}
 use Rattle.claims.specs.declared.answers.Posted.TheVariants.{Wake, Quiet}
 use Rattle.claims.specs.declared.answers.Released.TheVariants.{Wake as ReleaseWakes, Quiet as ReleaseQuiet}
 use Rattle.claims.specs.Words.{some_wait, wakes, answer_of, WordState, post, claim, adopt, wake, quiet, held, busy, adopted, not_free}
-use Rattle.claims.specs.Views.{after, after_post, after_claim, after_release, after_adopt}
+use Rattle.claims.specs.Views.{after}
 use Rattle.claims.specs.Rule.{made}
-use Rattle.claims.specs.Seats.{SeatState, account_at, HoldsNot, Adds, Changed, Stepped}
-use Rattle.claims.specs.Calls.{PostChange, PostTrace, PostStep, ReleaseChange, woke, release_answer}
+use Rattle.claims.specs.Seats.{SeatState, account_at, HoldsNot, Adds, Stepped}
+use Rattle.claims.specs.Calls.{PostChange, PostStep, ReleaseChange, release_answer}
 
 module _ (slot : ℕ) (old new : SeatState) where
-  pub post_change : (r : Posted) (woke : Bool) → r ≡ (if woke then Wake else Quiet) → Changed slot old new (after_post woke (account_at old slot)) → (woke ≡ true → HoldsNot old slot)
+  pub post_change : (r : Posted) (woke : Bool) → r ≡ (if woke then Wake else Quiet) → Adds slot (exchange.Post woke ∷ []) old new → (woke ≡ true → HoldsNot old slot)
       → PostChange slot old r new
-  post_change r true is changed alone = subst (λ q. PostChange slot old q new) (sym is) (changed, alone refl)
-  post_change r false is changed alone = subst (λ q. PostChange slot old q new) (sym is) changed
-
-  pub post_trace : (r : Posted) (woke : Bool) → r ≡ (if woke then Wake else Quiet) → Adds slot (exchange.Post woke) old new → PostTrace slot old r new
-  post_trace r true is adds = subst (λ q. PostTrace slot old q new) (sym is) adds
-  post_trace r false is adds = subst (λ q. PostTrace slot old q new) (sym is) adds
+  post_change r true is adds alone = subst (λ q. PostChange slot old q new) (sym is) (adds, alone refl)
+  post_change r false is adds alone = subst (λ q. PostChange slot old q new) (sym is) adds
 
   pub post_step : (r : Posted) (woke : Bool) → r ≡ (if woke then Wake else Quiet) → Stepped post slot old new (if woke then wake else quiet) → PostStep slot old r new
   post_step r true is step = subst (λ q. PostStep slot old q new) (sym is) step
   post_step r false is step = subst (λ q. PostStep slot old q new) (sym is) step
 
-  pub release_change : (r : Released) (woke : Bool) → r ≡ (if woke then ReleaseWakes else ReleaseQuiet) → Changed slot old new (after_release woke (account_at old slot))
+  pub release_change : (r : Released) (woke : Bool) → r ≡ (if woke then ReleaseWakes else ReleaseQuiet) → Adds slot (exchange.Release woke ∷ []) old new
       → (woke ≡ false → (account_at old slot).known ≡ 0) → ReleaseChange slot old r new
-  release_change r true is changed none = subst (λ q. ReleaseChange slot old q new) (sym is) changed
-  release_change r false is changed none = subst (λ q. ReleaseChange slot old q new) (sym is) (changed, none refl)
+  release_change r true is adds none = subst (λ q. ReleaseChange slot old q new) (sym is) adds
+  release_change r false is adds none = subst (λ q. ReleaseChange slot old q new) (sym is) (adds, none refl)
 
 pub release_says : (woke : Bool) → release_answer (if woke then ReleaseWakes else ReleaseQuiet) ≡ (if woke then wake else quiet)
 release_says true = refl
@@ -46,10 +42,6 @@ wakes_no_holder w is = by_held w.held (some_wait w.pending) is
 pub none_wait : (p : ℕ) → some_wait p ≡ false → p ≡ 0
 none_wait zero is = refl
 none_wait (suc p) is = cc
-
-pub woke_says : (b : Bool) → b ≡ woke (if b then ReleaseWakes else ReleaseQuiet)
-woke_says true = refl
-woke_says false = refl
 
 module _ (w : WordState) where
   pub makes_busy : w.held ≡ true → made claim w ≡ exchange.Busy
@@ -68,10 +60,10 @@ module _ (w : WordState) where
     pub claim_busy : w.held ≡ true → after (made claim w) a ≡ a
     claim_busy is = ap (λ e. after e a) (makes_busy is)
 
-    pub claim_gains : w.held ≡ false → after (made claim w) a ≡ after_claim w.pending a
+    pub claim_gains : w.held ≡ false → after (made claim w) a ≡ after (exchange.Held w.pending) a
     claim_gains is = ap (λ e. after e a) (makes_held is)
 
-    pub adopt_gains : w.free ≡ true → after (made adopt w) a ≡ after_adopt w.pending a
+    pub adopt_gains : w.free ≡ true → after (made adopt w) a ≡ after (exchange.Adopted w.pending) a
     adopt_gains is = ap (λ e. after e a) (makes_adopted is)
 
     pub adopt_not_free : w.free ≡ false → after (made adopt w) a ≡ a

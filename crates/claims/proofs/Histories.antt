@@ -59,6 +59,10 @@ pub after_on : (t : List Exchange) (e : Exchange) (a : Account) → after_all (t
 after_on [] e a = refl
 after_on (x ∷ t) e a = after_on t e (after x a)
 
+pub after_both : (t u : List Exchange) (a : Account) → after_all (t ++ u) a ≡ after_all u (after_all t a)
+after_both [] u a = refl
+after_both (e ∷ t) u a = after_both t u (after e a)
+
 keeps_on : (t : List Exchange) (e : Exchange) (a : Account) → Keeps a t → NeedsHolder (kind_of e) (after_all t a) → Keeps a (t ++ e ∷ [])
 keeps_on [] e a keeps may = (may, tt)
 keeps_on (x ∷ t) e a keeps may = (keeps.0, keeps_on t e (after x a) keeps.1 may)

@@ -7,8 +7,9 @@ use mathlib.Core.Logic.{dite}
 use native.Mathlib.Decide.{ℕ_discrete}
 use lib.ListN.{get_elem?}
 use Rattle.claims.specs.declared.view.Account.{Account}
+use Rattle.claims.specs.declared.view.Exchange.TheVariants.{Post, Held, Take, Release, Retire, Adopted}
 use Rattle.claims.specs.Words.{one, some_wait, wakes, word_after, WordState, StepKind, post, claim, take, release, retire, adopt}
-use Rattle.claims.specs.Views.{posted_of, taken_of, minted_of, redeemed_of, holding_of, adopts_of, retires_of, after, after_post, after_claim, after_take, after_release, after_retire, after_adopt}
+use Rattle.claims.specs.Views.{posted_of, taken_of, minted_of, redeemed_of, holding_of, adopts_of, retires_of, after}
 use Rattle.claims.specs.Rule.{made, NeedsHolder}
 use Rattle.claims.specs.Laws.{due, Knows, Counts}
 use Rattle.claims.proofs.Totals.{sum_by-put, term-le, each_at}
@@ -92,7 +93,7 @@ module _ (accounts : List Account) (k : ℕ) (v : Account) (at : get_elem? accou
       → one f + sum_by adopts_of accounts ≡ 1 + sum_by retires_of accounts
       → Counts (word_after kind (word_state p f h)) (set accounts k (after (made kind (word_state p f h)) v))
   step_by post p f h may notes holders tickets known freed =
-      let s = word_state p f h in let w = after_post (wakes s) v in
+      let s = word_state p f h in let w = after (Post (wakes s)) v in
       let due_now = due-post p f h in
       let mine = each_at (Knows p) accounts k v at known in
       let some = one_le v.holds in
@@ -103,30 +104,30 @@ module _ (accounts : List Account) (k : ℕ) (v : Account) (at : get_elem? accou
       let s = word_state p f true in
       turned v s s notes holders tickets freed (omega arith) refl (omega arith) (omega arith) (all_put (Knows p) accounts k v (each_at (Knows p) accounts k v at known) (λ j d other lt. known j d lt))
   step_by claim p f false may notes holders tickets known freed =
-      let w = after_claim p v in
+      let w = after (Held p) v in
       let mine = term-le holding_of accounts k v at in
       turned w (word_state p f false) (word_state p f true) notes holders tickets freed (omega arith) (omega arith) (omega arith) (omega arith)
       (all_put (Knows p) accounts k w (omega arith, (λ e. cc)) (λ j d other lt. known j d lt))
   step_by take p f true may notes holders tickets known freed =
-      let s = word_state p f true in let w = after_take p v in
+      let s = word_state p f true in let w = after (Take p) v in
       turned w s (word_state zero f true) notes holders tickets freed (omega arith) refl (omega arith) (omega arith)
       (all_put (Knows zero) accounts k w (omega arith, (λ e. refl))
       (λ j d other lt. (let none = (known j d lt).1 (alone s may holders j d other lt) in (omega arith, (λ e. none)))))
   step_by take p f false may notes holders tickets known freed =
       let mine = term-le holding_of accounts k v at in let me : one v.holds ≡ 1 = ap one may in absurd (omega arith)
   step_by release p f true may notes holders tickets known freed =
-      let w = after_release (some_wait p) v in let me : one v.holds ≡ 1 = ap one may in
+      let w = after (Release (some_wait p)) v in let me : one v.holds ≡ 1 = ap one may in
       turned w (word_state p f true) (word_state p f false) notes holders tickets freed (omega arith) (omega arith) (omega arith) (omega arith)
       (all_put (Knows p) accounts k w (omega arith, (λ e. refl)) (λ j d other lt. known j d lt))
   step_by release p f false may notes holders tickets known freed =
       let mine = term-le holding_of accounts k v at in let me : one v.holds ≡ 1 = ap one may in absurd (omega arith)
   step_by retire p f h may notes holders tickets known freed =
-      let w = after_retire v in
+      let w = after Retire v in
       let mine = term-le holding_of accounts k v at in let me : one v.holds ≡ 1 = ap one may in let top = one_le h in
       turned w (word_state p f h) (word_state p true h) notes holders tickets freed (omega arith) (omega arith) (omega arith) (omega arith)
       (all_put (Knows p) accounts k w (omega arith, (λ e. refl)) (λ j d other lt. known j d lt))
   step_by adopt p true h may notes holders tickets known freed =
-      let w = after_adopt p v in
+      let w = after (Adopted p) v in
       let mine = term-le holding_of accounts k v at in let top = one_le h in
       turned w (word_state p true h) (word_state p false h) notes holders tickets freed (omega arith) (omega arith) (omega arith) (omega arith)
       (all_put (Knows p) accounts k w (omega arith, (λ e. cc)) (λ j d other lt. known j d lt))

@@ -1,11 +1,13 @@
 -- For callers: where a seat has changed, and that it holds nothing.
--- A function that names `claims::proofs::Seats::at_one_slot` in its `using` mostly needs no answers.
-use Rattle.std.proofs.Common.{◌≡◌, ℕ, zero, suc, List, [], map, replicate, get_or, refl, sym, subst, ap, ◌∙◌}
+use Rattle.std.proofs.Common.{◌≡◌, ℕ, zero, suc, ◌+◌, Bool, true, false, List, [], ◌∷◌, ◌++◌, replicate, get_or, refl, sym, subst, ap, ◌∙◌, arith, append_assoc}
 use Rattle.std.specs.List.{All}
+use Rattle.std.proofs.lemmas.List.{append-nil}
 use Rattle.std.proofs.lemmas.List.Elements.{All-replicate}
 use mathlib.Core.Logic.{dite}
 use native.Mathlib.Decide.{ℕ_discrete}
 use Rattle.claims.specs.declared.view.Account.{Account}
+use Rattle.claims.specs.declared.view.Exchange.{Exchange}
+use Rattle.claims.specs.declared.view.Exchange.TheVariants as exchange
 use Rattle.claims.specs.declared.answers.Posted.{Posted}
 use Rattle.claims.specs.declared.answers.Posted.TheVariants.{Wake, Quiet, Worn}
 use Rattle.claims.specs.declared.answers.Claimed.{Claimed}
@@ -14,19 +16,21 @@ use Rattle.claims.specs.declared.answers.Released.{Released}
 use Rattle.claims.specs.declared.answers.Released.TheVariants.{Wake as ReleaseWakes, Quiet as ReleaseQuiet}
 use Rattle.claims.specs.declared.answers.Adopted.{Adopted as AdoptAnswer}
 use Rattle.claims.specs.declared.answers.Adopted.TheVariants.{Adopted, NotFree}
-use Rattle.claims.specs.Views.{blank, account_of}
-use Rattle.claims.specs.Seats.{TableId, SeatState, account_at, HoldsNot, HoldsNothing, OnlyAt, Changed, fresh_seat}
+use Rattle.claims.specs.Words.{one}
+use Rattle.claims.specs.Views.{blank, after, after_all, account_of, minted_by}
+use Rattle.claims.proofs.Histories.{after_both}
+use Rattle.claims.specs.Seats.{TableId, SeatState, account_at, HoldsNot, HoldsNothing, OnlyAt, Adds, fresh_seat, trace_at}
 use Rattle.claims.specs.Calls.{PostChange, ClaimChange, ReleaseChange, AdoptChange}
 
-blank_at : (n slot : ℕ) → get_or (map account_of (replicate n [])) slot blank ≡ blank
-blank_at zero slot = refl
-blank_at (suc n) zero = refl
-blank_at (suc n) (suc slot) = blank_at n slot
+nothing_at : (n slot : ℕ) → account_of (get_or (replicate n []) slot []) ≡ blank
+nothing_at zero slot = refl
+nothing_at (suc n) zero = refl
+nothing_at (suc n) (suc slot) = nothing_at n slot
 
 -- a seat that has done nothing
 pub fresh_holds_nothing : (table : TableId) (s : SeatState) → s ≡ fresh_seat table → HoldsNothing s
 fresh_holds_nothing table s is =
-    subst HoldsNothing (sym is) (record { nowhere = λ slot. ap (λ (a : Account). a.holds) (blank_at table.words slot) })
+    subst HoldsNothing (sym is) (record { nowhere = λ slot. ap (λ (a : Account). a.holds) (nothing_at table.words slot) })
 
 -- all seats of an `open`
 pub fresh_seats_hold_nothing : (count : ℕ) (table : TableId) (seats : List SeatState) → seats ≡ replicate count (fresh_seat table) → All HoldsNothing seats
@@ -35,40 +39,79 @@ fresh_seats_hold_nothing count table seats is =
 
 module _ {slot : ℕ} where
   pub only_at_none : {old new : SeatState} → new ≡ old → OnlyAt slot old new
-  only_at_none is = record { table = ap (λ (s : SeatState). s.table) is; others = λ other ne. ap (λ (s : SeatState). account_at s other) is }
-
-  pub only_at_changed : {old new : SeatState} {account : Account} → Changed slot old new account → OnlyAt slot old new
-  only_at_changed changed = record { table = changed.table; others = changed.others }
+  only_at_none is = record { table = ap (λ (s : SeatState). s.table) is; others = λ other ne. ap (λ (s : SeatState). trace_at s other) is }
 
   -- one change after the other
   pub only_at_twice : {first second third : SeatState} → OnlyAt slot first second → OnlyAt slot second third → OnlyAt slot first third
   only_at_twice one two = record { table = two.table ∙ one.table; others = λ other ne. two.others other ne ∙ one.others other ne }
+
+  pub only_at_adds : {old new : SeatState} {es : List Exchange} → Adds slot es old new → OnlyAt slot old new
+  only_at_adds adds = adds.only
 
   -- who held nothing, and holds nothing at the one slot where it changed
   pub holds_nothing_again : {old new : SeatState} → HoldsNothing old → OnlyAt slot old new → HoldsNot new slot → HoldsNothing new
   holds_nothing_again {old} {new} nothing only here = record {
     nowhere = λ other. dite (ℕ_discrete other slot)
         (λ same. subst (λ (i : ℕ). HoldsNot new i) (sym same) here)
-        (λ ne. ap (λ (a : Account). a.holds) (only.others other ne) ∙ nothing.nowhere other);
+        (λ ne. ap (λ (t : List Exchange). (account_of t).holds) (only.others other ne) ∙ nothing.nowhere other);
   }
 
-pub ruleset at_one_slot = (only_at_none, only_at_changed, only_at_twice, holds_nothing_again)
+pub ruleset at_one_slot = (only_at_none, only_at_adds, only_at_twice, holds_nothing_again)
+
+-- no exchange, and some after others
+pub adds_none : (slot : ℕ) (s : SeatState) → Adds slot [] s s
+adds_none slot s = record { here = sym (append-nil (trace_at s slot)); only = record { table = refl; others = λ other ne. refl } }
+
+pub adds_both : (slot : ℕ) (es fs : List Exchange) (a b c : SeatState) → Adds slot es a b → Adds slot fs b c → Adds slot (es ++ fs) a c
+adds_both slot es fs a b c one two = record {
+  here = two.here ∙ ap (λ (t : List Exchange). t ++ fs) one.here ∙ append_assoc (trace_at a slot) es fs;
+  only = only_at_twice one.only two.only;
+}
+
+-- the account after such exchanges
+pub account_after : (slot : ℕ) (es : List Exchange) (old new : SeatState) → Adds slot es old new → account_at new slot ≡ after_all es (account_at old slot)
+account_after slot es old new adds = ap account_of adds.here ∙ after_both (trace_at old slot) es blank
 
 -- each call, whatever it answers
 module _ (slot : ℕ) (old new : SeatState) where
   pub only_at_post : (r : Posted) → PostChange slot old r new → OnlyAt slot old new
-  only_at_post Wake change = only_at_changed change.0
-  only_at_post Quiet change = only_at_changed change
+  only_at_post Wake change = change.0.only
+  only_at_post Quiet change = change.only
   only_at_post Worn change = only_at_none change.0
 
   pub only_at_claim : (r : Claimed) → ClaimChange slot old r new → OnlyAt slot old new
-  only_at_claim Held change = only_at_changed change.1
-  only_at_claim Busy change = only_at_changed change
+  only_at_claim Held change = change.1.only
+  only_at_claim Busy change = change.only
 
   pub only_at_release : (r : Released) → ReleaseChange slot old r new → OnlyAt slot old new
-  only_at_release ReleaseWakes change = only_at_changed change
-  only_at_release ReleaseQuiet change = only_at_changed change.0
+  only_at_release ReleaseWakes change = change.only
+  only_at_release ReleaseQuiet change = change.0.only
 
   pub only_at_adopt : (r : AdoptAnswer) → AdoptChange slot old r new → OnlyAt slot old new
-  only_at_adopt Adopted change = only_at_changed change.1
-  only_at_adopt NotFree change = only_at_changed change
+  only_at_adopt Adopted change = change.1.only
+  only_at_adopt NotFree change = change.only
+
+-- the tickets of exchanges after others
+minted_on : (e : Exchange) (a : Account) → (after e a).minted ≡ a.minted + (after e blank).minted
+minted_on (exchange.Post woke) a = omega arith
+minted_on exchange.Busy a = omega arith
+minted_on (exchange.Held pending) a = omega arith
+minted_on (exchange.Take count) a = omega arith
+minted_on (exchange.Release woke) a = omega arith
+minted_on exchange.Retire a = omega arith
+minted_on (exchange.Adopted pending) a = omega arith
+minted_on exchange.NotFree a = omega arith
+
+minted_all : (es : List Exchange) (a b : Account) → (after_all es a).minted + b.minted ≡ a.minted + (after_all es b).minted
+minted_all [] a b = omega arith
+minted_all (e ∷ es) a b =
+    let rest = minted_all es (after e a) (after e b) in
+    let one = minted_on e a in
+    let two = minted_on e b in
+    omega arith
+
+pub minted_both : (es fs : List Exchange) → (account_of (es ++ fs)).minted ≡ (account_of es).minted + minted_by fs
+minted_both es fs =
+    let both = ap (λ (a : Account). a.minted) (after_both es fs blank) in
+    let rest = minted_all fs (account_of es) blank in
+    omega arith

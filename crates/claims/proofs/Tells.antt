@@ -1,7 +1,8 @@
 -- What a step has told, in the words of the calls' contracts.
 use Rattle.std.proofs.Common.{◌≡◌, ℕ, ◌+◌, ◌^◌, ◌<◌, ◌≤◌, Bool, true, false, List, [], ◌∷◌, ◌++◌, length, map, set, get_or, refl, sym, subst, ap, ◌∙◌, arith, get_or-set_same, get_or-set_other, length-set, length-append}
 use Rattle.std.specs.List.{sum_by}
-use Rattle.std.proofs.lemmas.List.{map-set, set-get_or, length-map}
+use Rattle.std.proofs.Math.ListN.{get_or-map}
+use Rattle.std.proofs.lemmas.List.{map-set, set-get_or, length-map, get_or_default}
 use Rattle.std.proofs.lemmas.List.Sums.{sum_by-set}
 use mathlib.Core.Option.{some}
 use lib.ListN.{get_elem?}
@@ -14,7 +15,7 @@ use Rattle.claims.specs.Views.{blank, posted_of, taken_of, holds_of, holding_of,
 use Rattle.claims.specs.Rule.{made, ClaimRule}
 use Rattle.claims.specs.Laws.{Knows, Counts}
 use Rattle.claims.specs.Steps.{state_at, StepEffect}
-use Rattle.claims.specs.Seats.{TableId, SeatState, seat_state, view_of, account_at, Holds, HoldsNot, Adds, Changed, KeepsRule, Stepped, SeatOk}
+use Rattle.claims.specs.Seats.{TableId, SeatState, seat_state, view_of, account_at, Holds, HoldsNot, Adds, KeepsRule, Stepped, SeatOk}
 use Rattle.claims.proofs.Totals.{inside, each_at, term-le}
 use Rattle.claims.proofs.OneSlot.{false_from_zero}
 use Rattle.claims.proofs.AllSlots.{few_posts}
@@ -53,16 +54,6 @@ module _ {kind : StepKind} {slot found : ℕ} {v w : View} (told : StepEffect ki
   trace_here : get_or w.traces slot [] ≡ trace_in slot v ++ last ∷ []
   trace_here = ap (λ (l : List (List Exchange)). get_or l slot []) traces ∙ get_or-set_same v.traces slot (trace_in slot v ++ last ∷ []) [] wide
 
-  here : get_or (accounts_of w) slot blank ≡ after last (get_or (accounts_of v) slot blank)
-  here = ap (λ (l : List Account). get_or l slot blank) accounts ∙ get_or-set_same (accounts_of v) slot next blank wide_accounts ∙ ap (after last) (sym (account_there v slot))
-
-  steps_more : sum_by length w.traces ≡ sum_by length v.traces + 1
-  steps_more =
-      let put = sum_by-set length v.traces slot (trace_in slot v ++ last ∷ []) [] wide in
-      let longer = length-append (trace_in slot v) (last ∷ []) in
-      let same = ap (λ (l : List (List Exchange)). sum_by length l) traces in
-      omega arith
-
   my_account : get_elem? (column slot told.views) told.seat ≡ some (account_in slot v)
   my_account = at_map account_of (traces_at slot told.views) told.seat (trace_in slot v) (at_map (trace_in slot) told.views told.seat v told.mine)
 
@@ -83,14 +74,13 @@ module _ {kind : StepKind} {slot found : ℕ} {v w : View} (told : StepEffect ki
       false_from_zero (account_in slot v).holds (omega arith)
 
   -- all that the seat ever took here
-  pub took_few : (get_or (accounts_of w) slot blank).taken ≤ 2 ^ 61
+  pub took_few : (account_in slot w).taken ≤ 2 ^ 61
   took_few =
       let views = set told.views told.seat w in
       let there : get_elem? views told.seat ≡ some w = set_here told.views told.seat w (inside told.views told.seat v told.mine) in
       let term = term-le taken_of (column slot views) told.seat (account_in slot w) (at_map account_of (traces_at slot views) told.seat (trace_in slot w) (at_map (trace_in slot) views told.seat w there)) in
       let notes = (counts_of _ _ (told.after.slot_rules slot told.inside)).notes in
       let few = few_posts told.slots (set told.words slot (word_of (word_after kind state))) views told.after slot told.inside in
-      let this = ap taken_of (account_there w slot) in
       omega arith
 
   pub mark_put : (held : List Bool) (b : Bool) → b ≡ next.holds → set held slot b ≡ set held slot next.holds
@@ -121,23 +111,14 @@ module _ {kind : StepKind} {slot found : ℕ} {v w : View} (told : StepEffect ki
 
     -- what the caller saw of the seat
     module _ (old : SeatState) (was : seat_state table v ≡ old) where
-      pub changed : Changed slot old (seat_state table' w) (after last (account_at old slot))
-      changed = subst (λ (s : SeatState). Changed slot s (seat_state table' w) (after last (account_at s slot))) was (record {
-        table = same;
-        here = here;
-        steps = steps_more;
-        others = λ other ne. (ap (λ (l : List Account). get_or l other blank) accounts ∙ get_or-set_other (accounts_of v) slot other next blank ne);
-      })
-
-      pub changed_to : (a : Account) → after last (account_at old slot) ≡ a → Changed slot old (seat_state table' w) a
-      changed_to a is = subst (λ (b : Account). Changed slot old (seat_state table' w) b) is changed
-
-      pub adds : (e : Exchange) → last ≡ e → Adds slot e old (seat_state table' w)
-      adds e is = subst (λ (x : Exchange). Adds slot x old (seat_state table' w)) is (
-          subst (λ (s : SeatState). Adds slot last s (seat_state table' w)) was (record {
-            table = same;
+      pub adds : (e : Exchange) → last ≡ e → Adds slot (e ∷ []) old (seat_state table' w)
+      adds e is = subst (λ (x : Exchange). Adds slot (x ∷ []) old (seat_state table' w)) is (
+          subst (λ (s : SeatState). Adds slot (last ∷ []) s (seat_state table' w)) was (record {
             here = trace_here;
-            others = λ other ne. (ap (λ (l : List (List Exchange)). get_or l other []) traces ∙ get_or-set_other v.traces slot other (trace_in slot v ++ last ∷ []) [] ne);
+            only = record {
+              table = same;
+              others = λ other ne. (ap (λ (l : List (List Exchange)). get_or l other []) traces ∙ get_or-set_other v.traces slot other (trace_in slot v ++ last ∷ []) [] ne);
+            };
           }))
 
       pub stepped : (answer : Answer) → answer ≡ answer_of kind state → Stepped kind slot old (seat_state table' w) answer
@@ -160,17 +141,29 @@ module _ {kind : StepKind} {slot found : ℕ} {v w : View} (told : StepEffect ki
           })
 
       pub known_few : (n : ℕ) → n ≡ state.pending → (account_at old slot).known ≤ n
-      known_few n is = subst (λ (s : SeatState). (account_at s slot).known ≤ n) was (let few = knows_few in let this = ap (λ (a : Account). a.known) (account_there v slot) in omega arith)
+      known_few n is = subst (λ (s : SeatState). (account_at s slot).known ≤ n) was (let few = knows_few in omega arith)
 
       pub held_by_none : one state.held ≤ one state.free → HoldsNot old slot
-      held_by_none none = subst (λ (s : SeatState). HoldsNot s slot) was (ap holds_of (account_there v slot) ∙ not_mine none)
+      held_by_none none = subst (λ (s : SeatState). HoldsNot s slot) was (not_mine none)
 
       pub knew_none : state.pending ≡ 0 → (account_at old slot).known ≡ 0
-      knew_none is = subst (λ (s : SeatState). (account_at s slot).known ≡ 0) was (let few = knows_few in let this = ap (λ (a : Account). a.known) (account_there v slot) in omega arith)
+      knew_none is = subst (λ (s : SeatState). (account_at s slot).known ≡ 0) was (let few = knows_few in omega arith)
 
 -- what a call's conditions say of the table's own numbers
 pub within : (key : ℕ) (table now : TableId) (slot : ℕ) → key ≡ table.words → table ≡ now → slot < now.words → slot < key
 within key table now slot sized is inside = let words : table.words ≡ now.words = ap (λ (z : TableId). z.words) is in omega arith
 
 pub holds_now : (slot : ℕ) (table : TableId) (v : View) (now : SeatState) → seat_state table v ≡ now → Holds now slot → (account_in slot v).holds ≡ true
-holds_now slot table v now is holds = sym (ap holds_of (account_there v slot)) ∙ subst (λ (s : SeatState). Holds s slot) (sym is) holds
+holds_now slot table v now is holds = subst (λ (s : SeatState). Holds s slot) (sym is) holds
+
+-- the marks that a seat keeps are right
+pub marked_right : (slot : ℕ) (table : TableId) (v : View) (now : SeatState) (posts : ℕ) (held : List Bool) (mark : Bool) → seat_state table v ≡ now → SeatOk posts held table v → slot < now.table.words
+    → mark ≡ get_or held slot mark → mark ≡ (account_at now slot).holds
+marked_right slot table v now posts held mark was ok lt read = subst (λ (s : SeatState). mark ≡ (account_at s slot).holds) was (
+    let wide : slot < length held = (
+    let words = ap (λ (s : SeatState). s.table.words) was in
+    let many = ap length ok.marked in
+    let marks = length-map (accounts_of v) holds_of in
+    let accounts = length-map v.traces account_of in
+    let sized = ok.sized in omega arith) in
+    read ∙ get_or_default held slot mark false wide ∙ ap (λ (l : List Bool). get_or l slot false) ok.marked ∙ get_or-map holds_of (accounts_of v) slot blank ∙ ap holds_of (account_there v slot))

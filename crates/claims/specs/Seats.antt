@@ -7,30 +7,32 @@ use Rattle.claims.specs.declared.view.Account.{Account}
 use Rattle.claims.specs.declared.view.Exchange.{Exchange}
 use Rattle.claims.specs.declared.view.View.{View}
 use Rattle.claims.specs.Words.{StepKind, Answer, WordStep}
-use Rattle.claims.specs.Views.{blank, posted_of, holds_of, accounts_of, unused_view}
+use Rattle.claims.specs.Views.{posted_of, holds_of, account_of, accounts_of, unused_view}
 use Rattle.claims.specs.Rule.{made, ClaimRule}
 
--- the claim words that the seat belongs to, its exchanges at each slot, what they say of each, and how many they are
+-- the claim words that the seat belongs to, and its trace of each slot: its exchanges there, in order
 pub record SeatState : Type 0 where
   pub table : TableId
   pub traces : List (List Exchange)
-  pub accounts : List Account
-  pub steps : ℕ
 
 abbrev pub seat_state : TableId → View → SeatState
-seat_state table v = record { table = table; traces = v.traces; accounts = accounts_of v; steps = sum_by length v.traces }
+seat_state table v = record { table = table; traces = v.traces }
 
 -- the view of such a seat, which makes no other seats
 abbrev pub view_of : SeatState → View
 view_of s = record { traces = s.traces; spare = 0 }
 
--- its exchanges at this slot, in order
+-- its trace of this slot
 abbrev pub trace_at : SeatState → ℕ → List Exchange
 trace_at s slot = slice_index_or s.traces slot []
 
--- the account of this slot
+-- its account of this slot
 abbrev pub account_at : SeatState → ℕ → Account
-account_at s slot = slice_index_or s.accounts slot blank
+account_at s slot = account_of (trace_at s slot)
+
+-- how often it has posted, at all slots
+abbrev pub posts_of : SeatState → ℕ
+posts_of s = sum_by posted_of (accounts_of (view_of s))
 
 abbrev pub Holds : SeatState → ℕ → Type 0
 Holds s slot = (account_at s slot).holds ≡ true
@@ -46,23 +48,15 @@ fresh_seat table = seat_state table (unused_view table.words 0)
 pub record HoldsNothing (s : SeatState) : Type 0 where
   pub nowhere : (slot : ℕ) → HoldsNot s slot
 
--- at every other slot the seat's account is what it was
+-- at every other slot the seat's trace is what it was
 pub record OnlyAt (slot : ℕ) (old new : SeatState) : Type 0 where
   pub table : new.table ≡ old.table
-  pub others : (other : ℕ) → other ≢ slot → account_at new other ≡ account_at old other
-
--- one exchange more, at this slot
-pub record Adds (slot : ℕ) (exchange : Exchange) (old new : SeatState) : Type 0 where
-  pub table : new.table ≡ old.table
-  pub here : trace_at new slot ≡ trace_at old slot ++ exchange ∷ []
   pub others : (other : ℕ) → other ≢ slot → trace_at new other ≡ trace_at old other
 
--- by one exchange the account of this slot became `account`, and nothing else of the seat changed
-pub record Changed (slot : ℕ) (old new : SeatState) (account : Account) : Type 0 where
-  pub table : new.table ≡ old.table
-  pub here : account_at new slot ≡ account
-  pub others : (other : ℕ) → other ≢ slot → account_at new other ≡ account_at old other
-  pub steps : new.steps ≡ old.steps + 1
+-- the seat made these exchanges at this slot, in order, and no others
+pub record Adds (slot : ℕ) (exchanges : List Exchange) (old new : SeatState) : Type 0 where
+  pub here : trace_at new slot ≡ trace_at old slot ++ exchanges
+  pub only : OnlyAt slot old new
 
 -- In a state that met the rule the seat did one step of this kind at the slot's word, which answered so. Its trace got the exchange
 -- that the kind makes by what the word said, and the rule was kept. The state is some state, since no clause can name what other

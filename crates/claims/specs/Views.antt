@@ -11,40 +11,16 @@ use Rattle.claims.specs.Words.{one, some_wait}
 abbrev pub blank : Account
 blank = record { posted = 0; taken = 0; minted = 0; redeemed = 0; holds = false; known = 0; adopts = 0; retires = 0 }
 
--- What each exchange makes of the account
-
--- a post, which answered Wake or Quiet
-abbrev pub after_post : Bool → Account → Account
-after_post woke a = record a { posted = a.posted + 1; minted = a.minted + one woke; known = a.known + one a.holds }
-
--- a claim of a slot that was not held, where so many notes waited. It redeems the ticket that they had
-abbrev pub after_claim : ℕ → Account → Account
-after_claim pending a = record a { holds = true; known = pending; redeemed = a.redeemed + one (some_wait pending) }
-
--- a take that answered so many notes
-abbrev pub after_take : ℕ → Account → Account
-after_take count a = record a { taken = a.taken + count; known = 0 }
-
--- a release, which answered Wake or Quiet
-abbrev pub after_release : Bool → Account → Account
-after_release woke a = record a { holds = false; known = 0; minted = a.minted + one woke }
-
--- a retire, which leaves the slot free
-abbrev pub after_retire : Account → Account
-after_retire a = record a { holds = false; known = 0; retires = a.retires + 1 }
-
--- an adopt of a free slot where so many notes waited
-abbrev pub after_adopt : ℕ → Account → Account
-after_adopt pending a = record a { holds = true; known = pending; adopts = a.adopts + 1 }
-
+-- What each exchange makes of the account. A claim that finds notes redeems the ticket that they had, and a post by the holder is one
+-- note more that it knows of
 abbrev pub after : Exchange → Account → Account
-after (Post woke) a = after_post woke a
+after (Post woke) a = record a { posted = a.posted + 1; minted = a.minted + one woke; known = a.known + one a.holds }
 after Busy a = a
-after (Held pending) a = after_claim pending a
-after (Take count) a = after_take count a
-after (Release woke) a = after_release woke a
-after Retire a = after_retire a
-after (Adopted pending) a = after_adopt pending a
+after (Held pending) a = record a { holds = true; known = pending; redeemed = a.redeemed + one (some_wait pending) }
+after (Take count) a = record a { taken = a.taken + count; known = 0 }
+after (Release woke) a = record a { holds = false; known = 0; minted = a.minted + one woke }
+after Retire a = record a { holds = false; known = 0; retires = a.retires + 1 }
+after (Adopted pending) a = record a { holds = true; known = pending; adopts = a.adopts + 1 }
 after NotFree a = a
 
 abbrev pub after_all : List Exchange → Account → Account
@@ -54,6 +30,10 @@ after_all (e ∷ es) a = after_all es (after e a)
 -- the account that these exchanges of one seat at one slot are
 abbrev pub account_of : List Exchange → Account
 account_of trace = after_all trace blank
+
+-- the tickets that they oblige the seat to put, one for each answer Wake
+abbrev pub minted_by : List Exchange → ℕ
+minted_by exchanges = (account_of exchanges).minted
 
 abbrev pub posted_of : Account → ℕ
 posted_of a = a.posted

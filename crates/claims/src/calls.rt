@@ -1,10 +1,9 @@
 // The calls on the claim words, each one atomic exchange.
-ghost use Rattle.std.specs.Prelude.{◌≡◌, ◌<◌, ◌≤◌, ◌^◌};
+ghost use Rattle.std.specs.Prelude.{◌≡◌, ◌<◌, ◌≤◌, ◌^◌, [], ◌∷◌};
 ghost use Rattle.claims.specs.declared.view.Exchange.TheVariants as exchange;
 ghost use Rattle.claims.specs.Words.{claim, take, release, retire, adopt, count, nothing};
-ghost use Rattle.claims.specs.Views.{after_take, after_retire};
-ghost use Rattle.claims.specs.Seats.{account_at, Holds, Adds, Changed, Stepped};
-ghost use Rattle.claims.specs.Calls.{PostChange, PostTrace, PostStep, ClaimChange, ClaimTrace, claim_answer, ReleaseChange, woke, release_answer, AdoptChange, AdoptTrace, adopt_answer};
+ghost use Rattle.claims.specs.Seats.{account_at, Holds, Adds, Stepped};
+ghost use Rattle.claims.specs.Calls.{PostChange, PostStep, ClaimChange, claim_answer, ReleaseChange, release_answer, AdoptChange, adopt_answer};
 
 use crate::answers::{Adopted, Claimed, Posted, Released};
 use crate::limits::{FREE, HELD, MAX_POSTS, NOTE};
@@ -69,7 +68,6 @@ impl Claims {
         requires same { seat.old.table ≡ self.now }
         requires inside { slot < self.now.words }
         ensures change { PostChange slot seat.old result seat.new }
-        ensures trace { PostTrace slot seat.old result seat.new }
         ensures lawful { PostStep slot seat.old result seat.new }
     {
         if seat.posts == MAX_POSTS {
@@ -88,7 +86,6 @@ impl Claims {
         requires same { seat.old.table ≡ self.now }
         requires inside { slot < self.now.words }
         ensures change { ClaimChange slot seat.old result seat.new }
-        ensures trace { ClaimTrace slot seat.old result seat.new }
         ensures lawful { Stepped claim slot seat.old seat.new (claim_answer result) }
     {
         let words = &self.table.shared;
@@ -107,10 +104,9 @@ impl Claims {
         requires same { seat.old.table ≡ self.now }
         requires inside { slot < self.now.words }
         requires holder { Holds seat.old slot }
-        ensures change { Changed slot seat.old seat.new (after_take result (account_at seat.old slot)) }
+        ensures change { Adds slot (exchange.Take result ∷ []) seat.old seat.new }
         ensures known { (account_at seat.old slot).known ≤ result }
         ensures few { (account_at seat.new slot).taken ≤ 2 ^ 61 }
-        ensures trace { Adds slot (exchange.Take result) seat.old seat.new }
         ensures lawful { Stepped take slot seat.old seat.new (count result) }
     {
         let words = &self.table.shared;
@@ -126,7 +122,6 @@ impl Claims {
         requires inside { slot < self.now.words }
         requires holder { Holds seat.old slot }
         ensures change { ReleaseChange slot seat.old result seat.new }
-        ensures trace { Adds slot (exchange.Release (woke result)) seat.old seat.new }
         ensures lawful { Stepped release slot seat.old seat.new (release_answer result) }
     {
         let words = &self.table.shared;
@@ -140,8 +135,7 @@ impl Claims {
         requires same { seat.old.table ≡ self.now }
         requires inside { slot < self.now.words }
         requires holder { Holds seat.old slot }
-        ensures change { Changed slot seat.old seat.new (after_retire (account_at seat.old slot)) }
-        ensures trace { Adds slot exchange.Retire seat.old seat.new }
+        ensures change { Adds slot (exchange.Retire ∷ []) seat.old seat.new }
         ensures lawful { Stepped retire slot seat.old seat.new nothing }
     {
         let words = &self.table.shared;
@@ -154,7 +148,6 @@ impl Claims {
         requires same { seat.old.table ≡ self.now }
         requires inside { slot < self.now.words }
         ensures change { AdoptChange slot seat.old result seat.new }
-        ensures trace { AdoptTrace slot seat.old result seat.new }
         ensures lawful { Stepped adopt slot seat.old seat.new (adopt_answer result) }
     {
         let words = &self.table.shared;

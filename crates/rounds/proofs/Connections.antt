@@ -1,30 +1,36 @@
 -- Connections that are opened one after the other, and why one is closed unopened.
-use Rattle.std.proofs.Common.{◌≡◌, ◌≢◌, ◌⊎◌, ℕ, ◌+◌, ◌-◌, ◌<◌, ◌≤◌, List, [], ◌∷◌, ◌++◌, length, drop, slice_get, slice_set, min, cond, Bool, refl, sym, subst, ap, ◌∙◌, arith, inl, inr, append_assoc, length-append, Option, Some, None}
+use Rattle.std.proofs.Common.{◌≡◌, ◌≢◌, ◌⊎◌, ℕ, ◌+◌, ◌-◌, ◌<◌, ◌≤◌, List, [], ◌∷◌, ◌++◌, length, drop, slice_get, slice_set, min, cond, Bool, true, false, refl, sym, subst, ap, ◌∙◌, arith, inl, inr, append_assoc, length-append, Option, Some, None}
 use Rattle.std.specs.Prelude.{◌==◌, Option, Some, None, Result, Ok, Err, OnOk, IfSome, IfErr, OnErr, IsErr, IsErrAnd, map, slice_index}
-use Rattle.std.proofs.lemmas.Bool.{cases_lt}
+use Rattle.std.proofs.lemmas.Bool.{cases_lt, false≢true}
 use Rattle.std.proofs.lemmas.List.{append-nil, length-set}
 use Rattle.std.proofs.lemmas.List.Sums.{sum_by-append}
 use Rattle.std.proofs.lemmas.Option.{none-some, same_Some}
 use mathlib.Core.Logic.{dite}
 use native.Mathlib.Decide.{ℕ_discrete}
-use Rattle.claims.specs.declared.view.Account.{Account}
 use Rattle.claims.specs.declared.view.Exchange.TheVariants as exchange
-use Rattle.claims.specs.Seats.{SeatState, TableId, Changed, HoldsNothing, OnlyAt, Adds, account_at}
-use Rattle.claims.specs.Views.{after_adopt}
+use Rattle.claims.specs.declared.answers.Posted.{Posted}
+use Rattle.claims.specs.declared.answers.Posted.TheVariants as posted
+use Rattle.claims.specs.Calls.{PostChange}
+use Rattle.claims.specs.Views.{minted_by}
+use Rattle.claims.specs.Seats.{SeatState, TableId, HoldsNothing, Adds, account_at}
+use Rattle.claims.proofs.Seats.{adds_both}
+use Rattle.dispatch.specs.Posts.{HoldsOnly}
+use Rattle.dispatch.proofs.Holding.{holds_still, woke_behind_post}
 use Rattle.ready.specs.declared.ticket.Ticket.{Ticket}
 use Rattle.dispatch.specs.declared.shared.Own.{Own}
 use Rattle.ready.specs.Steps.{EndState}
 use Rattle.dispatch.specs.Hands.{HandState, ticket_room}
 use Rattle.rounds.specs.Deliveries.{at_slot}
-use Rattle.rounds.specs.Openings.{times, slots_in, AreIn, AreOpened, SlotsCounted, OnlyTook, Between, Started, Connected, AcceptDone, IsOpened, IsDropped, IsLost, IsSpent, LostFor, DropsFor}
+use Rattle.rounds.specs.Openings.{times, slots_in, AreIn, AreOpened, SlotsCounted, OnlyTook, Between, LetGo, Started, Connected, AcceptDone, IsOpened, IsDropped, IsLost, IsSpent, LostFor, DropsFor}
 use Rattle.dispatch.specs.Polls.{PollerState, Counted, counted_up, IsIn}
 use Rattle.dispatch.specs.declared.part.Part.{Part}
 use Rattle.dispatch.specs.declared.episodes.Episodes.{Episodes}
 use Rattle.dispatch.specs.Drops.{dropped_for}
 use Rattle.dispatch.specs.Episodes.{opened_after}
-use Rattle.dispatch.specs.Posts.{Rose}
 use Rattle.relay_log.specs.declared.cause.Cause.{Cause}
-use Rattle.rounds.proofs.Reports.{at_slot-append, one_at, none_at}
+use Rattle.rounds.specs.Acts.{Act, made_by, ActsMade, opening}
+use Rattle.rounds.proofs.Acts.{at_slot-append, acts_none, acts_one, acts_both, tries_none, tries_both, try_opened, try_held}
+use Rattle.rounds.proofs.Reports.{none_at}
 use Rattle.relay_log.specs.declared.cause.Cause.TheVariants as cause
 use Rattle.dispatch.specs.Fronts.{cause_of}
 use Rattle.dispatch.specs.declared.front.Unopened.{Unopened}
@@ -61,22 +67,6 @@ opened-append : (xs ys : List Ticket) (a b c : List ℕ) → AreOpened a xs b �
 opened-append [] ys a b c same rest = subst (λ (t : List ℕ). AreOpened t ys c) same rest
 opened-append (x ∷ xs) ys a b c first rest = (first.0, opened-append xs ys (slice_set a x.slot x.generation) b c first.1 rest)
 
--- accounts
-
-rose_none : (a b : Account) → b ≡ a → Rose 0 0 a b
-rose_none a b same =
-    let posted : b.posted ≡ a.posted = ap (λ (x : Account). x.posted) same in
-    let minted : b.minted ≡ a.minted = ap (λ (x : Account). x.minted) same in
-    record { posted = omega arith; minted = omega arith }
-
-rose_both : (a b c : Account) (m n k : ℕ) → k ≡ m + n → Rose m m a b → Rose n n b c → Rose k k a c
-rose_both a b c m n k sum first second =
-    let posted = first.posted in
-    let posts = second.posted in
-    let minted = first.minted in
-    let mints = second.minted in
-    record { posted = omega arith; minted = omega arith }
-
 own_both : (p q : Part) (xs ys : List Ticket) → q ≡ p → AreIn p xs → AreIn q ys → AreIn p (xs ++ ys)
 own_both p q xs ys same one two slot out =
     let first = one slot out in
@@ -101,7 +91,9 @@ module _ {p q r : PollerState} {a b c : Own} where
   pub connected_both : (xs ys : List Ticket) (ls ms : List ℕ) (h k : ℕ) → Connected xs ls h p q a b → Connected ys ms k q r b c → Connected (xs ++ ys) (ls ++ ms) (h + k) p r a c
   connected_both xs ys ls ms h k one two = record {
     some = (let first = one.some in let second = two.some in let both = length-append ls ms in omega arith);
-    exchanges = (let first = one.exchanges in let second = two.exchanges in let both = length-append xs ys in omega arith);
+    tries = one.tries ++ two.tries;
+    are = tries_both xs ys h k one.tries two.tries one.are two.are;
+    made = acts_both one.tries two.tries a.seat b.seat c.seat one.made two.made;
     table = opened-append xs ys p.table q.table r.table one.table two.table;
     counted = subst (λ (n : ℕ). Counted p.opened n r.opened) (sym (length-append xs ys))
         (counted_both 18446744073709551615 p.opened q.opened r.opened (length xs) (length ys) one.counted two.counted);
@@ -110,8 +102,6 @@ module _ {p q r : PollerState} {a b c : Own} where
     batch = two.batch ∙ one.batch;
     part = two.part ∙ one.part;
     own = own_both p.part q.part xs ys one.part one.own two.own;
-    accounts = λ slot. rose_both (account_at a.seat slot) (account_at b.seat slot) (account_at c.seat slot)
-        (at_slot slot xs) (at_slot slot ys) (at_slot slot (xs ++ ys)) (at_slot-append slot xs ys) (one.accounts slot) (two.accounts slot);
     tickets = two.tickets ∙ ap (λ (ts : List Ticket). ts ++ ys) one.tickets ∙ append_assoc a.hand.tickets xs ys;
     ready = two.ready ∙ one.ready;
     gave = two.gave ∙ one.gave;
@@ -145,14 +135,15 @@ accept_took p q a b same took = record {
   held = 0;
   connected = record {
     some = omega arith;
-    exchanges = (let still : b.seat.steps ≡ a.seat.steps = ap (λ (s : SeatState). s.steps) took.seat in omega arith);
+    tries = [];
+    are = tries_none;
+    made = subst (λ (s : SeatState). ActsMade [] a.seat s) (sym took.seat) (acts_none a.seat);
     table = same.table;
     counted = counted_same p.opened q.opened same.opened;
     unused = counted_same p.lost q.lost same.lost;
     batch = same.batch;
     part = same.part;
     own = λ slot out. refl;
-    accounts = λ slot. rose_none (account_at a.seat slot) (account_at b.seat slot) (ap (λ (s : SeatState). account_at s slot) took.seat);
     tickets = took.tickets ∙ sym (append-nil a.hand.tickets);
     ready = took.ready;
     gave = took.gave;
@@ -181,16 +172,6 @@ took_both a b c one two = record {
   slots = λ slot. (let first = one.slots slot in let second = two.slots slot in omega arith);
 }
 
--- the account of one slot that was opened, and of every other
-pub accounts_of_one : (t : Ticket) (old new : SeatState) → Rose 1 1 (account_at old t.slot) (account_at new t.slot)
-    → ((other : ℕ) → other ≢ t.slot → account_at new other ≡ account_at old other)
-    → (slot : ℕ) → Rose (at_slot slot (t ∷ [])) (at_slot slot (t ∷ [])) (account_at old slot) (account_at new slot)
-accounts_of_one t old new here elsewhere slot = dite (ℕ_discrete slot t.slot)
-    (λ same. subst (λ (i : ℕ). Rose (at_slot i (t ∷ [])) (at_slot i (t ∷ [])) (account_at old i) (account_at new i)) (sym same)
-    (subst (λ (n : ℕ). Rose n n (account_at old t.slot) (account_at new t.slot)) (sym (one_at t)) here))
-    (λ other. subst (λ (n : ℕ). Rose n n (account_at old slot) (account_at new slot)) (sym (none_at t slot other))
-    (rose_none (account_at old slot) (account_at new slot) (elsewhere slot other)))
-
 -- where there are some, there is a first one
 pub some_first : (xs : List ℕ) → 1 ≤ length xs → slice_get xs 0 ≡ None → ⊥
 some_first [] some is = absurd (omega arith)
@@ -204,14 +185,15 @@ module _ (p q : PollerState) (a : Own) (hand : HandState) (taken : hand ≡ reco
   from_hand : (ts : List Ticket) (ls : List ℕ) (h : ℕ) (b : Own) → Connected ts ls h p q (record a { hand = hand }) b → Connected ts ls h p q a b
   from_hand ts ls h b one = record {
     some = one.some;
-    exchanges = one.exchanges;
+    tries = one.tries;
+    are = one.are;
+    made = one.made;
     table = one.table;
     counted = one.counted;
     unused = one.unused;
     batch = one.batch;
     part = one.part;
     own = one.own;
-    accounts = one.accounts;
     tickets = one.tickets ∙ ap (λ (h : HandState). h.tickets ++ ts) taken;
     ready = one.ready;
     gave = one.gave;
@@ -226,14 +208,15 @@ module _ (p q : PollerState) (a : Own) (hand : HandState) (taken : hand ≡ reco
       held = 0;
       connected = record {
         some = omega arith;
-        exchanges = omega arith;
+        tries = [];
+        are = tries_none;
+        made = acts_none a.seat;
         table = ap (λ (s : PollerState). s.table) lost;
         counted = counted_same p.opened q.opened (ap (λ (s : PollerState). s.opened) lost);
         unused = counted_one 18446744073709551615 p.lost q.lost (ap (λ (s : PollerState). s.lost) lost);
         batch = ap (λ (s : PollerState). s.batch) lost;
         part = ap (λ (s : PollerState). s.part) lost;
         own = λ s out. refl;
-        accounts = λ s. rose_none (account_at a.seat s) (account_at a.seat s) refl;
         tickets = ap (λ (h : HandState). h.tickets) taken ∙ sym (append-nil a.hand.tickets);
         ready = refl;
         gave = refl;
@@ -415,7 +398,7 @@ dropped_counts p r q a b slots slot cause first one two = subst (λ (o : Option 
 )))
 
 pub placed_counts : {E : Type 0} (r : Result (Unit {0}) E) (p q : PollerState) (a b : SeatState) (slots : List ℕ) (slot : ℕ) → slice_get slots 0 ≡ Some slot
-    → OnOk r (IsOpened p q ⊎ (IsLost p q × Adds slot exchange.NotFree a b)) → OnOk r (IfSome (slice_get slots 0) (IsCounted p q a b))
+    → OnOk r (IsOpened p q ⊎ (IsLost p q × Adds slot (exchange.NotFree ∷ []) a b)) → OnOk r (IfSome (slice_get slots 0) (IsCounted p q a b))
 placed_counts (Ok done) p q a b slots slot first (inl opened) = subst (λ (o : Option ℕ). IfSome o (IsCounted p q a b)) (sym first) (inl opened)
 placed_counts (Ok done) p q a b slots slot first (inr lost) = subst (λ (o : Option ℕ). IfSome o (IsCounted p q a b)) (sym first) (inr (inr (lost.0, inr lost.1)))
 placed_counts (Err fault) p q a b slots slot first is = tt
@@ -466,18 +449,19 @@ pub places_told : (p r q : PollerState) (episodes : Episodes) → r ≡ places p
 places_told p r q episodes one two = subst (λ (s : PollerState). s ≡ places p s) (sym two) (ap (λ (s : PollerState). record s { episodes = episodes }) one)
 
 -- no connection was placed, since the slot was not free
-pub not_placed : (p q : PollerState) (a : Own) (seat : SeatState) (slot : ℕ) → q ≡ record p { lost = counted_up p.lost 1 } → Changed slot a.seat seat (account_at a.seat slot)
-    → Connected [] (slot ∷ []) 1 p q a (record a { seat = seat })
-not_placed p q a seat slot lost step = record {
+pub not_placed : (p q : PollerState) (a : Own) (seat : SeatState) (t : Ticket) → q ≡ record p { lost = counted_up p.lost 1 } → Adds t.slot (exchange.NotFree ∷ []) a.seat seat
+    → Connected [] (t.slot ∷ []) 1 p q a (record a { seat = seat })
+not_placed p q a seat t lost adds = record {
   some = omega arith;
-  exchanges = (let later = step.steps in omega arith);
+  tries = record { ticket = t; exchanges = exchange.NotFree ∷ [] } ∷ [];
+  are = try_held t;
+  made = acts_one (record { ticket = t; exchanges = exchange.NotFree ∷ [] }) a.seat seat adds;
   table = ap (λ (s : PollerState). s.table) lost;
   counted = counted_same p.opened q.opened (ap (λ (s : PollerState). s.opened) lost);
   unused = counted_one 18446744073709551615 p.lost q.lost (ap (λ (s : PollerState). s.lost) lost);
   batch = ap (λ (s : PollerState). s.batch) lost;
   part = ap (λ (s : PollerState). s.part) lost;
   own = λ s out. refl;
-  accounts = λ s. rose_none (account_at a.seat s) (account_at seat s) (dite (ℕ_discrete s slot) (λ same. subst (λ (i : ℕ). account_at seat i ≡ account_at a.seat i) (sym same) step.here) (step.others s));
   tickets = sym (append-nil a.hand.tickets);
   ready = refl;
   gave = refl;
@@ -497,26 +481,53 @@ module _ (p r : PollerState) (t : Ticket) (counted : r ≡ record p { table = sl
     )
 
     -- the connection was placed in a slot that was adopted for it, and started
-    pub placed : (a b : Own) (seat : SeatState) (pending : ℕ) → IsIn p.part t.slot → t.generation ≡ slice_index p.table t.slot + 1
-        → Changed t.slot a.seat seat (after_adopt pending (account_at a.seat t.slot)) → OnlyAt t.slot seat b.seat
-        → Started t seat b.seat a.hand b.hand → b.seat.steps ≡ seat.steps + 3 → b.ready ≡ a.ready → b.free ≡ a.free
+    pub placed : (a b : Own) (found noted : ℕ) → IsIn p.part t.slot → t.generation ≡ slice_index p.table t.slot + 1
+        → Adds t.slot (opening found noted) a.seat b.seat → b.hand ≡ record a.hand { tickets = a.hand.tickets ++ t ∷ [] } → b.ready ≡ a.ready → b.free ≡ a.free
         → Connected (t ∷ []) [] 0 p q a b
-    placed a b seat pending here next adopted only started steps ready free = record {
+    placed a b found noted here next adds hand ready free = record {
       some = omega arith;
-      exchanges = (let first = adopted.steps in omega arith);
+      tries = record { ticket = t; exchanges = opening found noted } ∷ [];
+      are = try_opened t found noted;
+      made = acts_one (record { ticket = t; exchanges = opening found noted }) a.seat b.seat adds;
       table = (next, ap (λ (s : PollerState). s.table) told ∙ ap (λ (s : PollerState). s.table) counted);
       counted = counted_one 18446744073709551615 p.opened q.opened is_opened.0;
       unused = counted_same p.lost q.lost is_opened.2;
       batch = ap (λ (s : PollerState). s.batch) told ∙ ap (λ (s : PollerState). s.batch) counted;
       part = ap (λ (s : PollerState). s.part) told ∙ ap (λ (s : PollerState). s.part) counted;
       own = own_one p.part t here;
-      accounts = accounts_of_one t a.seat b.seat
-          (let rose : Rose 1 1 (after_adopt pending (account_at a.seat t.slot)) (account_at b.seat t.slot) = subst (λ (x : Account). Rose 1 1 x (account_at b.seat t.slot)) adopted.here started.account in
-          record { posted = rose.posted; minted = rose.minted })
-          (λ other elsewhere. only.others other elsewhere ∙ adopted.others other elsewhere);
-      tickets = ap (λ (h : HandState). h.tickets) started.hand;
+      tickets = ap (λ (h : HandState). h.tickets) hand;
       ready = ready;
       gave = ap (λ (f : EndState ℕ). f.history.put) free;
+    }
+
+-- the slot was released, whatever that answered
+pub let_go_awake : (t : Ticket) (a b : Own) → Adds t.slot (exchange.Release true ∷ []) a.seat b.seat → b.hand ≡ record a.hand { tickets = a.hand.tickets ++ t ∷ [] } → LetGo t a b
+let_go_awake t a b adds hand = record { woke = true; quiet = λ is. absurd (false≢true (sym is)); seat = adds; hand = hand }
+
+pub let_go_quiet : (t : Ticket) (a b : Own) → Adds t.slot (exchange.Release false ∷ []) a.seat b.seat → (account_at a.seat t.slot).known ≡ 0 → b.hand ≡ a.hand → LetGo t a b
+let_go_quiet t a b adds none hand = record {
+  woke = false;
+  quiet = λ is. none;
+  seat = adds;
+  hand = hand ∙ ap (λ (ts : List Ticket). record a.hand { tickets = ts }) (sym (append-nil a.hand.tickets));
+}
+
+-- the note of an opening was posted by the slot's holder, who then let it go
+pub started_by : (t : Ticket) (noted : ℕ) (r : Posted) (a : Own) (first second : SeatState) (b : Own) → HoldsOnly t.slot a.seat → Adds t.slot (exchange.Take noted ∷ []) a.seat first
+    → PostChange t.slot first r second → (r ≡ posted.Wake) ⊎ (r ≡ posted.Quiet) → LetGo t (record a { seat = second }) b → Started t a b
+started_by t noted posted.Wake a first second b only took change is left =
+    absurd (false≢true (sym change.1 ∙ (holds_still t.slot (exchange.Take noted ∷ []) a.seat first took only refl).here))
+started_by t noted posted.Worn a first second b only took change (inl is) left = cc
+started_by t noted posted.Worn a first second b only took change (inr is) left = cc
+started_by t noted posted.Quiet a first second b only took change is left =
+    let holder = holds_still t.slot (exchange.Take noted ∷ []) a.seat first took only refl in
+    let due = woke_behind_post t.slot first second left.woke change holder.here left.quiet in
+    record {
+      noted = noted;
+      seat = adds_both t.slot (exchange.Take noted ∷ []) (exchange.Post false ∷ exchange.Release true ∷ []) a.seat first b.seat took
+          (adds_both t.slot (exchange.Post false ∷ []) (exchange.Release true ∷ []) first second b.seat change
+          (subst (λ (w : Bool). Adds t.slot (exchange.Release w ∷ []) second b.seat) due left.seat));
+      hand = left.hand ∙ ap (λ (w : Bool). record a.hand { tickets = a.hand.tickets ++ made_by (minted_by (exchange.Release w ∷ [])) t }) due;
     }
 
 -- one ticket more is in hand

@@ -10,82 +10,35 @@ use Rattle.std.proofs.lemmas.List.Elements.{filter_map-append}
 use Rattle.std.proofs.lemmas.List.Sums.{sum_by-append}
 use mathlib.Core.Logic.{dite}
 use native.Mathlib.Decide.{ℕ_discrete}
-use Rattle.claims.specs.declared.view.Account.{Account}
-use Rattle.claims.specs.Words.{one}
-use Rattle.claims.specs.Views.{after_post}
-use Rattle.claims.specs.Seats.{SeatState, account_at, HoldsNot, HoldsNothing, Changed}
+use Rattle.claims.specs.declared.view.Exchange.TheVariants as exchange
+use Rattle.claims.specs.Views.{minted_by}
+use Rattle.claims.specs.Seats.{SeatState, HoldsNothing, Adds}
 use Rattle.ready.specs.declared.ticket.Ticket.{Ticket}
 use Rattle.dispatch.specs.Hands.{HandState}
 use Rattle.dispatch.specs.declared.part.Part.{Part}
 use Rattle.dispatch.specs.Polls.{IsIn, IsOwnTable, PollerState}
 use Rattle.rounds.specs.Openings.{AreIn}
-use Rattle.rounds.specs.Deliveries.{reported, all_reported, at_slot, IsSubsequence, raised, ArePosted, Delivered}
+use Rattle.rounds.specs.Acts.{Act, made_by, due_of, IsPost}
+use Rattle.rounds.proofs.Acts.{all_none, all_one, acts_none, acts_one, acts_both, due-append, posts_both, posts_le, posts_hold_nothing, at_slot-append}
+use Rattle.rounds.specs.Deliveries.{reported, all_reported, at_slot, ArePosted, Delivered}
 use Rattle.rounds.specs.Sweeps.{is_due, last_in, opened_in, opened_below, all_opened, sweep_of, swept_after}
-
-raised_none : (a : Account) → a ≡ raised 0 0 a
-raised_none a =
-    let posted : a.posted ≡ a.posted + 0 = omega arith in
-    let minted : a.minted ≡ a.minted + 0 = omega arith in
-    ap (λ (n : ℕ). record a { posted = n }) posted ∙ ap (λ (n : ℕ). record a { posted = a.posted + 0; minted = n }) minted
 
 none_in_hand : (h : HandState) → h ≡ record h { tickets = h.tickets ++ [] }
 none_in_hand h = ap (λ (ts : List Ticket). record h { tickets = ts }) (sym (append-nil h.tickets))
 
 -- nothing was posted
 pub posted_none : (s : SeatState) (h : HandState) → ArePosted [] s s h h
-posted_none s h = record {
-  woke = [];
-  in_order = refl;
-  table = refl;
-  accounts = λ slot. raised_none (account_at s slot);
-  exchanges = omega arith;
-  hand = none_in_hand h;
-}
-
-pub subsequence-append : (a b xs ys : List Ticket) → IsSubsequence a xs → IsSubsequence b ys → IsSubsequence (a ++ b) (xs ++ ys)
-subsequence-append a b [] ys none rest = subst (λ (s : List Ticket). IsSubsequence (s ++ b) ys) (sym none) rest
-subsequence-append a b (x ∷ xs) ys (inl some) rest = inl (subsequence-append a b xs ys some rest)
-subsequence-append a b (x ∷ xs) ys (inr some) rest =
-    inr (some.0 ++ b, ap (λ (s : List Ticket). s ++ b) some.1, subsequence-append some.0 b xs ys some.2 rest)
-
-subsequence_le : (a xs : List Ticket) → IsSubsequence a xs → length a ≤ length xs
-subsequence_le a [] none = subst (λ (s : List Ticket). length s ≤ 0) (sym none) (omega arith)
-subsequence_le a (x ∷ xs) (inl some) = let h = subsequence_le a xs some in omega arith
-subsequence_le a (x ∷ xs) (inr some) =
-    let h = subsequence_le some.0 xs some.2 in
-    subst (λ (s : List Ticket). length s ≤ suc (length xs)) (sym some.1) (omega arith)
-
-pub at_slot-append : (slot : ℕ) (xs ys : List Ticket) → at_slot slot (xs ++ ys) ≡ at_slot slot xs + at_slot slot ys
-at_slot-append slot xs ys = sum_by-append (λ (t : Ticket). cond (t.slot == slot) 1 0) xs ys
-
-raised_twice : (a : Account) (p1 m1 p2 m2 p m : ℕ) → p ≡ p1 + p2 → m ≡ m1 + m2 → raised p2 m2 (raised p1 m1 a) ≡ raised p m a
-raised_twice a p1 m1 p2 m2 p m posts wakes =
-    let posted : a.posted + p1 + p2 ≡ a.posted + p = omega arith in
-    let minted : a.minted + m1 + m2 ≡ a.minted + m = omega arith in
-    cc
+posted_none s h = record { posts = []; are = record { each = all_none IsPost; in_order = refl }; made = acts_none s; hand = none_in_hand h }
 
 -- connections, and then others
 pub posted_both : {xs ys : List Ticket} {a b c : SeatState} {h k l : HandState} → ArePosted xs a b h k → ArePosted ys b c k l → ArePosted (xs ++ ys) a c h l
 posted_both {xs} {ys} {a} {b} {c} {h} {k} {l} one two = record {
-  woke = one.woke ++ two.woke;
-  in_order = subsequence-append one.woke two.woke xs ys one.in_order two.in_order;
-  table = two.table ∙ one.table;
-  accounts = λ slot. two.accounts slot
-      ∙ ap (λ (a : Account). raised (at_slot slot ys) (at_slot slot two.woke) a) (one.accounts slot)
-      ∙ raised_twice (account_at a slot)
-      (at_slot slot xs) (at_slot slot one.woke)
-      (at_slot slot ys) (at_slot slot two.woke)
-      (at_slot slot (xs ++ ys)) (at_slot slot (one.woke ++ two.woke))
-      (at_slot-append slot xs ys)
-      (at_slot-append slot one.woke two.woke);
-  exchanges =
-      let first = one.exchanges in
-      let second = two.exchanges in
-      let total = length-append xs ys in
-      omega arith;
+  posts = one.posts ++ two.posts;
+  are = posts_both xs ys one.posts two.posts one.are two.are;
+  made = acts_both one.posts two.posts a b c one.made two.made;
   hand = two.hand
-      ∙ ap (λ (s : HandState). record s { tickets = s.tickets ++ two.woke }) one.hand
-      ∙ ap (λ (ts : List Ticket). record h { tickets = ts }) (append_assoc h.tickets one.woke two.woke);
+      ∙ ap (λ (s : HandState). record s { tickets = s.tickets ++ due_of two.posts }) one.hand
+      ∙ ap (λ (ts : List Ticket). record h { tickets = ts }) (append_assoc h.tickets (due_of one.posts) (due_of two.posts) ∙ ap (λ (ts : List Ticket). h.tickets ++ ts) (sym (due-append one.posts two.posts)));
 }
 
 -- reports, and then others
@@ -93,57 +46,26 @@ pub delivered_both : (generations xs ys : List ℕ) {a b c : SeatState} {h k l :
 delivered_both generations xs ys {a} {b} {c} {h} {k} {l} one two =
     subst (λ (ts : List Ticket). ArePosted ts a c h l) (sym (filter_map-append (reported generations) xs ys)) (posted_both one two)
 
-pub one_at : (t : Ticket) → at_slot t.slot (t ∷ []) ≡ 1
-one_at t = ap (λ (b : Bool). 0 + cond b 1 0) (eq-eqb t.slot t.slot refl)
-
 pub none_at : (t : Ticket) (slot : ℕ) → slot ≢ t.slot → at_slot slot (t ∷ []) ≡ 0
 none_at t slot other = ap (λ (b : Bool). 0 + cond b 1 0) (ne_eqb t.slot slot (λ e. other (sym e)))
-
--- the account after one post
-posted_one : (t : Ticket) (woke : Bool) (tickets : List Ticket) (old new : SeatState) → HoldsNot old t.slot
-    → Changed t.slot old new (after_post woke (account_at old t.slot))
-    → at_slot t.slot tickets ≡ one woke → ((slot : ℕ) → slot ≢ t.slot → at_slot slot tickets ≡ 0)
-    → (slot : ℕ) → account_at new slot ≡ raised (at_slot slot (t ∷ [])) (at_slot slot tickets) (account_at old slot)
-posted_one t woke tickets old new not_held changed here elsewhere slot = dite (ℕ_discrete slot t.slot)
-    (λ same. (
-    let one_here : at_slot slot (t ∷ []) ≡ 1 = ap (λ (b : Bool). 0 + cond b 1 0) (eq-eqb t.slot slot (sym same)) in
-    let woke_here : at_slot slot tickets ≡ one woke = ap (λ (i : ℕ). at_slot i tickets) same ∙ here in
-    let is : account_at new slot ≡ after_post woke (account_at old slot) = subst (λ (i : ℕ). account_at new i ≡ after_post woke (account_at old i)) (sym same) changed.here in
-    let none : one (account_at old slot).holds ≡ 0 = ap one (subst (λ (i : ℕ). HoldsNot old i) (sym same) not_held) in
-    let known : (account_at old slot).known + one (account_at old slot).holds ≡ (account_at old slot).known = omega arith in
-    cc))
-    (λ other. (
-    let none : at_slot slot (t ∷ []) ≡ 0 = ap (λ (b : Bool). 0 + cond b 1 0) (ne_eqb t.slot slot (λ e. other (sym e))) in
-    let asleep = elsewhere slot other in
-    let zero : raised 0 0 (account_at old slot) ≡ raised (at_slot slot (t ∷ [])) (at_slot slot tickets) (account_at old slot) = cc in
-    changed.others slot other ∙ raised_none (account_at old slot) ∙ zero))
 
 -- a report for a connection
 pub one_reported : (generations : List ℕ) (number : ℕ) (t : Ticket) → reported generations number ≡ Some t → all_reported generations (number ∷ []) ≡ t ∷ []
 one_reported generations number t is = ap (λ (o : Option Ticket). cons_option o []) is
 
-module _ {t : Ticket} {old new : SeatState} (not_held : HoldsNot old t.slot) where
+module _ {t : Ticket} {old new : SeatState} where
+  one_posted : (woke : Bool) {h k : HandState} → Adds t.slot (exchange.Post woke ∷ []) old new → k ≡ record h { tickets = h.tickets ++ (made_by (minted_by (exchange.Post woke ∷ [])) t ++ []) } → ArePosted (t ∷ []) old new h k
+  one_posted woke {h} {k} adds hand =
+      let act : Act = record { ticket = t; exchanges = exchange.Post woke ∷ [] } in
+      record { posts = act ∷ []; are = record { each = all_one IsPost act (woke, refl); in_order = refl }; made = acts_one act old new adds; hand = hand }
+
   -- a post that did not wake
-  pub posted_quiet : {h : HandState} → Changed t.slot old new (after_post false (account_at old t.slot)) → ArePosted (t ∷ []) old new h h
-  posted_quiet {h} changed = record {
-    woke = [];
-    in_order = inl refl;
-    table = changed.table;
-    accounts = posted_one t false [] old new not_held changed refl (λ other ne. refl);
-    exchanges = changed.steps;
-    hand = none_in_hand h;
-  }
+  pub posted_quiet : {h : HandState} → Adds t.slot (exchange.Post false ∷ []) old new → ArePosted (t ∷ []) old new h h
+  posted_quiet {h} adds = one_posted false adds (none_in_hand h)
 
   -- a post that woke
-  pub posted_woke : {h k : HandState} → Changed t.slot old new (after_post true (account_at old t.slot)) → k ≡ record h { tickets = h.tickets ++ t ∷ [] } → ArePosted (t ∷ []) old new h k
-  posted_woke {h} {k} changed kept = record {
-    woke = t ∷ [];
-    in_order = inr ([], refl, refl);
-    table = changed.table;
-    accounts = posted_one t true (t ∷ []) old new not_held changed (one_at t) (none_at t);
-    exchanges = changed.steps;
-    hand = kept;
-  }
+  pub posted_woke : {h k : HandState} → Adds t.slot (exchange.Post true ∷ []) old new → k ≡ record h { tickets = h.tickets ++ t ∷ [] } → ArePosted (t ∷ []) old new h k
+  posted_woke {h} {k} adds kept = one_posted true adds kept
 
 -- a batch is for as many connections as it has reports, or fewer
 pub reported_le : (generations xs : List ℕ) → length (all_reported generations xs) ≤ length xs
@@ -156,15 +78,15 @@ module _ {xs : List Ticket} {old new : SeatState} {had has : HandState} (posted 
   -- as many tickets came in as there were posts, or fewer
   pub few_tickets : length has.tickets ≤ length had.tickets + length xs
   few_tickets =
-      let some = subsequence_le posted.woke xs posted.in_order in
-      let tickets : length has.tickets ≡ length had.tickets + length posted.woke = ap (λ (s : HandState). length s.tickets) posted.hand ∙ length-append had.tickets posted.woke in
+      let some = posts_le xs posted.posts posted.are in
+      let tickets : length has.tickets ≡ length had.tickets + length (due_of posted.posts) = ap (λ (s : HandState). length s.tickets) posted.hand ∙ length-append had.tickets (due_of posted.posts) in
       omega arith
 
   pub capacity_kept : has.capacity ≡ had.capacity
   capacity_kept = ap (λ (s : HandState). s.capacity) posted.hand
 
   pub holds_nothing_still : HoldsNothing old → HoldsNothing new
-  holds_nothing_still nothing = record { nowhere = λ slot. ap (λ (a : Account). a.holds) (posted.accounts slot) ∙ nothing.nowhere slot }
+  holds_nothing_still nothing = posts_hold_nothing posted.posts old new posted.are.each posted.made nothing
 
 -- a report is for a connection that the table has
 reported_has : (table : List ℕ) (number : ℕ) (t : Ticket) → reported table number ≡ Some t → 1 ≤ slice_index table t.slot

@@ -2,12 +2,13 @@
 -- were opened.
 use Rattle.std.proofs.Common.{◌≡◌, ◌⊎◌, ℕ, ◌+◌, ◌*◌, ◌<◌, ◌≤◌, ◌≢◌, ◌↔◌, inl, inr, Bool, true, false, IsTrue, List, [], ◌++◌, length, Result, Ok, Err, IsErrAnd, refl, sym, subst, ap, ◌∙◌, arith, append_assoc}
 use Rattle.std.specs.Prelude.{map}
-use Rattle.claims.specs.declared.view.Account.{Account}
-use Rattle.claims.specs.Seats.{SeatState, account_at}
+use Rattle.claims.specs.Seats.{SeatState}
 use Rattle.ready.specs.declared.ticket.Ticket.{Ticket}
 use Rattle.ready.specs.Steps.{EndState}
 use Rattle.dispatch.specs.declared.shared.Own.{Own}
-use Rattle.rounds.specs.Deliveries.{all_reported, at_slot, raised, IsSubsequence, ArePosted, Delivered}
+use Rattle.rounds.specs.Acts.{due_of, ActsMade, ArePosts}
+use Rattle.rounds.proofs.Acts.{acts_both}
+use Rattle.rounds.specs.Deliveries.{all_reported, at_slot, ArePosted, Delivered}
 use Rattle.dispatch.specs.Hands.{HandState}
 use Rattle.rounds.specs.Openings.{times, slots_in, AreIn, AreOpened, SlotsCounted, OnlyTook, AcceptDone}
 use Rattle.dispatch.specs.Outgoing.{outgoing, tickets_out}
@@ -18,20 +19,8 @@ use Rattle.relay_log.specs.declared.faults.ServerFault.TheVariants.{Worn}
 use Rattle.rounds.specs.Rounds.{RoundDone, AcceptEnded, ListenerKept, ListensToOpen}
 use Rattle.std.proofs.lemmas.Bool.{cases_lt}
 use Rattle.rounds.specs.Sweeps.{swept_after, sweep_of}
-use Rattle.dispatch.specs.Posts.{Rose}
 use Rattle.rounds.proofs.Connections.{SamePoller, accept_none, tried}
 use Rattle.rounds.proofs.Reports.{posted_none, no_sweep, same_sweep}
-
--- notes were posted for reports, then for a sweep, then for openings
-rose_after : (a b c d : Account) (posts wakes sweeps rouses opened : ℕ) → b ≡ raised posts wakes a → c ≡ raised sweeps rouses b → Rose opened opened c d → Rose (posts + (sweeps + opened)) (wakes + (rouses + opened)) a d
-rose_after a b c d posts wakes sweeps rouses opened first second rose =
-    let posted : b.posted ≡ a.posted + posts = ap (λ (x : Account). x.posted) first in
-    let minted : b.minted ≡ a.minted + wakes = ap (λ (x : Account). x.minted) first in
-    let swept : c.posted ≡ b.posted + sweeps = ap (λ (x : Account). x.posted) second in
-    let roused : c.minted ≡ b.minted + rouses = ap (λ (x : Account). x.minted) second in
-    let more = rose.posted in
-    let mints = rose.minted in
-    record { posted = omega arith; minted = omega arith }
 
 -- what the poller keeps, but for the reports and the flags
 pub record SameTable (old new : PollerState) : Type 0 where
@@ -83,29 +72,26 @@ module _ (p q r v t : PollerState) (a b c d e : Own) (begun : SameTable p q) (to
   sweep_is : sweep_of p t ≡ sweep_of r v
   sweep_is = same_sweep p r v t (flag.table ∙ begun.table) (unswept ∙ begun.swept) swept
 
-  accounts_are : (slot : ℕ) → Rose (at_slot slot (all_reported p.table t.batch) + (at_slot slot (sweep_of p t) + at_slot slot accepted.opened)) (at_slot slot delivered.woke + (at_slot slot posted.woke + at_slot slot accepted.opened)) (account_at a.seat slot) (account_at e.seat slot)
-  accounts_are slot =
-      subst (λ (ts : List Ticket). Rose (at_slot slot ts + (at_slot slot (sweep_of p t) + at_slot slot accepted.opened)) (at_slot slot delivered.woke + (at_slot slot posted.woke + at_slot slot accepted.opened)) (account_at a.seat slot) (account_at e.seat slot)) (sym reported_is)
-      (subst (λ (ts : List Ticket). Rose (at_slot slot (all_reported q.table q.batch) + (at_slot slot ts + at_slot slot accepted.opened)) (at_slot slot delivered.woke + (at_slot slot posted.woke + at_slot slot accepted.opened)) (account_at a.seat slot) (account_at e.seat slot)) (sym sweep_is)
-      (subst (λ (s : SeatState). Rose (at_slot slot (all_reported q.table q.batch) + (at_slot slot (sweep_of r v) + at_slot slot accepted.opened)) (at_slot slot delivered.woke + (at_slot slot posted.woke + at_slot slot accepted.opened)) (account_at s slot) (account_at e.seat slot)) took.seat
-      (rose_after (account_at b.seat slot) (account_at c.seat slot) (account_at d.seat slot) (account_at e.seat slot)
-      (at_slot slot (all_reported q.table q.batch)) (at_slot slot delivered.woke) (at_slot slot (sweep_of r v)) (at_slot slot posted.woke) (at_slot slot accepted.opened)
-      (delivered.accounts slot) (posted.accounts slot) (accepted.connected.accounts slot))))
+  made_is : ActsMade (delivered.posts ++ (posted.posts ++ accepted.connected.tries)) a.seat e.seat
+  made_is =
+      subst (λ (s : SeatState). ActsMade (delivered.posts ++ (posted.posts ++ accepted.connected.tries)) s e.seat) took.seat
+      (acts_both delivered.posts (posted.posts ++ accepted.connected.tries) b.seat c.seat e.seat delivered.made
+      (acts_both posted.posts accepted.connected.tries c.seat d.seat e.seat posted.made accepted.connected.made))
 
-  hand_is : e.hand.tickets ≡ b.hand.tickets ++ (delivered.woke ++ (posted.woke ++ accepted.opened))
+  hand_is : e.hand.tickets ≡ b.hand.tickets ++ (due_of delivered.posts ++ (due_of posted.posts ++ accepted.opened))
   hand_is = accepted.connected.tickets
       ∙ ap (λ (h : HandState). h.tickets ++ accepted.opened) posted.hand
-      ∙ append_assoc c.hand.tickets posted.woke accepted.opened
-      ∙ ap (λ (h : HandState). h.tickets ++ (posted.woke ++ accepted.opened)) delivered.hand
-      ∙ append_assoc b.hand.tickets delivered.woke (posted.woke ++ accepted.opened)
+      ∙ append_assoc c.hand.tickets (due_of posted.posts) accepted.opened
+      ∙ ap (λ (h : HandState). h.tickets ++ (due_of posted.posts ++ accepted.opened)) delivered.hand
+      ∙ append_assoc b.hand.tickets (due_of delivered.posts) (due_of posted.posts ++ accepted.opened)
 
-  tickets_are : tickets_out e ≡ tickets_out a ++ (delivered.woke ++ (posted.woke ++ accepted.opened))
+  tickets_are : tickets_out e ≡ tickets_out a ++ (due_of delivered.posts ++ (due_of posted.posts ++ accepted.opened))
   tickets_are =
       ap (λ (q : EndState Ticket). outgoing q.history e.hand.tickets) (accepted.connected.ready ∙ ready_then ∙ ready)
       ∙ ap (λ (ts : List Ticket). outgoing b.ready.history ts) hand_is
-      ∙ sym (append_assoc (map (λ (put : ℕ × Ticket). put.1) b.ready.history.put) b.hand.tickets (delivered.woke ++ (posted.woke ++ accepted.opened)))
-      ∙ ap (λ (q : EndState Ticket). outgoing q.history b.hand.tickets ++ (delivered.woke ++ (posted.woke ++ accepted.opened))) took.ready
-      ∙ ap (λ (ts : List Ticket). outgoing a.ready.history ts ++ (delivered.woke ++ (posted.woke ++ accepted.opened))) took.tickets
+      ∙ sym (append_assoc (map (λ (put : ℕ × Ticket). put.1) b.ready.history.put) b.hand.tickets (due_of delivered.posts ++ (due_of posted.posts ++ accepted.opened)))
+      ∙ ap (λ (q : EndState Ticket). outgoing q.history b.hand.tickets ++ (due_of delivered.posts ++ (due_of posted.posts ++ accepted.opened))) took.ready
+      ∙ ap (λ (ts : List Ticket). outgoing a.ready.history ts ++ (due_of delivered.posts ++ (due_of posted.posts ++ accepted.opened))) took.tickets
 
   slots_are : SlotsCounted a e accepted.opened accepted.lost
   slots_are slot =
@@ -116,28 +102,19 @@ module _ (p q r v t : PollerState) (a b c d e : Own) (begun : SameTable p q) (to
       let counted = accepted.slots slot in
       omega arith
 
-  exchanges_are : e.seat.steps ≡ a.seat.steps + (length (all_reported p.table t.batch) + length (sweep_of p t) + (4 * length accepted.opened + accepted.held))
-  exchanges_are =
-      let reports = delivered.exchanges in
-      let posts = posted.exchanges in
-      let opens = accepted.connected.exchanges in
-      let before : b.seat.steps ≡ a.seat.steps = ap (λ (s : SeatState). s.steps) took.seat in
-      let same : length (all_reported p.table t.batch) ≡ length (all_reported q.table q.batch) = ap (λ (ts : List Ticket). length ts) reported_is in
-      let swept_same : length (sweep_of p t) ≡ length (sweep_of r v) = ap (λ (ts : List Ticket). length ts) sweep_is in
-      omega arith
-
   pub round_of : RoundDone p t a e
   round_of = record {
-    woke = delivered.woke;
-    roused = posted.woke;
+    reports = delivered.posts;
+    sweep = posted.posts;
+    tries = accepted.connected.tries;
     opened = accepted.opened;
     lost = accepted.lost;
     held = accepted.held;
     some = accepted.connected.some;
-    exchanges = exchanges_are;
-    in_order = subst (λ (ts : List Ticket). IsSubsequence delivered.woke ts) (sym reported_is) delivered.in_order;
-    roused_in_order = subst (λ (ts : List Ticket). IsSubsequence posted.woke ts) (sym sweep_is) posted.in_order;
-    accounts = accounts_are;
+    reported = subst (λ (ts : List Ticket). ArePosts ts delivered.posts) (sym reported_is) delivered.are;
+    swept = subst (λ (ts : List Ticket). ArePosts ts posted.posts) (sym sweep_is) posted.are;
+    tried = accepted.connected.are;
+    made = made_is;
     part = accepted.connected.part ∙ sweep.part ∙ part_is;
     own_reports = subst (λ (part : Part). AreIn part (all_reported p.table t.batch)) begun.part (subst (λ (ts : List Ticket). AreIn q.part ts) (sym reported_is) own);
     own_sweep = subst (λ (part : Part). AreIn part (sweep_of p t)) part_is (subst (λ (ts : List Ticket). AreIn r.part ts) (sym sweep_is) own_then);

@@ -1,14 +1,14 @@
 -- What delivering the reports of one poll does. Part of the promises. Each report that names an end of a connection
 -- which its slot still has becomes a note, and each note that found nobody at work there makes a ticket.
-use Rattle.std.specs.Prelude.{◌≡◌, ℕ, ◌+◌, ◌==◌, ◌⊎◌, List, [], ◌∷◌, ◌++◌, Option, Some, None, length, if◌then◌else◌, slice_index}
+use Rattle.std.specs.Prelude.{◌≡◌, ℕ, ◌==◌, List, ◌++◌, Option, Some, None, if◌then◌else◌, slice_index}
 use Rattle.std.specs.List.{filter_map, count_by}
-use Rattle.claims.specs.declared.view.Account.{Account}
-use Rattle.claims.specs.Seats.{SeatState, account_at}
+use Rattle.claims.specs.Seats.{SeatState}
 use Rattle.ready.specs.declared.ticket.Ticket.{Ticket}
 use Rattle.token.specs.declared.name.Name.{Name}
 use Rattle.token.specs.declared.name.Name.TheVariants.{Listener, Waker, End}
 use Rattle.token.specs.Numbers.{name_of}
 use Rattle.dispatch.specs.Hands.{HandState}
+use Rattle.rounds.specs.Acts.{Act, due_of, ActsMade, ArePosts}
 
 -- The connection that a name is of, if its slot still has it: the slot's generation in the table is the name's. A slot that the table
 -- lacks reads as generation 0, which no end has
@@ -31,24 +31,13 @@ all_reported generations batch = filter_map (reported generations) batch
 abbrev pub at_slot : ℕ → List Ticket → ℕ
 at_slot slot tickets = count_by (λ t. t.slot == slot) tickets
 
--- some of the items of a list, in its order
-abbrev pub IsSubsequence : List Ticket → List Ticket → Type 0
-IsSubsequence some [] = some ≡ []
-IsSubsequence some (x ∷ xs) = IsSubsequence some xs ⊎ ((rest : List Ticket) × (some ≡ x ∷ rest) × IsSubsequence rest xs)
-
--- so many posts more, of which so many were answered Wake
-abbrev pub raised : ℕ → ℕ → Account → Account
-raised posts wakes a = record a { posted = a.posted + posts; minted = a.minted + wakes }
-
--- Each of these connections was posted at its slot, by one exchange, and those of them that woke left their tickets in hand, in order.
--- Nothing else of the seat or of the hand changed
+-- A note was posted for each of these connections, in order, by one exchange at its slot, and those of them that woke left their tickets in
+-- hand, in order. Nothing else of the seat or of the hand changed
 pub record ArePosted (tickets : List Ticket) (old new : SeatState) (had has : HandState) : Type 0 where
-  pub woke : List Ticket
-  pub in_order : IsSubsequence woke tickets
-  pub table : new.table ≡ old.table
-  pub accounts : (slot : ℕ) → account_at new slot ≡ raised (at_slot slot tickets) (at_slot slot woke) (account_at old slot)
-  pub exchanges : new.steps ≡ old.steps + length tickets
-  pub hand : has ≡ record had { tickets = had.tickets ++ woke }
+  pub posts : List Act
+  pub are : ArePosts tickets posts
+  pub made : ActsMade posts old new
+  pub hand : has ≡ record had { tickets = had.tickets ++ due_of posts }
 
 -- each report for a connection was posted
 abbrev pub Delivered : List ℕ → List ℕ → SeatState → SeatState → HandState → HandState → Type 0

@@ -1,5 +1,6 @@
 -- The crate's definitions. The first line of each file says whether the promises need it.
 pub mod Accepts
+pub mod Acts
 pub mod Deliveries
 pub mod Leads
 pub mod Openings

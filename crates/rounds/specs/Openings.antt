@@ -1,12 +1,13 @@
 -- What accepting and opening connections does to what the poller's thread owns. Part of the promises.
-use Rattle.std.specs.Prelude.{◌≡◌, ◌⊎◌, ℕ, ◌+◌, ◌*◌, ◌≤◌, ◌==◌, Bool, List, [], ◌∷◌, ◌++◌, length, map, None, slice_index, slice_set}
+use Rattle.std.specs.Prelude.{◌≡◌, ◌⊎◌, ℕ, ◌+◌, ◌≤◌, ◌==◌, Bool, false, List, [], ◌∷◌, ◌++◌, length, drop, map, None, slice_index, slice_set}
 use Rattle.std.specs.List.{count_by}
 use Rattle.claims.specs.declared.view.Exchange.TheVariants as exchange
-use Rattle.claims.specs.Seats.{SeatState, TableId, Adds, account_at, HoldsNothing}
+use Rattle.claims.specs.Seats.{SeatState, TableId, Adds, HoldsNothing, account_at}
 use Rattle.ready.specs.declared.ticket.Ticket.{Ticket}
 use Rattle.dispatch.specs.declared.shared.Own.{Own}
+use Rattle.claims.specs.Views.{minted_by}
+use Rattle.rounds.specs.Acts.{Act, made_by, opening, ActsMade, AreTries}
 use Rattle.rounds.specs.Deliveries.{at_slot}
-use Rattle.dispatch.specs.Hands.{HandState}
 use Rattle.dispatch.specs.Polls.{PollerState, Counted, counted_up, IsIn}
 use Rattle.relay_log.specs.declared.cause.Cause.{Cause}
 use Rattle.relay_log.specs.declared.cause.Cause.TheVariants as cause
@@ -15,7 +16,6 @@ use Rattle.dispatch.specs.declared.front.Unopened.TheVariants as unopened
 use Rattle.dispatch.specs.declared.route.Route.{Route}
 use Rattle.rounds.specs.Leads.{LeadTold}
 use Rattle.dispatch.specs.declared.part.Part.{Part}
-use Rattle.dispatch.specs.Posts.{Rose}
 use Rattle.dispatch.specs.Drops.{dropped_for}
 use Rattle.dispatch.specs.Episodes.{opened_after}
 
@@ -58,24 +58,33 @@ pub record OnlyTook (had has : Own) : Type 0 where
   pub gave : has.free.history.put ≡ had.free.history.put
   pub slots : SlotsCounted had has [] []
 
--- the connection has the one note of its opening, and the one ticket for it is in hand
-pub record Started (ticket : Ticket) (old new : SeatState) (had has : HandState) : Type 0 where
-  pub account : Rose 1 1 (account_at old ticket.slot) (account_at new ticket.slot)
-  pub hand : has ≡ record had { tickets = had.tickets ++ ticket ∷ [] }
+-- The slot of a connection was released. The ticket is in hand if that answered Wake, as it does where the seat knew of a note
+pub record LetGo (ticket : Ticket) (old new : Own) : Type 0 where
+  pub woke : Bool
+  pub quiet : woke ≡ false → (account_at old.seat ticket.slot).known ≡ 0
+  pub seat : Adds ticket.slot (exchange.Release woke ∷ []) old.seat new.seat
+  pub hand : new.hand ≡ record old.hand { tickets = old.hand.tickets ++ made_by (minted_by (exchange.Release woke ∷ [])) ticket }
+
+-- an opening from the adoption of its slot on: the one ticket for it is in hand
+pub record Started (ticket : Ticket) (old new : Own) : Type 0 where
+  pub noted : ℕ
+  pub seat : Adds ticket.slot (drop 1 (opening 0 noted)) old.seat new.seat
+  pub hand : new.hand ≡ record old.hand { tickets = old.hand.tickets ++ ticket ∷ [] }
 
 -- These connections were opened in the poller's own slots, each with the next generation of its slot, with one note and with one
--- ticket, which is in hand behind the others. And these slots are no longer used, so many of which were found not to be free. An opening
--- makes four exchanges: adopt, take, post, release; a slot that is not free is found by one
+-- ticket, which is in hand behind the others. And these slots are no longer used, so many of which were found not to be free. That is all
+-- that the seat did
 pub record Connected (opened : List Ticket) (lost : List ℕ) (held : ℕ) (old new : PollerState) (had has : Own) : Type 0 where
   pub table : AreOpened old.table opened new.table
   pub counted : Counted old.opened (length opened) new.opened
   pub unused : Counted old.lost (length lost) new.lost
   pub some : held ≤ length lost
-  pub exchanges : has.seat.steps ≡ had.seat.steps + (4 * length opened + held)
+  pub tries : List Act
+  pub are : AreTries opened held tries
+  pub made : ActsMade tries had.seat has.seat
   pub batch : new.batch ≡ old.batch
   pub part : new.part ≡ old.part
   pub own : AreIn old.part opened
-  pub accounts : (slot : ℕ) → Rose (at_slot slot opened) (at_slot slot opened) (account_at had.seat slot) (account_at has.seat slot)
   pub tickets : has.hand.tickets ≡ had.hand.tickets ++ opened
   pub ready : has.ready ≡ had.ready
   pub gave : has.free.history.put ≡ had.free.history.put
@@ -111,7 +120,7 @@ IsSpent p slot = (IsIn p.part slot → ⊥) ⊎ ((length p.table ≤ slot) ⊎ (
 
 -- why a slot is lost: it is spent, or one exchange found that it is not free
 abbrev pub LostFor : PollerState → ℕ → SeatState → SeatState → Type 0
-LostFor p slot old new = IsSpent p slot ⊎ Adds slot exchange.NotFree old new
+LostFor p slot old new = IsSpent p slot ⊎ Adds slot (exchange.NotFree ∷ []) old new
 
 -- What accepting did: connections were opened, and each slot that was taken was opened, or is in hand, or is no longer used. A
 -- connection whose opening failed leaves its slot in hand

@@ -1,38 +1,38 @@
 -- What a round of the poller does. Part of the promises.
-use Rattle.std.specs.Prelude.{◌≡◌, ◌≢◌, ◌⊎◌, ℕ, ◌+◌, ◌*◌, ◌<◌, ◌≤◌, true, false, List, [], ◌++◌, length, Contains}
-use Rattle.claims.specs.Seats.{account_at}
+use Rattle.std.specs.Prelude.{◌≡◌, ◌≢◌, ◌⊎◌, ℕ, ◌+◌, ◌<◌, ◌≤◌, true, false, List, [], ◌++◌, length, Contains}
 use Rattle.ready.specs.declared.ticket.Ticket.{Ticket}
 use Rattle.ready.specs.Steps.{HeldOnce}
 use Rattle.dispatch.specs.declared.shared.Own.{Own}
-use Rattle.rounds.specs.Deliveries.{all_reported, at_slot, IsSubsequence}
+use Rattle.rounds.specs.Acts.{Act, due_of, ActsMade, ArePosts, AreTries}
+use Rattle.rounds.specs.Deliveries.{all_reported}
 use Rattle.dispatch.specs.Hands.{HasRoom, ticket_room}
 use Rattle.rounds.specs.Openings.{AreIn, AreOpened, SlotsCounted}
 use Rattle.dispatch.specs.Outgoing.{tickets_out}
 use Rattle.dispatch.specs.Polls.{PollerState, HasOpenedAll, Counted}
 use Rattle.rounds.specs.Sweeps.{is_due, sweep_of}
-use Rattle.dispatch.specs.Posts.{Rose}
 
 -- The reports of the batch were delivered: each that is for a connection was posted at its slot, and those that woke made their
 -- tickets. Then came the posts of a sweep, if one was made, and those that woke made theirs. Then connections were opened, each with
 -- one post and one ticket at its slot. All tickets that were to be put before, then those of the reports, of the sweep and of the
--- openings are put or in hand, in this order. Each slot that was taken was opened, or is in hand, or is no longer used. A post makes one
--- exchange and an opening four, and one more found each slot that was held. Nothing was posted or opened at a slot of another poller
+-- openings are put or in hand, in this order. Each slot that was taken was opened, or is in hand, or is no longer used. These acts, in
+-- this order, are all that the seat did: so many of the last found a slot held. Nothing was posted or opened at a slot of another poller
 pub record RoundDone (old new : PollerState) (had has : Own) : Type 0 where
-  pub woke : List Ticket
-  pub roused : List Ticket
+  pub reports : List Act
+  pub sweep : List Act
+  pub tries : List Act
   pub opened : List Ticket
   pub lost : List ℕ
   pub held : ℕ
-  pub in_order : IsSubsequence woke (all_reported old.table new.batch)
-  pub roused_in_order : IsSubsequence roused (sweep_of old new)
-  pub accounts : (slot : ℕ) → Rose (at_slot slot (all_reported old.table new.batch) + (at_slot slot (sweep_of old new) + at_slot slot opened)) (at_slot slot woke + (at_slot slot roused + at_slot slot opened)) (account_at had.seat slot) (account_at has.seat slot)
+  pub reported : ArePosts (all_reported old.table new.batch) reports
+  pub swept : ArePosts (sweep_of old new) sweep
+  pub tried : AreTries opened held tries
+  pub made : ActsMade (reports ++ (sweep ++ tries)) had.seat has.seat
   pub some : held ≤ length lost
-  pub exchanges : has.seat.steps ≡ had.seat.steps + (length (all_reported old.table new.batch) + length (sweep_of old new) + (4 * length opened + held))
   pub part : new.part ≡ old.part
   pub own_reports : AreIn old.part (all_reported old.table new.batch)
   pub own_sweep : AreIn old.part (sweep_of old new)
   pub own_openings : AreIn old.part opened
-  pub tickets : tickets_out has ≡ tickets_out had ++ (woke ++ (roused ++ opened))
+  pub tickets : tickets_out has ≡ tickets_out had ++ (due_of reports ++ (due_of sweep ++ opened))
   pub table : AreOpened old.table opened new.table
   pub counted : Counted old.opened (length opened) new.opened
   pub unused : Counted old.lost (length lost) new.lost

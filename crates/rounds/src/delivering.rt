@@ -1,8 +1,8 @@
 //! The reports of one poll become notes at their slots.
-ghost use Rattle.std.specs.Prelude.{◌≡◌, ℕ, ◌-◌, ◌^◌, ◌<◌, ◌≤◌, ◌↔◌, ◌∷◌, [], length, take, IsTrue, IfOk, OnOk, IfErr, OnErr, IfSome, Contains, sum_by};
-ghost use Rattle.claims.specs.Views.{posted_of};
+ghost use Rattle.std.specs.Prelude.{◌≡◌, ℕ, ◌-◌, ◌<◌, ◌≤◌, ◌↔◌, ◌∷◌, [], length, take, IsTrue, IfOk, OnOk, IfErr, OnErr, IfSome, Contains};
 ghost use Rattle.claims.specs.Seats.{HoldsNothing};
 ghost use Rattle.dispatch.specs.Hands.{ticket_room};
+ghost use Rattle.dispatch.specs.Posts.{OnlyWorn};
 ghost use Rattle.rounds.specs.Deliveries.{connection, reported, ArePosted, Delivered};
 
 use claims::{ClaimSeat, Claims, Posted};
@@ -33,7 +33,7 @@ pub fn deliver(
     ensures delivered { OnOk result (Delivered table.now batch.now seat.old seat.new hand.old hand.new) }
     ensures listener { IfOk result (λ told. IsTrue told ↔ Contains batch.now 0) }
     ensures begun { OnErr result ((n : ℕ) × Delivered table.now (take n batch.now) seat.old seat.new hand.old hand.new) }
-    ensures worn { IfErr result (λ fault. (fault ≡ ServerFault.Worn) × (sum_by posted_of seat.new.accounts ≡ 2 ^ 56)) }
+    ensures worn { IfErr result (λ fault. OnlyWorn fault seat.new) }
     ensures idle { HoldsNothing seat.new }
     ensures same { seat.new.table ≡ seat.old.table }
 {
@@ -58,7 +58,7 @@ fn report(
     ensures delivered { OnOk result (Delivered table.now (number ∷ []) seat.old seat.new hand.old hand.new) }
     ensures seat { OnErr result (seat.new ≡ seat.old) }
     ensures hand { OnErr result (hand.new ≡ hand.old) }
-    ensures worn { IfErr result (λ fault. (fault ≡ ServerFault.Worn) × (sum_by posted_of seat.new.accounts ≡ 2 ^ 56)) }
+    ensures worn { IfErr result (λ fault. OnlyWorn fault seat.new) }
 {
     let Some(ticket) = connection(table, number) else {
         return Ok(());
@@ -80,7 +80,7 @@ pub(crate) fn post_note(
     ensures posted { OnOk result (ArePosted (ticket ∷ []) seat.old seat.new hand.old hand.new) }
     ensures seat { OnErr result (seat.new ≡ seat.old) }
     ensures hand { OnErr result (hand.new ≡ hand.old) }
-    ensures worn { IfErr result (λ fault. (fault ≡ ServerFault.Worn) × (sum_by posted_of seat.new.accounts ≡ 2 ^ 56)) }
+    ensures worn { IfErr result (λ fault. OnlyWorn fault seat.new) }
 {
     match claims.post(seat, ticket.slot) {
         Posted::Wake => hand.keep_ticket(ticket),

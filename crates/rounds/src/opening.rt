@@ -3,13 +3,13 @@
 //! starts it.
 ghost use Rattle.std.specs.Prelude.{◌≡◌, ◌≢◌, ◌⊎◌, ◌+◌, ◌<◌, ◌≤◌, [], ◌∷◌, ◌++◌, length, Err, Some, None, IfOk, IfErr, OnOk, OnErr, OnSome, IfSome, IsNone, slice_get, slice_index};
 ghost use Rattle.claims.specs.declared.view.Exchange.TheVariants as exchange;
-ghost use Rattle.claims.specs.Seats.{account_at, Adds, HoldsNothing, OnlyAt};
+ghost use Rattle.claims.specs.Seats.{Adds, HoldsNothing, OnlyAt};
 ghost use Rattle.relay_core.specs.Pairs.{fresh};
 ghost use Rattle.dispatch.specs.Drops.{dropped_for};
-ghost use Rattle.dispatch.specs.Posts.{HoldsOnly, OnlyWorn, Released as ReleasedHere};
+ghost use Rattle.dispatch.specs.Posts.{HoldsOnly, OnlyWorn};
 ghost use Rattle.dispatch.specs.Hands.{ticket_room};
 ghost use Rattle.rounds.specs.Leads.{LeadTold};
-ghost use Rattle.rounds.specs.Openings.{Between, DropsFor, Started, Connected, AcceptDone, IsOpened, IsDropped, IsLost, LostFor};
+ghost use Rattle.rounds.specs.Openings.{Between, DropsFor, LetGo, Started, Connected, AcceptDone, IsOpened, IsDropped, IsLost, LostFor};
 ghost use Rattle.dispatch.specs.Polls.{AreGenerations, IsIn};
 
 use crate::lead::lead;
@@ -235,7 +235,7 @@ fn place<F: Front, R: Wait + Log>(
     ensures done { OnOk result (Connected (record { slot = berth.pair.slot; generation = berth.pair.generation } ∷ []) [] 0 poller.old poller.new own.old own.new ⊎ Connected [] (berth.pair.slot ∷ []) 1 poller.old poller.new own.old own.new) }
     ensures poller { poller.new ≡ record poller.old { table = poller.new.table; opened = poller.new.opened; lost = poller.new.lost; episodes = poller.new.episodes } }
     ensures ready { own.new.ready ≡ own.old.ready }
-    ensures counted { OnOk result (IsOpened poller.old poller.new ⊎ (IsLost poller.old poller.new × Adds berth.pair.slot exchange.NotFree own.old.seat own.new.seat)) }
+    ensures counted { OnOk result (IsOpened poller.old poller.new ⊎ (IsLost poller.old poller.new × Adds berth.pair.slot (exchange.NotFree ∷ []) own.old.seat own.new.seat)) }
     ensures free { OnOk result (own.new.free ≡ own.old.free) }
     ensures slots { OnOk result (own.new.hand.slots ≡ own.old.hand.slots) }
     ensures room { OnOk result (ticket_room own.old.hand ≤ ticket_room own.new.hand + 1) }
@@ -273,8 +273,7 @@ pub(crate) fn start<F: Front, R: Wait>(
     ensures idle { HoldsNothing own.new.seat }
     ensures only { OnlyAt ticket.slot own.old.seat own.new.seat }
     ensures worn { IfErr result (λ fault. OnlyWorn fault own.new.seat) }
-    ensures started { OnOk result (Started ticket own.old.seat own.new.seat own.old.hand own.new.hand) }
-    ensures exchanges { OnOk result (own.new.seat.steps ≡ own.old.seat.steps + 3) }
+    ensures started { OnOk result (Started ticket own.old own.new) }
     ensures ready { own.new.ready ≡ own.old.ready }
     ensures free { own.new.free ≡ own.old.free }
 {
@@ -297,10 +296,7 @@ fn let_go<F: Front>(shared: &Shared<F>, own: &mut Own, ticket: Ticket)
     requires holder { HoldsOnly ticket.slot own.old.seat }
     requires room { length own.old.hand.tickets < own.old.hand.capacity }
     ensures idle { HoldsNothing own.new.seat }
-    ensures only { OnlyAt ticket.slot own.old.seat own.new.seat }
-    ensures released { ReleasedHere (account_at own.old.seat ticket.slot) (account_at own.new.seat ticket.slot) }
-    ensures kept { 1 ≤ (account_at own.old.seat ticket.slot).known → own.new.hand ≡ record own.old.hand { tickets = own.old.hand.tickets ++ ticket ∷ [] } }
-    ensures exchanges { own.new.seat.steps ≡ own.old.seat.steps + 1 }
+    ensures left { LetGo ticket own.old own.new }
     ensures ready { own.new.ready ≡ own.old.ready }
     ensures free { own.new.free ≡ own.old.free }
 {

@@ -1,6 +1,5 @@
 //! What a round posts for time: a note at each slot in which a connection was opened, once the idle limit has passed.
-ghost use Rattle.std.specs.Prelude.{◌≡◌, ◌⊎◌, ◌^◌, ◌<◌, ◌≤◌, length, IfErr, OnErr, OnOk, sum_by};
-ghost use Rattle.claims.specs.Views.{posted_of};
+ghost use Rattle.std.specs.Prelude.{◌≡◌, ◌⊎◌, ◌<◌, ◌≤◌, length, IfErr, OnErr, OnOk};
 ghost use Rattle.claims.specs.Seats.{HoldsNothing};
 ghost use Rattle.rounds.specs.Deliveries.{ArePosted};
 ghost use Rattle.dispatch.specs.Hands.{ticket_room};
@@ -90,7 +89,7 @@ fn sweep(
     requires sized { length table.now ≡ claims.now.words }
     requires room { length table.now ≤ ticket_room hand.old }
     ensures posted { OnOk result (ArePosted (all_opened table.now) seat.old seat.new hand.old hand.new) }
-    ensures worn { IfErr result (λ fault. (fault ≡ ServerFault.Worn) × (sum_by posted_of seat.new.accounts ≡ 2 ^ 56)) }
+    ensures worn { IfErr result (λ fault. OnlyWorn fault seat.new) }
     ensures idle { HoldsNothing seat.new }
     ensures same { seat.new.table ≡ seat.old.table }
 {
@@ -115,7 +114,7 @@ fn sweep_slot(
     requires room { length hand.old.tickets < hand.old.capacity }
     ensures posted { OnOk result (ArePosted (opened_in table.now slot) seat.old seat.new hand.old hand.new) }
     ensures seat { OnErr result (seat.new ≡ seat.old) }
-    ensures worn { IfErr result (λ fault. (fault ≡ ServerFault.Worn) × (sum_by posted_of seat.new.accounts ≡ 2 ^ 56)) }
+    ensures worn { IfErr result (λ fault. OnlyWorn fault seat.new) }
 {
     let generation = table[slot];
     if generation == 0 {

@@ -1,14 +1,18 @@
 -- What the calls of a thread's loop do with the tickets that it is obliged to put.
 use Rattle.std.proofs.Common.{◌≡◌, ◌≢◌, ℕ, zero, suc, ◌+◌, ◌<◌, ◌≤◌, Bool, true, false, cond, List, [], ◌∷◌, ◌++◌, length, length-append, drop, sym, ◌∙◌, refl, subst, ap, arith, inl, inr, append_assoc}
+use Rattle.std.specs.List.{All}
+use Rattle.std.proofs.lemmas.List.Elements.{All-append}
 use Rattle.std.specs.Prelude.{◌==◌, ◌&&◌, Option, Some, None, Result, Ok, Err, IfErr, IfOk, IfSome, OnOk, OnErr, slice_get, map, nat_lt, if◌then◌else◌}
 use Rattle.std.proofs.lemmas.List.{map-append, append-nil}
-use Rattle.std.proofs.lemmas.List.Sums.{sum_by-append, sum_by-cons}
+use Rattle.std.proofs.lemmas.List.Sums.{sum_by-append}
 use Rattle.std.proofs.lemmas.Bool.{ltb-true, ltb-false, false≢true}
 use Rattle.std.specs.Option.{is_some}
 use Rattle.std.proofs.lemmas.Option.{none-some}
 use mathlib.Core.Logic.{dite}
 use native.Mathlib.Decide.{ℕ_discrete}
 use Rattle.claims.specs.declared.view.Account.{Account}
+use Rattle.claims.specs.declared.view.Exchange.{Exchange}
+use Rattle.claims.specs.Views.{minted_by}
 use Rattle.claims.specs.Seats.{SeatState, TableId, account_at, OnlyAt}
 use Rattle.ready.specs.declared.history.History.{History}
 use Rattle.ready.specs.declared.ticket.Ticket.{Ticket}
@@ -18,16 +22,16 @@ use Rattle.relay_log.specs.declared.faults.ServerFault.TheVariants.{Worn}
 use Rattle.dispatch.specs.declared.shared.Own.{Own}
 use Rattle.turns.specs.declared.worker.Worked.{Worked}
 use Rattle.turns.specs.declared.worker.Worked.TheVariants as worked
-use Rattle.rounds.specs.Deliveries.{at_slot, IsSubsequence}
 use Rattle.dispatch.specs.Hands.{HandState}
 use Rattle.dispatch.specs.Outgoing.{outgoing, Inserted, tickets_out, slots_out, without_first}
 use Rattle.dispatch.specs.Polls.{PollerState, looked_at}
 use Rattle.rounds.specs.Rounds.{RoundDone}
 use Rattle.turns.specs.Shares.{AreShared, OneShared, TicketsShared}
-use Rattle.turns.specs.Turns.{exchanges, TicketsKept, SlotGiven, SlotsKept, TurnMade, OwnTurn}
-use Rattle.rounds.proofs.Reports.{at_slot-append, one_at, none_at, subsequence-append}
+use Rattle.turns.specs.Turns.{program, TicketsKept, SlotGiven, SlotsKept, IsTurnOf, TurnMade, OwnTurn}
+use Rattle.rounds.specs.Acts.{Act, ActsMade, made_by, due_of}
+use Rattle.rounds.proofs.Acts.{all_none, all_one, acts_none, acts_one, acts_both, due-append}
 use Rattle.threads.specs.declared.ended.Ended.{Ended}
-use Rattle.threads.specs.Loops.{times_of, times_in, freed_by, freed, Run, tickets_of, exchanges_of, TurnsMade, OneRan, tickets_in, Took, WorkerEnded, WorkerRan, OwnTurnsRan, SharedAndRan, StepMade, StepCut, StepsMade, PollerRan}
+use Rattle.threads.specs.Loops.{times_of, times_in, freed_by, freed, Run, tickets_of, acts_of, TurnsMade, OneRan, tickets_in, Took, WorkerEnded, WorkerRan, OwnTurnsRan, SharedAndRan, StepMade, StepCut, StepsMade, IsPollerAct, PollerRan}
 
 -- how often a ticket stands in lists one behind the other
 times-append : (u : Ticket) (xs ys : List Ticket) → times_of u (xs ++ ys) ≡ times_of u xs + times_of u ys
@@ -78,96 +82,56 @@ slots_same : (s : ℕ) (a b : Own) → slots_out b ≡ slots_out a → times_in 
 slots_same s a b same = (let e : times_in s (slots_out b) ≡ times_in s (slots_out a) = ap (λ (xs : List ℕ). times_in s xs) same in omega arith)
 
 slots_one : (t : Ticket) (answer : Result Worked ServerFault) (a b : Own) → SlotsKept t answer a b
-    → (s : ℕ) → times_in s (slots_out b) ≡ times_in s (slots_out a) + times_in s (freed (record { ticket = t; answer = answer } ∷ []))
-slots_one t (Ok worked.Busy) a b same s = slots_same s a b same
-slots_one t (Ok worked.Gone) a b same s = slots_same s a b same
-slots_one t (Ok worked.Ended) a b given s = slots_ended t a b given s (nat_lt t.generation 140737488355327) refl
-slots_one t (Ok worked.Again) a b same s = slots_same s a b same
-slots_one t (Ok worked.Quiet) a b same s = slots_same s a b same
-slots_one t (Err fault) a b same s = slots_same s a b same
+    → (es : List Exchange) (s : ℕ) → times_in s (slots_out b) ≡ times_in s (slots_out a) + times_in s (freed (record { ticket = t; answer = answer; exchanges = es } ∷ []))
+slots_one t (Ok worked.Busy) a b same es s = slots_same s a b same
+slots_one t (Ok worked.Gone) a b same es s = slots_same s a b same
+slots_one t (Ok worked.Ended) a b given es s = slots_ended t a b given s (nat_lt t.generation 140737488355327) refl
+slots_one t (Ok worked.Again) a b same es s = slots_same s a b same
+slots_one t (Ok worked.Quiet) a b same es s = slots_same s a b same
+slots_one t (Err fault) a b same es s = slots_same s a b same
 
 -- Turns, one after the other
 
 turns_none : (s : SeatState) → TurnsMade [] [] s s
-turns_none s = record { table = refl; in_order = refl; minted = λ slot. omega arith; exchanges = omega arith }
+turns_none s = record { each = λ i d lt. absurd (omega arith); made = acts_none s; due_are = refl }
+
+acts-append : (xs ys : List Run) → acts_of (xs ++ ys) ≡ acts_of xs ++ acts_of ys
+acts-append xs ys = map-append (λ (run : Run). record { ticket = run.ticket; exchanges = run.exchanges }) xs ys
 
 turns_both : (xs ys : List Run) (ds es : List Ticket) (a b c : SeatState) → TurnsMade xs ds a b → TurnsMade ys es b c → TurnsMade (xs ++ ys) (ds ++ es) a c
 turns_both xs ys ds es a b c one two = record {
-  table = two.table ∙ one.table;
-  in_order = subst (λ (ts : List Ticket). IsSubsequence (ds ++ es) ts) (sym (map-append (λ (run : Run). run.ticket) xs ys))
-      (subsequence-append ds es (tickets_of xs) (tickets_of ys) one.in_order two.in_order);
-  minted = λ slot. (
-      let first = one.minted slot in
-      let second = two.minted slot in
-      let both = at_slot-append slot ds es in
-      omega arith);
-  exchanges = (
-      let first = one.exchanges in
-      let second = two.exchanges in
-      let same : exchanges_of b.table.words ys ≡ exchanges_of a.table.words ys = ap (λ (t : TableId). exchanges_of t.words ys) one.table in
-      let both : exchanges_of a.table.words (xs ++ ys) ≡ exchanges_of a.table.words xs + exchanges_of a.table.words ys = sum_by-append (λ (run : Run). if nat_lt run.ticket.slot a.table.words then exchanges run.answer else 0) xs ys in
-      omega arith);
+  each = All-append (λ (run : Run). IsTurnOf a.table.words run.ticket.slot run.answer run.exchanges) xs ys one.each
+      (subst (λ (t : TableId). All (λ (run : Run). IsTurnOf t.words run.ticket.slot run.answer run.exchanges) ys) one.made.table two.each);
+  made = subst (λ (acts : List Act). ActsMade acts a c) (sym (acts-append xs ys)) (acts_both (acts_of xs) (acts_of ys) a b c one.made two.made);
+  due_are = ap (λ (ts : List Ticket). ts ++ es) one.due_are ∙ ap (λ (ts : List Ticket). due_of (acts_of xs) ++ ts) two.due_are
+      ∙ sym (ap due_of (acts-append xs ys) ∙ due-append (acts_of xs) (acts_of ys));
 }
 
--- at the slot of a turn's ticket, and at the others
-minted_one : (t : Ticket) (due : List Ticket) (old new : SeatState) → OnlyAt t.slot old new → ((slot : ℕ) → slot ≢ t.slot → at_slot slot due ≡ 0)
-    → (account_at new t.slot).minted ≡ (account_at old t.slot).minted + at_slot t.slot due
-    → (slot : ℕ) → (account_at new slot).minted ≡ (account_at old slot).minted + at_slot slot due
-minted_one t due old new only elsewhere here slot = dite (ℕ_discrete slot t.slot)
-    (λ same. subst (λ (s : ℕ). (account_at new s).minted ≡ (account_at old s).minted + at_slot s due) (sym same) here)
-    (λ other. (
-    let none = elsewhere slot other in
-    let minted : (account_at new slot).minted ≡ (account_at old slot).minted = ap (λ (x : Account). x.minted) (only.others slot other) in
-    omega arith))
+tickets_one : (t : Ticket) (minted : ℕ) (old new : Own) → TicketsKept t minted old new → (u : Ticket) → times_of u (tickets_out new) ≡ times_of u (tickets_out old) + times_of u (made_by minted t)
+tickets_one t zero old new same u = let out : times_of u (tickets_out new) ≡ times_of u (tickets_out old) = ap (λ (ts : List Ticket). times_of u ts) same in omega arith
+tickets_one t (suc n) old new put u = let more = times_inserted u t (tickets_out old) (tickets_out new) put.tickets in omega arith
 
-exchanges_if : (t : Ticket) (answer : Result Worked ServerFault) (old new : SeatState)
-    → (t.slot < old.table.words → new.steps ≡ old.steps + exchanges answer) → (old.table.words ≤ t.slot → new ≡ old)
-    → (within : Bool) → nat_lt t.slot old.table.words ≡ within → new.steps ≡ old.steps + (if within then exchanges answer else 0)
-exchanges_if t answer old new inside outside true is = inside (ltb-true t.slot old.table.words is)
-exchanges_if t answer old new inside outside false is =
-    let same : new.steps ≡ old.steps = ap (λ (s : SeatState). s.steps) (outside (ltb-false t.slot old.table.words is)) in
-    omega arith
-
-exchanges_one : (t : Ticket) (answer : Result Worked ServerFault) (old new : SeatState)
-    → (t.slot < old.table.words → new.steps ≡ old.steps + exchanges answer) → (old.table.words ≤ t.slot → new ≡ old)
-    → new.steps ≡ old.steps + exchanges_of old.table.words (record { ticket = t; answer = answer } ∷ [])
-exchanges_one t answer old new inside outside =
-    let one : exchanges_of old.table.words (record { ticket = t; answer = answer } ∷ []) ≡ (if nat_lt t.slot old.table.words then exchanges answer else 0) + 0 =
-    sum_by-cons (λ (run : Run). if nat_lt run.ticket.slot old.table.words then exchanges run.answer else 0) (record { ticket = t; answer = answer }) [] in
-    let made = exchanges_if t answer old new inside outside (nat_lt t.slot old.table.words) refl in
-    omega arith
-
-pub one_ran : (words : ℕ) (t : Ticket) (answer : Result Worked ServerFault) (old new : Own) → old.seat.table.words ≡ words → OnlyAt t.slot old.seat new.seat → TicketsKept t old new
-    → (t.slot < words → new.seat.steps ≡ old.seat.steps + exchanges answer) → (words ≤ t.slot → new.seat ≡ old.seat)
-    → OneRan t answer old new
-one_ran words t answer old new same only (inl none) inside outside = record {
-  due = [];
+pub one_ran : (words : ℕ) (t : Ticket) (answer : Result Worked ServerFault) (old new : Own) → old.seat.table.words ≡ words → TurnMade words t answer old new → OneRan t answer old new
+one_ran words t answer old new same made = record {
+  exchanges = made.exchanges;
+  due = made_by (minted_by made.exchanges) t;
   turns = record {
-    table = only.table;
-    in_order = inl refl;
-    minted = minted_one t [] old.seat new.seat only (λ slot other. refl) (let still = none.minted in omega arith);
-    exchanges = exchanges_one t answer old.seat new.seat (λ within. inside (omega arith)) (λ past. outside (omega arith));
+    each = all_one (λ (run : Run). IsTurnOf old.seat.table.words run.ticket.slot run.answer run.exchanges) (record { ticket = t; answer = answer; exchanges = made.exchanges })
+        (subst (λ (n : ℕ). IsTurnOf n t.slot answer made.exchanges) (sym same) made.are);
+    made = acts_one (record { ticket = t; exchanges = made.exchanges }) old.seat new.seat made.done.seat;
+    due_are = sym (append-nil (made_by (minted_by made.exchanges) t));
   };
-  tickets = λ u. (let out : times_of u (tickets_out new) ≡ times_of u (tickets_out old) = ap (λ (ts : List Ticket). times_of u ts) none.tickets in omega arith);
-}
-one_ran words t answer old new same only (inr one) inside outside = record {
-  due = t ∷ [];
-  turns = record {
-    table = only.table;
-    in_order = inr ([], refl, refl);
-    minted = minted_one t (t ∷ []) old.seat new.seat only (λ slot other. none_at t slot other) (let more = one.minted in let here = one_at t in omega arith);
-    exchanges = exchanges_one t answer old.seat new.seat (λ within. inside (omega arith)) (λ past. outside (omega arith));
-  };
-  tickets = λ u. (let more = times_inserted u t (tickets_out old) (tickets_out new) one.tickets in omega arith);
+  tickets = tickets_one t (minted_by made.exchanges) old new made.done.tickets;
 }
 
 -- between two states whose seats are these, and where the same was to be put
 pub one_between : (t : Ticket) (answer : Result Worked ServerFault) (a b c d : Own) → b.seat ≡ a.seat → tickets_out b ≡ tickets_out a → OneRan t answer b c
     → d.seat ≡ c.seat → tickets_out d ≡ tickets_out c → OneRan t answer a d
 one_between t answer a b c d seat out ran seat_then out_then = record {
+  exchanges = ran.exchanges;
   due = ran.due;
-  turns = subst (λ (s : SeatState). TurnsMade (record { ticket = t; answer = answer } ∷ []) ran.due s d.seat) seat
-      (subst (λ (s : SeatState). TurnsMade (record { ticket = t; answer = answer } ∷ []) ran.due b.seat s) (sym seat_then) ran.turns);
+  turns = subst (λ (s : SeatState). TurnsMade (record { ticket = t; answer = answer; exchanges = ran.exchanges } ∷ []) ran.due s d.seat) seat
+      (subst (λ (s : SeatState). TurnsMade (record { ticket = t; answer = answer; exchanges = ran.exchanges } ∷ []) ran.due b.seat s) (sym seat_then) ran.turns);
   tickets = λ u. (
       let turn = ran.tickets u in
       let before : times_of u (tickets_out b) ≡ times_of u (tickets_out a) = ap (λ (ts : List Ticket). times_of u ts) out in
@@ -224,9 +188,9 @@ took_out t a b took = ap (λ (h : History Ticket). outgoing h b.hand.tickets) to
 pub worker_one : (t : Ticket) (answer : Result Worked ServerFault) (a b c : Own) → Took t a b
     → OneRan t answer b c → c.ready.history.taken ≡ b.ready.history.taken → WorkerRan [] a c
 worker_one t answer a b c took ran taken = record {
-  ran = record { ticket = t; answer = answer } ∷ [];
+  ran = record { ticket = t; answer = answer; exchanges = ran.exchanges } ∷ [];
   due = ran.due;
-  turns = subst (λ (s : SeatState). TurnsMade (record { ticket = t; answer = answer } ∷ []) ran.due s c.seat) took.seat ran.turns;
+  turns = subst (λ (s : SeatState). TurnsMade (record { ticket = t; answer = answer; exchanges = ran.exchanges } ∷ []) ran.due s c.seat) took.seat ran.turns;
   taken = ap (λ (takes : List (ℕ × Ticket)). map (λ (take : ℕ × Ticket). take.1) takes) taken ∙ taken_one t a b took;
   tickets = λ u. (
       let after = ran.tickets u in
@@ -329,7 +293,7 @@ own_both n m a b c one two = record {
 own_one : (t : Ticket) (ts : List Ticket) (answer : Result Worked ServerFault) (a b : Own) → a.hand.tickets ≡ t ∷ ts → OneRan t answer (without_first a) b → SlotsKept t answer (without_first a) b
     → OwnTurnsRan 1 a b
 own_one t ts answer a b is ran kept = record {
-  ran = record { ticket = t; answer = answer } ∷ [];
+  ran = record { ticket = t; answer = answer; exchanges = ran.exchanges } ∷ [];
   due = ran.due;
   each = refl;
   turns = ran.turns;
@@ -341,18 +305,17 @@ own_one t ts answer a b is ran kept = record {
       let second = times-append u (puts a.ready) ts in
       let whole = times-append u (t ∷ []) ts in
       omega arith);
-  slots = slots_one t answer (without_first a) b kept;
+  slots = slots_one t answer (without_first a) b kept ran.exchanges;
 }
 
-turn_ran : (words : ℕ) (t : Ticket) (ts : List Ticket) (answer : Result Worked ServerFault) (a b : Own) → a.seat.table.words ≡ words → a.hand.tickets ≡ t ∷ ts → OnlyAt t.slot a.seat b.seat → TurnMade words t answer (without_first a) b → OwnTurnsRan 1 a b
-turn_ran words t ts answer a b same is only turn =
-    own_one t ts answer a b is (one_ran words t answer (without_first a) b same only turn.tickets turn.exchanges (λ outside. (turn.outside outside).1)) turn.slots
+turn_ran : (words : ℕ) (t : Ticket) (ts : List Ticket) (answer : Result Worked ServerFault) (a b : Own) → a.seat.table.words ≡ words → a.hand.tickets ≡ t ∷ ts → TurnMade words t answer (without_first a) b → OwnTurnsRan 1 a b
+turn_ran words t ts answer a b same is turn = own_one t ts answer a b is (one_ran words t answer (without_first a) b same turn) turn.done.slots
 
 own_turn_of : (words : ℕ) (t : Ticket) (ts : List Ticket) (result : Result (Option Worked) ServerFault) (a b : Own) → a.seat.table.words ≡ words → a.hand.tickets ≡ t ∷ ts → OnlyAt t.slot a.seat b.seat
     → OwnTurn words t result a b → result ≢ Ok None → OwnTurnsRan 1 a b
 own_turn_of words t ts (Ok None) a b same is only turn some = absurd (some refl)
-own_turn_of words t ts (Ok (Some worked)) a b same is only turn some = turn_ran words t ts (Ok worked) a b same is only turn
-own_turn_of words t ts (Err fault) a b same is only turn some = turn_ran words t ts (Err fault) a b same is only turn
+own_turn_of words t ts (Ok (Some worked)) a b same is only turn some = turn_ran words t ts (Ok worked) a b same is turn
+own_turn_of words t ts (Err fault) a b same is only turn some = turn_ran words t ts (Err fault) a b same is turn
 
 own_turn_by : (words : ℕ) (us : List Ticket) (result : Result (Option Worked) ServerFault) (a b : Own) → a.seat.table.words ≡ words → a.hand.tickets ≡ us
     → IfSome (slice_get us 0) (λ t. OnlyAt t.slot a.seat b.seat)
@@ -370,44 +333,54 @@ own_turn_ran words result a b same only turn none some = own_turn_by words a.han
 -- Rounds and steps, by ticket
 
 ran_none : (a : Own) → PollerRan a a
-ran_none a = record { ran = []; came_up = []; tickets = λ u. omega arith; minted = λ slot. omega arith }
+ran_none a = record { acts = []; each = all_none (IsPollerAct a.seat.table.words); made = acts_none a.seat; ran = []; tickets = λ u. omega arith }
 
 ran_both : (a b c : Own) → PollerRan a b → PollerRan b c → PollerRan a c
 ran_both a b c one two = record {
+  acts = one.acts ++ two.acts;
+  each = All-append (IsPollerAct a.seat.table.words) one.acts two.acts one.each (subst (λ (t : TableId). All (IsPollerAct t.words) two.acts) one.made.table two.each);
+  made = acts_both one.acts two.acts a.seat b.seat c.seat one.made two.made;
   ran = one.ran ++ two.ran;
-  came_up = one.came_up ++ two.came_up;
   tickets = λ u. (
       let first = one.tickets u in
       let second = two.tickets u in
       let runs = times-append u one.ran two.ran in
-      let ups = times-append u one.came_up two.came_up in
+      let due = ap (λ (ts : List Ticket). times_of u ts) (due-append one.acts two.acts) in
+      let ups = times-append u (due_of one.acts) (due_of two.acts) in
       omega arith);
-  minted = λ slot. (let first = one.minted slot in let second = two.minted slot in let both = at_slot-append slot one.came_up two.came_up in omega arith);
 }
 
 round_ran : (p q : PollerState) (a b : Own) → RoundDone p q a b → PollerRan a b
 round_ran p q a b done = record {
+  acts = done.reports ++ (done.sweep ++ done.tries);
+  each = All-append (IsPollerAct a.seat.table.words) done.reports (done.sweep ++ done.tries) (λ i d lt. inl (done.reported.each i d lt))
+      (All-append (IsPollerAct a.seat.table.words) done.sweep done.tries (λ i d lt. inl (done.swept.each i d lt)) (λ i d lt. inr (inl (done.tried.each i d lt))));
+  made = done.made;
   ran = [];
-  came_up = done.woke ++ (done.roused ++ done.opened);
   tickets = λ u. (
-      let out : times_of u (tickets_out b) ≡ times_of u (tickets_out a ++ (done.woke ++ (done.roused ++ done.opened))) = ap (λ (ts : List Ticket). times_of u ts) done.tickets in
-      let both = times-append u (tickets_out a) (done.woke ++ (done.roused ++ done.opened)) in
-      omega arith);
-  minted = λ slot. (
-      let rose = (done.accounts slot).minted in
-      let rest = at_slot-append slot done.woke (done.roused ++ done.opened) in
-      let last = at_slot-append slot done.roused done.opened in
+      let due : due_of (done.reports ++ (done.sweep ++ done.tries)) ≡ due_of done.reports ++ (due_of done.sweep ++ done.opened) =
+      due-append done.reports (done.sweep ++ done.tries) ∙ ap (λ (ts : List Ticket). due_of done.reports ++ ts) (due-append done.sweep done.tries ∙ ap (λ (ts : List Ticket). due_of done.sweep ++ ts) done.tried.made) in
+      let out : times_of u (tickets_out b) ≡ times_of u (tickets_out a ++ (due_of done.reports ++ (due_of done.sweep ++ done.opened))) = ap (λ (ts : List Ticket). times_of u ts) done.tickets in
+      let both = times-append u (tickets_out a) (due_of done.reports ++ (due_of done.sweep ++ done.opened)) in
+      let same = ap (λ (ts : List Ticket). times_of u ts) due in
       omega arith);
 }
 
+turn_acts : (words : ℕ) (ran : List Run) → All (λ run. IsTurnOf words run.ticket.slot run.answer run.exchanges) ran → All (IsPollerAct words) (acts_of ran)
+turn_acts words [] each i d lt = absurd (omega arith)
+turn_acts words (run ∷ ran) each zero d lt = inr (inr (run.answer, each 0 run (omega arith)))
+turn_acts words (run ∷ ran) each (suc i) d lt = turn_acts words ran (λ j e l. each (suc j) e (omega arith)) i d (omega arith)
+
 turns_ran : (count : ℕ) (p q : PollerState) (a b : Own) → SharedAndRan count p q a b → PollerRan a b
 turns_ran count p q a b made = record {
+  acts = acts_of made.turns.ran;
+  each = subst (λ (s : SeatState). All (IsPollerAct s.table.words) (acts_of made.turns.ran)) made.sharing.seat (turn_acts made.shared.seat.table.words made.turns.ran made.turns.turns.each);
+  made = subst (λ (s : SeatState). ActsMade (acts_of made.turns.ran) s b.seat) made.sharing.seat made.turns.turns.made;
   ran = tickets_of made.turns.ran;
-  came_up = made.turns.due;
-  tickets = λ u. (let law = made.turns.tickets u in let same = shared_same u p.heavy made.heavy a made.shared made.sharing in omega arith);
-  minted = λ slot. (
-      let law = made.turns.turns.minted slot in
-      let same : (account_at made.shared.seat slot).minted ≡ (account_at a.seat slot).minted = ap (λ (s : SeatState). (account_at s slot).minted) made.sharing.seat in
+  tickets = λ u. (
+      let law = made.turns.tickets u in
+      let same = shared_same u p.heavy made.heavy a made.shared made.sharing in
+      let due = ap (λ (ts : List Ticket). times_of u ts) made.turns.turns.due_are in
       omega arith);
 }
 

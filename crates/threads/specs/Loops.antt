@@ -1,19 +1,20 @@
 -- What a thread's loop does with tickets, and with free slots. Part of the promises.
-use Rattle.std.specs.Prelude.{◌≡◌, ◌≢◌, ◌⊎◌, ℕ, zero, suc, ◌+◌, ◌<◌, ◌≤◌, ◌==◌, ◌&&◌, nat_lt, if◌then◌else◌, List, [], ◌∷◌, ◌++◌, length, map, sum_by, Result, Ok, slice_get}
-use Rattle.std.specs.List.{count_by}
-use Rattle.claims.specs.Seats.{SeatState, account_at}
+use Rattle.std.specs.Prelude.{◌≡◌, ◌≢◌, ◌⊎◌, ℕ, zero, suc, ◌+◌, ◌<◌, ◌≤◌, ◌==◌, ◌&&◌, nat_lt, if◌then◌else◌, List, [], ◌∷◌, ◌++◌, length, map, Result, Ok, slice_get}
+use Rattle.std.specs.List.{count_by, All}
+use Rattle.claims.specs.declared.view.Exchange.{Exchange}
+use Rattle.claims.specs.Seats.{SeatState}
 use Rattle.ready.specs.declared.ticket.Ticket.{Ticket}
 use Rattle.ready.specs.Steps.{EndState, TookOne}
 use Rattle.relay_log.specs.declared.faults.ServerFault.{ServerFault}
 use Rattle.dispatch.specs.declared.shared.Own.{Own}
 use Rattle.turns.specs.declared.worker.Worked.{Worked}
 use Rattle.turns.specs.declared.worker.Worked.TheVariants as worked
-use Rattle.rounds.specs.Deliveries.{at_slot, IsSubsequence}
+use Rattle.rounds.specs.Acts.{Act, ActsMade, IsPost, IsTry, due_of}
 use Rattle.dispatch.specs.Outgoing.{tickets_out, slots_out}
 use Rattle.dispatch.specs.Polls.{PollerState, IsIn}
 use Rattle.rounds.specs.Rounds.{EndedEarly, ListenerKept, ListensToOpen, RoundDone}
 use Rattle.turns.specs.Shares.{TicketsShared}
-use Rattle.turns.specs.Turns.{exchanges, NoOwnTurn}
+use Rattle.turns.specs.Turns.{IsTurnOf, NoOwnTurn}
 use Rattle.dispatch.specs.declared.split.Split.{Split}
 use Rattle.dispatch.specs.Splits.{part_of}
 
@@ -21,17 +22,18 @@ use Rattle.dispatch.specs.Splits.{part_of}
 abbrev pub times_of : Ticket → List Ticket → ℕ
 times_of ticket tickets = count_by (λ t. (t.slot == ticket.slot) && (t.generation == ticket.generation)) tickets
 
--- a turn that a thread ran: with this ticket, and with this answer
+-- a turn that a thread ran: with this ticket, with this answer, and by these exchanges at its slot
 pub record Run : Type 0 where
   pub ticket : Ticket
   pub answer : Result Worked ServerFault
+  pub exchanges : List Exchange
 
 abbrev pub tickets_of : List Run → List Ticket
 tickets_of ran = map (λ (run : Run). run.ticket) ran
 
--- the exchanges of these turns; one with a ticket whose slot the claim words lack makes none
-abbrev pub exchanges_of : ℕ → List Run → ℕ
-exchanges_of words ran = sum_by (λ (run : Run). if nat_lt run.ticket.slot words then exchanges run.answer else 0) ran
+-- what these turns did at their slots
+abbrev pub acts_of : List Run → List Act
+acts_of ran = map (λ (run : Run). record { ticket = run.ticket; exchanges = run.exchanges }) ran
 
 -- how often a slot stands in a list
 abbrev pub times_in : ℕ → List ℕ → ℕ
@@ -46,18 +48,18 @@ abbrev pub freed : List Run → List ℕ
 freed [] = []
 freed (run ∷ ran) = freed_by run.ticket run.answer ++ freed ran
 
--- These turns were made by this seat, and nothing else was: their exchanges are all that it made, and some of their tickets are due
--- again, one for each mint
+-- These turns were made by this seat, and nothing else was: each made the exchanges of its answer, in this order, and the tickets that
+-- they made are due
 pub record TurnsMade (ran : List Run) (due : List Ticket) (old new : SeatState) : Type 0 where
-  pub table : new.table ≡ old.table
-  pub in_order : IsSubsequence due (tickets_of ran)
-  pub minted : (slot : ℕ) → (account_at new slot).minted ≡ (account_at old slot).minted + at_slot slot due
-  pub exchanges : new.steps ≡ old.steps + exchanges_of old.table.words ran
+  pub each : All (λ run. IsTurnOf old.table.words run.ticket.slot run.answer run.exchanges) ran
+  pub made : ActsMade (acts_of ran) old new
+  pub due_are : due ≡ due_of (acts_of ran)
 
 -- One turn with this ticket, by its answer. What was to be put before, and the ticket if it is due again, are put or in hand
 pub record OneRan (ticket : Ticket) (answer : Result Worked ServerFault) (old new : Own) : Type 0 where
+  pub exchanges : List Exchange
   pub due : List Ticket
-  pub turns : TurnsMade (record { ticket = ticket; answer = answer } ∷ []) due old.seat new.seat
+  pub turns : TurnsMade (record { ticket = ticket; answer = answer; exchanges = exchanges } ∷ []) due old.seat new.seat
   pub tickets : (t : Ticket) → times_of t (tickets_out new) ≡ times_of t (tickets_out old) + times_of t due
 
 -- the tickets that a thread has taken out of their queue so far
@@ -156,13 +158,18 @@ StepsMade (suc steps) p q a b = (r : PollerState) × (c : Own) × StepsMade step
 abbrev pub LoopMade : PollerState → PollerState → Own → Own → Type 0
 LoopMade p q a b = (steps : ℕ) × (r : PollerState) × (c : Own) × StepsMade steps p r a c × StepCut r q c b
 
--- By ticket: what a poller's thread was to put before, and the tickets that came up meanwhile, one for each mint, were run by the
+-- a note was posted, or a connection opened, or a turn made
+abbrev pub IsPollerAct : ℕ → Act → Type 0
+IsPollerAct words act = IsPost act ⊎ (IsTry act ⊎ ((answer : Result Worked ServerFault) × IsTurnOf words act.ticket.slot answer act.exchanges))
+
+-- What a poller's seat did is these acts, in order. By ticket: what its thread was to put before, and what they made, were run by the
 -- thread itself or are put or in hand, each once
 pub record PollerRan (old new : Own) : Type 0 where
+  pub acts : List Act
+  pub each : All (IsPollerAct old.seat.table.words) acts
+  pub made : ActsMade acts old.seat new.seat
   pub ran : List Ticket
-  pub came_up : List Ticket
-  pub tickets : (t : Ticket) → times_of t (tickets_out new) + times_of t ran ≡ times_of t (tickets_out old) + times_of t came_up
-  pub minted : (slot : ℕ) → (account_at new.seat slot).minted ≡ (account_at old.seat slot).minted + at_slot slot came_up
+  pub tickets : (t : Ticket) → times_of t (tickets_out new) + times_of t ran ≡ times_of t (tickets_out old) + times_of t (due_of acts)
 
 -- Of a worker's ends of the pollers' queues of free slots, in the pollers' order, none changed but the one of the poller with this number
 abbrev pub OthersKept : ℕ → List (EndState ℕ) → List (EndState ℕ) → Type 0

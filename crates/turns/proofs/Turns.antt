@@ -1,20 +1,29 @@
 -- The end of a turn, behind the steps that took the notes and ran the connection; a turn of a poller's own; and the tickets in hand of
 -- which some were looked at: each of those is put, or behind the others in hand.
-use Rattle.std.proofs.Common.{◌≡◌, ◌⊎◌, ◌+◌, ◌↔◌, ◌<◌, ◌≤◌, ℕ, List, [], ◌∷◌, length, drop, slice_get, Bool, true, false, IsTrue, Option, Some, None, Result, Ok, Err, IfOk, IfErr, IfSome, IsErrAnd, inl, inr, refl, sym, ap, subst, ◌∙◌, arith, suc, ◌++◌, append_assoc}
+use Rattle.std.proofs.Common.{◌≡◌, ◌⊎◌, ◌+◌, ◌↔◌, ◌<◌, ◌≤◌, ℕ, List, [], ◌∷◌, length, drop, slice_get, Bool, true, false, IsTrue, Option, Some, None, Result, Ok, Err, IfOk, IfErr, IfSome, IsErrAnd, inl, inr, refl, sym, ap, subst, ◌∙◌, arith, suc, ◌++◌, append_assoc, zero, nat_lt}
 use Rattle.std.proofs.lemmas.Option.{none-some, same_Some}
 use denote.Enum.Bare.{sameb}
 use Rattle.turns.specs.contracts.worker.Worked.{the_type}
 use Rattle.claims.specs.declared.view.Account.{Account}
-use Rattle.claims.specs.Seats.{TableId, account_at, OnlyAt}
+use Rattle.claims.specs.declared.view.Exchange.{Exchange}
+use Rattle.claims.specs.declared.view.Exchange.TheVariants.{Busy, Held, Take, Release, Retire, Post}
+use Rattle.claims.specs.declared.answers.Posted.{Posted}
+use Rattle.claims.specs.declared.answers.Posted.TheVariants as posted
+use Rattle.claims.specs.Calls.{PostChange}
+use Rattle.dispatch.proofs.Holding.{holds_still, holds_from, holds_behind_post, woke_behind_post}
+use Rattle.claims.specs.Views.{account_of, after_all, minted_by}
+use Rattle.claims.specs.Seats.{TableId, SeatState, account_at, Holds, HoldsNot, HoldsNothing, OnlyAt, Adds}
+use Rattle.claims.proofs.Seats.{adds_none, adds_both, account_after, minted_both, holds_nothing_again, only_at_post}
+use Rattle.std.proofs.lemmas.Bool.{ltb-true, ltb-false, false≢true}
 use Rattle.ready.specs.declared.ticket.Ticket.{Ticket}
 use Rattle.relay_log.specs.declared.faults.ServerFault.{ServerFault}
 use Rattle.dispatch.specs.declared.shared.Own.{Own}
 use Rattle.turns.specs.declared.worker.Worked.{Worked}
 use Rattle.turns.specs.declared.worker.Worked.TheVariants as worked
-use Rattle.dispatch.specs.Outgoing.{Inserted, TookNothing, tickets_out, slots_out, without_first}
-use Rattle.dispatch.specs.Posts.{HoldsOnly, Rose}
+use Rattle.dispatch.specs.Outgoing.{Inserted, TookNothing, outgoing, tickets_out, slots_out, without_first}
+use Rattle.dispatch.specs.Posts.{HoldsOnly}
 use Rattle.dispatch.specs.Hands.{HandState, HasRoom}
-use Rattle.turns.specs.Turns.{AtWork, TurnChange, TicketsKept, SlotsKept, TurnDone, TurnMade, NoOwnTurn, marks_after}
+use Rattle.turns.specs.Turns.{WasHeld, program, AtWork, TicketsKept, TicketPut, SlotsKept, SlotGiven, TurnDone, ClaimedTurn, TurnEnd, LeftSlot, TurnMade, NoOwnTurn, marks_after}
 use Rattle.std.specs.Prelude.{Some}
 use Rattle.std.proofs.lemmas.List.{append-nil}
 use Rattle.ready.specs.declared.history.History.{History}
@@ -22,49 +31,10 @@ use Rattle.ready.specs.Steps.{EndState}
 use Rattle.dispatch.specs.Polls.{looked_at}
 use Rattle.turns.specs.Shares.{AreShared, IsLight, OneShared, Passed, Stays}
 
--- the slot was held
-abbrev pub WasHeld : Result Worked ServerFault → Type 0
-WasHeld (Ok worked.Busy) = ⊥
-WasHeld (Ok worked.Gone) = Unit {0}
-WasHeld (Ok worked.Ended) = Unit {0}
-WasHeld (Ok worked.Again) = Unit {0}
-WasHeld (Ok worked.Quiet) = Unit {0}
-WasHeld (Err fault) = Unit {0}
-
-pub again_was_held : (r : Result Worked ServerFault) → IfOk r (λ (w : Worked). w ≡ worked.Again) → WasHeld r
-again_was_held (Ok w) is = subst (λ (v : Worked). WasHeld (Ok v)) (sym is) tt
-again_was_held (Err fault) is = tt
-
-change_after : (x y z : Account) (r : Result Worked ServerFault) → WasHeld r → Rose 0 0 x y → TurnChange y r z → TurnChange x r z
-change_after x y z (Ok worked.Busy) held rose change = absurd held
-change_after x y z (Ok worked.Gone) held rose change = let same : z.posted ≡ y.posted = change in let posted = rose.posted in omega arith
-change_after x y z (Ok worked.Ended) held rose change =
-    let posted = rose.posted in
-    let minted = rose.minted in
-    let posts : z.posted ≡ y.posted = omega (arith, change.posted) in
-    let mints : z.minted ≡ y.minted = omega (arith, change.minted) in
-    record { posted = omega arith; minted = omega arith }
-change_after x y z (Ok worked.Again) held rose change =
-    let posted = rose.posted in
-    let minted = rose.minted in
-    let posts = change.posted in
-    let mints = change.minted in
-    record { posted = omega arith; minted = omega arith }
-change_after x y z (Ok worked.Quiet) held rose change = let same : z.posted ≡ y.posted = change in let posted = rose.posted in omega arith
-change_after x y z (Err fault) held rose change = let same : z.posted ≡ y.posted = change in let posted = rose.posted in omega arith
-
-pub rose_same : (x : Account) → Rose 0 0 x x
-rose_same x = record { posted = omega arith; minted = omega arith }
-
-pub tickets_after : (t : Ticket) (a b c : Own) → Rose 0 0 (account_at a.seat t.slot) (account_at b.seat t.slot) → tickets_out b ≡ tickets_out a → TicketsKept t b c → TicketsKept t a c
-tickets_after t a b c rose same (inl none) =
-    let before = rose.minted in
-    let then = none.minted in
-    inl (record { minted = omega arith; tickets = none.tickets ∙ same })
-tickets_after t a b c rose same (inr one) =
-    let before = rose.minted in
-    let then = one.minted in
-    inr (record { minted = omega arith; kept = one.kept; tickets = subst (λ (ts : List Ticket). Inserted t ts (tickets_out c)) same one.tickets })
+-- the same tickets were to be put before
+tickets_after : (t : Ticket) (minted : ℕ) (a b c : Own) → tickets_out b ≡ tickets_out a → TicketsKept t minted b c → TicketsKept t minted a c
+tickets_after t zero a b c same kept = kept ∙ same
+tickets_after t (suc n) a b c same put = record { kept = put.kept; tickets = subst (λ (ts : List Ticket). Inserted t ts (tickets_out c)) same put.tickets }
 
 pub slots_after : (t : Ticket) (r : Result Worked ServerFault) (a b c : Own) → slots_out b ≡ slots_out a → SlotsKept t r b c → SlotsKept t r a c
 slots_after t (Ok worked.Busy) a b c same kept = kept ∙ same
@@ -78,24 +48,114 @@ slots_after t (Ok worked.Again) a b c same kept = kept ∙ same
 slots_after t (Ok worked.Quiet) a b c same kept = kept ∙ same
 slots_after t (Err fault) a b c same kept = kept ∙ same
 
--- the connection of the ticket was run, and then the turn came to its end
-ended_after : (t : Ticket) (r : Result Worked ServerFault) (a b c : Own) → WasHeld r → OnlyAt t.slot a.seat b.seat
-    → Rose 0 0 (account_at a.seat t.slot) (account_at b.seat t.slot) → tickets_out b ≡ tickets_out a → slots_out b ≡ slots_out a
-    → TookNothing a b → TurnDone t r b c → TurnDone t r a c
-ended_after t r a b c held only rose tickets slots took done = record {
-  idle = done.idle;
-  only = record { table = done.only.table ∙ only.table; others = λ other ne. done.only.others other ne ∙ only.others other ne };
-  change = change_after (account_at a.seat t.slot) (account_at b.seat t.slot) (account_at c.seat t.slot) r held rose done.change;
-  tickets = tickets_after t a b c rose tickets done.tickets;
+-- some exchanges that made no ticket came before
+pub done_after : (t : Ticket) (es fs : List Exchange) (r : Result Worked ServerFault) (a b c : Own) → Adds t.slot es a.seat b.seat → minted_by es ≡ 0 → tickets_out b ≡ tickets_out a → slots_out b ≡ slots_out a
+    → TookNothing a b → TurnDone t fs r b c → TurnDone t (es ++ fs) r a c
+done_after t es fs r a b c adds none tickets slots took done = record {
+  seat = adds_both t.slot es fs a.seat b.seat c.seat adds done.seat;
+  tickets = subst (λ (n : ℕ). TicketsKept t n a c) (let both = minted_both es fs in omega arith) (tickets_after t (minted_by fs) a b c tickets done.tickets);
   slots = slots_after t r a b c slots done.slots;
   took = record { tickets = done.took.tickets ∙ took.tickets; slots = done.took.slots ∙ took.slots };
 }
 
-pub turn_after : {a b c : Own} {s t : Ticket} {r : Result Worked ServerFault} → TurnDone s r b c → s ≡ t → WasHeld r → OnlyAt t.slot a.seat b.seat
-    → Rose 0 0 (account_at a.seat t.slot) (account_at b.seat t.slot) → tickets_out b ≡ tickets_out a → slots_out b ≡ slots_out a
-    → TookNothing a b → TurnDone t r a c
-turn_after {a} {b} {c} {s} {t} {r} done same held only rose tickets slots took =
-    ended_after t r a b c held only rose tickets slots took (subst (λ (u : Ticket). TurnDone u r b c) same done)
+take_first : (r : Result Worked ServerFault) (notes : ℕ) (woke : Bool) → WasHeld r → Take notes ∷ drop 2 (program r 0 0 woke) ≡ drop 1 (program r 0 notes woke)
+take_first (Ok worked.Busy) notes woke held = absurd held
+take_first (Ok worked.Gone) notes woke held = refl
+take_first (Ok worked.Ended) notes woke held = refl
+take_first (Ok worked.Again) notes woke held = refl
+take_first (Ok worked.Quiet) notes woke held = refl
+take_first (Err fault) notes woke held = refl
+
+claim_first : (r : Result Worked ServerFault) (found notes : ℕ) (woke : Bool) → WasHeld r → Held found ∷ drop 1 (program r 0 notes woke) ≡ program r found notes woke
+claim_first (Ok worked.Busy) found notes woke held = absurd held
+claim_first (Ok worked.Gone) found notes woke held = refl
+claim_first (Ok worked.Ended) found notes woke held = refl
+claim_first (Ok worked.Again) found notes woke held = refl
+claim_first (Ok worked.Quiet) found notes woke held = refl
+claim_first (Err fault) found notes woke held = refl
+
+-- the notes were taken, and then the turn came to its end
+pub taken_then : (t : Ticket) (r : Result Worked ServerFault) (notes : ℕ) (a b c : Own) → Adds t.slot (Take notes ∷ []) a.seat b.seat → tickets_out b ≡ tickets_out a → slots_out b ≡ slots_out a
+    → TookNothing a b → TurnEnd t r b c → ClaimedTurn t r a c
+taken_then t r notes a b c adds tickets slots took end = record {
+  noted = notes;
+  woke = end.woke;
+  held = end.held;
+  done = subst (λ (es : List Exchange). TurnDone t es r a c) (take_first r notes end.woke end.held)
+      (done_after t (Take notes ∷ []) (drop 2 (program r 0 0 end.woke)) r a b c adds refl tickets slots took end.done);
+}
+
+pub played_then : {a b c : Own} {s t : Ticket} {r : Result Worked ServerFault} {notes : ℕ} → TurnEnd s r b c → s ≡ t → Adds t.slot (Take notes ∷ []) a.seat b.seat → tickets_out b ≡ tickets_out a → slots_out b ≡ slots_out a
+    → TookNothing a b → ClaimedTurn t r a c
+played_then {a} {b} {c} {s} {t} {r} {notes} end same adds tickets slots took =
+    taken_then t r notes a b c adds tickets slots took (subst (λ (u : Ticket). TurnEnd u r b c) same end)
+
+-- the slot was claimed, and then the turn went on
+pub claimed_then : (words : ℕ) (t : Ticket) (r : Result Worked ServerFault) (found : ℕ) (a b c : Own) → t.slot < words → Adds t.slot (Held found ∷ []) a.seat b.seat → tickets_out b ≡ tickets_out a → slots_out b ≡ slots_out a
+    → TookNothing a b → ClaimedTurn t r b c → TurnMade words t r a c
+claimed_then words t r found a b c within adds tickets slots took claimed = record {
+  exchanges = Held found ∷ drop 1 (program r 0 claimed.noted claimed.woke);
+  are = record {
+    found = found;
+    noted = claimed.noted;
+    woke = claimed.woke;
+    inside = λ lt. claim_first r found claimed.noted claimed.woke claimed.held;
+    outside = λ past. absurd (omega arith);
+  };
+  done = done_after t (Held found ∷ []) (drop 1 (program r 0 claimed.noted claimed.woke)) r a b c adds refl tickets slots took claimed.done;
+  outside = λ past. absurd (omega arith);
+}
+
+-- the slot was held by another
+pub busy_made : (words : ℕ) (t : Ticket) (a b : Own) → t.slot < words → Adds t.slot (Busy ∷ []) a.seat b.seat → tickets_out b ≡ tickets_out a → slots_out b ≡ slots_out a → TookNothing a b → TurnMade words t (Ok worked.Busy) a b
+busy_made words t a b within adds tickets slots took = record {
+  exchanges = Busy ∷ [];
+  are = record { found = 0; noted = 0; woke = false; inside = λ lt. refl; outside = λ past. absurd (omega arith) };
+  done = record { seat = adds; tickets = tickets; slots = slots; took = took };
+  outside = λ past. absurd (omega arith);
+}
+
+-- the claim words lack the slot
+pub none_made : (words : ℕ) (t : Ticket) (a : Own) → words ≤ t.slot → TurnMade words t (Ok worked.Gone) a a
+none_made words t a past = record {
+  exchanges = [];
+  are = record { found = 0; noted = 0; woke = false; inside = λ lt. absurd (omega arith); outside = λ gone. (refl, refl) };
+  done = record { seat = adds_none t.slot a.seat; tickets = refl; slots = refl; took = record { tickets = refl; slots = refl } };
+  outside = λ gone. refl;
+}
+
+-- nothing but what is in hand was put before the turn
+pub made_after : (words : ℕ) (t : Ticket) (r : Result Worked ServerFault) (a b c : Own) → b.seat ≡ a.seat → tickets_out b ≡ tickets_out a → slots_out b ≡ slots_out a → TookNothing a b → TurnMade words t r b c → TurnMade words t r a c
+made_after words t r a b c same tickets slots took made = record {
+  exchanges = made.exchanges;
+  are = made.are;
+  done = record {
+    seat = subst (λ (s : SeatState). Adds t.slot made.exchanges s c.seat) same made.done.seat;
+    tickets = tickets_after t (minted_by made.exchanges) a b c tickets made.done.tickets;
+    slots = slots_after t r a b c slots made.done.slots;
+    took = record { tickets = made.done.took.tickets ∙ took.tickets; slots = made.done.took.slots ∙ took.slots };
+  };
+  outside = λ past. made.outside past ∙ same;
+}
+
+program_lets_go : (r : Result Worked ServerFault) (found noted : ℕ) (woke : Bool) (a : Account) → a.holds ≡ false → (after_all (program r found noted woke) a).holds ≡ false
+program_lets_go (Ok worked.Busy) found noted woke a none = none
+program_lets_go (Ok worked.Gone) found noted woke a none = refl
+program_lets_go (Ok worked.Ended) found noted woke a none = refl
+program_lets_go (Ok worked.Again) found noted woke a none = refl
+program_lets_go (Ok worked.Quiet) found noted woke a none = refl
+program_lets_go (Err fault) found noted woke a none = refl
+
+-- a turn ends with no slot held
+pub made_idle : (words : ℕ) (t : Ticket) (r : Result Worked ServerFault) (a b : Own) → TurnMade words t r a b → HoldsNothing a.seat → HoldsNothing b.seat
+made_idle words t r a b made nothing = by_test (nat_lt t.slot words) refl
+  where
+    by_test : (within : Bool) → nat_lt t.slot words ≡ within → HoldsNothing b.seat
+    by_test true is = holds_nothing_again nothing made.done.seat.only (
+        ap (λ (x : Account). x.holds) (account_after t.slot made.exchanges a.seat b.seat made.done.seat)
+        ∙ ap (λ (es : List Exchange). (after_all es (account_at a.seat t.slot)).holds) (made.are.inside (ltb-true t.slot words is))
+        ∙ program_lets_go r made.are.found made.are.noted made.are.woke (account_at a.seat t.slot) (nothing.nowhere t.slot))
+    by_test false is = subst (λ (s : SeatState). HoldsNothing s) (sym (made.outside (ltb-false t.slot words is))) nothing
 
 -- what the exit of a `?` returns
 pub err_is : {T E : Type 0} (r : Result T E) (e : E) → IsErrAnd r (λ y. y ≡ e) → r ≡ Err e
@@ -174,6 +234,74 @@ not_ended w b test is same =
     let tested : b ≡ true = test ∙ ap (λ (v : Worked). sameb the_type v worked.Ended) ended in
     cc
 
+-- the slot stays held, and is worked on still
+pub still_working : (claims : TableId) (slot : ℕ) (es : List Exchange) (a b : Own) → AtWork claims slot a → Adds slot es a.seat b.seat → (after_all es (account_at a.seat slot)).holds ≡ (account_at a.seat slot).holds → b.hand ≡ a.hand → AtWork claims slot b
+still_working claims slot es a b work adds same hand = record {
+  same = adds.only.table ∙ work.same;
+  inside = work.inside;
+  holder = holds_still slot es a.seat b.seat adds work.holder same;
+  room = subst (λ (h : HandState). HasRoom h) (sym hand) work.room;
+}
+
+-- the slot of a seat that held nothing was claimed
+pub work_begins : (claims : TableId) (slot found : ℕ) (a b : Own) → a.seat.table ≡ claims → HoldsNothing a.seat → HasRoom a.hand → slot < claims.words → Adds slot (Held found ∷ []) a.seat b.seat → b.hand ≡ a.hand → AtWork claims slot b
+work_begins claims slot found a b same nothing room inside adds hand = record {
+  same = adds.only.table ∙ same;
+  inside = inside;
+  holder = holds_from slot (Held found ∷ []) a.seat b.seat adds nothing refl;
+  room = subst (λ (h : HandState). HasRoom h) (sym hand) room;
+}
+
+-- the slot was retired, and given back
+pub end_of : (t : Ticket) (a b : Own) → Adds t.slot (Retire ∷ []) a.seat b.seat → SlotGiven t a b → b.free.history.taken ≡ a.free.history.taken → b.ready ≡ a.ready → b.hand.tickets ≡ a.hand.tickets → TurnEnd t (Ok worked.Ended) a b
+end_of t a b adds given took ready tickets = record {
+  woke = false;
+  held = tt;
+  done = record {
+    seat = adds;
+    tickets = ap (λ (q : EndState Ticket). outgoing q.history b.hand.tickets) ready ∙ ap (λ (ts : List Ticket). outgoing a.ready.history ts) tickets;
+    slots = given;
+    took = record { tickets = ap (λ (q : EndState Ticket). q.history.taken) ready; slots = took };
+  };
+}
+
+-- so it is behind a post
+pub still_posting : (claims : TableId) (slot : ℕ) (r : Posted) (a b : Own) → AtWork claims slot a → PostChange slot a.seat r b.seat → b.hand ≡ a.hand → AtWork claims slot b
+still_posting claims slot r a b work change hand = record {
+  same = (only_at_post slot a.seat b.seat r change).table ∙ work.same;
+  inside = work.inside;
+  holder = holds_behind_post slot r a.seat b.seat work.holder change;
+  room = subst (λ (h : HandState). HasRoom h) (sym hand) work.room;
+}
+
+-- the release of who has just posted makes the ticket
+pub due_again : (t : Ticket) (a b c : Own) → Adds t.slot (Post false ∷ []) a.seat b.seat → Holds a.seat t.slot → tickets_out b ≡ tickets_out a → slots_out b ≡ slots_out a → TookNothing a b → LeftSlot t b c → TurnEnd t (Ok worked.Again) a c
+due_again t a b c adds holds tickets slots took left =
+    let due = woke_behind_post t.slot a.seat b.seat left.woke adds holds left.quiet in
+    let done = done_after t (Post false ∷ []) (Release left.woke ∷ []) (Ok worked.Quiet) a b c adds refl tickets slots took left.done in
+    let woken : TurnDone t (Post false ∷ Release true ∷ []) (Ok worked.Quiet) a c = subst (λ (w : Bool). TurnDone t (Post false ∷ Release w ∷ []) (Ok worked.Quiet) a c) due done in
+    record { woke = true; held = tt; done = record { seat = woken.seat; tickets = woken.tickets; slots = woken.slots; took = woken.took } }
+
+pub posted_again : (t : Ticket) (r : Posted) (a b c : Own) → (r ≡ posted.Wake) ⊎ (r ≡ posted.Quiet) → PostChange t.slot a.seat r b.seat → Holds a.seat t.slot → tickets_out b ≡ tickets_out a → slots_out b ≡ slots_out a → TookNothing a b
+    → LeftSlot t b c → TurnEnd t (Ok worked.Again) a c
+posted_again t posted.Wake a b c is change holds tickets slots took left = absurd (false≢true (sym change.1 ∙ holds))
+posted_again t posted.Quiet a b c is change holds tickets slots took left = due_again t a b c change holds tickets slots took left
+posted_again t posted.Worn a b c (inl is) change holds tickets slots took left = cc
+posted_again t posted.Worn a b c (inr is) change holds tickets slots took left = cc
+
+-- the seat was worn, and the slot was only released
+pub left_worn : (t : Ticket) (fault : ServerFault) (a b c : Own) → b.seat ≡ a.seat → tickets_out b ≡ tickets_out a → slots_out b ≡ slots_out a → TookNothing a b → LeftSlot t b c → TurnEnd t (Err fault) a c
+left_worn t fault a b c same tickets slots took left = record {
+  woke = left.woke;
+  held = tt;
+  done = record {
+    seat = subst (λ (s : SeatState). Adds t.slot (Release left.woke ∷ []) s c.seat) same left.done.seat;
+    tickets = tickets_after t (minted_by (Release left.woke ∷ [])) a b c tickets left.done.tickets;
+    slots = left.done.slots ∙ slots;
+    took = record { tickets = left.done.took.tickets ∙ took.tickets; slots = left.done.took.slots ∙ took.slots };
+  };
+}
+
 -- while its connection is played the slot stays held
 pub still_at_work : (claims : TableId) (s t : Ticket) (a b : Own) → s ≡ t → AtWork claims t.slot a → HoldsOnly t.slot b.seat → OnlyAt t.slot a.seat b.seat → b.hand ≡ a.hand → AtWork claims s.slot b
 still_at_work claims s t a b same work holder only hand = subst (λ (u : Ticket). AtWork claims u.slot b) (sym same) (record {
@@ -185,9 +313,6 @@ still_at_work claims s t a b same work holder only hand = subst (λ (u : Ticket)
 
 pub same_either : {A : Type 0} (x y a b : A) → x ≡ y → (x ≡ a) ⊎ (x ≡ b) → (y ≡ a) ⊎ (y ≡ b)
 same_either x y a b same is = subst (λ z. (z ≡ a) ⊎ (z ≡ b)) same is
-
-pub two_steps : (a b c : ℕ) → b ≡ a + 1 → c ≡ b + 1 → c ≡ a + 2
-two_steps a b c first second = omega arith
 
 -- So many of these were looked at, and so many have stayed. Whatever becomes of the rest, it is what becomes of all
 pub record SharedSoFar (all : List Ticket) (marks : List ℕ) (queue : EndState Ticket) (done stayed : ℕ) (hand : List Ticket) (heavy : List ℕ) (now : EndState Ticket) : Type 0 where

@@ -1,7 +1,9 @@
 -- What a worker's turn does to what its thread owns, by its answer. Part of the promises.
-use Rattle.std.specs.Prelude.{◌≡◌, ◌⊎◌, ℕ, ◌+◌, ◌-◌, ◌<◌, ◌≤◌, nat_lt, if◌then◌else◌, Option, Some, None, Result, Ok, Err, List, [], length, slice_set}
-use Rattle.claims.specs.declared.view.Account.{Account}
-use Rattle.claims.specs.Seats.{TableId, account_at, HoldsNothing, OnlyAt}
+use Rattle.std.specs.Prelude.{◌≡◌, ◌⊎◌, ℕ, zero, suc, ◌<◌, ◌≤◌, Bool, true, false, nat_lt, if◌then◌else◌, Option, Some, None, Result, Ok, Err, List, [], ◌∷◌, drop, length, slice_set}
+use Rattle.claims.specs.declared.view.Exchange.{Exchange}
+use Rattle.claims.specs.declared.view.Exchange.TheVariants.{Post, Busy, Held, Take, Release, Retire}
+use Rattle.claims.specs.Views.{minted_by}
+use Rattle.claims.specs.Seats.{TableId, account_at, Adds}
 use Rattle.ready.specs.declared.ticket.Ticket.{Ticket}
 use Rattle.relay_core.specs.Pairs.{PairState, noted}
 use Rattle.relay_log.specs.declared.faults.ServerFault.{ServerFault}
@@ -9,32 +11,27 @@ use Rattle.dispatch.specs.declared.shared.Own.{Own}
 use Rattle.turns.specs.declared.worker.Worked.{Worked}
 use Rattle.turns.specs.declared.worker.Worked.TheVariants as worked
 use Rattle.dispatch.specs.Hands.{HasRoom}
-use Rattle.dispatch.specs.Posts.{Rose, HoldsOnly}
+use Rattle.dispatch.specs.Posts.{HoldsOnly}
 use Rattle.dispatch.specs.Outgoing.{Inserted, KeepsTicket, KeepsSlot, TookNothing, tickets_out, slots_out, without_first}
 
--- Again posts the one note that keeps the connection due, and its release makes the one ticket for it. Quiet posts nothing, nor does
--- Gone. A connection that ended leaves no ticket, since its slot is free. Busy leaves the account as it was
-abbrev pub TurnChange : Account → Result Worked ServerFault → Account → Type 0
-TurnChange old (Ok worked.Busy) new = new ≡ old
-TurnChange old (Ok worked.Gone) new = new.posted ≡ old.posted
-TurnChange old (Ok worked.Ended) new = Rose 0 0 old new
-TurnChange old (Ok worked.Again) new = Rose 1 1 old new
-TurnChange old (Ok worked.Quiet) new = new.posted ≡ old.posted
-TurnChange old (Err fault) new = new.posted ≡ old.posted
+-- the slot was held
+abbrev pub WasHeld : Result Worked ServerFault → Type 0
+WasHeld (Ok worked.Busy) = ⊥
+WasHeld (Ok worked.Gone) = Unit {0}
+WasHeld (Ok worked.Ended) = Unit {0}
+WasHeld (Ok worked.Again) = Unit {0}
+WasHeld (Ok worked.Quiet) = Unit {0}
+WasHeld (Err fault) = Unit {0}
 
--- The exchanges that a turn makes, by its answer: Busy is a claim alone. Any other turn claims, takes, and releases or retires its
--- slot, and Again posts as well. At a post that finds the seat worn no exchange is made
-abbrev pub exchanges : Result Worked ServerFault → ℕ
-exchanges (Ok worked.Busy) = 1
-exchanges (Ok worked.Gone) = 3
-exchanges (Ok worked.Ended) = 3
-exchanges (Ok worked.Again) = 4
-exchanges (Ok worked.Quiet) = 3
-exchanges (Err fault) = 3
-
--- the exchanges that are left once the slot is claimed
-abbrev pub exchanges_left : Result Worked ServerFault → ℕ
-exchanges_left result = exchanges result - 1
+-- The exchanges of a turn at its ticket's slot, by its answer, where its claim found so many notes, its take so many, and its release
+-- answered Wake or not. A post that finds the seat worn makes none
+abbrev pub program : Result Worked ServerFault → ℕ → ℕ → Bool → List Exchange
+program (Ok worked.Busy) found noted woke = Busy ∷ []
+program (Ok worked.Gone) found noted woke = Held found ∷ Take noted ∷ Release woke ∷ []
+program (Ok worked.Quiet) found noted woke = Held found ∷ Take noted ∷ Release woke ∷ []
+program (Ok worked.Again) found noted woke = Held found ∷ Take noted ∷ Post false ∷ Release true ∷ []
+program (Ok worked.Ended) found noted woke = Held found ∷ Take noted ∷ Retire ∷ []
+program (Err fault) found noted woke = Held found ∷ Take noted ∷ Release woke ∷ []
 
 -- the thread holds this slot of these claim words and no other, and its hand has room
 pub record AtWork (claims : TableId) (slot : ℕ) (own : Own) : Type 0 where
@@ -43,20 +40,15 @@ pub record AtWork (claims : TableId) (slot : ℕ) (own : Own) : Type 0 where
   pub holder : HoldsOnly slot own.seat
   pub room : HasRoom own.hand
 
--- no ticket was minted at the slot, and the tickets that were to be put are the same
-pub record NoneMinted (slot : ℕ) (old new : Own) : Type 0 where
-  pub minted : (account_at new.seat slot).minted ≡ (account_at old.seat slot).minted
-  pub tickets : tickets_out new ≡ tickets_out old
-
--- one was minted at the ticket's slot. It is put, or it is the last in hand, and beside it the tickets that were to be put are the same
-pub record OneMinted (ticket : Ticket) (old new : Own) : Type 0 where
-  pub minted : (account_at new.seat ticket.slot).minted ≡ (account_at old.seat ticket.slot).minted + 1
+-- the ticket is put, or it is the last in hand, and beside it the tickets that were to be put are the same
+pub record TicketPut (ticket : Ticket) (old new : Own) : Type 0 where
   pub kept : KeepsTicket ticket new.ready.history new.hand
   pub tickets : Inserted ticket (tickets_out old) (tickets_out new)
 
--- for each mint at the slot there is one more of the ticket, of which there is one at most
-abbrev pub TicketsKept : Ticket → Own → Own → Type 0
-TicketsKept ticket old new = NoneMinted ticket.slot old new ⊎ OneMinted ticket old new
+-- the ticket was put if exchanges made it, which they do once at most
+abbrev pub TicketsKept : Ticket → ℕ → Own → Own → Type 0
+TicketsKept ticket zero old new = tickets_out new ≡ tickets_out old
+TicketsKept ticket (suc n) old new = TicketPut ticket old new
 
 -- the ticket's slot was given, unless its generation is the last
 pub record SlotGiven (ticket : Ticket) (old new : Own) : Type 0 where
@@ -73,23 +65,47 @@ SlotsKept ticket (Ok worked.Again) old new = slots_out new ≡ slots_out old
 SlotsKept ticket (Ok worked.Quiet) old new = slots_out new ≡ slots_out old
 SlotsKept ticket (Err fault) old new = slots_out new ≡ slots_out old
 
--- what a turn does to what its thread owns, but for the exchanges that it made
-pub record TurnDone (ticket : Ticket) (result : Result Worked ServerFault) (old new : Own) : Type 0 where
-  pub idle : HoldsNothing new.seat
-  pub only : OnlyAt ticket.slot old.seat new.seat
-  pub change : TurnChange (account_at old.seat ticket.slot) result (account_at new.seat ticket.slot)
-  pub tickets : TicketsKept ticket old new
+-- What the exchanges of a turn do, with all that its thread owns: they are all that the seat made, for each that answered Wake the
+-- ticket was put, and the slot is given where the connection ended
+pub record TurnDone (ticket : Ticket) (exchanges : List Exchange) (result : Result Worked ServerFault) (old new : Own) : Type 0 where
+  pub seat : Adds ticket.slot exchanges old.seat new.seat
+  pub tickets : TicketsKept ticket (minted_by exchanges) old new
   pub slots : SlotsKept ticket result old new
   pub took : TookNothing old new
 
--- What a turn does to what its thread owns, with the exchanges that it makes. Claim words that lack the slot are not touched, and the
--- answer is Gone then
+-- a turn once its slot is claimed
+pub record ClaimedTurn (ticket : Ticket) (result : Result Worked ServerFault) (old new : Own) : Type 0 where
+  pub noted : ℕ
+  pub woke : Bool
+  pub held : WasHeld result
+  pub done : TurnDone ticket (drop 1 (program result 0 noted woke)) result old new
+
+-- once its notes are taken, too
+pub record TurnEnd (ticket : Ticket) (result : Result Worked ServerFault) (old new : Own) : Type 0 where
+  pub woke : Bool
+  pub held : WasHeld result
+  pub done : TurnDone ticket (drop 2 (program result 0 0 woke)) result old new
+
+-- a release alone, which answers Quiet only where the seat knew of no note
+pub record LeftSlot (ticket : Ticket) (old new : Own) : Type 0 where
+  pub woke : Bool
+  pub quiet : woke ≡ false → (account_at old.seat ticket.slot).known ≡ 0
+  pub done : TurnDone ticket (Release woke ∷ []) (Ok worked.Quiet) old new
+
+-- the exchanges of a turn with a ticket of this slot. Claim words that lack the slot are not touched, and the answer is Gone then
+pub record IsTurnOf (words slot : ℕ) (result : Result Worked ServerFault) (exchanges : List Exchange) : Type 0 where
+  pub found : ℕ
+  pub noted : ℕ
+  pub woke : Bool
+  pub inside : slot < words → exchanges ≡ program result found noted woke
+  pub outside : words ≤ slot → (exchanges ≡ []) × (result ≡ Ok worked.Gone)
+
+-- what a turn does to what its thread owns
 pub record TurnMade (words : ℕ) (ticket : Ticket) (result : Result Worked ServerFault) (old new : Own) : Type 0 where
-  pub change : TurnChange (account_at old.seat ticket.slot) result (account_at new.seat ticket.slot)
-  pub exchanges : ticket.slot < words → new.seat.steps ≡ old.seat.steps + exchanges result
-  pub tickets : TicketsKept ticket old new
-  pub slots : SlotsKept ticket result old new
-  pub outside : words ≤ ticket.slot → (result ≡ Ok worked.Gone) × (new.seat ≡ old.seat)
+  pub exchanges : List Exchange
+  pub are : IsTurnOf words ticket.slot result exchanges
+  pub done : TurnDone ticket exchanges result old new
+  pub outside : words ≤ ticket.slot → new.seat ≡ old.seat
 
 -- A poller's own turn with the oldest ticket in hand, by its answer: where it answers None nothing changes, and else it is a turn with
 -- that ticket, which is no longer in hand

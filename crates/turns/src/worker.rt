@@ -1,12 +1,13 @@
 //! One turn of a worker: it claims a ticket's slot, takes its connection out, gives it the notes, runs it, and puts it
 //! back.
-ghost use Rattle.std.specs.Prelude.{◌≡◌, ◌≢◌, ◌⊎◌, ◌+◌, ◌-◌, ◌<◌, ◌≤◌, length, Ok, IfOk, IfErr};
-ghost use Rattle.claims.specs.Seats.{account_at, HoldsNothing, OnlyAt};
+ghost use Rattle.std.specs.Prelude.{◌≡◌, ◌≢◌, ◌⊎◌, ℕ, ◌<◌, ◌≤◌, [], ◌∷◌, length, Ok, IfOk, IfErr};
+ghost use Rattle.claims.specs.declared.view.Exchange.TheVariants as exchange;
+ghost use Rattle.claims.specs.Seats.{Adds, HoldsNothing, OnlyAt};
 ghost use Rattle.engine.specs.Turns.{outcome_of, IsServed, IsTurn};
 ghost use Rattle.dispatch.specs.Hands.{HasRoom};
 ghost use Rattle.dispatch.specs.Outgoing.{KeepsSlot, TookNothing};
-ghost use Rattle.dispatch.specs.Posts.{Rose, HoldsOnly, OnlyWorn, Released as ReleasedHere};
-ghost use Rattle.turns.specs.Turns.{TurnChange, exchanges, exchanges_left, AtWork, TicketsKept, SlotsKept, TurnDone, noted_by};
+ghost use Rattle.dispatch.specs.Posts.{HoldsOnly, OnlyWorn};
+ghost use Rattle.turns.specs.Turns.{AtWork, ClaimedTurn, TurnEnd, LeftSlot, TurnMade, noted_by};
 
 use crate::giving::{give_back, put_ticket};
 use crate::gone::log_gone;
@@ -64,11 +65,7 @@ pub fn worker_turn<F: Front, G: Gate, C: Clock, R: Wait + Log>(
     requires room { HasRoom own.old.hand }
     ensures idle { HoldsNothing own.new.seat }
     ensures only { OnlyAt ticket.slot own.old.seat own.new.seat }
-    ensures change { TurnChange (account_at own.old.seat ticket.slot) result (account_at own.new.seat ticket.slot) }
-    ensures exchanges { ticket.slot < shared.now.claims.words → own.new.seat.steps ≡ own.old.seat.steps + exchanges result }
-    ensures tickets { TicketsKept ticket own.old own.new }
-    ensures slots { SlotsKept ticket result own.old own.new }
-    ensures outside { shared.now.claims.words ≤ ticket.slot → (result ≡ Ok Worked.Gone) × (own.new.seat ≡ own.old.seat) }
+    ensures made { TurnMade shared.now.claims.words ticket result own.old own.new }
     ensures took { TookNothing own.old own.new }
     ensures worn { IfErr result (λ fault. OnlyWorn fault own.new.seat) }
     ensures woken { result ≡ Ok Worked.Ended → F.woke shared.now.waker ticket.slot }
@@ -101,11 +98,7 @@ pub(crate) fn turn_of<F: Front, G: Gate, R: Wait + Log>(
     requires budget { (1 ≤ terms.budget) × (terms.budget ≤ 1024) }
     ensures idle { HoldsNothing own.new.seat }
     ensures only { OnlyAt ticket.slot own.old.seat own.new.seat }
-    ensures change { TurnChange (account_at own.old.seat ticket.slot) result (account_at own.new.seat ticket.slot) }
-    ensures exchanges { ticket.slot < shared.now.claims.words → own.new.seat.steps ≡ own.old.seat.steps + exchanges result }
-    ensures tickets { TicketsKept ticket own.old own.new }
-    ensures slots { SlotsKept ticket result own.old own.new }
-    ensures outside { shared.now.claims.words ≤ ticket.slot → (result ≡ Ok Worked.Gone) × (own.new.seat ≡ own.old.seat) }
+    ensures made { TurnMade shared.now.claims.words ticket result own.old own.new }
     ensures took { TookNothing own.old own.new }
     ensures worn { IfErr result (λ fault. OnlyWorn fault own.new.seat) }
 {
@@ -129,8 +122,7 @@ fn claimed<F: Front, G: Gate, R: Wait + Log>(
 ) -> Result<Worked, ServerFault>
     requires work { AtWork shared.now.claims ticket.slot own.old }
     requires budget { (1 ≤ terms.budget) × (terms.budget ≤ 1024) }
-    ensures done { TurnDone ticket result own.old own.new }
-    ensures exchanges { own.new.seat.steps ≡ own.old.seat.steps + exchanges_left result }
+    ensures done { ClaimedTurn ticket result own.old own.new }
     ensures worn { IfErr result (λ fault. OnlyWorn fault own.new.seat) }
 {
     match take_out(rt, shared, own, ticket) {
@@ -153,8 +145,7 @@ fn claimed<F: Front, G: Gate, R: Wait + Log>(
 fn give_up<F: Front, R: Wait>(rt: &R, shared: &Shared<F>, own: &mut Own, ticket: Ticket, back: Back)
     requires work { AtWork shared.now.claims ticket.slot own.old }
     requires back { back ≡ ticket.slot }
-    ensures done { TurnDone ticket (Ok Worked.Gone) own.old own.new }
-    ensures exchanges { own.new.seat.steps ≡ own.old.seat.steps + 2 }
+    ensures done { ClaimedTurn ticket (Ok Worked.Gone) own.old own.new }
 {
     shared.claims.take(&mut own.seat, ticket.slot);
     leave(rt, shared, own, ticket, back);
@@ -172,8 +163,7 @@ fn run<F: Front, G: Gate, R: Wait + Log>(
     requires work { AtWork shared.now.claims visit.ticket.slot own.old }
     requires own { visit.berth.pair.generation ≡ visit.ticket.generation }
     requires budget { (1 ≤ terms.budget) × (terms.budget ≤ 1024) }
-    ensures done { TurnDone visit.ticket result own.old own.new }
-    ensures exchanges { own.new.seat.steps ≡ own.old.seat.steps + exchanges_left result }
+    ensures done { ClaimedTurn visit.ticket result own.old own.new }
     ensures worn { IfErr result (λ fault. OnlyWorn fault own.new.seat) }
 {
     match play(
@@ -212,12 +202,9 @@ fn play<F: Front, G: Gate>(
     requires inside { visit.old.ticket.slot < shared.now.claims.words }
     requires holder { HoldsOnly visit.old.ticket.slot seat.old }
     ensures holder { HoldsOnly visit.old.ticket.slot seat.new }
-    ensures only { OnlyAt visit.old.ticket.slot seat.old seat.new }
-    ensures account { Rose 0 0 (account_at seat.old visit.old.ticket.slot) (account_at seat.new visit.old.ticket.slot) }
-    ensures exchanges { seat.new.steps ≡ seat.old.steps + 1 }
     ensures ticket { visit.new.ticket ≡ visit.old.ticket }
     ensures outcome { result ≡ outcome_of visit.new.berth.pair }
-    ensures run { IsTurn terms.budget terms.moment.second terms.moment.limit (noted_by ((account_at seat.new visit.old.ticket.slot).taken - (account_at seat.old visit.old.ticket.slot).taken) visit.old.berth.pair) visit.new.berth.pair (IsServed F.Client.told F.Client.does terms.moment.second visit.old.berth.client visit.new.berth.client) (IsServed F.Target.told F.Target.does terms.moment.second visit.old.berth.target visit.new.berth.target) }
+    ensures played { (notes : ℕ) × Adds visit.old.ticket.slot (exchange.Take notes ∷ []) seat.old seat.new × IsTurn terms.budget terms.moment.second terms.moment.limit (noted_by notes visit.old.berth.pair) visit.new.berth.pair (IsServed F.Client.told F.Client.does terms.moment.second visit.old.berth.client visit.new.berth.client) (IsServed F.Target.told F.Target.does terms.moment.second visit.old.berth.target visit.new.berth.target) }
 {
     let slot = visit.ticket().slot;
     let notes = shared.claims.take(seat, slot);
@@ -236,9 +223,8 @@ fn again<F: Front, R: Wait>(
 ) -> Result<Worked, ServerFault>
     requires work { AtWork shared.now.claims visit.ticket.slot own.old }
     requires due { outcome_of visit.berth.pair ≡ Turn.Again }
-    ensures done { TurnDone visit.ticket result own.old own.new }
+    ensures done { TurnEnd visit.ticket result own.old own.new }
     ensures answer { IfOk result (λ worked. worked ≡ Worked.Again) }
-    ensures exchanges { own.new.seat.steps + 1 ≡ own.old.seat.steps + exchanges_left result }
     ensures worn { IfErr result (λ fault. OnlyWorn fault own.new.seat) }
 {
     let ticket = visit.ticket();
@@ -256,9 +242,8 @@ fn stay_due<F: Front, R: Wait>(
 ) -> Result<Worked, ServerFault>
     requires work { AtWork shared.now.claims ticket.slot own.old }
     requires back { back ≡ ticket.slot }
-    ensures done { TurnDone ticket result own.old own.new }
+    ensures done { TurnEnd ticket result own.old own.new }
     ensures answer { IfOk result (λ worked. worked ≡ Worked.Again) }
-    ensures exchanges { own.new.seat.steps + 1 ≡ own.old.seat.steps + exchanges_left result }
     ensures worn { IfErr result (λ fault. OnlyWorn fault own.new.seat) }
 {
     // A holder's own post never answers Wake: the release does.
@@ -274,8 +259,7 @@ fn stay_due<F: Front, R: Wait>(
 fn rest<F: Front, R: Wait>(rt: &R, shared: &Shared<F>, own: &mut Own, mut visit: Visit<F>)
     requires work { AtWork shared.now.claims visit.ticket.slot own.old }
     requires quiet { outcome_of visit.berth.pair ≡ Turn.Quiet }
-    ensures done { TurnDone visit.ticket (Ok Worked.Quiet) own.old own.new }
-    ensures exchanges { own.new.seat.steps ≡ own.old.seat.steps + 1 }
+    ensures done { TurnEnd visit.ticket (Ok Worked.Quiet) own.old own.new }
 {
     visit.settle();
     leave_settled(rt, shared, own, visit);
@@ -286,8 +270,7 @@ fn leave_settled<F: Front, R: Wait>(rt: &R, shared: &Shared<F>, own: &mut Own, v
     requires work { AtWork shared.now.claims visit.ticket.slot own.old }
     requires client { F.Client.settled visit.berth.client }
     requires target { F.Target.settled visit.berth.target }
-    ensures done { TurnDone visit.ticket (Ok Worked.Quiet) own.old own.new }
-    ensures exchanges { own.new.seat.steps ≡ own.old.seat.steps + 1 }
+    ensures done { TurnEnd visit.ticket (Ok Worked.Quiet) own.old own.new }
 {
     let ticket = visit.ticket();
     let back = put_in(rt, shared, own, visit);
@@ -298,9 +281,7 @@ fn leave_settled<F: Front, R: Wait>(rt: &R, shared: &Shared<F>, own: &mut Own, v
 fn leave<F: Front, R: Wait>(rt: &R, shared: &Shared<F>, own: &mut Own, ticket: Ticket, back: Back)
     requires work { AtWork shared.now.claims ticket.slot own.old }
     requires back { back ≡ ticket.slot }
-    ensures done { TurnDone ticket (Ok Worked.Quiet) own.old own.new }
-    ensures released { ReleasedHere (account_at own.old.seat ticket.slot) (account_at own.new.seat ticket.slot) }
-    ensures exchanges { own.new.seat.steps ≡ own.old.seat.steps + 1 }
+    ensures left { LeftSlot ticket own.old own.new }
 {
     if shared.claims.release(&mut own.seat, ticket.slot) == Released::Wake {
         put_ticket(rt, own, ticket);
@@ -312,8 +293,7 @@ fn leave<F: Front, R: Wait>(rt: &R, shared: &Shared<F>, own: &mut Own, ticket: T
 fn end<F: Front, R: Wait + Log>(rt: &R, shared: &Shared<F>, own: &mut Own, visit: Visit<F>)
     requires work { AtWork shared.now.claims visit.ticket.slot own.old }
     requires over { (outcome_of visit.berth.pair ≡ Turn.Done) ⊎ (outcome_of visit.berth.pair ≡ Turn.Failed) }
-    ensures done { TurnDone visit.ticket (Ok Worked.Ended) own.old own.new }
-    ensures exchanges { own.new.seat.steps ≡ own.old.seat.steps + 1 }
+    ensures done { TurnEnd visit.ticket (Ok Worked.Ended) own.old own.new }
 {
     let ticket = visit.ticket();
     log_end(rt, visit.pair());

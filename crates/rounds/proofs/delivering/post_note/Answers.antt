@@ -3,8 +3,8 @@ use Rattle.rounds.proofs.delivering.post_note.Goals as goal
 
 pub returns-in-Quiet-clause-posted : goal.returns-in-Quiet-clause-posted
 returns-in-Quiet-clause-posted c =
-    posted_quiet (c.requires.idle.nowhere c.args.ticket.slot) c.in-Quiet.ensures.change
+    posted_quiet c.in-Quiet.ensures.change
 
 pub returns-in-Wake-clause-posted : goal.returns-in-Wake-clause-posted
 returns-in-Wake-clause-posted c =
-    posted_woke (c.requires.idle.nowhere c.args.ticket.slot) c.in-Wake.ensures.change.0 c.keep_ticket.ensures
+    posted_woke c.in-Wake.ensures.change.0 c.keep_ticket.ensures

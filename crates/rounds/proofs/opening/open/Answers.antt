@@ -66,8 +66,8 @@ returns-in-Ok g c =
       between = c.place.ensures.between;
       worn = c.place.ensures.worn;
       counted = placed_counts c.place.result c.args.poller.now c.place.new.poller c.args.own.now.seat c.place.new.own.seat c.args.own.now.hand.slots c.in-Some.slot first
-          (subst (λ (p : PollerState). OnOk c.place.result (IsOpened p c.place.new.poller ⊎ (IsLost p c.place.new.poller × Adds c.in-Some.slot exchange.NotFree c.args.own.now.seat c.place.new.own.seat))) c.in-Ok.ensures.same
-          (subst (λ (slot : ℕ). OnOk c.place.result (IsOpened c.prepare.new.poller c.place.new.poller ⊎ (IsLost c.prepare.new.poller c.place.new.poller × Adds slot exchange.NotFree c.args.own.now.seat c.place.new.own.seat))) here c.place.ensures.counted));
+          (subst (λ (p : PollerState). OnOk c.place.result (IsOpened p c.place.new.poller ⊎ (IsLost p c.place.new.poller × Adds c.in-Some.slot (exchange.NotFree ∷ []) c.args.own.now.seat c.place.new.own.seat))) c.in-Ok.ensures.same
+          (subst (λ (slot : ℕ). OnOk c.place.result (IsOpened c.prepare.new.poller c.place.new.poller ⊎ (IsLost c.prepare.new.poller c.place.new.poller × Adds slot (exchange.NotFree ∷ []) c.args.own.now.seat c.place.new.own.seat))) here c.place.ensures.counted));
       done = on_ok c.place.result
           (opened_there c.args.poller.now c.place.new.poller c.args.own.now c.prepare.new.hand hand c.in-Some.slot first
           c.prepare.new.poller c.place.new.own (record { slot = c.in-Ok.berth.pair.slot; generation = c.in-Ok.berth.pair.generation }) c.in-Ok.ensures.same here)

@@ -1,8 +1,10 @@
-use Rattle.std.proofs.Common.{◌≡◌, ◌∙◌, ℕ, ◌∷◌, [], ◌+◌, slice_index, ap, arith, inl, inr, length, refl, subst, sym}
+use Rattle.std.proofs.Common.{drop, ◌≡◌, ◌∙◌, ℕ, ◌∷◌, [], ◌+◌, slice_index, ap, arith, inl, inr, length, refl, subst, sym}
 use Rattle.claims.specs.declared.view.Account.{Account}
 use Rattle.claims.specs.declared.view.Exchange.TheVariants as exchange
-use Rattle.claims.specs.Seats.{SeatState, Adds, Changed, HoldsNothing, account_at}
-use Rattle.claims.proofs.Seats.{only_at_changed, holds_nothing_again}
+use Rattle.claims.specs.Seats.{Adds}
+use Rattle.claims.proofs.Seats.{account_after, adds_both, holds_nothing_again}
+use Rattle.rounds.specs.Acts.{opening}
+use Rattle.dispatch.proofs.Holding.{holds_from}
 use Rattle.ready.specs.declared.ticket.Ticket.{Ticket}
 use Rattle.dispatch.specs.Hands.{HandState}
 use Rattle.dispatch.specs.Polls.{PollerState, IsIn}
@@ -16,18 +18,20 @@ returns-in_ok-start-in-Adopted g c =
     let named : ticket ≡ record { slot = c.args.berth.pair.slot; generation = c.args.berth.pair.generation } =
     ap (λ (s : ℕ). record { slot = s; generation = c.generation-generation.result }) c.slot-slot.ensures ∙ ap (λ (n : ℕ). record { slot = c.args.berth.pair.slot; generation = n }) c.generation-generation.ensures in
     let change = c.in-Adopted.ensures.change in
+    let started = c.in_ok-start-in-Adopted.ensures.started in
     record {
       between = record {
-        same = c.start.ensures.only.table ∙ change.1.table ∙ c.requires.between.same;
+        same = c.start.ensures.only.table ∙ change.1.only.table ∙ c.requires.between.same;
         idle = c.start.ensures.idle;
         sized = ap (λ (s : PollerState). length s.table) c.end_episodes.ensures ∙ still_sized c.args.poller.now c.count_opened.new.self ticket c.count_opened.ensures ∙ c.requires.between.sized;
       };
       worn = tt;
       done = inl (subst (λ (t : Ticket). Connected (t ∷ []) [] 0 c.args.poller.now c.end_episodes.new.self c.args.own.now c.start.new.own) named
-          (placed c.args.poller.now c.count_opened.new.self ticket c.count_opened.ensures c.end_episodes.new.self c.end_episodes.ensures c.args.own.now c.start.new.own c.adopt.new.seat change.0
+          (placed c.args.poller.now c.count_opened.new.self ticket c.count_opened.ensures c.end_episodes.new.self c.end_episodes.ensures c.args.own.now c.start.new.own change.0 started.noted
           (subst (λ (t : Ticket). IsIn c.args.poller.now.part t.slot) (sym named) c.requires.own)
           (subst (λ (t : Ticket). t.generation ≡ slice_index c.args.poller.now.table t.slot + 1) (sym named) c.requires.next)
-          change.1 c.start.ensures.only c.in_ok-start-in-Adopted.ensures.started c.in_ok-start-in-Adopted.ensures.exchanges c.start.ensures.ready c.start.ensures.free));
+          (adds_both ticket.slot (exchange.Adopted change.0 ∷ []) (drop 1 (opening 0 started.noted)) c.args.own.now.seat c.adopt.new.seat c.start.new.own.seat change.1 started.seat)
+          started.hand c.start.ensures.ready c.start.ensures.free));
       poller = places_told c.args.poller.now c.count_opened.new.self c.end_episodes.new.self _ (places_opened c.args.poller.now c.count_opened.new.self _ _ c.count_opened.ensures) c.end_episodes.ensures;
       ready = c.start.ensures.ready;
       counted = inl (is_opened c.args.poller.now c.count_opened.new.self ticket c.count_opened.ensures c.end_episodes.new.self c.end_episodes.ensures);
@@ -42,7 +46,7 @@ returns-in_err-start-in-Adopted g c =
     let failed = c.from_residual.ensures.0 in
     record {
       between = record {
-        same = c.start.ensures.only.table ∙ c.in-Adopted.ensures.change.1.table ∙ c.requires.between.same;
+        same = c.start.ensures.only.table ∙ c.in-Adopted.ensures.change.1.only.table ∙ c.requires.between.same;
         idle = c.start.ensures.idle;
         sized = still_sized c.args.poller.now c.count_opened.new.self ticket c.count_opened.ensures ∙ c.requires.between.sized;
       };
@@ -58,20 +62,23 @@ returns-in_err-start-in-Adopted g c =
 
 pub returns-in-NotFree : goal.returns-in-NotFree
 returns-in-NotFree g c =
-    let change = subst (λ (slot : ℕ). Changed slot c.args.own.now.seat c.adopt.new.seat (account_at c.args.own.now.seat slot)) c.slot-slot.ensures c.in-NotFree.ensures.change in
-    let trace = subst (λ (slot : ℕ). Adds slot exchange.NotFree c.args.own.now.seat c.adopt.new.seat) c.slot-slot.ensures c.in-NotFree.ensures.trace in
+    let ticket : Ticket = record { slot = c.args.berth.pair.slot; generation = 0 } in
+    let change = subst (λ (slot : ℕ). Adds slot (exchange.NotFree ∷ []) c.args.own.now.seat c.adopt.new.seat) c.slot-slot.ensures c.in-NotFree.ensures.change in
     record {
       between = record {
-        same = change.table ∙ c.requires.between.same;
-        idle = holds_nothing_again c.requires.between.idle (only_at_changed change) (ap (λ (a : Account). a.holds) change.here ∙ c.requires.between.idle.nowhere c.args.berth.pair.slot);
+        same = change.only.table ∙ c.requires.between.same;
+        idle = holds_nothing_again c.requires.between.idle change.only (ap (λ (a : Account). a.holds) (account_after c.args.berth.pair.slot (exchange.NotFree ∷ []) c.args.own.now.seat c.adopt.new.seat change) ∙ c.requires.between.idle.nowhere c.args.berth.pair.slot);
         sized = ap (λ (s : PollerState). length s.table) c.count_lost.ensures ∙ c.requires.between.sized;
       };
       worn = tt;
-      done = inr (not_placed c.args.poller.now c.count_lost.new.self c.args.own.now c.adopt.new.seat c.args.berth.pair.slot c.count_lost.ensures change);
+      done = inr (not_placed c.args.poller.now c.count_lost.new.self c.args.own.now c.adopt.new.seat ticket c.count_lost.ensures change);
       poller = places_lost c.args.poller.now c.count_lost.new.self _ c.count_lost.ensures;
       ready = refl;
-      counted = inr ((ap (λ (s : PollerState). s.opened) c.count_lost.ensures, ap (λ (s : PollerState). s.dropped) c.count_lost.ensures, ap (λ (s : PollerState). s.lost) c.count_lost.ensures, ap (λ (s : PollerState). s.episodes) c.count_lost.ensures), trace);
+      counted = inr ((ap (λ (s : PollerState). s.opened) c.count_lost.ensures, ap (λ (s : PollerState). s.dropped) c.count_lost.ensures, ap (λ (s : PollerState). s.lost) c.count_lost.ensures, ap (λ (s : PollerState). s.episodes) c.count_lost.ensures), change);
       free = refl;
       slots = refl;
       room = omega arith;
     }
+
+pub start-requires-clause-holder : goal.start-requires-clause-holder
+start-requires-clause-holder g c = holds_from c.slot-slot.result (exchange.Adopted c.in-Adopted.ensures.change.0 ∷ []) c.args.own.now.seat c.adopt.new.seat c.in-Adopted.ensures.change.1 c.requires.between.idle refl

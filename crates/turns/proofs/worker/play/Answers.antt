@@ -1,13 +1,17 @@
-use Rattle.std.proofs.Common.{◌≡◌, ℕ, ◌+◌, ◌-◌, ap, subst, arith}
-use Rattle.claims.specs.declared.view.Account.{Account}
-use Rattle.claims.specs.Seats.{account_at}
+use Rattle.std.proofs.Common.{◌≡◌, ℕ, ◌∷◌, [], ap, refl, subst}
 use Rattle.ready.specs.declared.ticket.Ticket.{Ticket}
+use Rattle.claims.specs.declared.view.Exchange.TheVariants.{Take}
+use Rattle.claims.specs.Seats.{Adds}
+use Rattle.dispatch.proofs.Holding.{holds_still}
 use Rattle.turns.proofs.worker.play.Goals as goal
 
-pub returns-clause-run : goal.returns-clause-run
-returns-clause-run g c =
-    let here : c.ticket-slot.result.slot ≡ c.args.visit.now.ticket.slot = ap (λ (t : Ticket). t.slot) c.ticket-slot.ensures in
-    let taken : (account_at c.take-notes.new.seat c.args.visit.now.ticket.slot).taken ≡ (account_at c.args.seat.now c.args.visit.now.ticket.slot).taken + c.take-notes.result =
-    subst (λ (slot : ℕ). (account_at c.take-notes.new.seat slot).taken ≡ (account_at c.args.seat.now slot).taken + c.take-notes.result) here (ap (λ (a : Account). a.taken) c.take-notes.ensures.change.here) in
-    let notes : (account_at c.take-notes.new.seat c.args.visit.now.ticket.slot).taken - (account_at c.args.seat.now c.args.visit.now.ticket.slot).taken ≡ c.take-notes.result = omega arith in
-    rw (notes) c.play-outcome.ensures.run
+pub returns-clause-holder : goal.returns-clause-holder
+returns-clause-holder g c = holds_still c.args.visit.now.ticket.slot (Take c.take-notes.result ∷ []) c.args.seat.now c.take-notes.new.seat
+    (subst (λ (slot : ℕ). Adds slot (Take c.take-notes.result ∷ []) c.args.seat.now c.take-notes.new.seat) (ap (λ (t : Ticket). t.slot) c.ticket-slot.ensures) c.take-notes.ensures.change) c.requires.holder refl
+
+pub returns-clause-played : goal.returns-clause-played
+returns-clause-played g c = (
+  c.take-notes.result,
+  subst (λ (slot : ℕ). Adds slot (Take c.take-notes.result ∷ []) c.args.seat.now c.take-notes.new.seat) (ap (λ (t : Ticket). t.slot) c.ticket-slot.ensures) c.take-notes.ensures.change,
+  c.play-outcome.ensures.run,
+)

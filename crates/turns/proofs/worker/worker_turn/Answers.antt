@@ -1,13 +1,12 @@
-use Rattle.std.proofs.Common.{◌≡◌, ◌∙◌, ◌+◌, ◌<◌, ◌≤◌, ℕ, List, Ok, Result, sym, ap, subst}
-use Rattle.claims.specs.Seats.{account_at}
+use Rattle.std.proofs.Common.{◌≡◌, ◌∙◌, ◌<◌, ◌≤◌, ℕ, List, Ok, Result, refl, sym, ap, subst}
 use Rattle.ready.specs.declared.ticket.Ticket.{Ticket}
 use Rattle.relay_log.specs.declared.faults.ServerFault.{ServerFault}
 use Rattle.dispatch.specs.declared.shared.Own.{Own}
 use Rattle.dispatch.specs.Outgoing.{outgoing, slots_out, tickets_out}
 use Rattle.turns.specs.declared.worker.Worked.{Worked}
 use Rattle.turns.specs.declared.worker.Worked.TheVariants as worked
-use Rattle.turns.specs.Turns.{SlotGiven, SlotsKept, TurnChange, exchanges}
-use Rattle.turns.proofs.Turns.{ended_is, err_is, err_not_ok, not_ended, passed_up, rose_same, slots_after, tickets_after}
+use Rattle.turns.specs.Turns.{SlotGiven, SlotsKept, TurnMade}
+use Rattle.turns.proofs.Turns.{ended_is, err_is, err_not_ok, made_after, not_ended, passed_up}
 use Rattle.turns.proofs.worker.worker_turn.Goals as goal
 
 pub returns-in_err-worked : goal.returns-in_err-worked
@@ -15,17 +14,13 @@ returns-in_err-worked g c =
     let before : Own = record c.args.own.now { ready = c.put_tickets.new.ready; free = c.give_slots.new.free; hand = c.give_slots.new.hand } in
     let tickets : tickets_out before ≡ tickets_out c.args.own.now = ap (λ (ts : List Ticket). outgoing c.put_tickets.new.ready.history ts) c.give_slots.ensures.tickets ∙ c.put_tickets.ensures.tickets in
     let slots : slots_out before ≡ slots_out c.args.own.now = c.give_slots.ensures.slots ∙ ap (λ (xs : List ℕ). outgoing c.args.own.now.free.history xs) c.put_tickets.ensures.slots in
-    let account = account_at c.args.own.now.seat c.args.ticket.slot in
     let fault = c.in_err-worked.field-0.0 in
     let failed = err_is c.from_residual.result fault c.from_residual.ensures.1 in
     record {
       idle = c.turn_of.ensures.idle;
       only = c.turn_of.ensures.only;
-      change = subst (λ (r : Result Worked ServerFault). TurnChange account r (account_at c.turn_of.new.own.seat c.args.ticket.slot)) (sym failed) c.in_err-worked.ensures.change;
-      exchanges = subst (λ (r : Result Worked ServerFault). c.args.ticket.slot < c.args.shared.now.claims.words → c.turn_of.new.own.seat.steps ≡ c.args.own.now.seat.steps + exchanges r) (sym failed) c.in_err-worked.ensures.exchanges;
-      tickets = tickets_after c.args.ticket c.args.own.now before c.turn_of.new.own (rose_same account) tickets c.turn_of.ensures.tickets;
-      slots = slots_after c.args.ticket c.from_residual.result c.args.own.now before c.turn_of.new.own slots (subst (λ (r : Result Worked ServerFault). SlotsKept c.args.ticket r before c.turn_of.new.own) (sym failed) c.in_err-worked.ensures.slots);
-      outside = subst (λ (r : Result Worked ServerFault). c.args.shared.now.claims.words ≤ c.args.ticket.slot → (r ≡ Ok worked.Gone) × (c.turn_of.new.own.seat ≡ c.args.own.now.seat)) (sym failed) c.in_err-worked.ensures.outside;
+      made = subst (λ (r : Result Worked ServerFault). TurnMade c.args.shared.now.claims.words c.args.ticket r c.args.own.now c.turn_of.new.own) (sym failed)
+          (made_after c.args.shared.now.claims.words c.args.ticket _ c.args.own.now before c.turn_of.new.own refl tickets slots (record { tickets = c.put_tickets.ensures.took; slots = c.give_slots.ensures.took }) c.in_err-worked.ensures.made);
       took = record { tickets = c.turn_of.ensures.took.tickets ∙ c.put_tickets.ensures.took; slots = c.turn_of.ensures.took.slots ∙ c.give_slots.ensures.took };
       worn = passed_up c.from_residual.result fault _ c.from_residual.ensures.1 c.in_err-worked.ensures.worn;
       woken = λ is. absurd (err_not_ok c.from_residual.result fault worked.Ended failed is);
@@ -36,15 +31,10 @@ returns-then-eq g c =
     let before : Own = record c.args.own.now { ready = c.put_tickets.new.ready; free = c.give_slots.new.free; hand = c.give_slots.new.hand } in
     let tickets : tickets_out before ≡ tickets_out c.args.own.now = ap (λ (ts : List Ticket). outgoing c.put_tickets.new.ready.history ts) c.give_slots.ensures.tickets ∙ c.put_tickets.ensures.tickets in
     let slots : slots_out before ≡ slots_out c.args.own.now = c.give_slots.ensures.slots ∙ ap (λ (xs : List ℕ). outgoing c.args.own.now.free.history xs) c.put_tickets.ensures.slots in
-    let account = account_at c.args.own.now.seat c.args.ticket.slot in
     record {
       idle = c.turn_of.ensures.idle;
       only = c.turn_of.ensures.only;
-      change = c.in_ok-worked.ensures.change;
-      exchanges = c.in_ok-worked.ensures.exchanges;
-      tickets = tickets_after c.args.ticket c.args.own.now before c.turn_of.new.own (rose_same account) tickets c.turn_of.ensures.tickets;
-      slots = slots_after c.args.ticket (Ok c.in_ok-worked.worked) c.args.own.now before c.turn_of.new.own slots c.in_ok-worked.ensures.slots;
-      outside = c.in_ok-worked.ensures.outside;
+      made = made_after c.args.shared.now.claims.words c.args.ticket _ c.args.own.now before c.turn_of.new.own refl tickets slots (record { tickets = c.put_tickets.ensures.took; slots = c.give_slots.ensures.took }) c.in_ok-worked.ensures.made;
       took = record { tickets = c.turn_of.ensures.took.tickets ∙ c.put_tickets.ensures.took; slots = c.turn_of.ensures.took.slots ∙ c.give_slots.ensures.took };
       worn = tt;
       woken = λ is. c.wake_poller.ensures.woken;
@@ -55,15 +45,10 @@ returns-else-eq g c =
     let before : Own = record c.args.own.now { ready = c.put_tickets.new.ready; free = c.give_slots.new.free; hand = c.give_slots.new.hand } in
     let tickets : tickets_out before ≡ tickets_out c.args.own.now = ap (λ (ts : List Ticket). outgoing c.put_tickets.new.ready.history ts) c.give_slots.ensures.tickets ∙ c.put_tickets.ensures.tickets in
     let slots : slots_out before ≡ slots_out c.args.own.now = c.give_slots.ensures.slots ∙ ap (λ (xs : List ℕ). outgoing c.args.own.now.free.history xs) c.put_tickets.ensures.slots in
-    let account = account_at c.args.own.now.seat c.args.ticket.slot in
     record {
       idle = c.turn_of.ensures.idle;
       only = c.turn_of.ensures.only;
-      change = c.in_ok-worked.ensures.change;
-      exchanges = c.in_ok-worked.ensures.exchanges;
-      tickets = tickets_after c.args.ticket c.args.own.now before c.turn_of.new.own (rose_same account) tickets c.turn_of.ensures.tickets;
-      slots = slots_after c.args.ticket (Ok c.in_ok-worked.worked) c.args.own.now before c.turn_of.new.own slots c.in_ok-worked.ensures.slots;
-      outside = c.in_ok-worked.ensures.outside;
+      made = made_after c.args.shared.now.claims.words c.args.ticket _ c.args.own.now before c.turn_of.new.own refl tickets slots (record { tickets = c.put_tickets.ensures.took; slots = c.give_slots.ensures.took }) c.in_ok-worked.ensures.made;
       took = record { tickets = c.turn_of.ensures.took.tickets ∙ c.put_tickets.ensures.took; slots = c.turn_of.ensures.took.slots ∙ c.give_slots.ensures.took };
       worn = tt;
       woken = λ is. absurd (not_ended c.in_ok-worked.worked c.eq.result c.eq.ensures c.if-eq.false is);
@@ -73,5 +58,5 @@ pub wake_poller-requires : goal.wake_poller-requires
 wake_poller-requires g c =
     let ended = ended_is c.in_ok-worked.worked c.eq.result c.eq.ensures c.if-eq.true in
     let before : Own = record c.args.own.now { ready = c.put_tickets.new.ready; free = c.give_slots.new.free; hand = c.give_slots.new.hand } in
-    let given : SlotGiven c.args.ticket before c.turn_of.new.own = subst (λ (w : Worked). SlotsKept c.args.ticket (Ok w) before c.turn_of.new.own) ended c.in_ok-worked.ensures.slots in
+    let given : SlotGiven c.args.ticket before c.turn_of.new.own = subst (λ (w : Worked). SlotsKept c.args.ticket (Ok w) before c.turn_of.new.own) ended c.in_ok-worked.ensures.made.done.slots in
     record { given = given.kept }

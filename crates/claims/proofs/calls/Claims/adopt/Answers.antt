@@ -5,7 +5,7 @@ use Rattle.claims.proofs.Bits.{adopt_clears}
 use Rattle.claims.proofs.OneSlot.{one_le}
 use Rattle.claims.proofs.Cases.{adopt_gains, adopt_not_free, makes_adopted, makes_not_free, says_adopted, says_not_free}
 use Rattle.claims.proofs.Moves.{may_step}
-use Rattle.claims.proofs.Tells.{state, reads, changed_to, adds, stepped, held_by_none, mark_kept, mark_put, kept_beside, within}
+use Rattle.claims.proofs.Tells.{state, reads, adds, stepped, held_by_none, mark_kept, mark_put, kept_beside, within}
 use Rattle.claims.proofs.calls.Claims.adopt.Goals as goal
 
 pub fetch_and-found-requires : goal.fetch_and-found-requires
@@ -28,15 +28,8 @@ returns-then-is_free-clause-change c =
     let told = c.fetch_and-found.ensures.2 in
     let free = sym (c.is_free.ensures (state told) (reads told)) ∙ c.if-is_free.true in (
       (state told).pending,
-      changed_to told _ _ c.fetch_and-found.ensures.0 _ _ c.seat.invariant _ c.seat.view_is _ (adopt_gains (state told) _ free),
+      adds told _ _ c.fetch_and-found.ensures.0 _ _ c.seat.invariant _ c.seat.view_is _ (makes_adopted (state told) free),
       held_by_none told _ _ c.fetch_and-found.ensures.0 _ _ c.seat.invariant _ c.seat.view_is (let all = ap one free in let most = one_le (state told).held in omega arith),
-    )
-
-pub returns-then-is_free-clause-trace : goal.returns-then-is_free-clause-trace
-returns-then-is_free-clause-trace c =
-    let told = c.fetch_and-found.ensures.2 in (
-      (state told).pending,
-      adds told _ _ c.fetch_and-found.ensures.0 _ _ c.seat.invariant _ c.seat.view_is _ (makes_adopted (state told) (sym (c.is_free.ensures (state told) (reads told)) ∙ c.if-is_free.true)),
     )
 
 pub returns-then-is_free-clause-lawful : goal.returns-then-is_free-clause-lawful
@@ -46,11 +39,6 @@ returns-then-is_free-clause-lawful c =
 
 pub returns-else-is_free-clause-change : goal.returns-else-is_free-clause-change
 returns-else-is_free-clause-change c =
-    let told = c.fetch_and-found.ensures.2 in
-    changed_to told _ _ c.fetch_and-found.ensures.0 _ _ c.seat.invariant _ c.seat.view_is _ (adopt_not_free (state told) _ (sym (c.is_free.ensures (state told) (reads told)) ∙ c.if-is_free.false))
-
-pub returns-else-is_free-clause-trace : goal.returns-else-is_free-clause-trace
-returns-else-is_free-clause-trace c =
     let told = c.fetch_and-found.ensures.2 in
     adds told _ _ c.fetch_and-found.ensures.0 _ _ c.seat.invariant _ c.seat.view_is _ (makes_not_free (state told) (sym (c.is_free.ensures (state told) (reads told)) ∙ c.if-is_free.false))
 

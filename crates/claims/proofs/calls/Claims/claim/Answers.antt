@@ -4,7 +4,7 @@ use Rattle.claims.specs.Views.{holds_of, posted_of}
 use Rattle.claims.proofs.Bits.{claim_sets}
 use Rattle.claims.proofs.Cases.{claim_busy, claim_gains, makes_busy, makes_held, says_busy, says_held}
 use Rattle.claims.proofs.Moves.{may_step}
-use Rattle.claims.proofs.Tells.{state, reads, changed_to, adds, stepped, held_by_none, mark_kept, mark_put, kept_beside, within}
+use Rattle.claims.proofs.Tells.{state, reads, adds, stepped, held_by_none, mark_kept, mark_put, kept_beside, within}
 use Rattle.claims.proofs.calls.Claims.claim.Goals as goal
 
 pub fetch_or-found-requires : goal.fetch_or-found-requires
@@ -18,11 +18,6 @@ invariant_of-seat c =
 
 pub returns-then-is_held-clause-change : goal.returns-then-is_held-clause-change
 returns-then-is_held-clause-change c =
-    let told = c.fetch_or-found.ensures.2 in
-    changed_to told _ _ c.fetch_or-found.ensures.0 _ _ c.seat.invariant _ c.seat.view_is _ (claim_busy (state told) _ (sym (c.is_held.ensures (state told) (reads told)) ∙ c.if-is_held.true))
-
-pub returns-then-is_held-clause-trace : goal.returns-then-is_held-clause-trace
-returns-then-is_held-clause-trace c =
     let told = c.fetch_or-found.ensures.2 in
     adds told _ _ c.fetch_or-found.ensures.0 _ _ c.seat.invariant _ c.seat.view_is _ (makes_busy (state told) (sym (c.is_held.ensures (state told) (reads told)) ∙ c.if-is_held.true))
 
@@ -42,15 +37,8 @@ returns-clause-change c =
     let told = c.fetch_or-found.ensures.2 in
     let free = sym (c.is_held.ensures (state told) (reads told)) ∙ c.if-is_held.false in (
       (state told).pending,
-      changed_to told _ _ c.fetch_or-found.ensures.0 _ _ c.seat.invariant _ c.seat.view_is _ (claim_gains (state told) _ free),
+      adds told _ _ c.fetch_or-found.ensures.0 _ _ c.seat.invariant _ c.seat.view_is _ (makes_held (state told) free),
       held_by_none told _ _ c.fetch_or-found.ensures.0 _ _ c.seat.invariant _ c.seat.view_is (let none = ap one free in omega arith),
-    )
-
-pub returns-clause-trace : goal.returns-clause-trace
-returns-clause-trace c =
-    let told = c.fetch_or-found.ensures.2 in (
-      (state told).pending,
-      adds told _ _ c.fetch_or-found.ensures.0 _ _ c.seat.invariant _ c.seat.view_is _ (makes_held (state told) (sym (c.is_held.ensures (state told) (reads told)) ∙ c.if-is_held.false)),
     )
 
 pub returns-clause-lawful : goal.returns-clause-lawful

@@ -1,9 +1,9 @@
 use Rattle.std.proofs.Common.{◌+◌, ◌%◌, ◌^◌, rules, arith, refl, ap}
 use Rattle.claims.specs.Words.{one, wakes, post, answer_of}
 use Rattle.claims.proofs.Bits.{post_adds}
-use Rattle.claims.proofs.Cases.{post_change, post_trace, post_step, wakes_no_holder}
+use Rattle.claims.proofs.Cases.{post_change, post_step, wakes_no_holder}
 use Rattle.claims.proofs.Moves.{may_step}
-use Rattle.claims.proofs.Tells.{state, reads, changed, adds, stepped, held_by_none, mark_kept, kept_beside, within}
+use Rattle.claims.proofs.Tells.{state, reads, adds, stepped, held_by_none, mark_kept, kept_beside, within}
 use Rattle.claims.proofs.calls.Claims.post.Goals as goal
 
 pub fetch_add-found-requires : goal.fetch_add-found-requires
@@ -19,14 +19,8 @@ pub returns-clause-change : goal.returns-clause-change
 returns-clause-change c =
     let told = c.fetch_add-found.ensures.2 in
     post_change c.args.slot c.args.seat.now _ _ (wakes (state told)) (c.posted.ensures (state told) (reads told))
-    (changed told _ _ c.fetch_add-found.ensures.0 _ _ c.seat.invariant _ c.seat.view_is)
-    (λ woke. held_by_none told _ _ c.fetch_add-found.ensures.0 _ _ c.seat.invariant _ c.seat.view_is (let none = ap one (wakes_no_holder (state told) woke) in omega arith))
-
-pub returns-clause-trace : goal.returns-clause-trace
-returns-clause-trace c =
-    let told = c.fetch_add-found.ensures.2 in
-    post_trace c.args.slot c.args.seat.now _ _ (wakes (state told)) (c.posted.ensures (state told) (reads told))
     (adds told _ _ c.fetch_add-found.ensures.0 _ _ c.seat.invariant _ c.seat.view_is _ refl)
+    (λ woke. held_by_none told _ _ c.fetch_add-found.ensures.0 _ _ c.seat.invariant _ c.seat.view_is (let none = ap one (wakes_no_holder (state told) woke) in omega arith))
 
 pub returns-clause-lawful : goal.returns-clause-lawful
 returns-clause-lawful c =

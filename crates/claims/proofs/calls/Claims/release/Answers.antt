@@ -1,11 +1,11 @@
 use Rattle.std.proofs.Common.{rules, bit_and, refl, sym, ap, ◌∙◌}
 use Rattle.claims.specs.declared.view.Exchange.TheVariants as exchange
 use Rattle.claims.specs.Words.{some_wait, release}
-use Rattle.claims.specs.Calls.{woke, release_answer}
+use Rattle.claims.specs.Calls.{release_answer}
 use Rattle.claims.proofs.Bits.{release_clears}
-use Rattle.claims.proofs.Cases.{release_change, release_says, woke_says, none_wait}
+use Rattle.claims.proofs.Cases.{release_change, release_says, none_wait}
 use Rattle.claims.proofs.Moves.{may_step}
-use Rattle.claims.proofs.Tells.{state, reads, changed, adds, stepped, knew_none, kept_beside, within, holds_now}
+use Rattle.claims.proofs.Tells.{state, reads, adds, stepped, knew_none, kept_beside, within, holds_now}
 use Rattle.claims.proofs.calls.Claims.release.Goals as goal
 
 pub fetch_and-found-requires : goal.fetch_and-found-requires
@@ -19,14 +19,8 @@ pub returns-clause-change : goal.returns-clause-change
 returns-clause-change c =
     let told = c.fetch_and-found.ensures.2 in
     release_change c.args.slot c.args.seat.now _ _ (some_wait (state told).pending) (c.released.ensures (state told) (reads told))
-    (changed told _ _ c.fetch_and-found.ensures.0 _ _ c.seat.invariant _ c.seat.view_is)
+    (adds told _ _ c.fetch_and-found.ensures.0 _ _ c.seat.invariant _ c.seat.view_is _ refl)
     (λ none. knew_none told _ _ c.fetch_and-found.ensures.0 _ _ c.seat.invariant _ c.seat.view_is (none_wait _ none))
-
-pub returns-clause-trace : goal.returns-clause-trace
-returns-clause-trace c =
-    let told = c.fetch_and-found.ensures.2 in
-    adds told _ _ c.fetch_and-found.ensures.0 _ _ c.seat.invariant _ c.seat.view_is _
-    (ap exchange.Release (woke_says (some_wait (state told).pending) ∙ ap woke (sym (c.released.ensures (state told) (reads told)))))
 
 pub returns-clause-lawful : goal.returns-clause-lawful
 returns-clause-lawful c =

@@ -2,7 +2,7 @@ use Rattle.std.proofs.Common.{rules, bit_or, refl}
 use Rattle.claims.specs.Words.{retire, nothing}
 use Rattle.claims.proofs.Bits.{retire_sets}
 use Rattle.claims.proofs.Moves.{may_step}
-use Rattle.claims.proofs.Tells.{kept_beside, changed, adds, stepped, within, holds_now}
+use Rattle.claims.proofs.Tells.{kept_beside, adds, stepped, within, holds_now}
 use Rattle.claims.proofs.calls.Claims.retire.Goals as goal
 
 pub fetch_or-requires : goal.fetch_or-requires
@@ -13,10 +13,7 @@ pub invariant_of-seat : goal.invariant_of-seat
 invariant_of-seat c = kept_beside c.fetch_or.ensures.2 _ _ c.fetch_or.ensures.0 _ _ c.seat.invariant _ _ refl c.seat.invariant.unworn refl
 
 pub returns-clause-change : goal.returns-clause-change
-returns-clause-change c = changed c.fetch_or.ensures.2 _ _ c.fetch_or.ensures.0 _ _ c.seat.invariant _ c.seat.view_is
-
-pub returns-clause-trace : goal.returns-clause-trace
-returns-clause-trace c = adds c.fetch_or.ensures.2 _ _ c.fetch_or.ensures.0 _ _ c.seat.invariant _ c.seat.view_is _ refl
+returns-clause-change c = adds c.fetch_or.ensures.2 _ _ c.fetch_or.ensures.0 _ _ c.seat.invariant _ c.seat.view_is _ refl
 
 pub returns-clause-lawful : goal.returns-clause-lawful
 returns-clause-lawful c = stepped c.fetch_or.ensures.2 _ _ c.fetch_or.ensures.0 _ _ c.seat.invariant _ c.seat.view_is nothing refl

@@ -1,11 +1,9 @@
 use Rattle.std.proofs.Common.{rules, bit_and, refl, sym, ap}
 use Rattle.claims.specs.declared.view.Exchange.TheVariants as exchange
 use Rattle.claims.specs.Words.{take, count}
-use Rattle.claims.specs.Views.{after_take}
-use Rattle.claims.specs.Seats.{account_at}
 use Rattle.claims.proofs.Bits.{take_keeps}
 use Rattle.claims.proofs.Moves.{may_step}
-use Rattle.claims.proofs.Tells.{state, reads, took_few, mark_kept, kept_beside, changed_to, adds, stepped, known_few, within, holds_now}
+use Rattle.claims.proofs.Tells.{state, reads, took_few, mark_kept, kept_beside, adds, stepped, known_few, within, holds_now}
 use Rattle.claims.proofs.calls.Claims.take.Goals as goal
 
 pub fetch_and-found-requires : goal.fetch_and-found-requires
@@ -20,7 +18,7 @@ invariant_of-seat c =
 pub returns-clause-change : goal.returns-clause-change
 returns-clause-change c =
     let told = c.fetch_and-found.ensures.2 in
-    changed_to told _ _ c.fetch_and-found.ensures.0 _ _ c.seat.invariant _ c.seat.view_is _ (ap (λ n. after_take n (account_at c.args.seat.now c.args.slot)) (sym (c.notes.ensures (state told) (reads told))))
+    adds told _ _ c.fetch_and-found.ensures.0 _ _ c.seat.invariant _ c.seat.view_is _ (ap exchange.Take (sym (c.notes.ensures (state told) (reads told))))
 
 pub returns-clause-known : goal.returns-clause-known
 returns-clause-known c =
@@ -29,11 +27,6 @@ returns-clause-known c =
 
 pub returns-clause-few : goal.returns-clause-few
 returns-clause-few c = took_few c.fetch_and-found.ensures.2
-
-pub returns-clause-trace : goal.returns-clause-trace
-returns-clause-trace c =
-    let told = c.fetch_and-found.ensures.2 in
-    adds told _ _ c.fetch_and-found.ensures.0 _ _ c.seat.invariant _ c.seat.view_is _ (ap exchange.Take (sym (c.notes.ensures (state told) (reads told))))
 
 pub returns-clause-lawful : goal.returns-clause-lawful
 returns-clause-lawful c =
