@@ -13,6 +13,11 @@
 //!
 //! No clause can name what a place holds, since another seat may have held the slot since. So only tests show that the
 //! berth which the next holder takes out is the one that was put in.
+//!
+//! # Inside
+//!
+//! A berth goes into a place that was empty, and is given back only if one is there, which then stays (`fill`: `put`,
+//! `occupied`, `unchanged`).
 #![tactic(auto)]
 
 mod berths;

@@ -46,7 +46,7 @@ nothing_posted : (n : ℕ) → sum_by posted_of (map account_of (replicate n [])
 nothing_posted n = ap (λ (l : List Account). sum_by posted_of l) (map-replicate account_of n []) ∙ sum_by-replicate posted_of n blank ∙ omega arith
 
 module _ (slots : ℕ) (spare : ℕ) where
-  -- so many seats that have done nothing and have this spare each
+  -- this many seats that have done nothing and have this spare each
   pub unused_rule : (seats : ℕ) → seats + seats * spare ≤ 32 → ClaimRule slots (replicate slots 3) (replicate seats (unused_view slots spare))
   unused_rule seats few =
       let v : View = unused_view slots spare in

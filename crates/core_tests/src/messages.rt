@@ -121,7 +121,7 @@ fn all_missing(rt: &HostRuntime) -> Option<usize> {
 // refuses done_swaps_the_counts: the counts of the two directions are exchanged
 // refuses fail_names_the_other_side: a failure names the other side
 // refuses peer_without_generation: a message names the slot in place of the generation
-// refuses drop_by_another_word: a cause is told by another word
+// refuses drop_by_another_word: a cause is logged by another word
 // refuses clients_always_at_debug: the level of what is logged of clients is debug, though it is to be info
 // A message is handed over whole, or left out where a growth is refused. At most one growth is, under
 // `rt try --test --fail-alloc N`, and none otherwise: so of all messages at most one is missing.
@@ -144,7 +144,7 @@ fn are_texts(alloc: Global) -> Result<bool, AllocError> {
     )
 }
 
-// refuses idle_told_as_reset: a connection that moved nothing is told as one that was reset
+// refuses idle_told_as_reset: a connection that moved nothing is logged as one that was reset
 #[test]
 fn texts_are_made(rt: HostRuntime) -> Result<(), Fail> {
     all_well(are_texts(rt.alloc()))

@@ -44,7 +44,7 @@ fn are_refused() -> bool {
 }
 
 // refuses next_gen_goes_round: the generation after the last one is the first
-// refuses pack_looks_at_generation_first: a bad generation is told before a bad slot
+// refuses pack_looks_at_generation_first: a bad generation is reported before a bad slot
 // refuses unpack_ignores_side: each end that a number names is the client's
 // refuses value_with_narrow_slot: the numbers of two slots' ends overlap
 #[test]

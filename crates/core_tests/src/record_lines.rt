@@ -80,7 +80,7 @@ fn is_refused(line: &str, word: &str) -> bool {
     }
 }
 
-/// The first line that goes otherwise, those of the second list behind those of the first.
+/// The first line that goes otherwise, those of the second list after those of the first.
 fn first_wrong(alloc: Global) -> Result<Option<usize>, AllocError> {
     for (row, line) in LINES.iter().enumerate() {
         if !is_printed(alloc, line)? {

@@ -12,7 +12,7 @@ const LINES: &str =
     "connect; accept ok; open; put poller; pop 0; claim 0; take 0; arrive 0 client 616263; room 0 target; \
 call 0 wrote 2; call 0 blocked; call 0 read 3; call 0 wrote 3; call 0 blocked; post 0; tick 30; idle 0; close 0; retire 0; free 0";
 
-/// Puts the event of a line behind others. Answers whether it is one.
+/// Puts the event of a line after others. Answers whether it is one.
 fn put(alloc: Global, events: &mut Vec<Event>, line: &str) -> Result<bool, AllocError> {
     match read_event(alloc, line.as_bytes()) {
         Ok(event) => events.push(event)?,
@@ -49,7 +49,7 @@ fn limits() -> Limits
     }
 }
 
-/// Whether the events lead to their world, or it is told that the one at `wrong` cannot happen.
+/// Whether the events lead to their world, or it is reported that the one at `wrong` cannot happen.
 fn goes(alloc: Global, wrong: usize) -> Result<bool, (usize, Refusal)> {
     let Ok(events) = session(alloc, wrong) else {
         return Err((0, Refusal::NoMemory));
@@ -62,7 +62,7 @@ fn goes(alloc: Global, wrong: usize) -> Result<bool, (usize, Refusal)> {
 }
 
 // refuses replay_blames_index_0: the first event is blamed for any event that fails
-// The event that cannot happen is told, be it the first or the last. Where memory runs out, the index that is told is that of
+// The event that cannot happen is reported, be it the first or the last. Where memory runs out, the index that is reported is that of
 // the event that lacked it: `tests/growths` looks that it rises with the growth that is refused.
 #[test]
 fn a_replay_leads_to_its_world_or_tells_where_it_ends(rt: HostRuntime) -> Result<(), Fail> {

@@ -13,7 +13,7 @@ fn looks(reports: &Reports, slot: usize, side: Side) -> Result<[bool; 2], AllocE
     }
 }
 
-/// Whether what is told of the target's end of slot 1 is found there once, and nowhere else.
+/// Whether what is reported of the target's end of slot 1 is found there once, and nowhere else.
 fn is_taken_once(alloc: Global) -> Result<bool, AllocError> {
     let reports = Reports::new(alloc, 2)?;
     let before = looks(&reports, 1, Side::Target)?;

@@ -70,7 +70,7 @@ impl Session {
         }
     }
 
-    /// Whether this is seen of it after a turn of so many calls, a report, and a second turn, and each side was given what
+    /// Whether this is seen of it after a turn of this many calls, a report, and a second turn, and each side was given what
     /// the other side gave, as far as it was sent.
     fn goes(&mut self, budget: usize, wanted: Ended) -> bool
         requires least { 1 ≤ budget }
@@ -94,7 +94,7 @@ fn plays<const N: usize>(alloc: Global, plays: [Play; N]) -> Result<Vec<Play>, A
     Ok(Vec::from_array(alloc, plays)?)
 }
 
-/// One side of the session: it gives these bytes and its end, and takes so many.
+/// One side of the session: it gives these bytes and its end, and takes this many.
 fn wire(alloc: Global, joined: bool, gives: &[u8], takes: usize) -> Result<ScriptWire, AllocError> {
     let reads = plays(alloc, [Play::Bytes(gives.to_vec(alloc)?), Play::End])?;
     let writes = plays(alloc, [Play::Take(takes)])?;
@@ -110,8 +110,8 @@ fn session_of(alloc: Global, up: &[u8], down: &[u8]) -> Result<Session, AllocErr
     })
 }
 
-/// The first of these calls and the one behind the last, the number of the play that comes before each of them, and how
-/// the session goes then: it is done behind such a first turn, or fails by such a kind at that call.
+/// The first of these calls and the one after the last, the number of the play that comes before each of them, and how
+/// the session goes then: it is done after such a first turn, or fails by such a kind at that call.
 ///
 /// A shutdown never has to wait: an answer that it would is a failure. A write may take one byte at first, or none, which is
 /// one, too. Before the target gave its first byte its connect may not have ended yet; after that it can't be so.

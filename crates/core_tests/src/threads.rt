@@ -20,7 +20,7 @@ fn post_many(claims: &Claims, seat: &mut ClaimSeat)
     }
 }
 
-/// What so many takes answered, added up, and the seat.
+/// What this many takes answered, added up, and the seat.
 fn take_many(claims: &Claims, mut seat: ClaimSeat, takes: usize) -> (u64, ClaimSeat)
     requires same { seat.table ≡ claims.now }
     requires inside { 0 < claims.now.words }

@@ -96,7 +96,7 @@ fn goes_through_its_row(alloc: Global) -> Result<bool, AllocError> {
 
 // refuses retire_sets_nothing: a retired slot is not marked as free
 // refuses words_opened_otherwise: an unused word says held and not free
-// refuses slots_counts_values: the number of slots is told as the number of values of the table
+// refuses slots_counts_values: the number of slots is answered as the number of values of the table
 #[test]
 fn one_word_goes_through_its_row(rt: HostRuntime) -> Result<(), Fail> {
     all_well(goes_through_its_row(rt.alloc()))

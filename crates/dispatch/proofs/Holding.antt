@@ -1,4 +1,4 @@
--- A seat that holds one slot, behind exchanges there.
+-- A seat that holds one slot, after exchanges there.
 use Rattle.std.proofs.Common.{◌≡◌, ◌≢◌, ℕ, ◌+◌, ◌≤◌, Bool, true, false, List, [], ◌∷◌, refl, sym, subst, ap, ◌∙◌, arith}
 use Rattle.claims.specs.declared.answers.Posted.{Posted}
 use Rattle.claims.specs.declared.answers.Posted.TheVariants as posted

@@ -1,4 +1,4 @@
--- What an end of a queue has put, and behind it what is in hand.
+-- What an end of a queue has put, and after it what is in hand.
 use Rattle.std.proofs.Common.{◌≡◌, ℕ, List, [], ◌∷◌, ◌++◌, drop, slice_get, sym, refl, ap, ◌∙◌, append_assoc}
 use Rattle.std.specs.Prelude.{Some, map}
 use Rattle.std.proofs.lemmas.List.{map-append, append-nil}

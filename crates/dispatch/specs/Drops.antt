@@ -31,7 +31,7 @@ dropped_at second t =
 abbrev pub owed_for : Cause → ℕ → Tally → Option Owed
 owed_for cause second t = if is_counted second t then None else Some (record { cause = cause; more = 0 })
 
--- the line that tells so many, if there are any
+-- the line that tells this many, if there are any
 abbrev pub owed : Cause → ℕ → Option Owed
 owed cause more = if nat_lt 0 more then Some (record { cause = cause; more = more }) else None
 

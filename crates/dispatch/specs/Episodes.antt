@@ -7,6 +7,6 @@ use Rattle.dispatch.specs.declared.episodes.Episodes.{Episodes}
 abbrev pub no_episodes : Episodes
 no_episodes = record { starved = false; full = false; drops = no_drops }
 
--- behind an opening a lack is told again, and each cause of drops by a line of its own
+-- after an opening a lack is told again, and each cause of drops by a line of its own
 abbrev pub opened_after : Episodes → Episodes
 opened_after e = record e { starved = false; drops = no_drops }

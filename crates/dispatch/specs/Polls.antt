@@ -52,10 +52,10 @@ looked_at slot heavy = slice_set heavy slot (slice_index heavy slot - 1)
 abbrev pub HasOpenedAll : PollerState → Type 0
 HasOpenedAll p = p.most ≤ p.opened
 
--- a count of 64 bits, so many later: it stays at its greatest value
+-- a count of 64 bits, this many later: it stays at its greatest value
 abbrev pub counted_up : ℕ → ℕ → ℕ
 counted_up count more = min (count + more) 18446744073709551615
 
--- such a count rose by so many, or has reached its greatest value
+-- such a count rose by this many, or has reached its greatest value
 abbrev pub Counted : ℕ → ℕ → ℕ → Type 0
 Counted old more new = (new ≡ old + more) ⊎ ((18446744073709551615 ≤ old + more) × (18446744073709551615 ≤ new))

@@ -7,7 +7,7 @@ use log::Log;
 use relay_log::{Cause, log_drop, log_drops};
 use std::marker::Model;
 
-/// The log is owed a line of a cause: of one drop, or of so many more. It cannot be dropped, and only [`Owed::log`] takes it.
+/// The log is owed a line of a cause: of one drop, or of this many more. It cannot be dropped, and only [`Owed::log`] takes it.
 pub(crate) struct Owed {
     pub(crate) cause: Cause,
     /// How many more drops the line tells. 0 for a line of one drop.

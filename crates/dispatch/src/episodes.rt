@@ -38,7 +38,7 @@ pub struct Fullness {
 }
 
 impl Fullness {
-    /// None of so many pollers.
+    /// None of this many pollers.
     pub fn new(pollers: usize) -> Fullness {
         Fullness {
             pollers,

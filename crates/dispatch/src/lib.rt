@@ -14,6 +14,12 @@
 //!   [`Uncounted`] one of which no count tells yet.
 //! - [`Gate`] lets a test hold a turn back.
 //! - [`Clock`] tells the second, for the idle limit ([`Timing`]).
+//!
+//! # Inside
+//!
+//! An opening and a drop are counted where their poller counts them, so once for each accepted connection
+//! (`count_opened`, `count_dropped`, `Uncounted`), and a turn and an end by the pair's own counts and verdict
+//! (`moved_by`, `ended_by` of `specs/Counted.antt`).
 #![tactic(auto)]
 
 mod clock;

@@ -6,7 +6,7 @@ pub const MAX_BATCH: usize = 256;
 /// The most tries of accept(2) in one round. The tickets of what was opened wait no longer than that for their turns.
 pub const MAX_ACCEPTS: usize = 4;
 
-/// A round begins only if the poller's hand has room for a ticket of each slot, which a sweep may take, and so many more,
+/// A round begins only if the poller's hand has room for a ticket of each slot, which a sweep may take, and this many more,
 /// for its reports and openings.
 pub const ROUND_ROOM: usize = 512;
 
@@ -16,7 +16,7 @@ pub const MAX_OWN_TURNS: usize = 16;
 /// The most calls that one of these turns makes. The reports of other connections wait for no longer.
 pub const OWN_BUDGET: usize = 8;
 
-/// So many tickets of a connection go to the workers after a turn that spent the poller's budget.
+/// This many tickets of a connection go to the workers after a turn that spent the poller's budget.
 pub const HEAVY_TICKETS: u8 = 16;
 
 /// The number under which the listening socket is reported.

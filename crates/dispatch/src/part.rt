@@ -2,7 +2,7 @@
 ghost use Rattle.std.specs.Prelude.{◌↔◌, IsTrue};
 ghost use Rattle.dispatch.specs.Polls.{IsIn};
 
-/// The slots of one poller, which alone opens connections there and delivers their reports: so many of them, one after
+/// The slots of one poller, which alone opens connections there and delivers their reports: this many of them, one after
 /// the other from the first on.
 #[derive(Clone, Copy)]
 pub struct Part {

@@ -107,7 +107,7 @@ impl<F: Front> Poller<F> {
         })
     }
 
-    /// From now on this slot counts as having had so many connections: the next one there has the next generation, and
+    /// From now on this slot counts as having had this many connections: the next one there has the next generation, and
     /// there is none after the last, 2^47 - 1. A server starts at 0. `drill` starts near the last.
     #[tactic(auto, using(crate::proofs::Polls::own_set))]
     pub fn start_at(&mut self, slot: usize, generation: u64)
@@ -308,7 +308,7 @@ impl<F: Front> Poller<F> {
         self.episodes.full = full;
     }
 
-    /// A round may try accept(2) so many times again.
+    /// A round may try accept(2) this many times again.
     pub fn reset_tries(&mut self)
         ensures { self.new ≡ record self.old { tries = 4 } }
     {

@@ -17,7 +17,7 @@ pub struct Split {
 }
 
 impl Split {
-    /// A part for each of so many pollers: as many parts as they are, or fewer if they are many for the slots.
+    /// A part for each of this many pollers: as many parts as they are, or fewer if they are many for the slots.
     #[tactic(auto, using(crate::proofs::Splits::parts_of_size, crate::proofs::Splits::parts_le))]
     pub fn new(slots: usize, pollers: usize) -> Split
         requires slots { (1 ≤ slots) × (slots ≤ 4096) }

@@ -34,7 +34,7 @@ impl Book {
         }
     }
 
-    /// The log has to get this line next, behind those that it has to get already.
+    /// The log has to get this line next, after those that it has to get already.
     pub fn expect(&mut self, level: Level, text: Result<String, AllocError>) {
         let added = match text {
             Ok(text) => self.due.push_back((level, text)).is_ok(),

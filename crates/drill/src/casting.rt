@@ -108,7 +108,7 @@ fn cast_of<R: Wait>(
     divide(alloc, &shared, Rest { parts, free }, pollers, workers)
 }
 
-/// So many fronts.
+/// This many fronts.
 fn fronts_of(
     alloc: Global,
     outside: &OutsideCell,
@@ -121,7 +121,7 @@ fn fronts_of(
     Ok(fronts)
 }
 
-/// Each slot counts as having had so many connections.
+/// Each slot counts as having had this many connections.
 fn start_each(pollers: &mut Vec<Poller<KernelFront>>, generation: u64)
     requires { generation ≤ 140737488355327 }
 {
@@ -130,7 +130,7 @@ fn start_each(pollers: &mut Vec<Poller<KernelFront>>, generation: u64)
     }
 }
 
-/// Each of the poller's slots counts as having had so many connections.
+/// Each of the poller's slots counts as having had this many connections.
 fn start_all(poller: &mut Poller<KernelFront>, generation: u64)
     requires { generation ≤ 140737488355327 }
 {

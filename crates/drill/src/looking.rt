@@ -26,7 +26,7 @@ pub fn tickets_of(
     Ok(tickets)
 }
 
-/// The tickets in the ready queue, and behind them those in a poller's hand.
+/// The tickets in the ready queue, and after them those in a poller's hand.
 pub fn all_tickets(
     rt: &impl Wait,
     alloc: Global,

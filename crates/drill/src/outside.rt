@@ -42,7 +42,7 @@ pub struct State {
     pub calling: usize,
     /// Whether a thread has met a fault.
     pub is_faulty: bool,
-    /// Whether no more connections are to be opened.
+    /// Whether no more connections may be opened.
     pub is_stopped: bool,
 }
 

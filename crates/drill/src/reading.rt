@@ -26,7 +26,7 @@ pub enum Step {
     Line(String),
     /// What is reckoned forgets a free slot of this poller.
     ForgetSlot(usize),
-    /// From now on no more connections are to be opened.
+    /// From now on no more connections may be opened.
     Stop,
     /// The world's script and the report are printed.
     Show,
@@ -51,7 +51,7 @@ pub fn read_step(alloc: Global, line: &str) -> Option<Step> {
     }
 }
 
-/// The first word of a text, and what follows the space behind it.
+/// The first word of a text, and what follows the space after it.
 fn cut(text: &str) -> (&str, &str) {
     text.split_once(' ').unwrap_or((text, ""))
 }

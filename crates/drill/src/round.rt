@@ -193,7 +193,7 @@ impl Outside {
         self.book.expect(Level::Info, open);
     }
 
-    /// A step of this poller's thread begins. Answers whether the thread has come to its end. Where no more connections are to be
+    /// A step of this poller's thread begins. Answers whether the thread has come to its end. Where no more connections may be
     /// opened, it comes to know that with its step, and wakes all pollers.
     pub fn begin_step(&mut self, poller: usize) -> bool {
         let Some(station) = self.stations.get_mut(poller) else {

@@ -47,7 +47,7 @@ impl Session {
         Ok(())
     }
 
-    /// Plays a line. Answers why no more is played behind it, if that is so.
+    /// Plays a line. Answers why no more is played after it, if that is so.
     fn play_on<R: Wait + AllocGlobal + Print>(
         &mut self,
         rt: &R,
@@ -64,7 +64,7 @@ impl Session {
     }
 }
 
-/// No more is played behind this line.
+/// No more is played after this line.
 fn stop<R: Print>(rt: &R, index: usize, fault: &str, line: &str) -> io::Result<bool> {
     let number = (index as u64).saturating_add(1);
     println!(rt; "line {number}: {fault}: {line}")?;

@@ -167,7 +167,7 @@ impl Stage {
         has_ended
     }
 
-    /// Whether a worker's thread has to end with its next step, where so many tickets are queued.
+    /// Whether a worker's thread has to end with its next step, where this many tickets are queued.
     fn worker_is_due(&self, queued: usize) -> bool {
         let polling = self.pollers.iter().any(|player| !player.has_ended.get());
         let is_faulty = self.outside.with(false, |outside| outside.state.is_faulty);
@@ -190,7 +190,7 @@ impl Stage {
         }
     }
 
-    /// From now on no more connections are to be opened.
+    /// From now on no more connections may be opened.
     pub fn stop(&self) {
         self.is_stopped.store(true, SeqCst);
         self.outside

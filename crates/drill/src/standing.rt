@@ -25,7 +25,7 @@ pub struct Standing {
 }
 
 impl Standing {
-    /// That of a poller which begins, and may open so many connections.
+    /// That of a poller which begins, and may open this many connections.
     pub fn at_first(left: u64) -> Standing {
         Standing {
             is_refused: false,
@@ -79,7 +79,7 @@ impl Standing {
         self.may_listen || !self.listens
     }
 
-    /// Its round has ended, behind which all its slots are free, or not.
+    /// Its round has ended, after which all its slots are free, or not.
     pub fn end_round(&mut self, all_free: bool) {
         self.in_round = false;
         self.may_listen = !self.has_opened_all();

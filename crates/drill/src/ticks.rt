@@ -18,7 +18,7 @@ impl Ticks {
         }
     }
 
-    /// So many seconds pass. Answers false, and stands still, where the second would be over 2^64 - 1.
+    /// This many seconds pass. Answers false, and stands still, where the second would be over 2^64 - 1.
     pub fn go_on(&self, seconds: u64) -> bool {
         match self.second.get().checked_add(seconds) {
             Some(second) => {

@@ -61,7 +61,7 @@ impl Turn {
 }
 
 impl Outside {
-    /// A step of this poller's thread begins, or of a worker. Answers what goes on behind it.
+    /// A step of this poller's thread begins, or of a worker. Answers what goes on after it.
     pub fn enter(&mut self, poller: Option<usize>) -> Acting {
         let former = self.acting;
         self.acting = Acting { poller, turn: None };
@@ -194,7 +194,7 @@ impl Outside {
     }
 
     /// The slot of a turn whose connection was closed is given back, and its poller is woken: by a worker, and by its own
-    /// thread only if no more connections are to be opened.
+    /// thread only if no more connections may be opened.
     fn give_back(&mut self, slot: usize) {
         self.act(Act::Retire);
         self.act(Act::Free);

@@ -18,7 +18,7 @@ impl<'a> Source<'a> {
         Source::failing_once(bytes, usize::MAX, ErrorKind::Other)
     }
 
-    /// The first bytes, so many; then one error; and then the rest.
+    /// The first bytes, this many; then one error; and then the rest.
     pub(crate) fn failing_once(bytes: &'a [u8], length: usize, kind: ErrorKind) -> Source<'a> {
         Source {
             rest: bytes,
@@ -55,7 +55,7 @@ impl IsTerminal for Source<'_> {
     }
 }
 
-/// A writer into memory that fails once it took so many bytes: at its flush, or where it is to take more. It has the memory for
+/// A writer into memory that fails once it took this many bytes: at its flush, or where it is to take more. It has the memory for
 /// them from the start.
 #[derive(Drop)]
 pub(crate) struct Sink {

@@ -119,7 +119,7 @@ fn is_refused(target: &mut SocketWire) -> bool {
 }
 
 /// Opens the connection of a client, and waits until both ends were reported. Answers whether its target refuses, and it
-/// cannot be opened once more, since the client is registered already (EEXIST).
+/// cannot be opened again, since the client is registered already (EEXIST).
 fn opens_once(
     rt: &HostRuntime,
     log: &impl Log,
@@ -140,7 +140,7 @@ fn is_told(lines: &Lines) -> Result<bool, AllocError> {
     Ok(line.as_str().starts_with("[DEBUG relayd] register: ") && lines.len() == 1)
 }
 
-/// Whether a client's wire and that of its target, which refuses, answer so, and the log is told so.
+/// Whether a client's wire and that of its target, which refuses, answer so, and it is logged.
 fn answer(rt: &HostRuntime, front: &mut Sockets<'_, HostRuntime>) -> io::Result<bool> {
     reports(rt.alloc(), front, &[0])?;
     let mut client = front.accept()?;
@@ -151,7 +151,7 @@ fn answer(rt: &HostRuntime, front: &mut Sockets<'_, HostRuntime>) -> io::Result<
 }
 
 // refuses pending_error_swallowed: the error that is pending on a socket is overlooked
-// refuses pending_error_without_its_number: such an error is told without the system's number
+// refuses pending_error_without_its_number: such an error is logged without the system's number
 // refuses registers_cause_is_not_kept: the log is not told why a socket cannot be reported
 // Nobody listens at the port of a client, so such a target refuses.
 #[test]

@@ -3,7 +3,7 @@
 //! What it prints for which input stands in the repository's `tests/program`, where the built program is run, and how it
 //! serves is shown by `tests/relay`.
 //!
-//! They are a crate of their own since the tests of a crate are proved together with all of its functions once more.
+//! They are a crate of their own since the tests of a crate are proved together with all of its functions again.
 #![tactic(auto)]
 
 #[cfg(test)]

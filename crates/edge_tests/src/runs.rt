@@ -114,7 +114,7 @@ fn reads(
     Ok(run.is(status, output, errors) && source.reads() == reads)
 }
 
-/// Whether each of these errors is reported where it comes after so many bytes.
+/// Whether each of these errors is reported where it comes after this many bytes.
 fn are_reported(rt: &HostRuntime, length: usize) -> Result<bool, AllocError> {
     let mut all = true;
     for kind in [
@@ -143,13 +143,13 @@ static COMMANDS: [(&str, &[u8]); 3] = [
     ("relayd sim --each", SCRIPT),
 ];
 
-/// What a command writes to a writer that fails after so many bytes.
+/// What a command writes to a writer that fails after this many bytes.
 fn writes(rt: &HostRuntime, line: &str, script: &[u8], length: usize) -> Result<Run, AllocError> {
     let sink = Sink::failing_after(rt.alloc(), length)?;
     play(rt, line, &mut Source::whole(script), sink)
 }
 
-/// Whether a writer that fails after any number of bytes is reported, also at the flush behind the last one, and what it took
+/// Whether a writer that fails after any number of bytes is reported, also at the flush after the last one, and what it took
 /// stands.
 fn is_reported(rt: &HostRuntime, line: &str, script: &[u8]) -> Result<bool, AllocError> {
     let whole = writes(rt, line, script, ROOM)?;

@@ -230,7 +230,7 @@ served_more now told does side p m reply replies a b c run s t = record {
   made = rw (made_more now side reply m replies p run) (made_then told does _ _ a b c s.made t.made);
 }
 
--- so many answers have come
+-- this many answers have come
 pub record Runs (made now : ℕ) (old ran : PairState) (client target : Side → PairState → List AnswerValue → Type 0) : Type 0 where
   pub replies : List AnswerValue
   pub many : length replies ≡ made
@@ -266,7 +266,7 @@ goes_on now told does told_b does_b made p m q a b c t u v r s = record {
   by_target = served_more now told_b does_b Target p m s.reply r.replies t u v r.run r.by_target s.by_target;
 }
 
--- an answer that fails a pair is the last one, and tells of a call that failed
+-- an answer that fails a pair is the last one, and names a call that failed
 
 abbrev pub LastFailed : List AnswerValue → Fault → Type 0
 LastFailed replies (Broken side call kind) = (front : List AnswerValue) × (replies ≡ front ++ Failed kind ∷ [])

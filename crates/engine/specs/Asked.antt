@@ -10,7 +10,7 @@ pub data Asked : Type 0 where
   Join : Asked
   Shut : Asked
 
--- what a call gives: a read these bytes, and none at the end of input; a write took so many; a join or a
+-- what a call gives: a read these bytes, and none at the end of input; a write took this many; a join or a
 -- shutdown succeeded; or an error of this kind
 pub data Given : Type 0 where
   Brought : List ℕ → Given

@@ -105,7 +105,7 @@ IsFailure (Took n) kind = (n ≡ 0) × (kind ≡ Zero)
 IsFailure (Refused error) kind = kind ≡ kind_of_error error
 IsFailure given kind = ⊥
 
--- what a call gave is told to the pair by this answer. Which of the three an error is, its wire counts.
+-- this answer gives the pair what a call gave. Which of the three an error is, its wire counts.
 abbrev pub IsToldBy : Given → AnswerValue → Type 0
 IsToldBy given (Bytes bytes) = given ≡ Brought bytes
 IsToldBy given End = given ≡ Brought []

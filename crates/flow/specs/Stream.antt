@@ -31,7 +31,7 @@ first_of (byte ∷ lead) ring = byte ∷ lead
 abbrev pub front : Stream → List ℕ
 front s = first_of s.lead s.ring
 
--- the bytes went in behind all others
+-- the bytes went in after all others
 abbrev pub taken_in : Stream → List ℕ → Stream
 taken_in s bytes = record s { ring = s.ring ++ bytes }
 

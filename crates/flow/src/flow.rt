@@ -41,7 +41,7 @@ impl Flow {
     /// The most bytes that a lead has.
     pub const MAX_LEAD: usize = 107;
 
-    /// An empty ring for at most `capacity` bytes, 1 to 65,536, behind a lead of 0 to 107 bytes. This allocates all the
+    /// An empty ring for at most `capacity` bytes, 1 to 65,536, after a lead of 0 to 107 bytes. This allocates all the
     /// memory that the ring and the lead will ever use.
     ///
     /// Fails only if there is not enough memory; then nothing is made.

@@ -11,7 +11,7 @@ TakesAtMost most old new = (bytes : List ℕ) × (Consumes old new bytes × (len
 abbrev pub TakesSome : Option (List ℕ) → Option (List ℕ) → Type 0
 TakesSome old new = (bytes : List ℕ) × (Consumes old new bytes × (0 < length bytes))
 
--- one read put n bytes behind a text, and none only at the end or where the text was full
+-- one read put n bytes after a text, and none only at the end or where the text was full
 pub record ReadsOn (most : ℕ) (before after : Option (List ℕ)) (old new : List ℕ) (n : ℕ) : Type 0 where
   pub bytes : List ℕ
   pub consumed : Consumes before after bytes
@@ -19,7 +19,7 @@ pub record ReadsOn (most : ℕ) (before after : Option (List ℕ)) (old new : Li
   pub count : length bytes ≡ n
   pub at_end : n ≡ 0 → length old < most → IsAtEnd after
 
--- one read took bytes for which there was room behind a text, and they are gone
+-- one read took bytes for which there was room after a text, and they are gone
 pub record Stops (most : ℕ) (before after : Option (List ℕ)) (old : List ℕ) : Type 0 where
   pub bytes : List ℕ
   pub consumed : Consumes before after bytes

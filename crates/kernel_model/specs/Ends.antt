@@ -43,7 +43,7 @@ is_readable e = is_nonempty e.unread || (e.fin || e.err)
 abbrev pub is_writable : EndState → Bool
 is_writable e = e.room || e.err
 
--- Each change of the network has the end after it, and tells whether it is to be reported: the arm of
+-- Each change of the network has the end after it, and says whether it must be reported: the arm of
 -- its kind was set, and is cleared. What can't happen has no value.
 
 -- bytes come, at least one

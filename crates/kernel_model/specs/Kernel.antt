@@ -23,7 +23,7 @@ pub record Registered : Type 0 where
   pub socket : EndState
 
 -- `ends` has a place for each descriptor from 0 on. `queue` are the names that the next poll may report.
--- `backlog` connections wait at the listener, and `armed` says that the next one is to be reported,
+-- `backlog` connections wait at the listener, and `armed` says that the next one must be reported,
 -- since an accept answered blocked
 pub record KernelState : Type 0 where
   pub ends : List (Option Registered)
@@ -43,11 +43,11 @@ end_at ends descriptor = option_flatten (slice_get ends descriptor)
 abbrev pub lowest_free : List (Option Registered) → ℕ
 lowest_free ends = unwrap_or (position is_none ends) (length ends)
 
--- the ends with an end at a descriptor, which may be the one behind all others
+-- the ends with an end at a descriptor, which may be the one after all others
 abbrev pub with_end : List (Option Registered) → ℕ → Registered → List (Option Registered)
 with_end ends descriptor r = if nat_lt descriptor (length ends) then slice_set ends descriptor (Some r) else ends ++ Some r ∷ []
 
--- an end is opened and registered under its token, at the lowest descriptor, which is told
+-- an end is opened and registered under its token, at the lowest descriptor, which is the answer
 abbrev pub open_end : KernelState → EndName → Told KernelState ℕ
 open_end k token = record {
   value = record k { ends = with_end k.ends (lowest_free k.ends) (record { token = token; socket = opened token.side }) };
@@ -61,7 +61,7 @@ open_both k client target = record {
   told = record { client = (open_end k client).told; target = (open_end (open_end k client).value target).told };
 }
 
--- an end is closed (close(2)): its name leaves the queue, and what it was is told
+-- an end is closed (close(2)): its name leaves the queue, and what it was is the answer
 abbrev pub close : KernelState → ℕ → Option (Told KernelState EndState)
 close k descriptor = option_map
     (λ (r : Registered). record {
@@ -83,7 +83,7 @@ abbrev pub queues_more : KernelState → Option KernelState → Bool
 queues_more k None = false
 queues_more k (Some after) = nat_lt (length k.queue) (length after.queue)
 
--- a name is queued where something is to be reported
+-- a name is queued where something must be reported
 abbrev pub reported : List Name → Name → Bool → List Name
 reported queue name true = with_name name queue
 reported queue name false = queue
@@ -163,13 +163,13 @@ abbrev pub poll : KernelState → List Name → Option KernelState
 poll k names = guard (nat_le (length names) 256 && (are_among k.queue names && are_distinct names))
     (record k { queue = without_names names k.queue })
 
--- a client connects and waits at the listener, behind at most 4,095 others (listen(2))
+-- a client connects and waits at the listener, after at most 4,095 others (listen(2))
 abbrev pub connect_in : KernelState → Option KernelState
 connect_in k = guard (nat_lt k.backlog 4096)
     (record k { backlog = k.backlog + 1; queue = reported k.queue Listener k.armed; armed = false })
 
 -- accept(2): it takes the connection that waited longest; it would block, where nobody waits, and the next
--- connection is to be reported; it is worth another try at once; or what it needs is used up
+-- connection must be reported; it is worth another try at once; or what it needs is used up
 abbrev pub accept : KernelState → Accepting → Option KernelState
 accept k Accepted = guard (nat_lt 0 k.backlog) (record k { backlog = k.backlog - 1 })
 accept k Blocked = guard (k.backlog == 0) (record k { armed = true })

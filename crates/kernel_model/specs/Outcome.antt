@@ -7,7 +7,7 @@ use Rattle.kernel_model.specs.declared.refusal.Refusal.TheVariants.{NotAllowed, 
 abbrev pub guard : {X : Type 0} → Bool → X → Option X
 guard allowed x = if allowed then Some x else None
 
--- a value, and what is told with it
+-- a value, and the answer that comes with it
 pub record Told (X Y : Type 0) : Type 0 where
   pub value : X
   pub told : Y
@@ -25,7 +25,7 @@ MeetsAlways defined old new (Ok x) = defined ≡ Some new
 MeetsAlways defined old new (Err NotAllowed) = (defined ≡ None) × (new ≡ old)
 MeetsAlways defined old new (Err NoMemory) = ⊥
 
--- the same for a call that also tells something
+-- the same for a call that also gives an answer
 abbrev pub Tells : {X Y : Type 0} → Option (Told X Y) → X → X → Result Y Refusal → Type 0
 Tells defined old new (Ok told) = defined ≡ Some (record { value = new; told = told })
 Tells defined old new (Err NotAllowed) = (defined ≡ None) × (new ≡ old)

@@ -24,7 +24,7 @@ bytes_read e most n = guard (is_count n most && nat_le n (length e.unread)) (tak
 abbrev pub failed : EndState → Kind → Option EndState
 failed e kind = guard (not (is_zero kind)) e
 
--- a write, or a question whether the connect has ended, would block: the next room is to be reported
+-- a write, or a question whether the connect has ended, would block: the next room must be reported
 abbrev pub blocked_write : EndState → Option EndState
 blocked_write e = guard (not (is_writable e)) (record e { write_armed = true })
 

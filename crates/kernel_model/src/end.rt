@@ -117,14 +117,14 @@ impl End {
         self.shut
     }
 
-    /// Whether the next time that there is something to read is to be reported, since a read answered blocked.
+    /// Whether the next time that there is something to read must be reported, since a read answered blocked.
     pub fn is_read_armed(&self) -> bool
         ensures { result ≡ self.now.read_armed }
     {
         self.read_armed
     }
 
-    /// Whether the next time that there is room is to be reported, since a write or a join answered blocked.
+    /// Whether the next time that there is room must be reported, since a write or a join answered blocked.
     pub fn is_write_armed(&self) -> bool
         ensures { result ≡ self.now.write_armed }
     {
@@ -153,7 +153,7 @@ impl End {
         !bytes.is_empty() && !self.fin && !self.err
     }
 
-    /// Bytes arrive from the peer. Returns whether that is to be reported.
+    /// Bytes arrive from the peer. Returns whether that must be reported.
     ///
     /// Refuses with `NotAllowed` if there are none, or after the end of input or an error, and with `NoMemory` if the
     /// list of what arrived cannot grow. A refusal changes nothing.
@@ -167,7 +167,7 @@ impl End {
         Ok(self.report_read())
     }
 
-    /// The peer's end of input arrives. Returns whether that is to be reported.
+    /// The peer's end of input arrives. Returns whether that must be reported.
     ///
     /// Refuses with `NotAllowed`, and changes nothing, if it has arrived before, or after an error. Never answers
     /// `NoMemory`.
@@ -181,7 +181,7 @@ impl End {
         Ok(self.report_read())
     }
 
-    /// An error arrives, such as a reset by the peer. Returns whether that is to be reported.
+    /// An error arrives, such as a reset by the peer. Returns whether that must be reported.
     ///
     /// Refuses with `NotAllowed`, and changes nothing, if one has arrived before. Never answers `NoMemory`.
     pub fn reset(&mut self) -> Result<bool, Refusal>
@@ -196,7 +196,7 @@ impl End {
         Ok(read || write)
     }
 
-    /// The end gets room for writes. Returns whether that is to be reported.
+    /// The end gets room for writes. Returns whether that must be reported.
     ///
     /// Refuses with `NotAllowed`, and changes nothing, if it has room, or after an error. Never answers `NoMemory`.
     pub fn room(&mut self) -> Result<bool, Refusal>
@@ -221,7 +221,7 @@ impl End {
         }
     }
 
-    /// Whether a change that the network may make is to be reported.
+    /// Whether a change that the network may make must be reported.
     pub(crate) fn will_report(&self, change: Change<'_>) -> bool
         ensures { IfSome (change_of change.entry self.now) (λ told. told.told ≡ result) }
     {
@@ -232,7 +232,7 @@ impl End {
         }
     }
 
-    /// The network makes this change. Returns whether that is to be reported.
+    /// The network makes this change. Returns whether that must be reported.
     pub(crate) fn change(&mut self, change: Change<'_>) -> Result<bool, Refusal>
         ensures outcome { Tells (change_of change.entry self.old) self.old self.new result }
         ensures memory { IsErrOf result Refusal.NoMemory → IsTrue (brings_bytes change.entry) }
@@ -332,7 +332,7 @@ impl End {
         }
     }
 
-    /// Whether a read is to be reported. Clears the arm.
+    /// Whether a read must be reported. Clears the arm.
     fn report_read(&mut self) -> bool
         ensures told { result ≡ self.old.read_armed }
         ensures cleared { self.new ≡ record self.old { read_armed = false } }
@@ -340,7 +340,7 @@ impl End {
         mem::replace(&mut self.read_armed, false)
     }
 
-    /// Whether room is to be reported. Clears the arm.
+    /// Whether room must be reported. Clears the arm.
     fn report_write(&mut self) -> bool
         ensures told { result ≡ self.old.write_armed }
         ensures cleared { self.new ≡ record self.old { write_armed = false } }

@@ -97,7 +97,7 @@ impl Kernel {
         self.backlog
     }
 
-    /// Whether the next connection is to be reported, since an accept answered blocked.
+    /// Whether the next connection must be reported, since an accept answered blocked.
     pub fn is_armed(&self) -> bool
         ensures { result ≡ self.now.armed }
     {

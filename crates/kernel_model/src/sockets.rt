@@ -58,7 +58,7 @@ impl Kernel {
         self.change(descriptor, Change::Room)
     }
 
-    /// The network changes something at an end, and that is reported if the end tells so.
+    /// The network changes something at an end, and that is reported if the end is armed for it.
     fn change(&mut self, descriptor: usize, change: Change<'_>) -> Result<(), Refusal>
         ensures outcome { Meets (changed self.old descriptor (λ (e : EndState). change_of change.entry e)) self.old self.new result }
         ensures memory { IsErrOf result Refusal.NoMemory → IsTrue (brings_bytes change.entry || queues_more self.old (changed self.old descriptor (λ (e : EndState). change_of change.entry e))) }
@@ -138,7 +138,7 @@ impl Kernel {
     }
 }
 
-/// A change at an open end, whose name is queued if the end tells so.
+/// A change at an open end, whose name is queued if the end is armed for it.
 fn tell(registered: &mut Open, queue: &mut Vec<Name>, change: Change<'_>) -> Result<(), Refusal>
     ensures outcome { Meets (told change.entry (record { registered = registered.old; queue = queue.old.items })) (record { registered = registered.old; queue = queue.old.items }) (record { registered = registered.new; queue = queue.new.items }) result }
     ensures memory { IsErrOf result Refusal.NoMemory → IsTrue (brings_bytes change.entry || lengthens (record { registered = registered.old; queue = queue.old.items }) (told change.entry (record { registered = registered.old; queue = queue.old.items }))) }

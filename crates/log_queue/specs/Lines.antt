@@ -17,7 +17,7 @@ ending false = []
 abbrev pub shown : LineState → List ℕ
 shown line = line.text ++ ending line.cut
 
--- the first characters of a text that take at most so many bytes, as many as there are
+-- the first characters of a text that take at most this many bytes, as many as there are
 pub record IsFirst (most : ℕ) (text part : List ℕ) : Type 0 where
   pub end : ℕ
   pub is : part ≡ take end text

@@ -34,7 +34,7 @@ impl Count for AtomicU64 {
     }
 }
 
-/// The lines that were left out since they were told.
+/// The lines that were left out since that was last logged.
 #[derive(Drop)]
 pub(crate) struct Missing<C = AtomicU64>(C);
 

@@ -9,6 +9,12 @@
 //! ```text
 //! [WARN  relayd] log: 312 lines left out
 //! ```
+//!
+//! # Inside
+//!
+//! Lines left out are counted and taken by a type that has no step but these (`Missing`). The writer ends only after
+//! a look at the queue that found it closed, and takes lines after that look (`write_waiting` requires the look by
+//! its type); it sleeps only after a look that it had announced, and that found the queue open and no line (`sleep`).
 #![tactic(auto)]
 
 mod form;

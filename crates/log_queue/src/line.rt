@@ -47,7 +47,7 @@ impl LogLine {
     }
 }
 
-/// As many of a text's first characters as take at most so many bytes.
+/// As many of a text's first characters as take at most this many bytes.
 fn first_of(text: &str, most: usize) -> &str
     ensures { IsFirst most text.now result.now }
 {
@@ -86,7 +86,7 @@ fn ending(is_cut: bool) -> &'static str
     }
 }
 
-/// So many lines were left out.
+/// This many lines were left out.
 #[derive(Clone, Copy)]
 pub struct LeftOut(pub u64);
 

@@ -13,7 +13,7 @@ use std::sync::atomic::{AtomicBool, Ordering};
 use std::thread::Parker;
 
 /// A look at the queue before its lines are taken. Where it shows that the queue was closed, every line that was put before
-/// the close is found behind it.
+/// the close is found after it.
 #[derive(Drop)]
 pub(crate) struct Look {
     pub(crate) is_closed: bool,
@@ -21,7 +21,7 @@ pub(crate) struct Look {
     pub(crate) is_last: bool,
 }
 
-/// What the writer found behind a look at the queue.
+/// What the writer found after a look at the queue.
 #[derive(Drop)]
 pub(crate) struct Found {
     pub(crate) look: Look,
@@ -66,7 +66,7 @@ impl LogQueue {
         self.form
     }
 
-    /// Puts a line behind the others, or counts it if the queue is full. A writer that sleeps is woken; one that has
+    /// Puts a line after the others, or counts it if the queue is full. A writer that sleeps is woken; one that has
     /// found lines a moment ago looks by itself, so that most lines cost no system call.
     pub fn put(&self, rt: &impl Wait, line: LogLine) {
         if self.lines.push(rt, line).is_err() {

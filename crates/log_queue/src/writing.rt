@@ -9,7 +9,7 @@ use std::io::Eprint;
 use std::sync::Wait;
 
 /// Writes the queue's lines to standard error, each by one write, until the queue is closed and all are written. How many
-/// lines were left out is told once a write has ended after the loss. A line that cannot be written is lost.
+/// lines were left out is logged once a write has ended after the loss. A line that cannot be written is lost.
 pub fn write_lines<R: Eprint + Wait>(rt: &R, queue: &LogQueue) {
     for _look in rt.forever() {
         let found = write_waiting(rt, queue, queue.look());
@@ -34,7 +34,7 @@ fn sleep_unless_found(rt: &impl Wait, queue: &LogQueue, found: Found)
     }
 }
 
-/// Writes the lines that wait, behind a look at the queue.
+/// Writes the lines that wait, after a look at the queue.
 fn write_waiting<R: Eprint + Wait>(rt: &R, queue: &LogQueue, look: Look) -> Found
     ensures { result.look ≡ look }
 {

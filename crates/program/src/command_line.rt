@@ -143,7 +143,7 @@ struct CommandRow {
     arguments: &'static [ArgumentRow],
 }
 
-/// An argument of a command, behind the settings.
+/// An argument of a command, after the settings.
 #[derive(Clone, Copy)]
 struct ArgumentRow {
     name: &'static str,

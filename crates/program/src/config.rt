@@ -59,7 +59,7 @@ impl fmt::Display for ConfigName<'_> {
     }
 }
 
-/// How long a file is that is too long: so many bytes, or none where the system does not say.
+/// How long a file is that is too long: this many bytes, or none where the system does not say.
 #[derive(Clone, Copy)]
 struct Length(Option<u64>);
 

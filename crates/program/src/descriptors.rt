@@ -48,7 +48,7 @@ pub(crate) fn soft_limit(text: &str) -> Option<u64> {
     None
 }
 
-/// How many slots the descriptors are enough for, with the pollers of so many slots: as many as are set, or else the most
+/// How many slots the descriptors are enough for, with the pollers of this many slots: as many as are set, or else the most
 /// that have descriptors. It is 0 where there are none for one.
 pub(crate) fn covered(slots: usize, workers: usize, descriptors: Descriptors) -> usize
     requires slots { (1 ≤ slots) × (slots ≤ 4096) }
@@ -65,7 +65,7 @@ pub(crate) fn covered(slots: usize, workers: usize, descriptors: Descriptors) ->
     covered
 }
 
-/// How many descriptors a relay with so many slots and workers opens, beside its listening socket: two for each connection,
+/// How many descriptors a relay with this many slots and workers opens, beside its listening socket: two for each connection,
 /// and two for each poller.
 pub(crate) fn needed(slots: usize, workers: usize) -> u64
     requires slots { (1 ≤ slots) × (slots ≤ 4096) }

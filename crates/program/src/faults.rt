@@ -44,7 +44,7 @@ pub enum ProgramFault {
     /// The file to record into could not be created.
     #[error("record: cannot be created")]
     Record,
-    /// The process may have so many descriptors open, and with one connection it needs more.
+    /// The process may have this many descriptors open, and with one connection it needs more.
     #[error("descriptors: the limit is {limit}, and {needed} are needed for one connection (ulimit -n)")]
     Descriptors { limit: u64, needed: u64 },
     /// The requested output could not be written.

@@ -12,6 +12,12 @@
 //! - [`until_eof`] waits for the end of standard input.
 //! - [`logging`] is the log of a relay that serves, and [`level_filter`] its level; [`telling`] its statistics; `streams` logs
 //!   what is wrong with an input or an output.
+//!
+//! # Inside
+//!
+//! `report_fault` (`status_of` of `specs/Statuses.antt`) and `answer_usage` give the statuses that `relayd(1)` names
+//! (EXIT STATUS); `simulate` and `simulate_each` (`report`, `refused`) say by the status whether the report, or each
+//! step, or a fault's line was written.
 #![tactic(auto)]
 
 mod acting;

@@ -117,7 +117,7 @@ pub(crate) fn is_recording(rt: &impl Files, path: &str) -> io::Result<bool> {
     Ok(length == first.len() && first == FIRST_WORDS)
 }
 
-/// The first free name behind a path. An empty file has it now, so that nobody else takes it.
+/// The first free name after a path. An empty file has it now, so that nobody else takes it.
 fn free_name(rt: &impl Files, alloc: Global, path: &str) -> Result<String, Unmade> {
     for number in 1..=MOST_KEPT {
         let name = format!(in alloc; "{path}.{number}")?;

@@ -15,7 +15,7 @@ use std::rt::Files;
 const LISTENER: u64 = 1;
 
 /// The settings to serve with: those that are set, with no more slots than there are descriptors for, or with all slots
-/// if the system does not say how many there are. So many descriptors more are opened before the relay serves: it listens
+/// if the system does not say how many there are. This many descriptors more are opened before the relay serves: it listens
 /// by now. A warning says that there are too few, another that the relay is its own target, and another that its idle limit
 /// is too short.
 ///
@@ -47,7 +47,7 @@ pub fn foresee<R: AllocGlobal + Files + Net + Copy + Drop>(
     Ok(())
 }
 
-/// How many of the slots that are set are used, if so many more descriptors are opened before.
+/// How many of the slots that are set are used, if this many more descriptors are opened before.
 fn used_slots<R: AllocGlobal + Files + Net + Copy + Drop>(
     rt: &R,
     log: &impl Log,

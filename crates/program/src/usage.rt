@@ -176,7 +176,7 @@ fn write_line<W: fmt::Write>(f: &mut fmt::Formatter<W>, line: &str) -> fmt::Resu
     Ok(())
 }
 
-/// Writes so many spaces.
+/// Writes this many spaces.
 fn write_spaces<W: fmt::Write>(f: &mut fmt::Formatter<W>, many: usize) -> fmt::Result {
     for _ in 0..many {
         f.write_char(' ')?;

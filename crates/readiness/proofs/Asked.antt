@@ -137,7 +137,7 @@ untouched : (w v : Way) (late : List Change) (s : Seen) (call : Call) (r : Reply
 untouched w v late s call r f held same after there =
     rw (after, same) (aside w late s call r s.socket w.socket held there held.due (record { readable = refl; armed = refl }) (record { readable = refl; armed = refl }))
 
--- the next room is to be reported
+-- the next room must be reported
 blocks : (w v : Way) (late : List Change) (s : Seen) (call : Call) (f : EndState) → Held w late s → guard (not (is_writable w.socket)) (with_arm w.socket) ≡ Some f → v ≡ record w { socket = f } →
     ((e : EndState) → guard (not (is_writable s.socket)) (with_arm s.socket) ≡ Some e → after_call s.socket call reply.Blocked ≡ Some e) →
     Goes v s late late (Called call reply.Blocked ∷ []) (Calls call reply.Blocked)

@@ -12,7 +12,7 @@ pub record Rests (e : EndState) : Type 0 where
   pub empty : is_readable e ≡ false
   pub armed : e.read_armed ≡ true
 
--- the wire does not read, and there is something to read, of which it will be told
+-- the wire does not read, and there is something to read, whose report will be passed on to it
 pub record Asleep (w : Way) : Type 0 where
   pub reads : w.reads ≡ false
   pub told : w.told ≡ false

@@ -180,7 +180,7 @@ pub caught : (late : List Change) (s : Seen) (f : EndState) → settled s.socket
 caught [] s f due = record { seen = s; allowed = refl; socket = cc; keeps = λ h. h; same = λ h. refl }
 caught (c ∷ late) s f due = caught_more s c late f (λ m h. caught late m f h) (change_of s.socket c) refl due
 
--- some of it gives answers: only what stands behind it does
+-- some of it gives answers: only what stands after it does
 pub replies_behind : (late : List Change) (es : List Event) → replies_in (map Came late ++ es) ≡ replies_in es
 replies_behind [] es = refl
 replies_behind (c ∷ late) es = replies_behind late es

@@ -131,7 +131,7 @@ polls w v late s names held h =
       };
     })
 
--- The poller tells of a report. All that is late comes if it names reading
+-- The poller passes on a report. All that is late comes if it names reading
 
 told_reading : (w : Way) (late : List Change) (s : Seen) (rest : List Bool) → Held w late s →
     Goes (record w { taken = rest; owed = true; told = w.told || true }) s late [] (map Came late ++ Stray ∷ []) Tells
@@ -196,7 +196,7 @@ telling w v late s held (false ∷ rest) is h =
 pub told_of : (w v : Way) (late : List Change) (s : Seen) → Held w late s → step w Tells ≡ Some v → Goes v s late (late_telling w.taken late) (at_telling w.taken late) Tells
 told_of w v late s held h = telling w v late s held w.taken refl h
 
--- It tells of a report of an earlier connection
+-- It passes on a report of an earlier connection
 
 pub old : (w v : Way) (late : List Change) (s : Seen) → Held w late s → step w Old ≡ Some v → Goes v s late [] (map Came late) Old
 old w v late s held h =
@@ -216,7 +216,7 @@ old w v late s held h =
       };
     })
 
--- What was told is handed over
+-- What was passed on is handed over
 
 waits_handed : (w : Way) (late : List Change) → Waits w late → Waits (record w { owed = false }) late
 waits_handed w late (Prompt none) = Prompt none
@@ -291,7 +291,7 @@ looks w v late s held h =
 armed_again : (e : EndState) → e.read_armed ≡ true → record e { read_armed = true } ≡ e
 armed_again e armed = ap (λ (b : Bool). record e { read_armed = b }) (sym armed)
 
--- a read that would block once more
+-- a read that would block again
 blocks_again : (s : Seen) (most : ℕ) → Rests s.socket → event s (Called (Read most) reply.Blocked) ≡ Some s
 blocks_again s most r =
     let same : record (s.socket) { read_armed = true } ≡ s.socket = armed_again s.socket r.armed in

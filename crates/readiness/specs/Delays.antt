@@ -1,5 +1,5 @@
 -- The same connection in the machine that knows no such wire (`kernel_model`). Part of the promises. While the wire does
--- not read and was told of nothing, what comes to be read is late there: it comes when the wire is told.
+-- not read and no report was passed on to it, what comes to be read is late there: it comes with the report.
 use Rattle.std.specs.Prelude.{◌≡◌, ◌≢◌, ◌⊎◌, Bool, true, false, not, ◌&&◌, ◌||◌, if◌then◌else◌, List, [], ◌∷◌, ◌++◌, map, Contains, Option, Some, option_map, option_and_then, unwrap_or}
 use Rattle.token.specs.declared.side.Side.{Side}
 use Rattle.kernel_model.specs.Outcome.{guard, Told}
@@ -46,7 +46,7 @@ unseen side = record { socket = opened side; queued = false }
 abbrev pub is_late : Way → Bool
 is_late w = not w.reads && not w.told
 
--- what a report does there when it is told: what is late comes, if the report names reading, and its name is queued
+-- what a report does there when it is passed on: what is late comes, if the report names reading, and its name is queued
 abbrev pub at_telling : List Bool → List Change → List Event
 at_telling [] late = []
 at_telling (true ∷ rest) late = map Came late ++ Stray ∷ []
@@ -88,7 +88,7 @@ late_after w late Old = []
 late_after w late (Calls call r) = late_call r late
 late_after w late s = late
 
--- what happens there at a list of steps, in order, and what is late behind it
+-- what happens there at a list of steps, in order, and what is late after it
 abbrev pub happened : Way → List Change → List Step → List Event
 happened w late [] = []
 happened w late (s ∷ steps) = meanwhile w late s ++ unwrap_or (option_map (λ (v : Way). happened v (late_after w late s) steps) (step w s)) []
@@ -118,7 +118,7 @@ came_in (e ∷ more) = came_at e ++ came_in more
 abbrev pub IsOnItsWay : Way → Type 0
 IsOnItsWay w = (w.queued ≡ true) ⊎ ((w.taken ≢ []) ⊎ (w.owed ≡ true))
 
--- a report that names reading is queued or taken, and will be told
+-- a report that names reading is queued or taken, and will be passed on
 abbrev pub WillBeTold : Way → Type 0
 WillBeTold w = (w.queued ≡ true) ⊎ Contains w.taken true
 
@@ -144,7 +144,7 @@ pub record IsCovered (w : Way) : Type 0 where
 abbrev pub MissesNothing : Way → Type 0
 MissesNothing w = w.reads ≡ false → w.told ≡ false → IsCovered w
 
--- for every run from the opening of a connection, whatever was told before
+-- for every run from the opening of a connection, whatever was passed on before
 
 abbrev pub WiresAreDelayed : Type 0
 WiresAreDelayed = (side : Side) (told : Bool) (steps : List Step) (w : Way) → run (opening side told) steps ≡ Some w → IsDelayed (opening side told) w steps side

@@ -1,5 +1,5 @@
 -- What is on its way from one socket to its wire. Part of the promises. A poller takes the socket's reports from the
--- system (epoll(7), edge-triggered), and tells the wire of those that name reading, while any thread makes the wire's
+-- system (epoll(7), edge-triggered), and passes on to the wire those that name reading, while any thread makes the wire's
 -- calls. The socket is an end of the modelled kernel.
 use Rattle.std.specs.Prelude.{ℕ, Bool, true, false, not, ◌&&◌, ◌||◌, List, [], ◌∷◌, ◌++◌, Option, Some, None, option_map, option_and_then}
 use Rattle.token.specs.declared.side.Side.{Side}
@@ -34,8 +34,8 @@ after_call e (Write offer) r = after_write e offer r
 after_call e Join r = after_join e r
 after_call e Shut r = after_shut e r
 
--- The socket; whether a report of it is queued; for each report that a poll has taken and that is not told yet, the oldest
--- first, whether it names reading; whether one was told that the poll has not handed over yet; whether the wire was told of
+-- The socket; whether a report of it is queued; for each report that a poll has taken and that is not passed on yet, the oldest
+-- first, whether it names reading; whether one was passed on that the poll has not handed over yet; whether the wire had a report of
 -- reading since it last looked; and whether the wire reads its socket, or answers "would block" by itself
 pub record Way : Type 0 where
   pub socket : EndState
@@ -46,8 +46,8 @@ pub record Way : Type 0 where
   pub reads : Bool
 
 -- One step of the network (`Comes`, `HasRoom`), the system (`Spurious`, `Vanished`, `Polled`), the poller (`Tells`, `Old`,
--- `Handed`) or the wire (`Looks`, `Calls`, `Unasked`). `Vanished` takes a queued report back. `Old` tells of a report of an
--- earlier connection under the same name. `Handed` is the end of a poll: what was told is handed over. `Unasked` is the
+-- `Handed`) or the wire (`Looks`, `Calls`, `Unasked`). `Vanished` takes a queued report back. `Old` passes on a report of an
+-- earlier connection under the same name. `Handed` is the end of a poll: what was passed on is handed over. `Unasked` is the
 -- answer "would block" that the wire gives to a read by itself
 pub data Step : Type 0 where
   Comes : Change → Step
@@ -62,7 +62,7 @@ pub data Step : Type 0 where
   Calls : Call → Reply → Step
   Unasked : ℕ → Step
 
--- A new connection: its wire reads. What was told of an earlier one may still stand
+-- A new connection: its wire reads. What was reported of an earlier one may still stand
 abbrev pub opening : Side → Bool → Way
 opening side told = record { socket = opened side; queued = false; taken = []; owed = false; told = told; reads = true }
 
@@ -79,7 +79,7 @@ is_quiet e = not (is_readable e) && not (is_writable e)
 abbrev pub polled : Way → Bool → Option Way
 polled w names = guard (w.queued && (not (is_readable w.socket) || names)) (record w { queued = false; taken = w.taken ++ names ∷ [] })
 
--- the poller tells of the oldest report that was taken
+-- the poller passes on the oldest report that was taken
 abbrev pub tells : Way → List Bool → Option Way
 tells w [] = None
 tells w (names ∷ rest) = Some (record w { taken = rest; owed = true; told = w.told || names })

@@ -1,4 +1,4 @@
--- The words at which reports are told. Part of the promises. Each end of each slot's connection has one of its own.
+-- The words at which reports are passed on. Part of the promises. Each end of each slot's connection has one of its own.
 use Rattle.std.specs.Prelude.{ℕ, nat_lt, if◌then◌else◌, List, map, Option, Some, None}
 use Rattle.std.specs.List.{range_with_len}
 use Rattle.token.specs.declared.side.Side.{Side}
@@ -9,7 +9,7 @@ pub record WordName : Type 0 where
   pub slot : ℕ
   pub side : Side
 
--- the word of an end, where there are so many slots
+-- the word of an end, where there are this many slots
 abbrev pub word_of : ℕ → ℕ → Side → Option WordName
 word_of slots slot side = if nat_lt slot slots then Some (record { slot = slot; side = side }) else None
 
@@ -17,7 +17,7 @@ word_of slots slot side = if nat_lt slot slots then Some (record { slot = slot; 
 abbrev pub both_of : ℕ → WordName × WordName
 both_of slot = (record { slot = slot; side = Client }, record { slot = slot; side = Target })
 
--- the words of so many slots, in order
+-- the words of this many slots, in order
 abbrev pub words_of : ℕ → List (WordName × WordName)
 words_of slots = map both_of (range_with_len 0 slots)
 

@@ -33,7 +33,7 @@ impl Attention {
         self.reads
     }
 
-    /// The wire looked whether it was told of something to read. If so, it reads from now on.
+    /// The wire looked whether a report of something to read was passed on to it. If so, it reads from now on.
     pub fn look(&mut self, told: bool)
         ensures { self.new ≡ (self.old || told) }
     {

@@ -8,7 +8,7 @@ use std::marker::Model;
 use std::sync::Arc;
 use token::Side;
 
-/// For each end of each slot's connection, whether a report that names reading was told since its wire last looked.
+/// For each end of each slot's connection, whether a report that names reading was passed on since its wire last looked.
 ///
 /// In a clause it is the number of its slots.
 #[derive(Drop)]
@@ -41,7 +41,7 @@ impl Model for Ends {
     ghost view = { λ e. (arc_value e.client, arc_value e.target) };
 }
 
-/// What is told of one end. It has the word of that end and no other, so a look finds and clears what was told of that end.
+/// What is reported of one end. It has the word of that end and no other, so a look finds and clears what was reported of that end.
 ///
 /// In a clause it is the name of the word.
 #[derive(Drop)]
@@ -59,7 +59,7 @@ impl Model for Told {
 }
 
 impl Reports {
-    /// For so many slots; nothing is told yet. No later call allocates memory.
+    /// For this many slots; nothing is reported yet. No later call allocates memory.
     #[tactic(auto, using(crate::proofs::Words::one_more))]
     pub fn new(alloc: Global, slots: usize) -> Result<Reports, AllocError>
         ensures { IfOk result (λ reports. reports ≡ slots) }
@@ -71,7 +71,7 @@ impl Reports {
         Ok(Reports { ends })
     }
 
-    /// Tells of a report that names reading, at the word of that end alone. A slot that it does not have is left alone: its
+    /// Passes on a report that names reading, at the word of that end alone. A slot that it does not have is left alone: its
     /// wires always read.
     pub fn tell(&self, slot: usize, side: Side) -> Option<Heard>
         ensures { result ≡ word_of self.now slot side }
@@ -115,7 +115,7 @@ impl Ends {
 }
 
 impl Told {
-    /// What is told of the end on a side of a slot's connection, if there is such a slot.
+    /// What is reported of the end on a side of a slot's connection, if there is such a slot.
     pub fn new(reports: &Reports, slot: usize, side: Side) -> Result<Option<Told>, AllocError>
         ensures { IfOk result (λ told. told ≡ word_of reports.now slot side) }
     {
@@ -127,7 +127,7 @@ impl Told {
         }
     }
 
-    /// Whether a report that names reading was told since the last look, which this is.
+    /// Whether a report that names reading was passed on since the last look, which this is.
     pub fn take(&self) -> bool {
         self.word.take()
     }

@@ -1,4 +1,4 @@
-// What is told of one end, and the two steps on it, which are sequentially consistent, as are those of the claim words. A
+// What is reported of one end, and the two steps on it, which are sequentially consistent, as are those of the claim words. A
 // word knows whose it is, so that a clause can say at which word a step was made.
 ghost use Rattle.std.specs.Prelude.{◌≡◌};
 
@@ -7,7 +7,7 @@ use std::sync::atomic::AtomicBool;
 use std::sync::atomic::Ordering::SeqCst;
 use token::Side;
 
-/// Whether a report was told of the end on a side of a slot's connection. In a clause it is its name.
+/// Whether a report was passed on of the end on a side of a slot's connection. In a clause it is its name.
 #[derive(Drop)]
 pub(crate) struct Word {
     slot: usize,
@@ -23,7 +23,7 @@ impl Model for Word {
     ghost view = { λ w. record { slot = w.slot; side = w.side } };
 }
 
-/// A report was told at the word of the end on this side of this slot's connection. Only that step makes one.
+/// A report was passed on at the word of the end on this side of this slot's connection. Only that step makes one.
 #[derive(Drop)]
 pub struct Heard {
     slot: usize,
@@ -49,12 +49,12 @@ impl Word {
         }
     }
 
-    /// Tells of a report.
+    /// Passes on a report.
     pub(crate) fn tell(&self) -> Heard
         ensures { result ≡ self.now }
     {
-        // Pairs with `take`. The poller tells before it hands its reports over, and so before the report becomes a note:
-        // a holder who takes that note finds what was told.
+        // Pairs with `take`. The poller does so before it hands its reports over, and so before the report becomes a note:
+        // a holder who takes that note finds what was passed on.
         self.told.store(true, SeqCst);
         Heard {
             slot: self.slot,
@@ -62,9 +62,9 @@ impl Word {
         }
     }
 
-    /// Whether a report was told since the last look, which this is.
+    /// Whether a report was passed on since the last look, which this is.
     pub(crate) fn take(&self) -> bool {
-        // Pairs with `tell`. What is told after the exchange stands until the next look. Most looks find nothing, and a
+        // Pairs with `tell`. What is passed on after the exchange stands until the next look. Most looks find nothing, and a
         // load is cheaper than an exchange.
         self.told.load(SeqCst) && self.told.swap(false, SeqCst)
     }

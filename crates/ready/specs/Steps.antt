@@ -40,7 +40,7 @@ module _ {T : Type 0} where
     pub mine : get_elem? views end_number ≡ some history
     pub rule : QueueRule items views
 
-  -- at one moment of the call the queue held so many items
+  -- at one moment of the call the queue held this many items
   pub record HeldOnce (count : ℕ) (history : History T) : Type 0 where
     pub items : List T
     pub held : length items ≡ count
@@ -70,7 +70,7 @@ module _ {T : Type 0} where
     pub taken : new ≡ after_take old (length before.gone) item
     pub after : QueueRule items (slice_set views end_number new)
 
--- so many slots from the first on, in order
+-- this many slots from the first on, in order
 unfoldable pub in_order : ℕ → ℕ → List (ℕ × ℕ)
 in_order first zero = []
 in_order first (suc n) = in_order first n ++ (n, first + n) ∷ []

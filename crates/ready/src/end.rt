@@ -108,7 +108,7 @@ impl End {
         unreachable!()
     }
 
-    // Announces that it is idle, looks once more, and parks if there was nothing.
+    // Announces that it is idle, looks again, and parks if there was nothing.
     fn look_or_park(&mut self, rt: &impl Wait, empty: FoundEmpty) -> Option<Ticket>
         requires open { empty.0.closed ≢ true }
         ensures taken { IfSome result (λ ticket. TookOne (view self.old.pass) ticket (view self.new.pass)) }

@@ -121,7 +121,7 @@ impl<W: Bits> IdleBits<W> {
         if was_woken { Some(SpentWake(())) } else { None }
     }
 
-    /// Clears the bit of an end that is to be woken. Whether it was this call that cleared it.
+    /// Clears the bit of an end that must be woken. Whether it was this call that cleared it.
     pub(crate) fn wake(&self, end: usize) -> bool
         requires { end < 32 }
         ensures cleared { (before : ℕ) × W.did (ClearedBits (bit_of end) before) self.now.0 × (result ≡ has_bit end before) }
@@ -145,7 +145,7 @@ impl<W: Bits> IdleBits<W> {
     pub(crate) fn all_busy(&self) -> Option<AllBusy>
         ensures looked { (bits : ℕ) × W.did (ReadBits bits) self.now.0 × (IsSome result ↔ bits ≡ 0) }
     {
-        // Pairs with nothing: an end may announce itself right behind it. Who keeps a ticket for that has to come back to it.
+        // Pairs with nothing: an end may announce itself right after it. Who keeps a ticket for that has to come back to it.
         let bits = self.0.read();
         if bits == 0 {
             Some(AllBusy { bits })

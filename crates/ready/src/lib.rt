@@ -21,7 +21,7 @@
 //! # How an end sleeps, and who wakes it
 //!
 //! A thread with nothing to do parks in [`ReadyQueue::take`]. One word has a bit for each end that is idle. An end that
-//! is about to park sets its bit, looks at the queue once more, and only then parks. A put first pushes its ticket, and
+//! is about to park sets its bit, looks at the queue again, and only then parks. A put first pushes its ticket, and
 //! then clears the lowest bit that is set and unparks that end. So at most one end is woken for a ticket, and no ticket
 //! is left in the queue while an end sleeps: either the put finds the bit, or the end's second look, which comes after
 //! the bit, finds the ticket.
@@ -36,6 +36,20 @@
 //! No thread spins. The order of these steps is kept by values: each step gives one that the next step asks for, and
 //! nothing else makes it. `src/flags.rt` has the atomic steps, with the step that each pairs with, `src/sleeper.rt` how
 //! an end goes to sleep, and `src/idle.rt` how it is woken.
+//!
+//! # Inside
+//!
+//! The order of the steps is kept by values that nothing but the step before gives. An end is woken only once its
+//! ticket is in the queue (`wake_for`), or `close` has set its mark (`wake_all`). `take` returns none only if it read
+//! that mark and then found the queue empty (`End::take`: `closed`, `empty`). An end announces that it is idle only
+//! if it read that the queue was open and then found it empty (`announce`: `open`), and parks once for each
+//! announcement, only after it found the queue empty again (`look_again`; `park`: `empty`, `mine`). Its next put
+//! counts on it to come back exactly if its last `take` gave a ticket and it has put nothing since (`End`: `same`,
+//! `comes_back`, `stays`). The bits of idle ends are a word that has no step but a read, and to set or clear bits at
+//! once (`Bits`): `withdraw` and `wake` say what one such step found (`cleared`), and `all_busy` returns Some exactly
+//! if its one look found no bit (`looked`), by a value that nothing else makes and that cannot be copied (`AllBusy`).
+//! A wake that was spent on an end cannot be dropped (`SpentWake`): an end that found nothing takes it, and one that
+//! found a ticket passes it on.
 #![tactic(auto)]
 
 mod end;

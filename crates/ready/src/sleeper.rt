@@ -46,7 +46,7 @@ pub(crate) fn look<R: Wait>(
     }
 }
 
-/// Looks at the queue once more, for an end that has announced that it is idle.
+/// Looks at the queue again, for an end that has announced that it is idle.
 pub(crate) fn look_again<R: Wait>(
     rt: &R,
     announced: Announced,

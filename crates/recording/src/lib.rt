@@ -9,6 +9,12 @@
 //! A thread that records waits for nobody, and takes no memory: its record goes into a bounded queue ([`RecordQueue`]), and a
 //! writer that sleeps is woken ([`write_records`]). Where a queue is full the recording ends, which its last line says and a
 //! warning tells, and the relay serves on.
+//!
+//! # Inside
+//!
+//! The writer ends only after a look at the queue that found the recording ended, and takes records after that look;
+//! it sleeps as the log's does (`sleep`). A wrapper records the act that it does between two counts (`Before`); the
+//! kind of an error is that by which a turn takes it (`kind_of`).
 #![tactic(auto)]
 
 mod answers;

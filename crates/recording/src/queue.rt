@@ -12,7 +12,7 @@ use std::sync::Wait;
 use std::sync::atomic::{AtomicBool, AtomicU64, Ordering};
 use std::thread::Parker;
 
-/// A look at the queue before its records are taken. Every record that was put before the end that it shows is found behind
+/// A look at the queue before its records are taken. Every record that was put before the end that it shows is found after
 /// it.
 #[derive(Drop)]
 pub(crate) struct Look {
@@ -22,7 +22,7 @@ pub(crate) struct Look {
     pub(crate) is_asleep: bool,
 }
 
-/// What the writer found behind a look at the queue.
+/// What the writer found after a look at the queue.
 #[derive(Drop)]
 pub(crate) struct Found {
     pub(crate) look: Look,
@@ -91,7 +91,7 @@ impl RecordQueue {
         is_first
     }
 
-    /// Puts a record behind the others, and wakes a writer that sleeps. One that has found records a moment ago looks by
+    /// Puts a record after the others, and wakes a writer that sleeps. One that has found records a moment ago looks by
     /// itself, so that most records cost no system call. Answers whether there was room.
     pub(crate) fn put(&self, rt: &impl Wait, record: Record) -> bool {
         let at = self.poller_of(&record.act) % QUEUES;

@@ -63,7 +63,7 @@ fn sleep_unless_found(rt: &impl Wait, queue: &RecordQueue, found: Found)
     }
 }
 
-/// Writes the records that wait, behind a look at the queue.
+/// Writes the records that wait, after a look at the queue.
 fn write_waiting<R: Wait, W: Write>(
     rt: &R,
     queue: &RecordQueue,
@@ -93,7 +93,7 @@ fn write_all<R: Wait, W: Write>(rt: &R, queue: &RecordQueue, file: &mut W) -> io
     Ok(found)
 }
 
-/// Writes records of one queue, and answers whether there was one. So many at most, since threads may put them there as fast as
+/// Writes records of one queue, and answers whether there was one. This many at most, since threads may put them there as fast as
 /// they are written, and the others fill meanwhile.
 fn write_run<R: Wait, W: Write>(
     rt: &R,

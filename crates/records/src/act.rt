@@ -31,7 +31,7 @@ pub enum Act {
 /// What a poller did.
 #[derive(Clone, Copy)]
 pub enum Polling {
-    /// A wait for reports gave so many.
+    /// A wait for reports gave this many.
     Gave(usize),
     /// A signal ended a wait for reports.
     Interrupted,
@@ -67,9 +67,9 @@ pub enum Opening {
 /// What was done with a wire.
 #[derive(Clone, Copy)]
 pub enum Made {
-    /// A read of at most so many bytes. Its answer is a number of bytes, the end, or no success.
+    /// A read of at most this many bytes. Its answer is a number of bytes, the end, or no success.
     Read(usize, Answer),
-    /// A write that offered so many bytes. Its answer is a number of bytes, or no success.
+    /// A write that offered this many bytes. Its answer is a number of bytes, or no success.
     Write(usize, Answer),
     /// The question whether the socket is connected.
     Join(Answer),
@@ -84,7 +84,7 @@ pub enum Made {
 /// What a wire answered.
 #[derive(Clone, Copy, PartialEq, Eq)]
 pub enum Answer {
-    /// So many bytes moved.
+    /// This many bytes moved.
     Moved(usize),
     /// The end of input.
     End,

@@ -73,7 +73,7 @@ told now p call (Failed kind) fault none = λ failed. record { kind = kind; fail
 tells : (now : ℕ) (p : PairState) (call : Call) (reply : AnswerValue) (fault : Fault) → TellsOf call reply fault → verdict (after now p call reply) ≡ verdict.Failed fault
 tells now p call reply fault t = rw (t.failed, t.told) refl
 
--- the pair fails by a failed call and by nothing else, and its fault tells of that call
+-- the pair fails by a failed call and by nothing else, and its fault names that call
 pub fails_by_call : (now : ℕ) (p : PairState) (call : Call) (reply : AnswerValue) (q : PairState) → next_call p ≡ Some call → q ≡ after now p call reply → (fault : Fault) → (verdict q ≡ verdict.Failed fault) ↔ TellsOf call reply fault
 fails_by_call now p call reply q next e fault =
     let none : p.failure ≡ None = faultless p.failure _ (asked_while_live p call next) in

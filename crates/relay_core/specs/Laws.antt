@@ -55,7 +55,7 @@ abbrev pub KeepsOrder : PairState → Call → AnswerValue → PairState → Typ
 KeepsOrder old call reply new =
     (d : Direction) → waiting (stream_of old d) ++ brought d call reply ≡ carried old d call reply ++ waiting (stream_of new d)
 
--- the call failed, and the fault tells of this call and how it failed
+-- the call failed, and the fault names this call and how it failed
 pub record TellsOf (made : Call) (reply : AnswerValue) (fault : Fault) : Type 0 where
   pub kind : Kind
   pub failed : reply ≡ Failed kind
@@ -80,7 +80,7 @@ pub record Place : Type 0 where
 abbrev pub place_of : PairState → Place
 place_of p = record { slot = p.slot; generation = p.generation; up_capacity = p.up.capacity; down_capacity = p.down.capacity }
 
--- no call serves this direction: bytes that wait have no writable destination, an end that is to be passed
+-- no call serves this direction: bytes that wait have no writable destination, an end that must be passed
 -- on has one that neither is connected nor can be asked, and a ring with room has no readable source
 pub record IsAtRest (p : PairState) (d : Direction) : Type 0 where
   pub waits : 1 ≤ length (waiting (stream_of p d)) → (flags_of p (destination d)).write ≡ false
@@ -115,7 +115,7 @@ OnlyEndsAreSeen =
 abbrev pub AnswersKeepPlace : Type 0
 AnswersKeepPlace = (now : ℕ) (p : PairState) (call : Call) (reply : AnswerValue) → place_of (after now p call reply) ≡ place_of p
 
--- an answer fails a pair by a failed call alone, and its fault tells of that call
+-- an answer fails a pair by a failed call alone, and its fault names that call
 abbrev pub FailuresAreTold : Type 0
 FailuresAreTold =
     (now : ℕ) (p : PairState) (call : Call) (reply : AnswerValue) (fault : Fault) → AnswersNext p call reply →

@@ -41,11 +41,11 @@ cause_name Address = codes "address"
 abbrev pub drop_message : Cause → List ℕ
 drop_message cause = codes "drop kind=" ++ cause_name cause
 
--- so many more of that cause
+-- this many more of that cause
 abbrev pub drops_message : Cause → ℕ → List ℕ
 drops_message cause more = codes "drops kind=" ++ (cause_name cause ++ (codes " more=" ++ decimal more))
 
--- so many slots, which are all
+-- this many slots, which are all
 abbrev pub full_message : ℕ → List ℕ
 full_message slots = codes "slots: all " ++ (decimal slots ++ codes " are taken; further clients wait")
 

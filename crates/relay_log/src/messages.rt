@@ -106,7 +106,7 @@ impl Display for Dropped {
     }
 }
 
-/// So many more accepted connections were closed before they were opened than those of which the log has lines.
+/// This many more accepted connections were closed before they were opened than those of which the log has lines.
 #[derive(Clone, Copy)]
 pub struct MoreDropped {
     pub cause: Cause,
@@ -122,7 +122,7 @@ impl Display for MoreDropped {
     }
 }
 
-/// All slots of a server, so many, are taken, and a client waits.
+/// All slots of a server, this many, are taken, and a client waits.
 #[derive(Clone, Copy)]
 pub struct AllTaken {
     pub slots: usize,

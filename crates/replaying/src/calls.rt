@@ -59,7 +59,7 @@ fn asked_by(side: Side, made: Made) -> Option<(Asked, Answer)> {
     Some((Asked { call, bytes }, answer))
 }
 
-/// What a read or a write gave that moved so many bytes.
+/// What a read or a write gave that moved this many bytes.
 fn moved(call: Call, count: usize, next: &[Numbered]) -> Reply {
     match call {
         Call::Read(_, _) => Reply::Bytes(count),
@@ -138,7 +138,7 @@ impl Stage {
         self.arrive(side, bytes)
     }
 
-    /// So many bytes arrive at an end.
+    /// This many bytes arrive at an end.
     fn arrive(&mut self, side: Side, count: usize) -> Result<(), Flaw> {
         let mut left = count;
         for _piece in 0..count / MAX_ARRIVAL + 1 {

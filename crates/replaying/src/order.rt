@@ -140,7 +140,7 @@ fn begun(alloc: Global, recording: &Recording) -> Result<Vec<u64>, AllocError> {
     Ok(begun)
 }
 
-/// The count behind the last of a poller, which may have been waiting for reports, or behind that of a turn which has not ended, or
+/// The count after the last of a poller, which may have been waiting for reports, or after that of a turn which has not ended, or
 /// else the greatest.
 fn next_begun(recording: &Recording, at: usize) -> u64 {
     let is_poller = at >= recording.header.slots && at < recording.lists.len().saturating_sub(1);

@@ -27,7 +27,7 @@ pub(crate) enum Phase {
     Void(Option<Side>),
     /// A connection is open, and no turn of it is in progress.
     Open,
-    /// A turn has made so many calls.
+    /// A turn has made this many calls.
     Calling(usize),
     /// A turn has ended quiet, and the ends are being told.
     Settling,

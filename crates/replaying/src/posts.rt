@@ -6,7 +6,7 @@ use records::{Act, Polling};
 use token::{Name, Side, Token};
 use world::{Event, Polling as Polled, Reported};
 
-/// What a poller may have posted: by a report, or by the sweep of the round behind a poll.
+/// What a poller may have posted: by a report, or by the sweep of the round after a poll.
 #[derive(Clone, Copy)]
 pub(crate) struct Post {
     /// The place of the report or of the poll among what the poller did.

@@ -28,7 +28,7 @@ pub(crate) struct Recording {
     pub header: Header,
     /// Which slots are which poller's.
     pub split: Split,
-    /// A list for each slot, of openings, turns, calls and drops; behind them one for each poller, of all that it did; and one of
+    /// A list for each slot, of openings, turns, calls and drops; after them one for each poller, of all that it did; and one of
     /// what belongs to neither: readings of the clock, and the last record.
     pub lists: Vec<Vec<Numbered>>,
     pub last: Last,
@@ -156,7 +156,7 @@ impl Recording {
     }
 }
 
-/// So many empty lists.
+/// This many empty lists.
 pub(crate) fn lists<T: Drop>(alloc: Global, count: usize) -> Result<Vec<Vec<T>>, AllocError> {
     let mut lists = Vec::new(alloc);
     for _list in 0..count {

@@ -27,7 +27,7 @@ impl Replay for OnMachine {
     /// Reads a recording, and plays it.
     ///
     /// With `rests`, or where the recording ends with the record `end`, the relay had come to rest: nothing may be left to do
-    /// at any slot. With `rests` alone nothing is asked of that where records behind a lost one were left out, since what was
+    /// at any slot. With `rests` alone nothing is asked of that where records after a lost one were left out, since what was
     /// left to do may have been done there, and in neither case where a wait for reports had failed, since that ends a relay
     /// before all is done.
     ///

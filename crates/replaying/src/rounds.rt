@@ -24,7 +24,7 @@ struct Rounds<'a> {
     swept: Option<Swept>,
 }
 
-/// What was posted in the rounds of a recording: a list for each slot, of the reports that its poller was given, and behind
+/// What was posted in the rounds of a recording: a list for each slot, of the reports that its poller was given, and after
 /// them one for each poller, of its sweeps. Each of these posted to each slot in which the poller had opened a connection.
 ///
 /// Refuses with `Broken` for a poll with other reports than it gave.

@@ -537,7 +537,7 @@ room_less h k t is =
     let more = length-append h.tickets (t ∷ []) in
     omega arith
 
--- what holds between two steps still holds behind one that took slots
+-- what holds between two steps still holds after one that took slots
 pub between_took : (claims : TableId) (a b : Own) (p q : PollerState) → Between claims a p → OnlyTook a b → q.table ≡ p.table → Between claims b q
 between_took claims a b p q between took table = record {
   same = ap (λ (s : SeatState). s.table) took.seat ∙ between.same;

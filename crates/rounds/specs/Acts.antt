@@ -52,7 +52,7 @@ opening found noted = Adopted found ∷ Take noted ∷ Post false ∷ Release tr
 abbrev pub IsTry : Act → Type 0
 IsTry act = ((found : ℕ) × (noted : ℕ) × (act.exchanges ≡ opening found noted)) ⊎ (act.exchanges ≡ NotFree ∷ [])
 
--- by these acts these connections were opened, and so many slots were found not to be free
+-- by these acts these connections were opened, and this many slots were found not to be free
 pub record AreTries (opened : List Ticket) (held : ℕ) (tries : List Act) : Type 0 where
   pub each : All IsTry tries
   pub made : due_of tries ≡ opened

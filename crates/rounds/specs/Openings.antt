@@ -72,7 +72,7 @@ pub record Started (ticket : Ticket) (old new : Own) : Type 0 where
   pub hand : new.hand ≡ record old.hand { tickets = old.hand.tickets ++ ticket ∷ [] }
 
 -- These connections were opened in the poller's own slots, each with the next generation of its slot, with one note and with one
--- ticket, which is in hand behind the others. And these slots are no longer used, so many of which were found not to be free. That is all
+-- ticket, which is in hand after the others. And these slots are no longer used, this many of which were found not to be free. That is all
 -- that the seat did
 pub record Connected (opened : List Ticket) (lost : List ℕ) (held : ℕ) (old new : PollerState) (had has : Own) : Type 0 where
   pub table : AreOpened old.table opened new.table

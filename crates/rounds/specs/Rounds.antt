@@ -15,7 +15,7 @@ use Rattle.rounds.specs.Sweeps.{is_due, sweep_of}
 -- tickets. Then came the posts of a sweep, if one was made, and those that woke made theirs. Then connections were opened, each with
 -- one post and one ticket at its slot. All tickets that were to be put before, then those of the reports, of the sweep and of the
 -- openings are put or in hand, in this order. Each slot that was taken was opened, or is in hand, or is no longer used. These acts, in
--- this order, are all that the seat did: so many of the last found a slot held. Nothing was posted or opened at a slot of another poller
+-- this order, are all that the seat did: this many of the last found a slot held. Nothing was posted or opened at a slot of another poller
 pub record RoundDone (old new : PollerState) (had has : Own) : Type 0 where
   pub reports : List Act
   pub sweep : List Act
@@ -98,7 +98,7 @@ pub record IsOver (p : PollerState) (own : Own) : Type 0 where
   pub opened : HasOpenedAll p
   pub back : IsBack p own
 
--- free slots were taken in hand: at one moment none was left in the queue, or there are so many in hand, or no more fit
+-- free slots were taken in hand: at one moment none was left in the queue, or there are this many in hand, or no more fit
 abbrev pub TookAll : ℕ → Own → Type 0
 TookAll slots own = HeldOnce 0 own.free.history ⊎ ((slots ≤ length own.hand.slots) ⊎ (HasRoom own.hand → ⊥))
 

@@ -13,7 +13,7 @@ last_in table slot = record { slot = slot; generation = slice_index table slot }
 abbrev pub opened_in : List ℕ → ℕ → List Ticket
 opened_in table slot = if nat_lt 0 (slice_index table slot) then last_in table slot ∷ [] else []
 
--- of the first so many slots, each in which a connection was opened, once and in rising order
+-- of the first this many slots, each in which a connection was opened, once and in rising order
 abbrev pub opened_below : List ℕ → ℕ → List Ticket
 opened_below table zero = []
 opened_below table (suc slots) = opened_below table slots ++ opened_in table slots

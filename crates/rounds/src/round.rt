@@ -88,7 +88,7 @@ pub fn poller_round<F: Front, C: Clock, R: Wait + Log>(
     Ok(())
 }
 
-/// The start of a round. Answers false if the hand has no room for a ticket of each of so many slots and 512 more.
+/// The start of a round. Answers false if the hand has no room for a ticket of each of this many slots and 512 more.
 fn begin<F: Front>(hand: &Hand, poller: &mut Poller<F>, slots: usize) -> bool
     ensures poller { poller.new ≡ record poller.old { batch = [] } }
     ensures room { IsTrue result ↔ (512 + slots ≤ ticket_room hand.now) }
@@ -434,7 +434,7 @@ fn take_back<F: Front, R: Wait>(rt: &R, own: &mut Own, poller: &mut Poller<F>)
     poller.set_over(slots.saturating_add(poller.lost()) >= part.slots as u64);
 }
 
-/// Takes free slots in hand, at most so many, until there is none or the hand is full.
+/// Takes free slots in hand, at most this many, until there is none or the hand is full.
 fn take_all<R: Wait>(rt: &R, own: &mut Own, most: usize)
     ensures took { OnlyTook own.old own.new }
     ensures all { TookAll most own.new }

@@ -1,4 +1,4 @@
--- What a text is by its first line, and the lines behind it one by one.
+-- What a text is by its first line, and the lines after it one by one.
 use Rattle.std.proofs.Common.{◌≡◌, ℕ, ◌≤◌, true, List, [], ◌∷◌, ◌++◌, length, Some, None, Result, Ok, Err, refl, sym, ap, ◌∙◌, subst}
 use Rattle.std.specs.Prelude.{IsErrOf}
 use Rattle.std.specs.Result.{IsErrAnd}
@@ -45,7 +45,7 @@ pub world_first : (text : List ℕ) (ls : List NumberedLine) (first : NumberedLi
 world_first text ls first rest limits short lines is world =
     headed_is text ls first rest short lines is ∙ ap (λ o. and_then (λ h. headed h rest) (or_malformed first.number o)) world
 
--- the steps behind the header were read
+-- the steps after the header were read
 pub flow_read : (text : List ℕ) (ls : List NumberedLine) (first : NumberedLine) (rest : List NumberedLine) (ring given : ℕ) (steps : List NumberedStep) (plan : FlowPlan)
     → length text ≤ most_bytes → ls ≡ telling_lines 1 (lines_of text) → ls ≡ first ∷ rest → header_of first.text ≡ Some (header.Flow ring)
     → steps_of rest ≡ Ok steps → plan ≡ record { ring = given; steps = steps } → given ≡ ring → parsed text ≡ Ok (FlowOf plan)
@@ -59,7 +59,7 @@ pub world_read : (text : List ℕ) (ls : List NumberedLine) (first : NumberedLin
 world_read text ls first rest limits given events plan short lines is world read planned same =
     world_first text ls first rest limits short lines is world ∙ rw (read, planned, same) refl
 
--- a fault of what is behind the header is one of the text
+-- a fault of what is after the header is one of the text
 passes_on : {X Y : Type 0} (view : Y → X) (wrap : X → Plan) (r : Result X Fault) (fault : Fault) → GivesBy view r (Err fault)
     → GivesBy said_by (and_then (λ (x : X). Ok (wrap x)) r) (Err fault)
 passes_on view wrap r TooLong is = rw is refl
@@ -95,7 +95,7 @@ pub same_fault : {X : Type 0} (r : Result X Fault) (fault other : Fault) → IsE
 same_fault (Ok x) fault other is that = absurd is
 same_fault (Err f) fault other is that = cc
 
--- a text whose header is good, and the line behind it
+-- a text whose header is good, and the line after it
 pub flow_begins : (text : List ℕ) (ls : List NumberedLine) (first : NumberedLine) (rest : List NumberedLine) (ring : ℕ)
     → length text ≤ most_bytes → ls ≡ telling_lines 1 (lines_of text) → ls ≡ first ∷ rest → header_of first.text ≡ Some (header.Flow ring)
     → starts_with_step rest ≡ true → BeginsWell text

@@ -1,4 +1,4 @@
--- Every step keeps the bytes in order and whole, and the end behind them.
+-- Every step keeps the bytes in order and whole, and the end after them.
 use Rattle.std.proofs.Common.{◌≡◌, ℕ, List, [], ◌∷◌, ◌++◌, Bool, true, false, not, ◌&&◌, ◌||◌, cond, Option, Some, None, Ok, take, drop, refl, sym, ◌∙◌, ap, arith, append_assoc, append-nil, subst, length, nat_lt, nat_le, ◌≤◌, ◌⊎◌, inl, inr}
 use Rattle.std.specs.Prelude.{IfSome}
 use Rattle.std.proofs.lemmas.List.{take-append-drop, nil_from_length}

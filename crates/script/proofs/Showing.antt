@@ -144,7 +144,7 @@ one_more_shown stepped told lines x steps i y z l left before text old mid new c
     subst (λ (t : List ℕ). Appends old new t) (sym (next_shown stepped told lines x steps i text text_is))
     (Appends-trans old mid new (shown_to stepped told lines x steps i) text front wrote)
 
--- a step is refused behind those that were shown
+-- a step is refused after those that were shown
 pub stops_shown : {X L : Type 0} (stepped : X → L → Result X Fault) (told : X → List ℕ) (lines : List NumberedLine) (x : X) (steps : List L)
     (i : ℕ) (y : X) (l : L) (fault : Fault) (r : Result (Unit {0}) Halt) (old new : Option (List ℕ))
     → IsErrAnd r (λ halt. halt ≡ Refused fault) → played stepped x (take i steps) ≡ Ok y → slice_get steps i ≡ Some l → faults.Refused true (stepped y l) fault

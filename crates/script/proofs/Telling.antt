@@ -108,7 +108,7 @@ pub ran_out : (a b old new : Option (List ℕ)) → TakesSome a b → Appends ol
 ran_out None b old new some wrote = tt
 ran_out (Some input) b old new some wrote = inr (some_taken (Some input) b some, wrote)
 
--- what was told of a state
+-- what was printed of a state
 pub tells_report : (text : List ℕ) (reached : Reached) (r : Result Outcome ScriptFault) (old new : Option (List ℕ))
     → LeadsTo text (Ok reached) → IfOk r (λ told. Tells reached told old new) → r ≡ Ok Report → WritesReport text old new
 tells_report text reached r old new to told is = (reached, (to, IfOk-at_ok (λ (u : Outcome). Tells reached u old new) is told))

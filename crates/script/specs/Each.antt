@@ -48,12 +48,12 @@ shown line before after = codes "> " ++ (line ++ (newline ++ new_lines before af
 
 -- The header and the steps
 
--- what is told of a state, if it is reached
+-- what is printed of a state, if it is reached
 abbrev pub told_of : {X : Type 0} → (X → List ℕ) → Result X Fault → List ℕ
 told_of told (Ok x) = told x
 told_of told (Err fault) = []
 
--- what is told of the state after the first n steps
+-- what is printed of the state after the first n steps
 abbrev pub told_after : {X L : Type 0} → (X → L → Result X Fault) → (X → List ℕ) → X → List L → ℕ → List ℕ
 told_after stepped told x steps n = told_of told (played stepped x (take n steps))
 

@@ -56,7 +56,7 @@ abbrev pub said_by : Script → Plan
 said_by (script.Flow plan) = FlowOf plan
 said_by (script.World plan) = WorldOf plan.limits (said_lines plan.events)
 
--- the lines behind a header, by what it is of
+-- the lines after a header, by what it is of
 abbrev pub headed : Header → List NumberedLine → Result Plan Fault
 headed (header.Flow ring) lines = and_then (λ steps. Ok (FlowOf (record { ring = ring; steps = steps }))) (steps_of lines)
 headed (header.World limits) lines = and_then (λ events. Ok (WorldOf limits events)) (events_of lines)
@@ -80,7 +80,7 @@ abbrev pub starts_with_event : List NumberedLine → Bool
 starts_with_event [] = false
 starts_with_event (l ∷ ls) = is_some (event_of l.text)
 
--- the same of the lines behind a header, by what it is of
+-- the same of the lines after a header, by what it is of
 abbrev pub goes_on : Option Header → List NumberedLine → Bool
 goes_on None lines = false
 goes_on (Some (header.Flow ring)) lines = starts_with_step lines
@@ -90,12 +90,12 @@ abbrev pub begins_well : List NumberedLine → Bool
 begins_well [] = false
 begins_well (l ∷ ls) = goes_on (header_of l.text) ls
 
--- A text of a script's size that begins with a good header and a good line behind it. The lines that follow may be
+-- A text of a script's size that begins with a good header and a good line after it. The lines that follow may be
 -- malformed: a list is made of the lines as they are read.
 abbrev pub BeginsWell : List ℕ → Type 0
 BeginsWell text = (length text ≤ most_bytes) × IsTrue (begins_well (telling_lines 1 (lines_of text)))
 
 -- What takes memory once it was read: a script, for which a machine is made, and what begins well. So memory can't run
--- out for a text that is too long, or has no line, a malformed header, or a malformed line right behind that.
+-- out for a text that is too long, or has no line, a malformed header, or a malformed line right after that.
 abbrev pub TakesMemory : List ℕ → Type 0
 TakesMemory text = IsScript text ⊎ BeginsWell text

@@ -1,4 +1,4 @@
-//! What a person is told in addition to a fault: the word that is malformed and what is expected there, or why a step
+//! What a person reads in addition to a fault: the word that is malformed and what is expected there, or why a step
 //! is not allowed at that point.
 
 use crate::limits::{MAX_BYTES, MAX_SHOWN};
@@ -25,7 +25,7 @@ pub fn cause(alloc: Global, text: &[u8], fault: Fault) -> Option<String> {
     }
 }
 
-/// Which word of a line is malformed, behind the first one unless that is the wrong one, and what is expected there.
+/// Which word of a line is malformed, after the first one unless that is the wrong one, and what is expected there.
 fn malformed(alloc: Global, text: &[u8], number: u64) -> Option<String> {
     let (line, wrong) = wrong_line(alloc, text, number)?;
     let mut cause = Page::new(alloc);
@@ -65,7 +65,7 @@ fn show(cause: &mut Page, word: &[u8]) {
     }
 }
 
-/// The line with this number, and what is wrong with it. It is read once more, as it was when its fault was found: the
+/// The line with this number, and what is wrong with it. It is read again, as it was when its fault was found: the
 /// first line is a header, which decides on what the others are.
 fn wrong_line(alloc: Global, text: &[u8], number: u64) -> Option<(&[u8], Wrong<'_>)> {
     if text.len() > MAX_BYTES {
@@ -80,7 +80,7 @@ fn wrong_line(alloc: Global, text: &[u8], number: u64) -> Option<(&[u8], Wrong<'
     }
 }
 
-/// A line behind the header, and what is wrong with it.
+/// A line after the header, and what is wrong with it.
 fn wrong_behind<'a>(
     alloc: Global,
     header: &Header,

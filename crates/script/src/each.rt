@@ -44,7 +44,7 @@ pub fn run_each<R: Read, W: Write, X: Explain>(
     }
 }
 
-/// Shows each step of the script that a text stands for, or those before its fault, which `explain` is told, and then
+/// Shows each step of the script that a text stands for, or those before its fault, which `explain` is given, and then
 /// the line of the fault.
 fn answer_each<W: Write, X: Explain>(
     alloc: Global,

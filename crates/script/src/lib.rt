@@ -11,7 +11,7 @@
 //! malformed and what is expected there, or why a step is not allowed. [`run`] passes text and fault to its
 //! [`Explain`].
 //!
-//! What a line says, and what is told of a world, is the crate `script_text`.
+//! What a line says, and what is printed of a world, is the crate `script_text`.
 //!
 //! `docs/FORMATS.md` describes scripts and reports; `specs/` has the same as definitions: `Scripts` for the text, over those of
 //! `script_text`; `Transfers` and `Plays` for the steps; `Reports` and `Each` for what is written, over those of the same crate;

@@ -38,7 +38,7 @@ pub enum ScriptFault {
 ///
 /// It makes at most 1,048,577 reads. Any error of the reader, even one that a signal causes, is [`ScriptFault::Read`]
 /// at once. If memory runs out, the line is `out of memory`: so never for an input without a byte, nor, once it was read,
-/// for one that is too long, or whose header or first line behind it is malformed.
+/// for one that is too long, or whose header or first line after it is malformed.
 ///
 /// If the script that was read has a fault, `explain` is called once, before anything is written. Otherwise it is not
 /// called; nor is it if memory runs out before the script was read, or for what is to be written.
@@ -76,7 +76,7 @@ pub fn run<R: Read, W: Write, X: Explain>(
     }
 }
 
-/// Answers that a script was not read: if memory ran out for it, that is told.
+/// Answers that a script was not read: if memory ran out for it, that is reported.
 pub(crate) fn answer_unread<W: Write>(
     writer: &mut W,
     fault: InputFault,
@@ -93,7 +93,7 @@ pub(crate) fn answer_unread<W: Write>(
 }
 
 /// Computes the state after the script that a text stands for, and then writes its report or the one line of the
-/// script's fault, which `explain` is told first.
+/// script's fault, which `explain` is given first.
 pub fn answer<W: Write, X: Explain>(
     alloc: Global,
     text: &[u8],
@@ -135,7 +135,7 @@ fn tell_report<W: Write>(
     }
 }
 
-/// Writes the line of a fault. It allocates no memory, so each fault is told as itself.
+/// Writes the line of a fault. It allocates no memory, so each fault is reported as itself.
 pub(crate) fn tell_fault<W: Write>(writer: &mut W, fault: Fault) -> Result<Outcome, ScriptFault>
     ensures ok { IfOk result (λ told. (told ≡ Outcome.Refused) × Appends (W.contents writer.old) (W.contents writer.new) (fault_line fault)) }
     ensures err { IfErr result (λ fault. fault ≡ ScriptFault.Write) }

@@ -1,4 +1,4 @@
--- What stands before and behind the first separator.
+-- What stands before and after the first separator.
 use Rattle.std.proofs.Common.{◌≡◌, ℕ, ◌+◌, List, [], ◌∷◌, Some, None, Bool, true, false, cond, take, drop, arith, subst, refl}
 use Rattle.std.specs.List.{slice_split, position}
 use Rattle.std.proofs.lemmas.Bool.{ltb-true, ltb-false}

@@ -119,7 +119,7 @@ reported_of (who ∷ words) =
     else if bytes_eq who (codes "waker") then if_last reported.Waker words
     else option_and_then (λ slot. word_then side_named (λ side. if_last (reported.End slot side)) words) (slot_of who)
 
--- The words behind the first one
+-- The words after the first one
 
 -- a slot and a side, for what happens to a socket
 abbrev pub change_event : Change → List (List ℕ) → Option Event

@@ -34,7 +34,7 @@ abbrev pub IsWithin : Header → Type 0
 IsWithin (Flow ring) = IsRing ring
 IsWithin (World limits) = IsWithinLimits limits
 
--- these bytes, if a lead may have so many
+-- these bytes, if a lead may have this many
 abbrev pub short_enough : List ℕ → Option (List ℕ)
 short_enough bytes = if nat_le (length bytes) 107 then Some bytes else None
 
@@ -51,7 +51,7 @@ abbrev pub optional : {X : Type 0} → (List ℕ → Option X) → X → List (L
 optional read otherwise [] = record { value = otherwise; words = [] }
 optional read otherwise (word ∷ words) = found_or otherwise word words (read word)
 
--- What may stand behind the sizes, each at most once and in this order: ` gen=G`, the generation that the slots have had,
+-- What may stand after the sizes, each at most once and in this order: ` gen=G`, the generation that the slots have had,
 -- 0 where it is not given; ` idle=L`, the idle limit, 0 for none; ` lead=HEX`, the lead, empty for none.
 abbrev pub with_extras : Limits → List (List ℕ) → Option Limits
 with_extras sizes words =
@@ -60,7 +60,7 @@ with_extras sizes words =
     let lead = optional lead_of [] idle.words in
     if_last (record sizes { generation = generation.value; idle = idle.value; lead = lead.value }) lead.words
 
--- `slots=S workers=W ring=R budget=B`, with what stands behind
+-- `slots=S workers=W ring=R budget=B`, with what stands after
 abbrev pub limits_of : List (List ℕ) → Option Limits
 limits_of =
     word_then (size_of (codes "slots=") 64) (λ slots. word_then (size_of (codes "workers=") 16) (λ workers.

@@ -5,7 +5,7 @@ use Rattle.std.specs.Str.{bytes_eq}
 use Rattle.script_text.specs.declared.wrong.NotRead.{NotRead}
 use Rattle.script_text.specs.declared.wrong.NotRead.TheVariants as not_read
 
--- what was read, and the words behind it
+-- what was read, and the words after it
 pub record Found (X : Type 0) : Type 0 where
   pub value : X
   pub words : List (List ℕ)
@@ -15,7 +15,7 @@ abbrev pub first_as : {X : Type 0} → (List ℕ → Option X) → List (List �
 first_as read [] = None
 first_as read (word ∷ words) = option_map (λ x. record { value = x; words = words }) (read word)
 
--- what the first word says, and what the words behind it say then
+-- what the first word says, and what the words after it say then
 abbrev pub word_then : {X Y : Type 0} → (List ℕ → Option X) → (X → List (List ℕ) → Option Y) → List (List ℕ) → Option Y
 word_then read next words = option_and_then (λ found. next found.value found.words) (first_as read words)
 

@@ -42,7 +42,7 @@ telling_lines n (text ∷ texts) =
 abbrev pub is_digit : ℕ → Bool
 is_digit byte = nat_le 48 byte && nat_le byte 57
 
--- a number, and one more digit behind it
+-- a number, and one more digit after it
 abbrev pub with_digit : ℕ → ℕ → ℕ
 with_digit n digit = n * 10 + (digit - 48)
 

@@ -112,7 +112,7 @@ fn not_a_name<'a>(count: usize, word: &'a [u8]) -> Wrong<'a> {
     }
 }
 
-/// Why a poll is not read whose names there was no memory for: a word behind the first `count` is malformed, even so.
+/// Why a poll is not read whose names there was no memory for: a word after the first `count` is malformed, even so.
 fn lacking<'a>(error: AllocError, count: usize, words: Pieces<'a>) -> NotRead<'a>
     requires { count ≤ 256 }
     ensures { ReadsBy (λ all. all) (are_names count words.entry) (Err result) }
@@ -123,7 +123,7 @@ fn lacking<'a>(error: AllocError, count: usize, words: Pieces<'a>) -> NotRead<'a
     }
 }
 
-/// Whether these words, behind so many names, are names too.
+/// Whether these words, after this many names, are names too.
 fn are_names<'a>(mut count: usize, mut words: Pieces<'a>) -> Result<(), Wrong<'a>>
     requires { count ≤ 256 }
     ensures { Reads (are_names count words.entry) result }

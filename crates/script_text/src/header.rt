@@ -88,7 +88,7 @@ fn limits(mut words: Pieces<'_>) -> Result<Limits, Wrong<'_>>
     with_extras(sizes, words)
 }
 
-/// Sizes with what stands behind them: `gen=G`, `idle=L` and `lead=HEX` in this order, each of which may be left out.
+/// Sizes with what stands after them: `gen=G`, `idle=L` and `lead=HEX` in this order, each of which may be left out.
 fn with_extras(sizes: Limits, mut words: Pieces<'_>) -> Result<Limits, Wrong<'_>>
     requires { IsWithinLimits sizes }
     ensures value { Reads (with_extras sizes words.entry) result }
@@ -106,7 +106,7 @@ fn with_extras(sizes: Limits, mut words: Pieces<'_>) -> Result<Limits, Wrong<'_>
     })
 }
 
-/// What may stand behind these, if anything.
+/// What may stand after these, if anything.
 fn behind(generation: Option<u64>, idle: Option<u64>, has_lead: bool) -> &'static str {
     if has_lead {
         "the line should end before this word"

@@ -11,7 +11,7 @@ pub enum Piece<'a> {
     Text(&'a str),
     /// A number in decimal digits.
     Number(u64),
-    /// The name of a number, and the number right behind it.
+    /// The name of a number, and the number right after it.
     Named(&'a str, u64),
     /// Bytes in lower-case hexadecimal, `-` for none.
     Bytes(&'a [u8]),

@@ -110,7 +110,7 @@ pub(crate) fn count<'a>(words: &mut Pieces<'a>) -> Result<usize, Wrong<'a>>
     said(number(word), word, wanted)
 }
 
-/// Bytes in hexadecimal, behind which the line ends. A line that goes on is malformed, even if there is no memory.
+/// Bytes in hexadecimal, after which the line ends. A line that goes on is malformed, even if there is no memory.
 pub(crate) fn last_bytes<'a>(alloc: Global, mut words: Pieces<'a>) -> Result<Bytes, NotRead<'a>>
     ensures { ReadsBy (λ bytes. bytes) (word_then bytes_of if_last words.entry) result }
 {

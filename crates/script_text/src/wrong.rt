@@ -33,7 +33,7 @@ impl<'a> Wrong<'a> {
         }
     }
 
-    /// This is expected in place of a word behind the first one.
+    /// This is expected in place of a word after the first one.
     pub(crate) fn malformed(word: &'a [u8], wanted: &'static str) -> Wrong<'a> {
         Wrong {
             word: Some(word),

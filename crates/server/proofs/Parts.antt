@@ -85,7 +85,7 @@ pub all_taken : {P X A : Type 0} (of : P → A) (f : X → A) (ps : List P) (xs 
 all_taken {P = P} {X = X} {A = A} of f ps xs all none before =
     sym (append-nil (map of ps)) ∙ ap (λ (zs : List X). map of ps ++ map f (reverse zs)) (sym (nil_from_length xs none)) ∙ before
 
--- so many seats that have done nothing yet
+-- this many seats that have done nothing yet
 pub all_fresh : (table : TableId) (seats : List SeatState) (n : ℕ) → seats ≡ replicate n (fresh_seat table) → AreFresh table seats
 all_fresh table seats n are = record {
   each = are ∙ ap (λ (k : ℕ). replicate k (fresh_seat table)) (sym (ap (λ (some : List SeatState). length some) are ∙ length-replicate n (fresh_seat table)));

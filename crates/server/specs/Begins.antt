@@ -4,7 +4,7 @@ use Rattle.dispatch.specs.declared.opening.Opening.{Opening}
 use Rattle.dispatch.specs.Episodes.{no_episodes}
 use Rattle.dispatch.specs.Polls.{PollerState}
 
--- a poller that has opened nothing yet, with a table for so many slots, and what it opens connections with
+-- a poller that has opened nothing yet, with a table for this many slots, and what it opens connections with
 pub record HasBegun (slots : ℕ) (opens : Opening) (p : PollerState) : Type 0 where
   pub table : p.table ≡ replicate slots 0
   pub batch : p.batch ≡ []

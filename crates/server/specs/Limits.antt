@@ -8,6 +8,6 @@ abbrev pub share_of : ℕ → ℕ → ℕ → ℕ
 share_of zero pollers number = 18446744073709551615
 share_of (suc n) pollers number = if nat_lt number (suc n % pollers) then suc n / pollers + 1 else suc n / pollers
 
--- the shares of so many pollers, in order
+-- the shares of this many pollers, in order
 abbrev pub shares_of : ℕ → ℕ → List ℕ
 shares_of stop_after pollers = map (λ (number : ℕ). share_of stop_after pollers number) (range_with_len 0 pollers)

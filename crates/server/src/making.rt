@@ -171,7 +171,7 @@ fn share_of(stop_after: u32, pollers: usize, number: usize) -> u64
     }
 }
 
-/// What so many threads share, and for each of them a seat and an end of the queue of tickets.
+/// What this many threads share, and for each of them a seat and an end of the queue of tickets.
 fn shared_of<F: Front>(
     alloc: Global,
     settings: &Settings,

@@ -22,7 +22,7 @@ pub struct Lent<'a, G, C> {
     pub gate: &'a G,
     /// By which the idle limit is counted.
     pub clock: &'a C,
-    /// Set by another thread from when on no more connections are to be opened.
+    /// Set by another thread from when on no more connections may be opened.
     pub is_stopped: &'a AtomicBool,
     /// Where what becomes of the connections is counted, if it is, with a place for each of the settings' slots.
     pub statistics: Option<&'a Arc<Statistics>>,
@@ -38,7 +38,7 @@ pub struct Lent<'a, G, C> {
 /// lent. If the settings' `proxy` is set, each target is first sent a line with the addresses of its client's connection.
 ///
 /// It returns once `stop_after` connections were opened, or `is_stopped` was set, and all connections that were opened are
-/// closed; or on a fault. From when no more are to be opened on, the listening socket is closed. When it returns, every thread
+/// closed; or on a fault. Once no more may be opened, the listening socket is closed. When it returns, every thread
 /// has ended, and every socket is closed.
 ///
 /// Refuses with `NoMemory` if there is not enough to begin with, `Poll` if the system cannot report on sockets,

@@ -43,14 +43,14 @@ impl fmt::Display for EndOfLine<'_> {
     }
 }
 
-/// What stands for the first of so many characters, where these are not shown.
+/// What stands for the first of this many characters, where these are not shown.
 fn dots_before(count: usize) -> &'static str
     ensures { result.now ≡ (if nat_lt 64 count then codes ".." else []) }
 {
     if count > MAX_SHOWN { ".." } else { "" }
 }
 
-/// What follows the first characters of a text, so many of them.
+/// What follows the first characters of a text, this many of them.
 fn without_first(text: &str, count: usize) -> &str
     ensures { chars result.now ≡ drop count (chars text.now) }
 {

@@ -43,7 +43,7 @@ fn line_around(text: &str, index: usize) -> Option<(&str, &str)> {
     Some((before, line))
 }
 
-/// What stands behind the `=` of a line, without a comment behind what has no quotes.
+/// What stands after the `=` of a line, without a comment after what has no quotes.
 fn value_in(written: &str) -> &str {
     let written = written.trim();
     match written.split_once('#') {

@@ -34,7 +34,7 @@ end_in (Some Listener) = None
 end_in (Some Waker) = None
 end_in None = None
 
--- the word of an end, where there are so many slots
+-- the word of an end, where there are this many slots
 abbrev pub word_at : ℕ → Option EndName → Option WordName
 word_at slots (Some end) = word_of slots end.slot end.side
 word_at slots None = None
@@ -57,7 +57,7 @@ pub record Watched : Type 0 where
   pub failed : Bool
   pub listening : Bool
 
--- the longest wait for reports of each of so many pollers, 16 at most, in milliseconds: together they wake at most 10 times a second by
+-- the longest wait for reports of each of this many pollers, 16 at most, in milliseconds: together they wake at most 10 times a second by
 -- themselves
 abbrev pub wait_of : ℕ → ℕ
 wait_of pollers = 100 * max (min pollers 16) 2

@@ -123,7 +123,7 @@ pub record IsCalled (asked : Asked) (given : Given) (old new : Socket) : Type 0 
 -- One system call on a socket, with its answer: read(2), write(2) or shutdown(2); SO_ERROR of socket(7); getpeername(2);
 -- TCP_NODELAY of tcp(7), on or off; TCP_USER_TIMEOUT, in milliseconds, where 0 is no limit of the socket's own; and epoll_ctl(2),
 -- which registered the socket under this number, to be told at this word, if at any. And SO_KEEPALIVE of socket(7), with the first
--- probe after so many seconds, which takes a call for each of its numbers. And a look, which is no system call: whether a report
+-- probe after this many seconds, which takes a call for each of its numbers. And a look, which is no system call: whether a report
 -- that names reading was told since the last one
 pub data Made : Type 0 where
   Called : Asked → Given → Made
@@ -143,7 +143,7 @@ module _ {S : Type 0} where
     pub off : was ≡ true → is ≡ false → did (SentAtOnce false) before after
     pub kept : is ≡ was → after ≡ before
 
-  -- a socket is given so many seconds to wait for its connection, or for a silent peer, and is left alone where none are given
+  -- a socket is given this many seconds to wait for its connection, or for a silent peer, and is left alone where none are given
   abbrev pub Limits : (Made → S → S → Type 0) → Option ℕ → S → S → Type 0
   Limits did (Some seconds) before after = did (GivesUpAfter (seconds * 1000)) before after
   Limits did None before after = after ≡ before
@@ -193,7 +193,7 @@ module _ {S : Type 0} where
   Asks did Join given old new before after = Joins did given before after
   Asks did Shut given old new before after = did (Called Shut given) before after
 
-  -- all system calls of a call on the wire: behind those that it asks for, the limit may be lifted
+  -- all system calls of a call on the wire: after those that it asks for, the limit may be lifted
   abbrev pub Makes : (Made → S → S → Type 0) → Asked → Given → Socket → Socket → S → S → Type 0
   Makes did asked given old new before after =
       (asked_for : S) × Asks did asked given old new before asked_for

@@ -5,6 +5,13 @@
 //!   addresses. All fronts have one listening socket ([`Bound`]), and [`Wakers`] wakes the poller of a slot.
 //! - [`SocketWire`] is one end of a connection: a socket, and what is known of it. After a read that would block it reads
 //!   again only once its front has reported something to read (`readiness`).
+//!
+//! # Inside
+//!
+//! An event names reading if it says that something can be read, or that the socket has failed or was closed
+//! (`names_reading`). It then sets the word of the end that its number names, and else none (`tell`: `heard`), and a
+//! socket is registered under its token's number, with that token's word (`watch`: `registered`). `bind` asked the
+//! system to listen at no other address (`listen`).
 #![tactic(auto)]
 
 mod bound;

@@ -11,5 +11,5 @@ pub(crate) const MAX_POLLERS: usize = 16;
 /// for more.
 pub(crate) const BULK: u8 = 4;
 
-/// So many probes without an answer end a connection.
+/// This many probes without an answer end a connection.
 pub(crate) const PROBES: u32 = 5;

@@ -97,7 +97,7 @@ pub fn open_all<'r, R: Net + Log>(
     Ok((fronts, Wakers { split, each }))
 }
 
-/// What reports on the listening socket and the waker, of each of so many pollers.
+/// What reports on the listening socket and the waker, of each of this many pollers.
 fn watched_by_all<R: Net + Log>(
     rt: &R,
     alloc: Global,
@@ -151,7 +151,7 @@ fn fronts_of<'r, R>(
     Ok(fronts)
 }
 
-/// The longest wait for reports of each of so many pollers, in milliseconds.
+/// The longest wait for reports of each of this many pollers, in milliseconds.
 fn wait_of(pollers: usize) -> u64
     ensures { result ≡ wait_of pollers }
 {

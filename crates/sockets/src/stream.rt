@@ -45,12 +45,12 @@ pub trait Stream {
     fn send_at_once(&mut self, at_once: bool)
         ensures { did (SentAtOnce at_once) self.old self.new };
 
-    /// Has the connection fail once it has waited for so many milliseconds to be made, or for what it sent to be taken
+    /// Has the connection fail once it has waited for this many milliseconds to be made, or for what it sent to be taken
     /// (TCP_USER_TIMEOUT of tcp(7)); after 0, as the system does by itself. It stays as it was if the system refuses.
     fn give_up_after(&mut self, millis: u64) -> io::Result<()>
         ensures { did (GivesUpAfter millis) self.old self.new };
 
-    /// Has a peer that is silent for so many seconds probed (SO_KEEPALIVE of socket(7)), by up to four system calls. The socket
+    /// Has a peer that is silent for this many seconds probed (SO_KEEPALIVE of socket(7)), by up to four system calls. The socket
     /// does not probe if the system refuses one of them.
     fn probe(&mut self, seconds: u32) -> io::Result<()>
         ensures { did (Probes seconds) self.old self.new };

@@ -130,7 +130,7 @@ impl<S: Stream> SocketWire<S> {
         self.patience = patience;
     }
 
-    /// Gives the connection so many seconds to be made, if it is to have a limit.
+    /// Gives the connection this many seconds to be made, if it is to have a limit.
     fn limit<N: Log>(&mut self, rt: &N, seconds: Option<u32>)
         ensures limited { Limits S.did seconds self.old.stream self.new.stream }
         ensures same { self.new.socket ≡ self.old.socket }
@@ -143,7 +143,7 @@ impl<S: Stream> SocketWire<S> {
         }
     }
 
-    /// Has the peer probed after it was silent for so many seconds, if it is to be.
+    /// Has the peer probed after it was silent for this many seconds, if it is to be.
     fn probe<N: Log>(&mut self, rt: &N, seconds: Option<u32>)
         ensures probed { Probing S.did seconds self.old.stream self.new.stream }
         ensures same { self.new.socket ≡ self.old.socket }
@@ -238,7 +238,7 @@ impl<S: Stream> SocketWire<S> {
         }
     }
 
-    /// So many bytes were offered. In bulk the socket may wait for more from now on.
+    /// This many bytes were offered. In bulk the socket may wait for more from now on.
     fn offered(&mut self, bytes: usize)
         ensures offered { IsOffered bytes self.old.socket.sending self.new.socket.sending }
         ensures same { self.new.socket ≡ record self.old.socket { sending = self.new.socket.sending } }

@@ -11,7 +11,7 @@ use Rattle.statistics.specs.declared.counts.Counts.{Counts}
 use Rattle.statistics.specs.declared.event.Event.{Event}
 use Rattle.statistics.specs.declared.event.Event.TheVariants.{Dropped, Opened, Moved, Ended}
 
--- a count of 64 bits, so many later: it stays at its greatest value
+-- a count of 64 bits, this many later: it stays at its greatest value
 abbrev pub sum : ℕ → ℕ → ℕ
 sum count count_more = min (count + count_more) 18446744073709551615
 

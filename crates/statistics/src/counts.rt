@@ -71,7 +71,7 @@ impl Counts {
         counts
     }
 
-    /// The slot's connection has moved so many bytes in all.
+    /// The slot's connection has moved this many bytes in all.
     fn move_to(&mut self, up: u64, down: u64)
         ensures { self.new ≡ moved up down self.old }
     {

@@ -4,7 +4,7 @@ ghost use Rattle.statistics.specs.Lines.{added, failed_of, opened_of, stats_mess
 use crate::counts::Counts;
 use std::fmt::{self, Display};
 
-/// The sums of what was counted at each of so many slots. A sum that has reached 2^64 - 1 stays there.
+/// The sums of what was counted at each of this many slots. A sum that has reached 2^64 - 1 stays there.
 ///
 /// It prints as the line of the statistics. There the connections that were opened are those that are open, are done and
 /// have failed, and the failed ones those that failed by a call on either side's socket or by the idle limit.

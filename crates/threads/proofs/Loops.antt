@@ -33,7 +33,7 @@ use Rattle.rounds.proofs.Acts.{all_none, all_one, acts_none, acts_one, acts_both
 use Rattle.threads.specs.declared.ended.Ended.{Ended}
 use Rattle.threads.specs.Loops.{times_of, times_in, freed_by, freed, Run, tickets_of, acts_of, TurnsMade, OneRan, tickets_in, Took, WorkerEnded, WorkerRan, OwnTurnsRan, SharedAndRan, StepMade, StepCut, StepsMade, IsPollerAct, PollerRan}
 
--- how often a ticket stands in lists one behind the other
+-- how often a ticket stands in lists one after the other
 times-append : (u : Ticket) (xs ys : List Ticket) → times_of u (xs ++ ys) ≡ times_of u xs + times_of u ys
 times-append u xs ys = sum_by-append (λ (t : Ticket). cond ((t.slot == u.slot) && (t.generation == u.generation)) 1 0) xs ys
 

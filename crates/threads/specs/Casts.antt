@@ -7,7 +7,7 @@ use Rattle.ready.specs.Steps.{EndState}
 abbrev pub numbered : {A : Type 0} → List A → List (ℕ × A)
 numbered pollers = reverse (enumerate_from 0 pollers)
 
--- This is an end of the queue of free slots of the poller with this number. There are so many ends of each poller's queue
+-- This is an end of the queue of free slots of the poller with this number. There are this many ends of each poller's queue
 pub record IsEndOf (ends : List (List (EndState ℕ))) (poller : ℕ) (end : EndState ℕ) : Type 0 where
   pub before : List (EndState ℕ)
   pub behind : List (EndState ℕ)

@@ -88,7 +88,7 @@ pub record Took (ticket : Ticket) (old new : Own) : Type 0 where
   pub free : new.free ≡ old.free
   pub hand : new.hand ≡ old.hand
 
--- A poller's thread ran so many tickets in its hand. What it was to put before, and the tickets that are due again, were run or are put or in
+-- A poller's thread ran this many tickets in its hand. What it was to put before, and the tickets that are due again, were run or are put or in
 -- hand, each once. The free slots that it was to give before, and those that the turns freed, are given or in hand, each once
 pub record OwnTurnsRan (count : ℕ) (old new : Own) : Type 0 where
   pub ran : List Run
@@ -98,7 +98,7 @@ pub record OwnTurnsRan (count : ℕ) (old new : Own) : Type 0 where
   pub tickets : (t : Ticket) → times_of t (tickets_out new) + times_of t (tickets_of ran) ≡ times_of t (tickets_out old) + times_of t due
   pub slots : (slot : ℕ) → times_in slot (slots_out new) ≡ times_in slot (slots_out old) + times_in slot (freed ran)
 
--- The tickets in hand were shared, and the poller's thread ran so many of those that stayed
+-- The tickets in hand were shared, and the poller's thread ran this many of those that stayed
 pub record SharedAndRan (count : ℕ) (p q : PollerState) (a b : Own) : Type 0 where
   pub heavy : List ℕ
   pub shared : Own
@@ -132,7 +132,7 @@ pub record RoundMade (p q : PollerState) (a b : Own) : Type 0 where
   pub most : q.most ≡ begun.most
   pub listens : ListenerKept begun q
 
--- A round, and what came behind it. Once all connections that the poller may open were opened, its front does not listen, unless the
+-- A round, and what came after it. Once all connections that the poller may open were opened, its front does not listen, unless the
 -- round ended early
 pub record RoundAnd (Behind : PollerState → PollerState → Own → Own → Type 0) (p q : PollerState) (a b : Own) : Type 0 where
   pub polled : PollerState
@@ -141,15 +141,15 @@ pub record RoundAnd (Behind : PollerState → PollerState → Own → Own → Ty
   pub closed : EndedEarly (length polled.table) between ⊎ ListensToOpen polled
   pub turns : Behind polled q between b
 
--- a step of a poller's thread: a round, and the turns behind it
+-- a step of a poller's thread: a round, and the turns after it
 abbrev pub StepMade : PollerState → PollerState → Own → Own → Type 0
 StepMade p q a b = RoundAnd TurnsBehind p q a b
 
--- the last step: nothing happened, or a round alone, or a round and fewer turns behind it
+-- the last step: nothing happened, or a round alone, or a round and fewer turns after it
 abbrev pub StepCut : PollerState → PollerState → Own → Own → Type 0
 StepCut p q a b = ((q ≡ p) × (b ≡ a)) ⊎ (RoundMade p q a b ⊎ RoundAnd TurnsCut p q a b)
 
--- so many steps, one after the other
+-- this many steps, one after the other
 abbrev pub StepsMade : ℕ → PollerState → PollerState → Own → Own → Type 0
 StepsMade zero p q a b = (q ≡ p) × (b ≡ a)
 StepsMade (suc steps) p q a b = (r : PollerState) × (c : Own) × StepsMade steps p r a c × StepMade r q c b

@@ -18,7 +18,7 @@ pub struct Crew<'a, G, C, R> {
     pub gate: &'a G,
     pub timing: Timing<'a, C>,
     pub ending: &'a Ending,
-    /// Whether no more connections are to be opened.
+    /// Whether no more connections may be opened.
     pub is_stopped: &'a AtomicBool,
     /// Which slots are which poller's.
     pub split: Split,
@@ -54,7 +54,7 @@ impl<G, C, R: Wait> Crew<'_, G, C, R> {
         }
     }
 
-    /// A poller has ended. Behind the last one, and behind a fault, the queue of tickets is closed, which ends the
+    /// A poller has ended. Behind the last one, and after a fault, the queue of tickets is closed, which ends the
     /// workers.
     pub fn leave(&self, ready: &mut ReadyQueue)
         ensures { ready.new ≡ ready.old }

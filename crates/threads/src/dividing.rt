@@ -29,8 +29,8 @@ pub struct Rest {
     pub free: Vec<Vec<FreeQueue>>,
 }
 
-/// The threads of these pollers, each with an end of its own queue of free slots, and so many workers, each with an end of
-/// every poller's queue, the first poller's first. A thread has the number of its poller, and the workers have those behind.
+/// The threads of these pollers, each with an end of its own queue of free slots, and this many workers, each with an end of
+/// every poller's queue, the first poller's first. A thread has the number of its poller, and the workers have those after.
 ///
 /// Refuses with `NoMemory` if there is none for what they own, or if the parts are used up.
 pub fn divide<F: Front + Drop>(
@@ -116,7 +116,7 @@ fn poller_hand(slots: usize) -> usize {
     slots.saturating_mul(2).saturating_add(2 * MAX_BATCH)
 }
 
-/// The threads of so many workers, numbered from `first` on.
+/// The threads of this many workers, numbered from `first` on.
 #[tactic(auto, using(crate::proofs::Casts::all_left))]
 fn workers_of<F: Front + Drop>(
     alloc: Global,

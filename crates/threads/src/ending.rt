@@ -1,4 +1,4 @@
-//! How the threads of a server come to their end: by a fault of one of them, or behind the last poller.
+//! How the threads of a server come to their end: by a fault of one of them, or after the last poller.
 ghost use Rattle.std.specs.Prelude.{◌≡◌, None, IfOk, IfErr, false};
 ghost use Rattle.threads.specs.Endings.{earliest};
 
@@ -63,7 +63,7 @@ impl Recorded {
 }
 
 impl Ending {
-    /// Of a server with so many pollers, before its threads run.
+    /// Of a server with this many pollers, before its threads run.
     pub fn new(pollers: usize) -> Ending {
         Ending {
             recorded: AtomicBool::new(false),

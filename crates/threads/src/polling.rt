@@ -102,7 +102,7 @@ where
         self.round(crew, seen)
     }
 
-    /// If no more connections are to be opened, this poller opens none, and all others are woken, so that they come to know it.
+    /// If no more connections may be opened, this poller opens none, and all others are woken, so that they come to know it.
     fn stop_if_asked<G: Gate, C: Clock, R: Wait + Log>(&mut self, crew: &Crew<'_, G, C, R>)
         ensures own { self.new.own ≡ self.old.own }
         ensures stopped { MayStop self.old.poller self.new.poller }
@@ -129,7 +129,7 @@ where
         }
     }
 
-    /// Makes a round, and runs no turn. Where no more connections are to be opened, the poller first comes to know that.
+    /// Makes a round, and runs no turn. Where no more connections may be opened, the poller first comes to know that.
     fn poll<G: Gate, C: Clock, R: Wait + Log>(
         &mut self,
         crew: &Crew<'_, G, C, R>,

@@ -29,7 +29,7 @@ pub struct Server<F: Front> {
 }
 
 /// Runs a server: starts all threads but one that polls, which is the calling thread, and returns when the last of them has
-/// ended. From when it `is_stopped` on, no more connections are opened, and it ends once all are closed.
+/// ended. Once it `is_stopped`, no more connections are opened, and it ends once all are closed.
 ///
 /// Refuses with `NoMemory` if there is none for what the threads own, before any has started; else with the fault that a
 /// thread met, or `Threads` for one that could not be started. Of several it is that of the first poller, or else of the

@@ -70,7 +70,7 @@ where
 
     /// One step of the thread: it takes a ticket, which may mean to wait for one, and runs its turn. It is refused where the
     /// thread has come to its end: the queue of tickets is closed and empty, a fault is recorded before the ticket is taken or
-    /// behind that, or this step met one. Behind a fault the ticket that was taken stays in hand.
+    /// after that, or this step met one. Behind a fault the ticket that was taken stays in hand.
     pub fn step<G: Gate, C: Clock, R: Wait + Log>(
         &mut self,
         crew: &Crew<'_, G, C, R>,
@@ -98,7 +98,7 @@ where
         }
     }
 
-    /// Takes a ticket, and may sleep until there is one. So it uses up a look for a fault, and a turn asks for another, behind that.
+    /// Takes a ticket, and may sleep until there is one. So it uses up a look for a fault, and a turn asks for another, after that.
     fn take(&mut self, rt: &impl Wait, _seen: NoFault) -> Option<Ticket>
         requires room { HasRoom self.old.own.hand }
         ensures room { HasRoom self.new.own.hand }

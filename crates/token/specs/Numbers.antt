@@ -35,6 +35,6 @@ name_of number =
     else if nat_le 1 (number / 65536) && nat_le (number / 65536) 140737488355327 then Some (End (end_of number))
     else None
 
--- the generation of a slot that is opened once more; none after the last that has a name
+-- the generation of a slot that is opened again; none after the last that has a name
 abbrev pub generation_after : ℕ → Option ℕ
 generation_after generation = if generation == 140737488355327 then None else Some (generation + 1)

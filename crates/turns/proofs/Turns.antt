@@ -1,5 +1,5 @@
--- The end of a turn, behind the steps that took the notes and ran the connection; a turn of a poller's own; and the tickets in hand of
--- which some were looked at: each of those is put, or behind the others in hand.
+-- The end of a turn, after the steps that took the notes and ran the connection; a turn of a poller's own; and the tickets in hand of
+-- which some were looked at: each of those is put, or after the others in hand.
 use Rattle.std.proofs.Common.{◌≡◌, ◌⊎◌, ◌+◌, ◌↔◌, ◌<◌, ◌≤◌, ℕ, List, [], ◌∷◌, length, drop, slice_get, Bool, true, false, IsTrue, Option, Some, None, Result, Ok, Err, IfOk, IfErr, IfSome, IsErrAnd, inl, inr, refl, sym, ap, subst, ◌∙◌, arith, suc, ◌++◌, append_assoc, zero, nat_lt}
 use Rattle.std.proofs.lemmas.Option.{none-some, same_Some}
 use denote.Enum.Bare.{sameb}
@@ -265,7 +265,7 @@ end_of t a b adds given took ready tickets = record {
   };
 }
 
--- so it is behind a post
+-- so it is after a post
 pub still_posting : (claims : TableId) (slot : ℕ) (r : Posted) (a b : Own) → AtWork claims slot a → PostChange slot a.seat r b.seat → b.hand ≡ a.hand → AtWork claims slot b
 still_posting claims slot r a b work change hand = record {
   same = (only_at_post slot a.seat b.seat r change).table ∙ work.same;
@@ -314,7 +314,7 @@ still_at_work claims s t a b same work holder only hand = subst (λ (u : Ticket)
 pub same_either : {A : Type 0} (x y a b : A) → x ≡ y → (x ≡ a) ⊎ (x ≡ b) → (y ≡ a) ⊎ (y ≡ b)
 same_either x y a b same is = subst (λ z. (z ≡ a) ⊎ (z ≡ b)) same is
 
--- So many of these were looked at, and so many have stayed. Whatever becomes of the rest, it is what becomes of all
+-- This many of these were looked at, and this many have stayed. Whatever becomes of the rest, it is what becomes of all
 pub record SharedSoFar (all : List Ticket) (marks : List ℕ) (queue : EndState Ticket) (done stayed : ℕ) (hand : List Ticket) (heavy : List ℕ) (now : EndState Ticket) : Type 0 where
   pub rest : List Ticket
   pub kept : List Ticket

@@ -24,8 +24,8 @@ pub record Stays (stayed : ℕ) (heavy : List ℕ) (ticket : Ticket) : Type 0 wh
   pub light : IsLight heavy ticket
   pub few : stayed < 16
 
--- What becomes of one ticket in hand, where so many have stayed: a light one stays while fewer than 16 have, and later ones may. Any
--- other is put, or is in hand where the queue was full at one moment. Then so many have stayed, this is in hand behind the others, and
+-- What becomes of one ticket in hand, where this many have stayed: a light one stays while fewer than 16 have, and later ones may. Any
+-- other is put, or is in hand where the queue was full at one moment. Then this many have stayed, this is in hand after the others, and
 -- the queue's end has come to this
 abbrev pub OneShared : ℕ → List ℕ → Ticket → EndState Ticket → ℕ → List Ticket → EndState Ticket → Type 0
 OneShared stayed heavy ticket queue then behind next =
@@ -33,7 +33,7 @@ OneShared stayed heavy ticket queue then behind next =
     ⊎ ((Stays stayed heavy ticket → ⊥) × (then ≡ stayed)
     × ((Puts ticket queue next × (behind ≡ [])) ⊎ (Refuses queue next × (behind ≡ ticket ∷ []))))
 
--- What becomes of these tickets in hand, in order, where so many have stayed. Each that was looked at takes one of its slot's marks
+-- What becomes of these tickets in hand, in order, where this many have stayed. Each that was looked at takes one of its slot's marks
 -- away. Then these are in hand, in order, these marks are left, and the queue's end has come to this
 abbrev pub AreShared : ℕ → List ℕ → List Ticket → EndState Ticket → List Ticket → List ℕ → EndState Ticket → Type 0
 AreShared stayed heavy [] queue kept left end = (kept ≡ []) × (left ≡ heavy) × (end ≡ queue)

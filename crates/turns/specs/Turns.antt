@@ -23,7 +23,7 @@ WasHeld (Ok worked.Again) = Unit {0}
 WasHeld (Ok worked.Quiet) = Unit {0}
 WasHeld (Err fault) = Unit {0}
 
--- The exchanges of a turn at its ticket's slot, by its answer, where its claim found so many notes, its take so many, and its release
+-- The exchanges of a turn at its ticket's slot, by its answer, where its claim found this many notes, its take this many, and its release
 -- answered Wake or not. A post that finds the seat worn makes none
 abbrev pub program : Result Worked ServerFault → ℕ → ℕ → Bool → List Exchange
 program (Ok worked.Busy) found noted woke = Busy ∷ []
@@ -114,7 +114,7 @@ OwnTurn words ticket (Ok None) old new = new ≡ old
 OwnTurn words ticket (Ok (Some worked)) old new = TurnMade words ticket (Ok worked) (without_first old) new
 OwnTurn words ticket (Err fault) old new = TurnMade words ticket (Err fault) (without_first old) new
 
--- the heavy marks behind an own turn: a connection that spent its budget has 16, and the others have what they had
+-- the heavy marks after an own turn: a connection that spent its budget has 16, and the others have what they had
 abbrev pub marks_after : Option Ticket → Result (Option Worked) ServerFault → List ℕ → List ℕ
 marks_after (Some ticket) (Ok (Some worked.Again)) heavy = slice_set heavy ticket.slot 16
 marks_after (Some ticket) (Ok (Some worked.Busy)) heavy = heavy

@@ -5,6 +5,24 @@
 //! A slot is held by one thread at a time, by the rule of the claim words (`claims`), so a connection's two sockets and its
 //! pair are never touched by two threads, and no note is lost between them. What a thread is lent for its turns is in
 //! `dispatch`; what makes the tickets is in `rounds`.
+//!
+//! # Inside
+//!
+//! - The connection that is put back or closed is the one that was taken out (`Visit`, which cannot be dropped). In
+//!   between it had a turn of `engine` with the server's own budget, at a moment that `Timing::moment` reads, after a
+//!   report if notes were taken (`play`: `run`), and only if its generation is the ticket's (`run`: `own`). It is put
+//!   back after Again and Quiet alone, after Quiet once both wires hold nothing back (`leave_settled`: `client`,
+//!   `target`), and closed after Done and Failed alone (`due`, `quiet`, `over`).
+//! - A slot is released once for each visit, while no connection of it is out of its place (`Back`; `leave`: `back`).
+//!   A ticket is put, and a slot given back, once the seat no longer holds that slot (`put_ticket`: `tickets`;
+//!   `give_back`), a slot only once its connection is closed (`Closed`), and then the poller is woken
+//!   (`wake_poller`). All is put oldest first, until nothing is left in hand or the queue was full (`put_tickets`,
+//!   `give_slots` of `dispatch`: `all`).
+//! - What takes the notes and makes the calls (`play`) is passed neither an allocator nor `Wait`, without which no
+//!   lock can be waited for; the place is locked twice around it.
+//! - A light ticket after the first 16 is kept only by a look for it alone, which found no end of the ready queue
+//!   asleep (`keep`: `early`; `AllBusy` of `ready`), and the terms of an own turn have at most 8 calls
+//!   (`Terms::own`).
 #![tactic(auto)]
 
 mod giving;

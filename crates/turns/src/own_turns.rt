@@ -26,7 +26,7 @@ enum Stay {
 }
 
 /// Puts the tickets in hand that the poller's thread does not run by itself, so that the workers begin with them: those
-/// of connections that spent all of its budget a short while ago, and those behind the first 16 that are left from the one on at
+/// of connections that spent all of its budget a short while ago, and those after the first 16 that are left from the one on at
 /// which an end of the ready queue is found asleep. The others stay in hand, in order, and so do those that the queue refuses:
 /// where no worker sleeps, all of them may be at work on much larger turns.
 pub fn share_tickets<F: Front, R: Wait>(rt: &R, own: &mut Own, poller: &mut Poller<F>)
@@ -49,7 +49,7 @@ pub fn share_tickets<F: Front, R: Wait>(rt: &R, own: &mut Own, poller: &mut Poll
     }
 }
 
-/// Why a ticket stays in hand, where so many have stayed, and an end of the queue may have been found asleep before. None: it does
+/// Why a ticket stays in hand, where this many have stayed, and an end of the queue may have been found asleep before. None: it does
 /// not. An end that is woken for one ticket runs the next ones, too: one wake for each would cost more than their turns.
 fn stays<F: Front>(
     ready: &ReadyQueue,
@@ -77,7 +77,7 @@ fn stays<F: Front>(
     busy.map(Stay::Busy)
 }
 
-/// Keeps a ticket in hand, where so many have stayed: behind the first 16 only by a look for it alone.
+/// Keeps a ticket in hand, where this many have stayed: after the first 16 only by a look for it alone.
 fn keep(hand: &mut Hand, ticket: Ticket, _kept: usize, _stay: Stay)
     requires room { length hand.old.tickets < hand.old.capacity }
     requires early { _stay ≡ Stay.Early → _kept < 16 }
@@ -91,7 +91,7 @@ fn keep(hand: &mut Hand, ticket: Ticket, _kept: usize, _stay: Stay)
 /// a worker's turn.
 ///
 /// Nothing else that is in hand is put. Where a connection ends, the round that follows looks for its slot before it
-/// waits, if a client may be waiting. If no more connections are to be opened, it does not wait, so that the poller's end
+/// waits, if a client may be waiting. If no more connections may be opened, it does not wait, so that the poller's end
 /// is found at once.
 pub fn own_turn<F: Front, G: Gate, C: Clock, R: Wait + Log>(
     rt: &R,
@@ -127,7 +127,7 @@ pub fn own_turn<F: Front, G: Gate, C: Clock, R: Wait + Log>(
 }
 
 /// What the answer of an own turn means to the poller: a connection that spent the budget is heavy from then on, and once no more
-/// are to be opened, the next wait ends at once where one has ended.
+/// may be opened, the next wait ends at once where one has ended.
 fn follow_up<F: Front>(shared: &Shared<F>, poller: &mut Poller<F>, ticket: Ticket, worked: Worked)
     ensures marks { poller.new ≡ record poller.old { heavy = marks_after (Some ticket) (Ok (Some worked)) poller.old.heavy } }
     ensures woken { worked ≡ Worked.Ended → HasOpenedAll poller.old → F.woke shared.now.waker ticket.slot }

@@ -91,7 +91,7 @@ some_of n most m h = ltb-true 0 n (first_so (nat_lt 0 n) (nat_le n most) (first_
 within_of : (n most m : ℕ) → (is_count n most && nat_le n m) ≡ true → n ≤ m
 within_of n most m h = leb-true n m (second_so (is_count n most) (nat_le n m) h)
 
--- the first n bytes go into the ring, behind all that wait
+-- the first n bytes go into the ring, after all that wait
 moved_in : (lead ring unread : List ℕ) (n : ℕ) → (lead ++ ring) ++ unread ≡ (lead ++ (ring ++ take n unread)) ++ drop n unread
 moved_in lead ring unread n = ap (λ (all : List ℕ). (lead ++ ring) ++ all) (sym (take-append-drop n unread))
     ∙ (sym (append_assoc (lead ++ ring) (take n unread) (drop n unread))
@@ -220,7 +220,7 @@ failed_keeps now h r p ends call side kind t e told made ok =
     by_some (λ (z : EndState). Answered now h r p ends call side t z) (socket_of ends side) e made
     (by_some (λ (u : answer.AnswerValue). Answered now h r p ends call side u (socket_of ends side)) (answer.Failed kind) t told (unmoved h r p (after now p call (answer.Failed kind)) ends side refl refl refl refl refl ok))
 
--- What the pair is told, and the end after the call
+-- What the pair is given, and the end after the call
 
 abbrev pub told_read : EndState → ℕ → Reply → Option answer.AnswerValue
 told_read x most (reply.Bytes n) = option_map (λ (bytes : List ℕ). answer.Bytes bytes) (bytes_read x most n)

@@ -57,7 +57,7 @@ step_shape laws st (event.Work w a) = kept_bind _ (slice_get st.workers w) (λ k
 
 -- Failures
 
--- every failure so far, live and closed, is one that this tells of
+-- every failure so far, live and closed, is one that this names
 pub record FailuresOk (failed : Failure → Type 0) (st : State) : Type 0 where
   pub lying : (s : ℕ) (p : SlotState) (c : Connection) (fault : Fault) → slice_get st.slots s ≡ Some p → p.connection ≡ Some c → verdict c.pair ≡ Failed fault → failed (failure s c.pair.generation fault)
   pub closed : (i : ℕ) (p : Past) (fault : Fault) → slice_get st.past i ≡ Some p → p.verdict ≡ Failed fault → failed (failure p.slot p.generation fault)

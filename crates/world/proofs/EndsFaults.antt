@@ -30,7 +30,7 @@ use Rattle.world.specs.CoreLaws.{CoreLaws}
 use Rattle.world.proofs.TurnsKept.{Kept, kept_bind, kept_map, kept_when, kept_then}
 use Rattle.world.proofs.EndsShapes.{Continues, Stays, Shape, Changed}
 
--- a pair is told of a failure where the kernel's reply was one
+-- a pair is given a failure where the kernel's reply was one
 failed_plain : (said : Reply) (kind : Kind) → plain said ≡ Some (answer.Failed kind) → said ≡ reply.Failed kind
 failed_plain (reply.Bytes n) kind h = absurd (cc)
 failed_plain reply.End kind h = absurd (cc)

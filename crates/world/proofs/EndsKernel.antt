@@ -36,7 +36,7 @@ pub end_kept : (ends : List (Option Registered)) (d other : ℕ) (a b : Register
     → end_at ends d ≡ Some a → end_at ends other ≡ Some b → (b.token ≡ a.token → ⊥) → end_at (slice_set ends d o) other ≡ Some b
 end_kept ends d other a b o one two differ = end_other ends d other o (apart ends d other a b one two differ) ∙ two
 
--- Opening: the lowest free descriptor is one that is not in use, or the one behind all others
+-- Opening: the lowest free descriptor is one that is not in use, or the one after all others
 
 pub data IsFree (ends : List (Option Registered)) (d : ℕ) : Type 0 where
   Hole : slice_get ends d ≡ Some None → IsFree ends d

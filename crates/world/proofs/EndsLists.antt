@@ -10,7 +10,7 @@ pub tell : (b : Bool) → Tell b
 tell true = Yes refl
 tell false = No refl
 
--- what stands in a list behind others
+-- what stands in a list after others
 pub append_get : {X : Type 0} (xs ys : List X) (i : ℕ) (x : X) → slice_get xs i ≡ Some x → slice_get (xs ++ ys) i ≡ Some x
 append_get [] ys i x here = absurd (cc)
 append_get (z ∷ xs) ys zero x here = here

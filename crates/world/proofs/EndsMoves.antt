@@ -44,7 +44,7 @@ kept_more more (Some x) h = record { kept = more x h.kept }
 still : (st : State) (e : Event) → moved_by st e ≡ None → Kept (MovesNow st e) (step st e)
 still st e none = kept_any (step st e) (λ q i p c here lying is. absurd (cc))
 
--- The pair is told of a movement where the reply is one
+-- The pair is given a movement where the reply is one
 
 plain_moves : (r : Reply) (t : answer.AnswerValue) → plain r ≡ Some t → is_movement r ≡ true → moves t ≡ true
 plain_moves (reply.Bytes n) t told is = absurd (cc)

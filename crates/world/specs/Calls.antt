@@ -28,7 +28,7 @@ abbrev pub descriptor : Descriptors → Side → ℕ
 descriptor ends Client = ends.client
 descriptor ends Target = ends.target
 
--- what the pair is told of a reply that brings no bytes
+-- what the pair is given of a reply that brings no bytes
 abbrev pub plain : Reply → Option answer.AnswerValue
 plain (reply.Bytes n) = None
 plain reply.End = Some answer.End
@@ -39,7 +39,7 @@ plain reply.Blocked = Some answer.Blocked
 plain reply.Interrupted = Some answer.Interrupted
 plain (reply.Failed kind) = Some (answer.Failed kind)
 
--- what the pair is told of a reply: with the bytes that a read handed over
+-- what the pair is given of a reply: with the bytes that a read handed over
 abbrev pub told_of : OpenConnection → Call → Reply → Option answer.AnswerValue
 told_of l (Read side most) (reply.Bytes n) =
     option_map (λ (bytes : List ℕ). answer.Bytes bytes)

@@ -129,7 +129,7 @@ slot_held d = None
 abbrev pub held_by : State → ℕ → Option ℕ
 held_by st w = option_and_then (λ (k : WorkerState). slot_held k.doing) (slice_get st.workers w)
 
--- the fault that tells of this call, and that it failed with this kind
+-- the fault that names this call, and that it failed with this kind
 abbrev pub fault_of : Kind → Call → Fault
 fault_of kind call = Broken (side_of call) (kind_of call) kind
 

@@ -16,7 +16,7 @@ given_back len bytes p =
     let room : len ≤ length bytes = (let whole : length bytes ≡ 107 = p.whole in let within : len ≤ 107 = p.within in omega arith) in
     inside (length (take len bytes)) len (padded (take len bytes)) bytes (length-take-le len bytes room) (sym p.zeros)
 
--- bytes with zeros behind them are a lead's
+-- bytes with zeros after them are a lead's
 pub is_padded : (bytes : List ℕ) → length bytes ≤ 107 → IsPadded (length bytes) (padded bytes)
 is_padded bytes within = record {
   whole = (let all : length (padded bytes) ≡ length bytes + length (replicate {A = ℕ} (107 - length bytes) 0) = length-append bytes (replicate (107 - length bytes) 0) in

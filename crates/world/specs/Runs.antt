@@ -25,6 +25,6 @@ pub record FailsAt (first st : State) (events : List Event) (i : ℕ) (cause : R
   pub at_index : slice_get events i ≡ Some event
   pub fails : FailsFor st event cause
 
--- Why a replay fails: an event does; or, told at index 0, there was no memory for the opening world
+-- Why a replay fails: an event does; or, reported at index 0, there was no memory for the opening world
 abbrev pub Fails : Limits → List Event → ℕ → Refusal → Type 0
 Fails l events i cause = ((st : State) × FailsAt (opening l) st events i cause) ⊎ ((i ≡ 0) × (cause ≡ NoMemory))

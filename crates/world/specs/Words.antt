@@ -37,7 +37,7 @@ abbrev pub is_wake : Answer → Bool
 is_wake wake = true
 is_wake a = false
 
--- how many of them answer that a ticket is to be made
+-- how many of them answer that a ticket must be made
 abbrev pub count_wakes : List StepKind → WordState → ℕ
 count_wakes [] w = 0
 count_wakes (k ∷ ks) w = one (is_wake (answer_of k w)) + count_wakes ks (word_after k w)

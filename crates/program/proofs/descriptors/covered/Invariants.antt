@@ -2,7 +2,7 @@ use Rattle.std.proofs.Common.{◌+◌, ◌<◌, ◌≤◌}
 use Rattle.program.specs.Descriptors.{HasFor}
 use Rattle.program.proofs.descriptors.covered.Given as goal
 
--- so many slots are left to try, and one more has no descriptors
+-- this many slots are left to try, and one more has no descriptors
 abbrev pub invariant-loop-covered : goal.invariant-loop-covered
 invariant-loop-covered l =
     (l.covered ≤ l.fn.slots)

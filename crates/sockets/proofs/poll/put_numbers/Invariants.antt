@@ -2,7 +2,7 @@ use Rattle.std.proofs.Common.{◌≡◌, ◌+◌, ◌++◌, take, vec_len, vec_c
 use Rattle.sockets.specs.Fronts.{numbers}
 use Rattle.sockets.proofs.poll.put_numbers.Given as goal
 
--- the events so far have their numbers behind what the batch had
+-- the events so far have their numbers after what the batch had
 abbrev pub invariant-loop-event : goal.invariant-loop-event
 invariant-loop-event l =
     (l.batch.items ≡ l.fn.batch.items ++ numbers (take l.event-index l.event-items))

@@ -4,7 +4,7 @@ use Rattle.crossbeam_queue.specs.Passes.{IsPassOf, ruled_capacity}
 use Rattle.ready.specs.Steps.{unused, opened}
 use Rattle.ready.proofs.free.FreeQueue.new.Given as goal
 
--- each end behind the first has done nothing
+-- each end after the first has done nothing
 abbrev pub invariant-loop-end : goal.invariant-loop-end
 invariant-loop-end g l =
     IsPassOf (arc_value l.line) l.next
