@@ -5,14 +5,14 @@
 //!
 //! # What the lock is for
 //!
-//! Each place has a lock of its own, since a value that threads share by `&` can be moved in and out only under a lock.
-//! The lock is never contended: only the seat that holds a slot may touch its place, and a slot has one holder. So
-//! taking the lock is one atomic exchange, and releasing it is another.
+//! Each place has a lock of its own, since a value that threads share by `&` can be moved in and out only under a
+//! lock. The lock is never contended: only the seat that holds a slot may touch its place, and a slot has one holder.
+//! So taking the lock is one atomic exchange, and releasing it is another.
 //!
 //! # What is not promised
 //!
-//! No clause can name what a place holds, since another seat may have held the slot since. So only tests show that the
-//! berth which the next holder takes out is the one that was put in.
+//! No clause can name what a place holds, since another seat may have held the slot since. So only tests show that
+//! the berth which the next holder takes out is the one that was put in.
 //!
 //! # Inside
 //!

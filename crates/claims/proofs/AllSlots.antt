@@ -57,17 +57,20 @@ module _ (slots : ℕ) (words : List ℕ) (views : List View) (rule : ClaimRule 
         record {
           one_word_each = length-set words slot n ∙ rule.one_word_each;
           one_trace_each = All-set (λ u. length u.traces ≡ slots) views k w (length-set v.traces slot t ∙ sized) rule.one_trace_each;
-          slot_rules = λ j j_lt. dite (ℕ_discrete j slot) (λ same. subst (λ (i : ℕ). SlotRule (get_or (set words slot n) i 0) (traces_at i (set views k w))) (sym same) (at_slot n t here)) (λ other. elsewhere n t j j_lt other);
+          slot_rules = λ j j_lt. dite (ℕ_discrete j slot) (λ same. subst (λ (i : ℕ). SlotRule (get_or (set words slot n) i 0) (traces_at i (set views k w))) (sym same)
+              (at_slot n t here)) (λ other. elsewhere n t j j_lt other);
           unworn = All-set (λ u. sum_by posted_of (accounts_of u) ≤ 2 ^ 56) views k w few rule.unworn;
           few_seats = omega arith;
         }
       where
-        at_slot : (n : ℕ) (t : List Exchange) → SlotRule n (set (traces_at slot views) k t) → SlotRule (get_or (set words slot n) slot 0) (traces_at slot (set views k (with_trace v slot t)))
+        at_slot : (n : ℕ) (t : List Exchange) → SlotRule n (set (traces_at slot views) k t)
+            → SlotRule (get_or (set words slot n) slot 0) (traces_at slot (set views k (with_trace v slot t)))
         at_slot n t here =
             let w : View = with_trace v slot t in
             let word : get_or (set words slot n) slot 0 ≡ n = get_or-set_same words slot n 0 (subst (λ (m : ℕ). slot < m) (sym rule.one_word_each) lt) in
             let mine : trace_in slot w ≡ t = get_or-set_same v.traces slot t [] wide in
-            let traces : traces_at slot (set views k w) ≡ set (traces_at slot views) k t = map-set (trace_in slot) views k w ∙ ap (λ (u : List Exchange). set (traces_at slot views) k u) mine in
+            let traces : traces_at slot (set views k w) ≡ set (traces_at slot views) k t = map-set (trace_in slot) views k w
+            ∙ ap (λ (u : List Exchange). set (traces_at slot views) k u) mine in
             subst (λ (m : ℕ). SlotRule m (traces_at slot (set views k w))) (sym word) (subst (λ (ts : List (List Exchange)). SlotRule n ts) (sym traces) here)
 
         elsewhere : (n : ℕ) (t : List Exchange) (j : ℕ) → j < slots → j ≢ slot → SlotRule (get_or (set words slot n) j 0) (traces_at j (set views k (with_trace v slot t)))
@@ -76,5 +79,7 @@ module _ (slots : ℕ) (words : List ℕ) (views : List View) (rule : ClaimRule 
             let word : get_or (set words slot n) j 0 ≡ get_or words j 0 = get_or-set_other words slot j n 0 other in
             let mine : trace_in j w ≡ trace_in j v = get_or-set_other v.traces slot j t [] other in
             let traces : traces_at j (set views k w) ≡ traces_at j views =
-            map-set (trace_in j) views k w ∙ ap (λ (u : List Exchange). set (traces_at j views) k u) mine ∙ set_again (traces_at j views) k (trace_in j v) (at_map (trace_in j) views k v at) in
-            subst (λ (m : ℕ). SlotRule m (traces_at j (set views k w))) (sym word) (subst (λ (ts : List (List Exchange)). SlotRule (get_or words j 0) ts) (sym traces) (rule.slot_rules j j_lt))
+            map-set (trace_in j) views k w ∙ ap (λ (u : List Exchange). set (traces_at j views) k u) mine
+            ∙ set_again (traces_at j views) k (trace_in j v) (at_map (trace_in j) views k v at) in
+            subst (λ (m : ℕ). SlotRule m (traces_at j (set views k w))) (sym word)
+            (subst (λ (ts : List (List Exchange)). SlotRule (get_or words j 0) ts) (sym traces) (rule.slot_rules j j_lt))

@@ -140,7 +140,8 @@ module _ (s : ℕ × Exchange) (rest : History) (accounts : List Account) (withi
   next_there seat other = get_or-set_other accounts s.0 seat next blank (λ e. other (sym e))
 
 -- each seat's account is what its own exchanges make of it
-play_at : (h : History) (accounts : List Account) (seat : ℕ) → Within (length accounts) h → get_or (play h accounts) seat blank ≡ after_all (by_seat seat h) (get_or accounts seat blank)
+play_at : (h : History) (accounts : List Account) (seat : ℕ) → Within (length accounts) h → get_or (play h accounts) seat blank
+    ≡ after_all (by_seat seat h) (get_or accounts seat blank)
 play_at [] accounts seat within = refl
 play_at (s ∷ rest) accounts seat within =
     play_at rest (set accounts s.0 (next s rest accounts within)) seat (within_rest s rest accounts within) ∙
@@ -154,7 +155,8 @@ play_at (s ∷ rest) accounts seat within =
 abbrev Fair : History → List Account → Type 0
 Fair h accounts = (seat : ℕ) → Keeps (get_or accounts seat blank) (by_seat seat h)
 
-fair_rest : (s : ℕ × Exchange) (rest : History) (accounts : List Account) (within : Within (length accounts) (s ∷ rest)) → Fair (s ∷ rest) accounts → Fair rest (set accounts s.0 (next s rest accounts within))
+fair_rest : (s : ℕ × Exchange) (rest : History) (accounts : List Account) (within : Within (length accounts) (s ∷ rest)) → Fair (s ∷ rest) accounts
+    → Fair rest (set accounts s.0 (next s rest accounts within))
 fair_rest s rest accounts within fair seat =
     dite (ℕ_discrete s.0 seat)
     (λ same. subst (λ (a : Account). Keeps a (by_seat seat rest)) (sym (next_here s rest accounts within seat same))
@@ -167,14 +169,16 @@ at_inside [] i d lt = absurd (omega arith)
 at_inside (x ∷ xs) zero d lt = refl
 at_inside (x ∷ xs) (suc i) d lt = at_inside xs i d (omega arith)
 
-play_counts : (h : History) (w v : WordState) (accounts : List Account) → Leads w h v → Within (length accounts) h → Fair h accounts → Counts w accounts → Counts v (play h accounts)
+play_counts : (h : History) (w v : WordState) (accounts : List Account) → Leads w h v → Within (length accounts) h → Fair h accounts → Counts w accounts
+    → Counts v (play h accounts)
 play_counts [] w v accounts leads within fair counts = subst (λ (u : WordState). Counts u accounts) leads counts
 play_counts (s ∷ rest) w v accounts leads within fair counts =
     let a = get_or accounts s.0 blank in
     let there = at_inside accounts s.0 blank (first_inside s rest accounts within) in
     let may = (subst (λ (es : List Exchange). Keeps a es) (by_first s rest s.0 refl) (fair s.0)).0 in
     let kept = counts_kept accounts s.0 a there (kind_of s.1) w may counts in
-    play_counts rest (word_after (kind_of s.1) w) v (set accounts s.0 (next s rest accounts within)) leads.1 (within_rest s rest accounts within) (fair_rest s rest accounts within fair)
+    play_counts rest (word_after (kind_of s.1) w) v (set accounts s.0 (next s rest accounts within)) leads.1 (within_rest s rest accounts within)
+    (fair_rest s rest accounts within fair)
     (subst (λ (e : Exchange). Counts (word_after (kind_of s.1) w) (set accounts s.0 (after e a))) (sym leads.0) kept)
 
 -- seats that have done nothing, at an unused slot
@@ -216,7 +220,8 @@ counts_of word traces rule =
     let many : length first ≡ n = length-replicate n blank in
     let within : Within (length first) rule.history = λ seat past. (rule.mine seat ∙ get_or_past traces seat [] (subst (λ (m : ℕ). m ≤ seat) many past)) in
     let fair : (seat : ℕ) → Keeps (get_or first seat blank) (by_seat seat rule.history) = λ seat.
-    subst (λ (a : Account). Keeps a (by_seat seat rule.history)) (sym (blank_at n seat)) (subst (λ (es : List Exchange). Keeps blank es) (sym (rule.mine seat)) (all_or (Keeps blank) traces [] rule.fair tt seat)) in
+    subst (λ (a : Account). Keeps a (by_seat seat rule.history)) (sym (blank_at n seat))
+    (subst (λ (es : List Exchange). Keeps blank es) (sym (rule.mine seat)) (all_or (Keeps blank) traces [] rule.fair tt seat)) in
     let whole : play rule.history first ≡ map account_of traces =
     ext_get_or blank (play rule.history first) (map account_of traces) (play_length rule.history first ∙ many ∙ sym (length-map traces account_of))
     (λ seat lt. play_at rule.history first seat within ∙ ap (after_all (by_seat seat rule.history)) (blank_at n seat)

@@ -46,7 +46,8 @@ pub account_there : (v : View) (slot : ℕ) → get_or (accounts_of v) slot blan
 account_there v slot = get_or-map account_of v.traces slot []
 
 module _ (s : WordState) (slot : ℕ) (v : View) (within : slot < length v.traces) where
-  posts : (e : Exchange) → sum_by posted_of (set (accounts_of v) slot (after e (account_in slot v))) + posted_of (account_in slot v) ≡ sum_by posted_of (accounts_of v) + posted_of (after e (account_in slot v))
+  posts : (e : Exchange) → sum_by posted_of (set (accounts_of v) slot (after e (account_in slot v))) + posted_of (account_in slot v)
+      ≡ sum_by posted_of (accounts_of v) + posted_of (after e (account_in slot v))
   posts e =
       let put = sum_by-set posted_of (accounts_of v) slot (after e (account_in slot v)) blank (subst (λ (n : ℕ). slot < n) (sym (length-map v.traces account_of)) within) in
       let there = ap posted_of (account_there v slot) in

@@ -74,13 +74,15 @@ module _ (accounts : List Account) (k : ℕ) (v : Account) (at : get_elem? accou
       }
 
   -- who holds the slot is the only one
-  alone : (s : WordState) → v.holds ≡ true → sum_by holding_of accounts + one s.free ≡ one s.held → (j : ℕ) (d : Account) → j ≢ k → j < length accounts → (get_or accounts j d).holds ≡ false
+  alone : (s : WordState) → v.holds ≡ true → sum_by holding_of accounts + one s.free ≡ one s.held → (j : ℕ) (d : Account) → j ≢ k → j < length accounts
+      → (get_or accounts j d).holds ≡ false
   alone s mine holders j d other lt =
       let empty : Account = record v { holds = false } in
       let put = sum_by-put holding_of accounts k v empty at in
       let me : one v.holds ≡ 1 = ap one mine in
       let top = one_le s.held in
-      let term : holding_of (get_or (set accounts k empty) j d) ≤ sum_by holding_of (set accounts k empty) = get_or-le-sum_by holding_of (set accounts k empty) j d (subst (λ n. j < n) (sym (length-set accounts k empty)) lt) in
+      let term : holding_of (get_or (set accounts k empty) j d) ≤ sum_by holding_of (set accounts k empty) =
+      get_or-le-sum_by holding_of (set accounts k empty) j d (subst (λ n. j < n) (sym (length-set accounts k empty)) lt) in
       let same : holding_of (get_or (set accounts k empty) j d) ≡ holding_of (get_or accounts j d) = ap holding_of (get_or-set_other accounts k j empty d other) in
       false_from_zero (get_or accounts j d).holds (omega arith)
 
@@ -102,7 +104,8 @@ module _ (accounts : List Account) (k : ℕ) (v : Account) (at : get_elem? accou
       (all_put (Knows (suc p)) accounts k w ((let m = mine.0 in omega arith), none) (λ j d other lt. ((let m = (known j d lt).0 in omega arith), (known j d lt).1)))
   step_by claim p f true may notes holders tickets known freed =
       let s = word_state p f true in
-      turned v s s notes holders tickets freed (omega arith) refl (omega arith) (omega arith) (all_put (Knows p) accounts k v (each_at (Knows p) accounts k v at known) (λ j d other lt. known j d lt))
+      turned v s s notes holders tickets freed (omega arith) refl (omega arith) (omega arith)
+      (all_put (Knows p) accounts k v (each_at (Knows p) accounts k v at known) (λ j d other lt. known j d lt))
   step_by claim p f false may notes holders tickets known freed =
       let w = after (Held p) v in
       let mine = term-le holding_of accounts k v at in
@@ -133,7 +136,8 @@ module _ (accounts : List Account) (k : ℕ) (v : Account) (at : get_elem? accou
       (all_put (Knows p) accounts k w (omega arith, (λ e. cc)) (λ j d other lt. known j d lt))
   step_by adopt p false h may notes holders tickets known freed =
       let s = word_state p false h in
-      turned v s s notes holders tickets freed (omega arith) refl (omega arith) (omega arith) (all_put (Knows p) accounts k v (each_at (Knows p) accounts k v at known) (λ j d other lt. known j d lt))
+      turned v s s notes holders tickets freed (omega arith) refl (omega arith) (omega arith)
+      (all_put (Knows p) accounts k v (each_at (Knows p) accounts k v at known) (λ j d other lt. known j d lt))
 
   pub counts_kept : (kind : StepKind) (s : WordState) → NeedsHolder kind v → Counts s accounts → Counts (word_after kind s) (set accounts k (after (made kind s) v))
   counts_kept kind s may counts = step_by kind s.pending s.free s.held may counts.notes counts.holders counts.tickets counts.known counts.freed

@@ -57,7 +57,8 @@ module _ (slots : ℕ) (spare : ℕ) where
         one_word_each = length-replicate slots 3;
         one_trace_each = All-replicate (λ u. length u.traces ≡ slots) seats v (length-replicate slots []);
         slot_rules = λ slot lt. (
-            let traces : traces_at slot (replicate seats v) ≡ replicate seats [] = map-replicate (trace_in slot) seats v ∙ ap (λ (t : List Exchange). replicate seats t) (sym (none_at slots slot)) in
+            let traces : traces_at slot (replicate seats v) ≡ replicate seats [] = map-replicate (trace_in slot) seats v
+            ∙ ap (λ (t : List Exchange). replicate seats t) (sym (none_at slots slot)) in
             let word : get_or (replicate slots 3) slot 0 ≡ 3 = get_or-replicate slots slot 3 0 lt in
             subst (λ (n : ℕ). SlotRule n (traces_at slot (replicate seats v))) (sym word) (subst (λ (l : List (List Exchange)). SlotRule 3 l) (sym traces) (unused_slot seats)));
         unworn = All-replicate (λ u. sum_by posted_of (accounts_of u) ≤ 2 ^ 56) seats v (omega arith);
@@ -90,14 +91,18 @@ may_split slots id v some_spare table rule at =
     let many' = length-set views id left in
     record {
       one_word_each = rule.one_word_each;
-      one_trace_each = All-push (λ u. length u.traces ≡ slots) (set views id left) right (All-set (λ u. length u.traces ≡ slots) views id left sized rule.one_trace_each) (length-replicate (length v.traces) [] ∙ sized);
+      one_trace_each = All-push (λ u. length u.traces ≡ slots) (set views id left) right (All-set (λ u. length u.traces ≡ slots) views id left sized rule.one_trace_each)
+          (length-replicate (length v.traces) [] ∙ sized);
       slot_rules = λ slot lt. (
           let here : traces_at slot (set views id left ++ right ∷ []) ≡ traces_at slot views ++ [] ∷ [] =
           map-append (trace_in slot) (set views id left) (right ∷ [])
-          ∙ ap (λ (l : List (List Exchange)). l ++ trace_in slot right ∷ []) (map-set (trace_in slot) views id left ∙ set_again (traces_at slot views) id (trace_in slot v) (at_map (trace_in slot) views id v at))
+          ∙ ap (λ (l : List (List Exchange)). l ++ trace_in slot right ∷ []) (map-set (trace_in slot) views id left
+          ∙ set_again (traces_at slot views) id (trace_in slot v) (at_map (trace_in slot) views id v at))
           ∙ ap (λ (t : List Exchange). traces_at slot views ++ t ∷ []) (sym (none_at (length v.traces) slot)) in
-          subst (λ (l : List (List Exchange)). SlotRule (get_or table.words slot 0) l) (sym here) (one_more (get_or table.words slot 0) (traces_at slot views) (rule.slot_rules slot lt)));
-      unworn = All-push (λ u. sum_by posted_of (accounts_of u) ≤ 2 ^ 56) (set views id left) right (All-set (λ u. sum_by posted_of (accounts_of u) ≤ 2 ^ 56) views id left posts rule.unworn) (omega arith);
+          subst (λ (l : List (List Exchange)). SlotRule (get_or table.words slot 0) l) (sym here)
+          (one_more (get_or table.words slot 0) (traces_at slot views) (rule.slot_rules slot lt)));
+      unworn = All-push (λ u. sum_by posted_of (accounts_of u) ≤ 2 ^ 56) (set views id left) right
+          (All-set (λ u. sum_by posted_of (accounts_of u) ≤ 2 ^ 56) views id left posts rule.unworn) (omega arith);
       few_seats = omega arith;
     }
 
@@ -142,7 +147,8 @@ opens_lawful slots seats table all sized is few words =
     let views : map view_of all ≡ replicate seats (unused_view slots 0) =
     ap (λ (l : List SeatState). map view_of l) is ∙ map-replicate view_of seats (fresh_seat table) ∙ ap (λ (n : ℕ). replicate seats (unused_view n 0)) sized in (
       (λ rule. words_are_3 slots seats words (subst (λ (vs : List View). ClaimRule slots words vs) views rule)),
-      (λ all_3. subst (λ (vs : List View). ClaimRule slots words vs) (sym views) (subst (λ (ws : List ℕ). ClaimRule slots ws (replicate seats (unused_view slots 0))) (sym all_3) (unused_rule slots 0 seats (omega arith)))),
+      (λ all_3. subst (λ (vs : List View). ClaimRule slots words vs) (sym views) (subst (λ (ws : List ℕ). ClaimRule slots ws (replicate seats (unused_view slots 0))) (sym all_3)
+          (unused_rule slots 0 seats (omega arith)))),
     )
 
 -- the first seat after one split more
@@ -151,7 +157,8 @@ spare_used slots seats made v w split was =
     let less : seats - made - 1 ≡ seats - (made + 1) = omega arith in
     split ∙ ap one_spare_less was ∙ ap (λ (n : ℕ). unused_view slots n) less
 
-pub one_seat_more : (table next : TableId) (made : ℕ) (all all' : List SeatState) (s : SeatState) → 1 ≤ made → all ≡ replicate (made - 1) (fresh_seat table) → s ≡ fresh_seat next → next ≡ table
+pub one_seat_more : (table next : TableId) (made : ℕ) (all all' : List SeatState) (s : SeatState) → 1 ≤ made → all ≡ replicate (made - 1) (fresh_seat table) → s ≡ fresh_seat next
+    → next ≡ table
     → all' ≡ all ++ s ∷ [] → all' ≡ replicate (made + 1 - 1) (fresh_seat table)
 one_seat_more table next made all all' s some_made was new same pushed =
     let count : made - 1 + 1 ≡ made + 1 - 1 = omega arith in

@@ -25,7 +25,8 @@ two_count l j k j_holds k_holds ne =
     let put = sum_by-set holding_of l k empty blank (holds_inside l k k_holds) in
     let there : one (get_or l k blank).holds ≡ 1 = ap one k_holds in
     let here : one (get_or l j blank).holds ≡ 1 = ap one j_holds in
-    let term : holding_of (get_or (set l k empty) j blank) ≤ sum_by holding_of (set l k empty) = get_or-le-sum_by holding_of (set l k empty) j blank (subst (λ n. j < n) (sym (length-set l k empty)) j_in) in
+    let term : holding_of (get_or (set l k empty) j blank) ≤ sum_by holding_of (set l k empty) =
+    get_or-le-sum_by holding_of (set l k empty) j blank (subst (λ n. j < n) (sym (length-set l k empty)) j_in) in
     let same : holding_of (get_or (set l k empty) j blank) ≡ holding_of (get_or l j blank) = ap holding_of (get_or-set_other l k j empty blank ne) in
     omega arith
 

@@ -78,7 +78,8 @@ module _ {kind : StepKind} {slot found : ℕ} {v w : View} (told : StepEffect ki
   took_few =
       let views = set told.views told.seat w in
       let there : get_elem? views told.seat ≡ some w = set_here told.views told.seat w (inside told.views told.seat v told.mine) in
-      let term = term-le taken_of (column slot views) told.seat (account_in slot w) (at_map account_of (traces_at slot views) told.seat (trace_in slot w) (at_map (trace_in slot) views told.seat w there)) in
+      let term = term-le taken_of (column slot views) told.seat (account_in slot w)
+      (at_map account_of (traces_at slot views) told.seat (trace_in slot w) (at_map (trace_in slot) views told.seat w there)) in
       let notes = (counts_of _ _ (told.after.slot_rules slot told.inside)).notes in
       let few = few_posts told.slots (set told.words slot (word_of (word_after kind state))) views told.after slot told.inside in
       omega arith
@@ -89,7 +90,8 @@ module _ {kind : StepKind} {slot found : ℕ} {v w : View} (told : StepEffect ki
   -- the seat's table is `table` before, and the same after
   module _ (table table' : TableId) (same : table' ≡ table) (posts : ℕ) (held : List Bool) (ok : SeatOk posts held table v) where
     -- what the seat keeps beside its view
-    pub kept_beside : (posts' : ℕ) (held' : List Bool) → posts' + (account_in slot v).posted ≡ posts + next.posted → posts' ≤ 2 ^ 56 → held' ≡ set held slot next.holds → SeatOk posts' held' table' w
+    pub kept_beside : (posts' : ℕ) (held' : List Bool) → posts' + (account_in slot v).posted ≡ posts + next.posted → posts' ≤ 2 ^ 56 → held' ≡ set held slot next.holds
+        → SeatOk posts' held' table' w
     kept_beside posts' held' more few marks =
         let put = sum_by-set posted_of (accounts_of v) slot next blank wide_accounts in
         let there = ap posted_of (account_there v slot) in
@@ -98,7 +100,8 @@ module _ {kind : StepKind} {slot found : ℕ} {v w : View} (told : StepEffect ki
         record {
           counted = omega arith;
           unworn = few;
-          marked = marks ∙ ap (λ (l : List Bool). set l slot next.holds) ok.marked ∙ sym (map-set holds_of (accounts_of v) slot next) ∙ ap (λ (l : List Account). map holds_of l) (sym accounts);
+          marked = marks ∙ ap (λ (l : List Bool). set l slot next.holds) ok.marked ∙ sym (map-set holds_of (accounts_of v) slot next)
+              ∙ ap (λ (l : List Account). map holds_of l) (sym accounts);
           splits_no_more = ap (λ (u : View). u.spare) told.becomes ∙ ok.splits_no_more;
           sized = ap length traces ∙ length-set v.traces slot (trace_in slot v ++ last ∷ []) ∙ ok.sized ∙ ap (λ (z : TableId). z.words) (sym same);
         }
@@ -107,7 +110,8 @@ module _ {kind : StepKind} {slot found : ℕ} {v w : View} (told : StepEffect ki
     pub mark_kept : next.holds ≡ (account_in slot v).holds → held ≡ set held slot next.holds
     mark_kept e = sym (
         ap (λ (l : List Bool). set l slot next.holds) ok.marked ∙ ap (λ (b : Bool). set (map holds_of (accounts_of v)) slot b) (e ∙ ap holds_of (sym (account_there v slot)))
-        ∙ sym (map-set holds_of (accounts_of v) slot (get_or (accounts_of v) slot blank)) ∙ ap (λ (l : List Account). map holds_of l) (set-get_or (accounts_of v) slot blank) ∙ sym ok.marked)
+        ∙ sym (map-set holds_of (accounts_of v) slot (get_or (accounts_of v) slot blank)) ∙ ap (λ (l : List Account). map holds_of l) (set-get_or (accounts_of v) slot blank)
+        ∙ sym ok.marked)
 
     -- what the caller saw of the seat
     module _ (old : SeatState) (was : seat_state table v ≡ old) where
@@ -157,7 +161,8 @@ pub holds_now : (slot : ℕ) (table : TableId) (v : View) (now : SeatState) → 
 holds_now slot table v now is holds = subst (λ (s : SeatState). Holds s slot) (sym is) holds
 
 -- the marks that a seat keeps are right
-pub marked_right : (slot : ℕ) (table : TableId) (v : View) (now : SeatState) (posts : ℕ) (held : List Bool) (mark : Bool) → seat_state table v ≡ now → SeatOk posts held table v → slot < now.table.words
+pub marked_right : (slot : ℕ) (table : TableId) (v : View) (now : SeatState) (posts : ℕ) (held : List Bool) (mark : Bool) → seat_state table v ≡ now → SeatOk posts held table v
+    → slot < now.table.words
     → mark ≡ get_or held slot mark → mark ≡ (account_at now slot).holds
 marked_right slot table v now posts held mark was ok lt read = subst (λ (s : SeatState). mark ≡ (account_at s slot).holds) was (
     let wide : slot < length held = (
@@ -166,4 +171,5 @@ marked_right slot table v now posts held mark was ok lt read = subst (λ (s : Se
     let marks = length-map (accounts_of v) holds_of in
     let accounts = length-map v.traces account_of in
     let sized = ok.sized in omega arith) in
-    read ∙ get_or_default held slot mark false wide ∙ ap (λ (l : List Bool). get_or l slot false) ok.marked ∙ get_or-map holds_of (accounts_of v) slot blank ∙ ap holds_of (account_there v slot))
+    read ∙ get_or_default held slot mark false wide ∙ ap (λ (l : List Bool). get_or l slot false) ok.marked ∙ get_or-map holds_of (accounts_of v) slot blank
+    ∙ ap holds_of (account_there v slot))

@@ -12,7 +12,8 @@ use Rattle.claims.specs.declared.view.Exchange.TheVariants as exchange
 use Rattle.claims.specs.Words.{Answer, wake, quiet, held, busy, adopted, not_free, post}
 use Rattle.claims.specs.Seats.{SeatState, account_at, posts_of, HoldsNot, Adds, Stepped}
 
--- Wake only where the caller does not hold the slot. Worn makes no exchange, and comes only once the seat has posted 2 ^ 56 times
+-- Wake only where the caller does not hold the slot. Worn makes no exchange, and comes only once the seat has posted 2
+-- ^ 56 times
 abbrev pub PostChange : ℕ → SeatState → Posted → SeatState → Type 0
 PostChange slot old Wake new = Adds slot (exchange.Post true ∷ []) old new × HoldsNot old slot
 PostChange slot old Quiet new = Adds slot (exchange.Post false ∷ []) old new

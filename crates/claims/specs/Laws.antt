@@ -49,8 +49,8 @@ NotesAreKept =
     (slot : ℕ) → slot < slots → (state : WordState) → slice_index words slot ≡ word_of state →
     state.pending + sum_by taken_of (column slot views) ≡ sum_by posted_of (column slot views)
 
--- of the tickets that were made for a slot those that are still out are as many as it needs by its word: one while notes wait and
--- nobody holds it, otherwise none
+-- of the tickets that were made for a slot those that are still out are as many as it needs by its word: one while
+-- notes wait and nobody holds it, otherwise none
 abbrev pub TicketsAreNeeded : Type 0
 TicketsAreNeeded =
     (slots : ℕ) (words : List ℕ) (views : List View) → ClaimRule slots words views →

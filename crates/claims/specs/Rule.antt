@@ -59,8 +59,8 @@ Keeps a (e ∷ es) = NeedsHolder (kind_of e) a × Keeps (after e a) es
 abbrev pub unused : WordState
 unused = record { pending = 0; free = true; held = true }
 
--- One slot: its word, and the exchanges of each seat there. There is one history of them all. It leads from the word of an unused slot
--- to this one, and of each seat it has just its exchanges, in order
+-- One slot: its word, and the exchanges of each seat there. There is one history of them all. It leads from the word of
+-- an unused slot to this one, and of each seat it has just its exchanges, in order
 pub record SlotRule (word : ℕ) (traces : List (List Exchange)) : Type 0 where
   pub history : History
   pub state : WordState

@@ -58,9 +58,9 @@ pub record Adds (slot : ℕ) (exchanges : List Exchange) (old new : SeatState) :
   pub here : trace_at new slot ≡ trace_at old slot ++ exchanges
   pub only : OnlyAt slot old new
 
--- In a state that met the rule the seat did one step of this kind at the slot's word, which answered so. Its trace got the exchange
--- that the kind makes by what the word said, and the rule was kept. The state is some state, since no clause can name what other
--- threads do, but the seat's own view stands in it, before and after
+-- In a state that met the rule the seat did one step of this kind at the slot's word, which answered so. Its trace got
+-- the exchange that the kind makes by what the word said, and the rule was kept. The state is some state, since no
+-- clause can name what other threads do, but the seat's own view stands in it, before and after
 pub record KeepsRule (kind : StepKind) (slot : ℕ) (old new : SeatState) (answer : Answer) : Type 0 where
   pub words : List ℕ
   pub views : List View

@@ -15,7 +15,8 @@ view_after kind w slot v = record v { traces = slice_set v.traces slot (trace_in
 abbrev pub state_at : {slots slot : ℕ} {words : List ℕ} {views : List View} → ClaimRule slots words views → slot < slots → WordState
 state_at rule inside = (rule.slot_rules _ inside).state
 
--- Where the number was found the rule held, with the seat's view in it. It holds after the step, with the view that the step leaves
+-- Where the number was found the rule held, with the seat's view in it. It holds after the step, with the view that the
+-- step leaves
 pub record StepEffect (kind : StepKind) (slot found : ℕ) (v w : View) : Type 0 where
   pub slots : ℕ
   pub seat : ℕ

@@ -1,5 +1,5 @@
--- What a seat has done. Part of the promises. Its trace of a slot is the list of its exchanges there, and its account what
--- they say.
+-- What a seat has done. Part of the promises. Its trace of a slot is the list of its exchanges there, and its account
+-- what they say.
 use Rattle.std.specs.Prelude.{ℕ, ◌+◌, Bool, true, false, List, [], ◌∷◌, map, replicate, slice_index_or}
 use Rattle.claims.specs.declared.view.Account.{Account}
 use Rattle.claims.specs.declared.view.Exchange.{Exchange}
@@ -11,8 +11,8 @@ use Rattle.claims.specs.Words.{one, some_wait}
 abbrev pub blank : Account
 blank = record { posted = 0; taken = 0; minted = 0; redeemed = 0; holds = false; known = 0; adopts = 0; retires = 0 }
 
--- What each exchange makes of the account. A claim that finds notes redeems the ticket that they had, and a post by the holder is one
--- note more that it knows of
+-- What each exchange makes of the account. A claim that finds notes redeems the ticket that they had, and a post by the
+-- holder is one note more that it knows of
 abbrev pub after : Exchange → Account → Account
 after (Post woke) a = record a { posted = a.posted + 1; minted = a.minted + one woke; known = a.known + one a.holds }
 after Busy a = a

@@ -46,7 +46,8 @@ some_wait (suc n) = true
 abbrev pub wakes : WordState → Bool
 wakes w = if w.held then false else (if some_wait w.pending then false else true)
 
--- post adds a note, claim sets `held` and release clears it, take clears the notes, retire sets `free` and adopt clears it
+-- post adds a note, claim sets `held` and release clears it, take clears the notes, retire sets `free` and adopt clears
+-- it
 abbrev pub word_after : StepKind → WordState → WordState
 word_after post w = record w { pending = suc w.pending }
 word_after claim w = record w { held = true }
@@ -64,7 +65,8 @@ answer_of release w = if some_wait w.pending then wake else quiet
 answer_of retire w = nothing
 answer_of adopt w = if w.free then adopted else not_free
 
--- A step of this kind makes `new` of the word `old`, and answers so. A number says one state, so kind and old word determine both
+-- A step of this kind makes `new` of the word `old`, and answers so. A number says one state, so kind and old word
+-- determine both
 pub record WordStep (kind : StepKind) (old new : ℕ) (answer : Answer) : Type 0 where
   pub found : WordState
   pub old_is : old ≡ word_of found

@@ -1,17 +1,17 @@
 //! Claim words: many threads, one holder per slot, and no note lost.
 //!
-//! A server has slots, one for each connection, and threads that work on them. A thread that learns of something to do
-//! at a slot posts a note there. A thread that has a ticket for the slot claims it, takes its notes, works, and
-//! releases it. This crate keeps one word per slot, `4 * notes + 2 * free + held`. Each call is one atomic exchange on
-//! one word, by the caller's own seat. No call waits or repeats its exchange, and only [`Claims::open`] allocates
+//! A server has slots, one for each connection, and threads that work on them. A thread that learns of something to
+//! do at a slot posts a note there. A thread that has a ticket for the slot claims it, takes its notes, works, and
+//! releases it. This crate keeps one word per slot, `4 * notes + 2 * free + held`. Each call is one atomic exchange
+//! on one word, by the caller's own seat. No call waits or repeats its exchange, and only [`Claims::open`] allocates
 //! memory.
 //!
 //! # The rule
 //!
 //! The exchanges of all seats at a slot stand in one order, the slot's history. Between any two exchanges, in every
-//! schedule, it leads from the word of an unused slot to today's word, and each exchange has answered what the word that
-//! it found says. Of each seat it has just the exchanges that this seat made there, in order: the seat's trace. And each
-//! seat takes, releases and retires only what it holds by its trace. From this follows for each slot:
+//! schedule, it leads from the word of an unused slot to today's word, and each exchange has answered what the word
+//! that it found says. Of each seat it has just the exchanges that this seat made there, in order: the seat's trace.
+//! And each seat takes, releases and retires only what it holds by its trace. From this follows for each slot:
 //!
 //! 1. The notes that wait are those that were posted and not taken. So none is dropped and none appears twice.
 //! 2. A slot that is held and not free has exactly one holder. Any other slot has none. A free slot is marked as held.
@@ -24,9 +24,9 @@
 //!    held and without notes: its word is 3.
 //!
 //! Each call makes exactly one exchange, whatever it answers, except that a post that answers Worn makes none. The
-//! call's contract says which exchange the caller's trace of the slot got, and that no other trace of it changed. So no
-//! call makes a second exchange, and none answers Busy or NotFree before it has made one. That is true of the source: in
-//! machine code an exchange may be a loop.
+//! call's contract says which exchange the caller's trace of the slot got, and that no other trace of it changed. So
+//! no call makes a second exchange, and none answers Busy or NotFree before it has made one. That is true of the
+//! source: in machine code an exchange may be a loop.
 //!
 //! # The exchanges, and the race that each closes
 //!
@@ -51,10 +51,10 @@
 //!
 //! # Where to look
 //!
-//! `specs/Words.antt` has the word and its steps, `specs/Rule.antt` the history and the rule, `specs/Views.antt` what a
-//! trace says, its account, `specs/Calls.antt` which exchange each answer is, and `src/calls.rt` the calls. [`laws`] says
-//! in plain words what follows from the rule. For callers, `specs/Seats.antt` says when a seat holds nothing and when it
-//! changed at only one slot, and `proofs/Seats.antt` how this carries over from call to call.
+//! `specs/Words.antt` has the word and its steps, `specs/Rule.antt` the history and the rule, `specs/Views.antt` what
+//! a trace says, its account, `specs/Calls.antt` which exchange each answer is, and `src/calls.rt` the calls.
+//! [`laws`] says in plain words what follows from the rule. For callers, `specs/Seats.antt` says when a seat holds
+//! nothing and when it changed at only one slot, and `proofs/Seats.antt` how this carries over from call to call.
 #![tactic(auto)]
 
 mod answers;

@@ -29,8 +29,8 @@ pub enum OpenFault {
 }
 
 impl Claims {
-    /// Makes a word for each slot, free and without notes, and the seats, which are the only ones that these words ever
-    /// have.
+    /// Makes a word for each slot, free and without notes, and the seats, which are the only ones that these words
+    /// ever have.
     ///
     /// Errors are checked in this order: a number of slots that is not from 1 to 32,768 (`SlotRange`), a number of
     /// seats that is not from 1 to 32 (`SeatRange`), and too little memory (`NoMemory`).

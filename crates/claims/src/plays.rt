@@ -1,5 +1,5 @@
-// The six kinds of step, which are all that there are, and what each tells the seat that made it. Each adds its exchange
-// to the seat's trace.
+// The six kinds of step, which are all that there are, and what each tells the seat that made it. Each adds its
+// exchange to the seat's trace.
 ghost use Rattle.claims.specs.Words.{post, claim, take, release, retire, adopt};
 ghost use Rattle.claims.specs.Steps.{StepEffect};
 

@@ -8,8 +8,8 @@ use std::marker::Model;
 
 /// A seat at the claim words of one `open`, with which one thread makes its calls.
 ///
-/// In a clause it is its table, and its trace of each slot: the exchanges that this seat has made there, in order. Only
-/// its own calls change them. A seat can be moved into a thread.
+/// In a clause it is its table, and its trace of each slot: the exchanges that this seat has made there, in order.
+/// Only its own calls change them. A seat can be moved into a thread.
 #[derive(Drop)]
 pub struct ClaimSeat {
     pub(crate) seat: Seat<(), View>,

@@ -5,7 +5,8 @@ use std::alloc::{AllocError, Global};
 use std::test::Fail;
 use token::Side;
 
-/// Whether an arrival that is refused leaves both arms, and an error neither. A read and a write would have blocked before.
+/// Whether an arrival that is refused leaves both arms, and an error neither. A read and a write would have blocked
+/// before.
 fn an_error_alone_clears(alloc: Global) -> Result<bool, AllocError> {
     let mut end = End::new(alloc, Side::Target);
     let blocked = end.read(4, Reply::Blocked).is_ok() && end.write(b"a", Reply::Blocked).is_ok();

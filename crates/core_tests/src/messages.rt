@@ -23,7 +23,8 @@ const FAULT: Fault = Fault::Broken {
     kind: Kind::Pipe,
 };
 
-/// Each message, after its level. The counts of those that have any are more than 32 bits count, and the most that are counted.
+/// Each message, after its level. The counts of those that have any are more than 32 bits count, and the most that
+/// are counted.
 static LINES: [&str; 11] = [
     "[DEBUG relayd] peer s=32767 g=140737488355327 from=192.0.2.7:50000",
     "[DEBUG relayd] gone s=32767 g=140737488355327 from=192.0.2.8:1 connected=unknown up=4294967296 down=18446744073709551615 seconds=7 cause=idle",
@@ -98,7 +99,8 @@ fn missing(lines: &Lines, wanted: &[&str]) -> Option<usize> {
     lines.next().is_none().then_some(missing)
 }
 
-/// How many messages are missing at a level, if no other is logged, and no address is printed at a level that has none.
+/// How many messages are missing at a level, if no other is logged, and no address is printed at a level that has
+/// none.
 fn missing_at(rt: &HostRuntime, level: Level, first: usize) -> Option<usize> {
     let from = Noting(Cell::new(false));
     let sink = Memory::new(rt.alloc());

@@ -1,5 +1,5 @@
-// What a test answers by what its helpers found. The helpers promise nothing and answer plain values, so that only its run
-// shows what a test asserts, and a test is cheap to prove.
+// What a test answers by what its helpers found. The helpers promise nothing and answer plain values, so that only
+// its run shows what a test asserts, and a test is cheap to prove.
 use std::alloc::AllocError;
 use std::process::Abort;
 use std::test::Fail;

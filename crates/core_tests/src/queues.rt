@@ -114,7 +114,8 @@ fn are_all_taken_once([one, other]: &[Taker; 2]) -> bool {
     all
 }
 
-// The ends that take, of the highest numbers, sleep while the queue is empty, and once it stays so they are woken by its end.
+// The ends that take, of the highest numbers, sleep while the queue is empty, and once it stays so they are woken by
+// its end.
 #[test]
 fn each_ticket_is_taken_once(rt: HostRuntime) -> Result<(), Fail> {
     let mut ends = ReadyQueue::new(rt.alloc(), 8, 32)?;

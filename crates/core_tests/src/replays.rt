@@ -22,7 +22,8 @@ fn put(alloc: Global, events: &mut Vec<Event>, line: &str) -> Result<bool, Alloc
     Ok(true)
 }
 
-/// Five connections, one after the other: a hundred events. The one at `wrong`, if there is one, is such that it cannot happen.
+/// Five connections, one after the other: a hundred events. The one at `wrong`, if there is one, is such that it
+/// cannot happen.
 fn session(alloc: Global, wrong: usize) -> Result<Vec<Event>, AllocError> {
     let mut events = Vec::new(alloc);
     for _ in 0..5 {

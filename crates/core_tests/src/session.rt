@@ -1,5 +1,5 @@
-// A session of eight calls, with one play more before one of them. Each side gives some bytes and then its end, and takes
-// what the other side gave; the target is not known to be connected at first.
+// A session of eight calls, with one play more before one of them. Each side gives some bytes and then its end, and
+// takes what the other side gave; the target is not known to be connected at first.
 ghost use Rattle.std.specs.Prelude.{◌≤◌};
 
 use crate::passing::{all_well, no_row};
@@ -9,8 +9,8 @@ use std::alloc::{AllocError, Global};
 use std::io::ErrorKind;
 use std::test::Fail;
 
-/// A call of the session: its side and kind, the place of the play that answers it, and how many bytes had been sent each
-/// way before.
+/// A call of the session: its side and kind, the place of the play that answers it, and how many bytes had been sent
+/// each way before.
 type Point = (Side, CallKind, PlayList, usize, (u64, u64));
 
 /// The calls, in order.
@@ -25,8 +25,8 @@ static CALLS: [Point; 8] = [
     (Side::Client, CallKind::Shut, PlayList::Closings, 0, (3, 2)),
 ];
 
-/// What is seen of a session in the end: its first turn and its last, what the pair tells, how many bytes were sent each way, and
-/// on both wires how many plays are left and how many faults were counted.
+/// What is seen of a session in the end: its first turn and its last, what the pair tells, how many bytes were sent
+/// each way, and on both wires how many plays are left and how many faults were counted.
 type Ended = (Turn, Turn, Verdict, (u64, u64), usize, (u64, u64));
 
 /// It is done, and every play was used.
@@ -70,8 +70,8 @@ impl Session {
         }
     }
 
-    /// Whether this is seen of it after a turn of this many calls, a report, and a second turn, and each side was given what
-    /// the other side gave, as far as it was sent.
+    /// Whether this is seen of it after a turn of this many calls, a report, and a second turn, and each side was
+    /// given what the other side gave, as far as it was sent.
     fn goes(&mut self, budget: usize, wanted: Ended) -> bool
         requires least { 1 ≤ budget }
         requires most { budget ≤ 1024 }
@@ -110,11 +110,12 @@ fn session_of(alloc: Global, up: &[u8], down: &[u8]) -> Result<Session, AllocErr
     })
 }
 
-/// The first of these calls and the one after the last, the number of the play that comes before each of them, and how
-/// the session goes then: it is done after such a first turn, or fails by such a kind at that call.
+/// The first of these calls and the one after the last, the number of the play that comes before each of them, and
+/// how the session goes then: it is done after such a first turn, or fails by such a kind at that call.
 ///
-/// A shutdown never has to wait: an answer that it would is a failure. A write may take one byte at first, or none, which is
-/// one, too. Before the target gave its first byte its connect may not have ended yet; after that it can't be so.
+/// A shutdown never has to wait: an answer that it would is a failure. A write may take one byte at first, or none,
+/// which is one, too. Before the target gave its first byte its connect may not have ended yet; after that it can't
+/// be so.
 static ROWS: [(usize, usize, u8, Result<Turn, Kind>); 8] = [
     (0, 8, 0, Ok(Turn::Done)),
     (0, 8, 1, Err(Kind::Reset)),
@@ -223,8 +224,8 @@ fn errors(wire: &mut ScriptWire) -> [Option<ErrorKind>; 4] {
     ]
 }
 
-/// Whether a play that does not fit is a fault, and connects nothing. Without a play a call would block, but a shutdown
-/// succeeds. Until the wire is connected, the error that it is not counts as "would block".
+/// Whether a play that does not fit is a fault, and connects nothing. Without a play a call would block, but a
+/// shutdown succeeds. Until the wire is connected, the error that it is not counts as "would block".
 fn answers(wire: &mut ScriptWire) -> bool {
     let (other, blocked) = (Some(ErrorKind::Other), Some(ErrorKind::WouldBlock));
     let unconnected = Some(ErrorKind::NotConnected);

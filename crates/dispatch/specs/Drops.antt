@@ -1,5 +1,5 @@
--- Which lines the log gets of accepted connections that are closed unopened. Part of the promises. The first of a cause has a line of
--- its own. Those that follow it are counted, and told by one line a second.
+-- Which lines the log gets of accepted connections that are closed unopened. Part of the promises. The first of a cause
+-- has a line of its own. Those that follow it are counted, and told by one line a second.
 use Rattle.std.specs.Prelude.{◌≡◌, ℕ, ◌+◌, ◌==◌, ◌||◌, nat_lt, Bool, false, Option, Some, None, if◌then◌else◌}
 use Rattle.relay_log.specs.declared.cause.Cause.{Cause}
 use Rattle.relay_log.specs.declared.cause.Cause.TheVariants as cause

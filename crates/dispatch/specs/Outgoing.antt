@@ -1,5 +1,6 @@
 -- What a thread was to put into the queues so far: what its end of a queue has put, and after it what is in hand for
--- that queue. Part of the promises. Nothing that was to be put is lost, doubled or moved while this list stays the same.
+-- that queue. Part of the promises. Nothing that was to be put is lost, doubled or moved while this list stays the
+-- same.
 use Rattle.std.specs.Prelude.{◌≡◌, ◌⊎◌, ℕ, List, [], ◌∷◌, ◌++◌, drop, map}
 use Rattle.ready.specs.declared.history.History.{History}
 use Rattle.ready.specs.declared.ticket.Ticket.{Ticket}

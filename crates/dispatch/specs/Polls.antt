@@ -9,11 +9,12 @@ pub record IsIn (part : Part) (slot : ℕ) : Type 0 where
   pub least : part.first ≤ slot
   pub most : slot < part.first + part.slots
 
--- What the front reported at the last wait, whether that failed, whether the front listens, each slot's generation, the reports that this round delivers, the accept flag (whether a
--- connection may wait to be accepted), whether accept(2) was starved at its last answer, how many tries of it the last round left,
--- what connections are opened with, the slots in which it opens them, each slot's heavy mark (how many of its next tickets are for the
--- workers), how many it may open in all, how many it has opened and how many it has closed unopened, how many slots it no longer uses,
--- the second of the last round, that of the last sweep (at first, that at which it began), whether it is over, and what the log is
+-- What the front reported at the last wait, whether that failed, whether the front listens, each slot's generation, the
+-- reports that this round delivers, the accept flag (whether a connection may wait to be accepted), whether accept(2)
+-- was starved at its last answer, how many tries of it the last round left, what connections are opened with, the slots
+-- in which it opens them, each slot's heavy mark (how many of its next tickets are for the workers), how many it may
+-- open in all, how many it has opened and how many it has closed unopened, how many slots it no longer uses, the second
+-- of the last round, that of the last sweep (at first, that at which it began), whether it is over, and what the log is
 -- told once for as long as it lasts
 pub record PollerState : Type 0 where
   pub reported : List ℕ

@@ -3,8 +3,8 @@ ghost use Rattle.std.specs.Prelude.{◌≡◌, ℕ};
 
 use engine::Moment;
 
-/// A clock that counts whole seconds. A caller may rely on no order of its answers: it may stand still or go back, and
-/// then no connection fails sooner than it would, and no round posts sooner.
+/// A clock that counts whole seconds. A caller may rely on no order of its answers: it may stand still or go back,
+/// and then no connection fails sooner than it would, and no round posts sooner.
 pub trait Clock {
     // Which seconds it may tell, if it says so.
     ghost tells: { Self → ℕ → Type 0 } = { λ _ _. Unit {0} };

@@ -7,7 +7,8 @@ use log::Log;
 use relay_log::{Cause, log_drop, log_drops};
 use std::marker::Model;
 
-/// The log is owed a line of a cause: of one drop, or of this many more. It cannot be dropped, and only [`Owed::log`] takes it.
+/// The log is owed a line of a cause: of one drop, or of this many more. It cannot be dropped, and only [`Owed::log`]
+/// takes it.
 pub(crate) struct Owed {
     pub(crate) cause: Cause,
     /// How many more drops the line tells. 0 for a line of one drop.
@@ -26,9 +27,9 @@ impl Owed {
     }
 }
 
-/// An accepted connection is closed unopened, and the log says why, or it is counted among those of which the log is still to be told.
-/// Nothing but [`Dropped::tell`] makes one, and only [`Poller::count_dropped`](crate::Poller::count_dropped) takes it. It cannot be
-/// dropped, so each is counted.
+/// An accepted connection is closed unopened, and the log says why, or it is counted among those of which the log is
+/// still to be told. Nothing but [`Dropped::tell`] makes one, and only
+/// [`Poller::count_dropped`](crate::Poller::count_dropped) takes it. It cannot be dropped, so each is counted.
 ///
 /// In a clause it is the cause.
 pub struct Dropped {

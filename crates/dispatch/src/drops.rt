@@ -1,5 +1,5 @@
-//! Which lines the log gets of accepted connections that are closed unopened: the first of a cause has one of its own, and those that
-//! follow it are counted.
+//! Which lines the log gets of accepted connections that are closed unopened: the first of a cause has one of its
+//! own, and those that follow it are counted.
 ghost use Rattle.std.specs.Prelude.{◌≡◌};
 ghost use Rattle.dispatch.specs.Drops.{all_told_at, dropped_at, dropped_for, due_at, follows, is_counted, no_drops, no_tally, owed, owed_for, tally_of, told_at, with_tally, AreTold};
 
@@ -160,7 +160,8 @@ impl Drops {
         log_owed(rt, self.end_of(Cause::Address));
     }
 
-    /// The line that tells what is counted of a cause until now, if there is anything. The next drop for it has a line of its own.
+    /// The line that tells what is counted of a cause until now, if there is anything. The next drop for it has a
+    /// line of its own.
     fn end_of(&mut self, cause: Cause) -> Option<Owed>
         ensures drops { self.new ≡ with_tally cause no_tally self.old }
         ensures owed { result ≡ owed cause (tally_of cause self.old).more }

@@ -11,7 +11,8 @@ use std::sync::atomic::Ordering::SeqCst;
 pub struct Episodes {
     /// Whether the log was told that accept(2) is starved, and no connection was opened since.
     pub(crate) starved: bool,
-    /// Whether all its slots were found taken while a client waited, and accept(2) was not answered since that nobody waits.
+    /// Whether all its slots were found taken while a client waited, and accept(2) was not answered since that nobody
+    /// waits.
     pub(crate) full: bool,
     /// What is closed unopened.
     pub(crate) drops: Drops,

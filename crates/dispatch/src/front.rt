@@ -18,19 +18,20 @@ pub trait Settle: Wire {
     // Whether it holds nothing back, if it says so.
     ghost settled: { Self → Type 0 } = { λ _. Unit {0} };
 
-    /// No call is worth trying on this connection before the next report. What was held back so that more could be sent
-    /// with it is sent now. It changes nothing that the wire specifies.
+    /// No call is worth trying on this connection before the next report. What was held back so that more could be
+    /// sent with it is sent now. It changes nothing that the wire specifies.
     fn settle(&mut self)
         ensures same { Self.told self.new ≡ Self.told self.old }
         ensures settled { settled self.new };
 
-    /// The system's error of its last call that failed, by its number (errno(3)), if it keeps that. It is only for the log.
+    /// The system's error of its last call that failed, by its number (errno(3)), if it keeps that. It is only for
+    /// the log.
     fn error(&self) -> Option<i32> {
         None
     }
 
-    /// Whether the system says that the socket is connected (getpeername(2)), if it says that. It is no call of the connection, and
-    /// only for the log.
+    /// Whether the system says that the socket is connected (getpeername(2)), if it says that. It is no call of the
+    /// connection, and only for the log.
     fn is_connected(&self) -> Option<bool> {
         None
     }
@@ -102,8 +103,9 @@ pub trait Front {
     /// What another thread uses to end a wait for reports.
     type Waker;
 
-    /// Waits for reports, for a time that ends by itself, or not at all, and replaces the contents of the batch by the numbers
-    /// of their tokens, at most [`MAX_BATCH`] (epoll_wait(2)). After an error the batch is empty. It allocates no memory.
+    /// Waits for reports, for a time that ends by itself, or not at all, and replaces the contents of the batch by
+    /// the numbers of their tokens, at most [`MAX_BATCH`] (epoll_wait(2)). After an error the batch is empty. It
+    /// allocates no memory.
     fn poll(&mut self, batch: &mut Vec<u64>, wait: bool) -> io::Result<()>
         requires room { MAX_BATCH ≤ vec_capacity batch.old }
         ensures most { vec_len batch.new ≤ MAX_BATCH }
@@ -119,17 +121,17 @@ pub trait Front {
         ensures failed { failed self.new ≡ failed self.old }
         ensures listens { listens self.new ≡ listens self.old };
 
-    /// Gives up its share of the listening socket, which is closed with the last one. It may be called again, and then
-    /// changes nothing. From now on it accepts none.
+    /// Gives up its share of the listening socket, which is closed with the last one. It may be called again, and
+    /// then changes nothing. From now on it accepts none.
     fn stop_listening(&mut self)
         ensures listens { listens self.new ≡ false }
         ensures reported { reported self.new ≡ reported self.old }
         ensures failed { failed self.new ≡ failed self.old };
 
     /// Starts the connection to the target (connect(2)), and has both sockets reported for reading and writing, each
-    /// under its token. It tells the addresses of the client's connection, if it is to tell them. After an error no target is
-    /// left open, and the client may still be reported until it is closed; its wire may keep the cause for the log. It changes
-    /// nothing that the client's wire specifies. `rt` is for the log alone.
+    /// under its token. It tells the addresses of the client's connection, if it is to tell them. After an error no
+    /// target is left open, and the client may still be reported until it is closed; its wire may keep the cause for
+    /// the log. It changes nothing that the client's wire specifies. `rt` is for the log alone.
     fn open<N: Log>(
         &mut self,
         rt: &N,
@@ -144,8 +146,8 @@ pub trait Front {
         ensures failed { failed self.new ≡ failed self.old }
         ensures listens { listens self.new ≡ listens self.old };
 
-    /// Ends the wait in progress of the thread that opens this slot, or else its next one, which then reports the waker's
-    /// number, 1.
+    /// Ends the wait in progress of the thread that opens this slot, or else its next one, which then reports the
+    /// waker's number, 1.
     fn wake(waker: &Self::Waker, slot: usize)
         ensures { woke waker.now slot };
 

@@ -6,7 +6,8 @@ use ready::Ticket;
 use std::alloc::{AllocError, Global};
 use std::marker::Model;
 
-/// What a thread has put into no queue yet, oldest first: tickets that it keeps or that a queue refused, and free slots.
+/// What a thread has put into no queue yet, oldest first: tickets that it keeps or that a queue refused, and free
+/// slots.
 #[derive(Drop)]
 pub struct Hand {
     tickets: HeapCircularBuffer<Ticket>,
@@ -21,7 +22,8 @@ impl Model for Hand {
 
     ghost view = { λ h. record { tickets = h.tickets.items; slots = h.slots.items; capacity = h.tickets.capacity } };
 
-    ghost invariant = { λ h. (h.slots.capacity ≡ h.tickets.capacity) × (length h.tickets.items ≤ h.tickets.capacity) × (length h.slots.items ≤ h.slots.capacity) };
+    ghost invariant = { λ h. (h.slots.capacity ≡ h.tickets.capacity) × (length h.tickets.items ≤ h.tickets.capacity)
+        × (length h.slots.items ≤ h.slots.capacity) };
 }
 
 impl Hand {

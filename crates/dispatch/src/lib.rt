@@ -1,7 +1,7 @@
-//! What the threads of the relay share, what each of them is lent, and what a poller keeps between its rounds. What they do
-//! with it stands above, in two crates beside each other: `rounds`, in which reports become notes and accepted connections
-//! are opened, and `turns`, in which tickets become turns. Nothing here starts a thread or knows a socket; `threads` and
-//! `sockets` do.
+//! What the threads of the relay share, what each of them is lent, and what a poller keeps between its rounds. What
+//! they do with it stands above, in two crates beside each other: `rounds`, in which reports become notes and
+//! accepted connections are opened, and `turns`, in which tickets become turns. Nothing here starts a thread or knows
+//! a socket; `threads` and `sockets` do.
 //!
 //! - [`Front`] is where connections and reports come from: the system's sockets, or an in-memory fake. Its wires can
 //!   [`Settle`], and it tells the addresses of a client's connection ([`Route`]).

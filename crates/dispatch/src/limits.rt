@@ -6,8 +6,8 @@ pub const MAX_BATCH: usize = 256;
 /// The most tries of accept(2) in one round. The tickets of what was opened wait no longer than that for their turns.
 pub const MAX_ACCEPTS: usize = 4;
 
-/// A round begins only if the poller's hand has room for a ticket of each slot, which a sweep may take, and this many more,
-/// for its reports and openings.
+/// A round begins only if the poller's hand has room for a ticket of each slot, which a sweep may take, and this many
+/// more, for its reports and openings.
 pub const ROUND_ROOM: usize = 512;
 
 /// The most turns that the poller's thread runs after one round.

@@ -20,8 +20,8 @@ pub struct Parts {
 }
 
 impl Parts {
-    /// What the next thread owns, with a hand of this capacity and this end of a queue of free slots. None if the parts
-    /// are used up.
+    /// What the next thread owns, with a hand of this capacity and this end of a queue of free slots. None if the
+    /// parts are used up.
     pub fn next_own<F: Front>(
         &mut self,
         alloc: Global,

@@ -62,17 +62,38 @@ impl<F: Front> Model for Poller<F> {
 
     ghost Value = { PollerState };
 
-    ghost view = { λ p. record { reported = F.reported p.front; failed = F.failed p.front; listening = F.listens p.front; table = p.table.items; batch = p.batch.items; accepting = p.accepting; starved = p.starved; tries = p.tries; opening = p.opening; part = p.part; heavy = p.heavy.items; most = p.most; opened = p.opened; dropped = p.dropped; lost = p.lost; second = p.second; swept = p.swept; over = p.over; episodes = p.episodes } };
+    ghost view = { λ p. record {
+      reported = F.reported p.front;
+      failed = F.failed p.front;
+      listening = F.listens p.front;
+      table = p.table.items;
+      batch = p.batch.items;
+      accepting = p.accepting;
+      starved = p.starved;
+      tries = p.tries;
+      opening = p.opening;
+      part = p.part;
+      heavy = p.heavy.items;
+      most = p.most;
+      opened = p.opened;
+      dropped = p.dropped;
+      lost = p.lost;
+      second = p.second;
+      swept = p.swept;
+      over = p.over;
+      episodes = p.episodes;
+    } };
 
-    ghost invariant = { λ p. AreGenerations p.table.items × IsOwnTable p.part p.table.items × (256 ≤ vec_capacity p.batch) × (length p.batch.items ≤ 256) × (1 ≤ p.opening.ring) × (p.opening.ring ≤ 65536) };
+    ghost invariant = { λ p. AreGenerations p.table.items × IsOwnTable p.part p.table.items × (256 ≤ vec_capacity p.batch)
+        × (length p.batch.items ≤ 256) × (1 ≤ p.opening.ring) × (p.opening.ring ≤ 65536) };
 }
 
 impl<F: Front> Poller<F> {
-    /// A poller that has opened no connection yet. Its table is for `table` slots, and it opens connections in a part of
-    /// them, at most `most` in all, with what `opening` says.
+    /// A poller that has opened no connection yet. Its table is for `table` slots, and it opens connections in a part
+    /// of them, at most `most` in all, with what `opening` says.
     ///
-    /// Fails only if there is no memory for what it keeps of each slot and for the batch. A round allocates memory only for connections and
-    /// log lines.
+    /// Fails only if there is no memory for what it keeps of each slot and for the batch. A round allocates memory
+    /// only for connections and log lines.
     pub fn new(
         alloc: Global,
         front: F,
@@ -84,7 +105,27 @@ impl<F: Front> Poller<F> {
     where
         F: Drop,
         requires ring { (1 ≤ opening.ring) × (opening.ring ≤ 65536) }
-        ensures { IfOk result (λ poller. poller ≡ record { reported = F.reported front; failed = F.failed front; listening = F.listens front; table = replicate table 0; batch = []; accepting = true; starved = false; tries = 0; opening = opening; part = part; heavy = replicate table 0; most = most; opened = 0; dropped = 0; lost = 0; second = 0; swept = 0; over = false; episodes = no_episodes }) }
+        ensures { IfOk result (λ poller. poller ≡ record {
+          reported = F.reported front;
+          failed = F.failed front;
+          listening = F.listens front;
+          table = replicate table 0;
+          batch = [];
+          accepting = true;
+          starved = false;
+          tries = 0;
+          opening = opening;
+          part = part;
+          heavy = replicate table 0;
+          most = most;
+          opened = 0;
+          dropped = 0;
+          lost = 0;
+          second = 0;
+          swept = 0;
+          over = false;
+          episodes = no_episodes;
+        }) }
     {
         Ok(Poller {
             front,
@@ -107,8 +148,8 @@ impl<F: Front> Poller<F> {
         })
     }
 
-    /// From now on this slot counts as having had this many connections: the next one there has the next generation, and
-    /// there is none after the last, 2^47 - 1. A server starts at 0. `drill` starts near the last.
+    /// From now on this slot counts as having had this many connections: the next one there has the next generation,
+    /// and there is none after the last, 2^47 - 1. A server starts at 0. `drill` starts near the last.
     #[tactic(auto, using(crate::proofs::Polls::own_set))]
     pub fn start_at(&mut self, slot: usize, generation: u64)
         requires inside { slot < length self.old.table }
@@ -119,16 +160,16 @@ impl<F: Front> Poller<F> {
         self.table[slot] = generation;
     }
 
-    /// It begins at this second: its first sweep comes once the idle limit has passed since then. It counts from second 0
-    /// if it is not told.
+    /// It begins at this second: its first sweep comes once the idle limit has passed since then. It counts from
+    /// second 0 if it is not told.
     pub fn begin_at(&mut self, second: u64)
         ensures { self.new ≡ record self.old { swept = second } }
     {
         self.swept = second;
     }
 
-    /// Whether all connections that it may open have been opened, and all of them are closed. A round finds that out by
-    /// the slots that were given back.
+    /// Whether all connections that it may open have been opened, and all of them are closed. A round finds that out
+    /// by the slots that were given back.
     pub fn is_over(&self) -> bool
         ensures { result ≡ self.now.over }
     {
@@ -158,7 +199,8 @@ impl<F: Front> Poller<F> {
         self.opened
     }
 
-    /// How many connections it has accepted and closed unopened. A line in the log tells of each, or how many more there were.
+    /// How many connections it has accepted and closed unopened. A line in the log tells of each, or how many more
+    /// there were.
     pub fn dropped(&self) -> u64
         ensures { result ≡ self.now.dropped }
     {
@@ -198,8 +240,8 @@ impl<F: Front> Poller<F> {
 
 /// What the turns in its thread tell it and ask it.
 impl<F: Front> Poller<F> {
-    /// Whether its thread runs the slot's next ticket itself: what is asked when a round's tickets are shared. If not, one ticket less of the slot's is for the workers
-    /// from now on.
+    /// Whether its thread runs the slot's next ticket itself: what is asked when a round's tickets are shared. If
+    /// not, one ticket less of the slot's is for the workers from now on.
     #[tactic(auto, using(crate::proofs::Polls::looked_at_light))]
     pub fn is_light(&mut self, slot: usize) -> bool
         ensures light { IsTrue result ↔ slice_index self.old.heavy slot ≡ 0 }
@@ -240,8 +282,8 @@ impl<F: Front> Poller<F> {
         self.batch.clear();
     }
 
-    /// Waits for reports, for a time that ends by itself, or not at all, and keeps them as those that the round delivers
-    /// ([`Front::poll`]).
+    /// Waits for reports, for a time that ends by itself, or not at all, and keeps them as those that the round
+    /// delivers ([`Front::poll`]).
     pub fn poll(&mut self, wait: bool) -> io::Result<()>
         ensures same { self.new ≡ record self.old { reported = self.new.reported; failed = self.new.failed; batch = self.new.batch } }
         ensures batch { self.new.batch ≡ self.new.reported }
@@ -282,8 +324,8 @@ impl<F: Front> Poller<F> {
         self.starved = false;
     }
 
-    /// accept(2) answered that the system lacks what it needs. Answers whether the log is to be told: it was not since a connection
-    /// was opened.
+    /// accept(2) answered that the system lacks what it needs. Answers whether the log is to be told: it was not
+    /// since a connection was opened.
     pub fn mark_starved(&mut self) -> bool
         ensures first { result ≡ not self.old.episodes.starved }
         ensures marked { self.new ≡ record self.old { starved = true; episodes = record self.old.episodes { starved = true } } }
@@ -294,7 +336,8 @@ impl<F: Front> Poller<F> {
         is_first
     }
 
-    /// Whether all its slots were found taken while a client waited, and accept(2) was not answered since that nobody waits.
+    /// Whether all its slots were found taken while a client waited, and accept(2) was not answered since that nobody
+    /// waits.
     pub fn is_full(&self) -> bool
         ensures { result ≡ self.now.episodes.full }
     {
@@ -377,14 +420,17 @@ impl<F: Front> Poller<F> {
         self.swept = self.second;
     }
 
-    /// A round opens an accepted connection in a slot that its thread holds: the slot has the ticket's generation from now on. The
-    /// statistics have it, too.
+    /// A round opens an accepted connection in a slot that its thread holds: the slot has the ticket's generation
+    /// from now on. The statistics have it, too.
     #[tactic(auto, using(crate::proofs::Polls::own_set))]
     pub fn count_opened(&mut self, shared: &Shared<F>, ticket: Ticket, uncounted: Uncounted)
         requires inside { ticket.slot < length self.old.table }
         requires own { IsIn self.old.part ticket.slot }
         requires generation { ticket.generation ≤ 140737488355327 }
-        ensures { self.new ≡ record self.old { table = slice_set self.old.table ticket.slot ticket.generation; opened = counted_up self.old.opened 1 } }
+        ensures { self.new ≡ record self.old {
+          table = slice_set self.old.table ticket.slot ticket.generation;
+          opened = counted_up self.old.opened 1;
+        } }
     {
         self.table[ticket.slot] = ticket.generation;
         self.opened = self.opened.saturating_add(1);
@@ -392,24 +438,29 @@ impl<F: Front> Poller<F> {
         uncounted.spend();
     }
 
-    /// A round closes a connection unopened. The log says why, or it is counted among those of which the log is still to be told.
+    /// A round closes a connection unopened. The log says why, or it is counted among those of which the log is still
+    /// to be told.
     pub fn tell_dropped<N: Log>(&mut self, rt: &N, cause: Cause) -> Dropped
         ensures cause { result ≡ cause }
-        ensures drops { self.new ≡ record self.old { episodes = record self.old.episodes { drops = dropped_for cause self.old.second self.old.episodes.drops } } }
+        ensures drops { self.new ≡ record self.old {
+          episodes = record self.old.episodes
+              { drops = dropped_for cause self.old.second self.old.episodes.drops };
+        } }
     {
         Dropped::tell(rt, &mut self.episodes.drops, cause, self.second)
     }
 
     /// A round tells the log at its second what is counted, of each cause of which that second has had no line.
     pub fn tell_counted<N: Log>(&mut self, rt: &N)
-        ensures told { self.new ≡ record self.old { episodes = record self.old.episodes { drops = all_told_at self.old.second self.old.episodes.drops } } }
+        ensures told { self.new ≡ record self.old
+            { episodes = record self.old.episodes { drops = all_told_at self.old.second self.old.episodes.drops } } }
         ensures all { AreTold self.new.second self.new.episodes.drops }
     {
         self.episodes.drops.tell(rt, self.second);
     }
 
-    /// A connection was opened, or the thread ends: the log is told all that is counted. A lack is told again from now on, and the next
-    /// drop of each cause by a line of its own.
+    /// A connection was opened, or the thread ends: the log is told all that is counted. A lack is told again from
+    /// now on, and the next drop of each cause by a line of its own.
     pub fn end_episodes<N: Log>(&mut self, rt: &N)
         ensures { self.new ≡ record self.old { episodes = opened_after self.old.episodes } }
     {
@@ -417,8 +468,8 @@ impl<F: Front> Poller<F> {
         self.episodes.starved = false;
     }
 
-    /// A round closed an accepted connection unopened, and the log was told, or is to be. Its slot is in hand, and the statistics have
-    /// it there, too.
+    /// A round closed an accepted connection unopened, and the log was told, or is to be. Its slot is in hand, and
+    /// the statistics have it there, too.
     pub fn count_dropped(
         &mut self,
         shared: &Shared<F>,

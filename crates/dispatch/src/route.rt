@@ -1,8 +1,8 @@
 //! The addresses of a client's connection.
 use std::net::SocketAddrV4;
 
-/// The two ends of a client's connection, as far as they are told: the client's own address, and the address on which it
-/// was accepted. One that cannot be told, or is no IPv4 address, is None.
+/// The two ends of a client's connection, as far as they are told: the client's own address, and the address on which
+/// it was accepted. One that cannot be told, or is no IPv4 address, is None.
 #[derive(Clone, Copy)]
 pub struct Route {
     /// The client's own address.

@@ -35,8 +35,8 @@ pub struct Shared<F: Front> {
 }
 
 impl<F: Front> Shared<F> {
-    /// Counts an event at a slot, if anything is counted. Only the thread that holds the slot may do so, or the poller that has
-    /// it in hand while it is free.
+    /// Counts an event at a slot, if anything is counted. Only the thread that holds the slot may do so, or the
+    /// poller that has it in hand while it is free.
     pub(crate) fn count(&self, slot: usize, event: Event) {
         if let Some(statistics) = &self.statistics {
             statistics.count(slot, event);

@@ -5,7 +5,8 @@ ghost use Rattle.dispatch.specs.Splits.{part_of, parts_of};
 
 use crate::part::Part;
 
-/// The slots of a server, dealt to its pollers in parts of one size, one after the other. The last part may be smaller.
+/// The slots of a server, dealt to its pollers in parts of one size, one after the other. The last part may be
+/// smaller.
 #[derive(Clone, Copy)]
 pub struct Split {
     slots: usize,

@@ -4,8 +4,8 @@ use dispatch::{Route, Unopened};
 use std::net::{Ipv4Addr, SocketAddr, SocketAddrV4};
 use world::Lead;
 
-/// What a poller's front tells of a connection of which this becomes. But for that it is the same for all of its connections, since
-/// a world has one lead.
+/// What a poller's front tells of a connection of which this becomes. But for that it is the same for all of its
+/// connections, since a world has one lead.
 pub fn route_of(poller: usize, opening: Opening) -> Result<Route, Unopened> {
     let mut route = addresses_of(poller);
     match opening {

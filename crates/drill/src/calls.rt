@@ -33,7 +33,8 @@ pub enum Asking<'a> {
 }
 
 impl Outside {
-    /// Makes a call, after what happens before it. Answers how many bytes it moved. A read fills the front of the buffer.
+    /// Makes a call, after what happens before it. Answers how many bytes it moved. A read fills the front of the
+    /// buffer.
     pub fn call(&mut self, asked: Asked<'_>, buffer: &mut [u8]) -> Result<usize, ErrorKind> {
         let wanted = self.next_wanted();
         let Some(station) = self.stations.get_mut(asked.poller) else {

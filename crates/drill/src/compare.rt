@@ -211,7 +211,8 @@ fn is_queued(kernel: &Kernel, slot: usize, side: Side, generation: u64) -> bool 
     }
 }
 
-/// The connection in a slot's place. It is looked at by a claim, which is released again: that leaves the word as it was.
+/// The connection in a slot's place. It is looked at by a claim, which is released again: that leaves the word as it
+/// was.
 fn place_agrees<R: Wait>(
     rt: &R,
     station: &Station,

@@ -1,5 +1,5 @@
-// What is outside of the server: for each poller a station, for each slot a tape, the clients that no poller has accepted
-// yet, what the next calls get, and the log.
+// What is outside of the server: for each poller a station, for each slot a tape, the clients that no poller has
+// accepted yet, what the next calls get, and the log.
 ghost use Rattle.drill.specs.Sizes.{IsServerSize};
 
 use crate::book::Book;
@@ -128,8 +128,8 @@ impl Outside {
         self.tapes.get(slot).map_or(0, |tape| tape.generation())
     }
 
-    /// The log gets this line. Whose connection it was that did not end well, and why, is compared by `tests/relay` alone: here no
-    /// error has a number. What a poller tells of itself is shown by rows.
+    /// The log gets this line. Whose connection it was that did not end well, and why, is compared by `tests/relay`
+    /// alone: here no error has a number. What a poller tells of itself is shown by rows.
     pub fn log(&mut self, level: Level, text: &str) {
         if text.starts_with("gone ") {
             return;
@@ -143,8 +143,8 @@ impl Outside {
         self.book.write(level, text);
     }
 
-    /// Something happens outside. Where neither the kernel nor the world allows it, nothing does. While a client waits, no
-    /// report of the listener vanishes.
+    /// Something happens outside. Where neither the kernel nor the world allows it, nothing does. While a client
+    /// waits, no report of the listener vanishes.
     pub fn happen(&mut self, outer: Outer) {
         let Outer { poller, event } = outer;
         match &event {
@@ -178,8 +178,8 @@ impl Outside {
         }
     }
 
-    /// The clock goes on, and so does the second of each world, if there is an idle limit. Nothing happens while a turn
-    /// that has read the clock may still make calls: the server makes them at the second that it read.
+    /// The clock goes on, and so does the second of each world, if there is an idle limit. Nothing happens while a
+    /// turn that has read the clock may still make calls: the server makes them at the second that it read.
     fn tick(&mut self, seconds: u64) {
         if self.state.calling > 0 || !self.clock.go_on(seconds) || self.sizes.limits.idle == 0 {
             return;
@@ -197,8 +197,9 @@ impl Outside {
         self.stations.iter().any(|station| station.standing.listens)
     }
 
-    /// A client connects. It waits outside of the kernels, and is reported to each poller that listens and was told at its last
-    /// try that nobody waits. The others are going to try again in any case. It is refused where none listens.
+    /// A client connects. It waits outside of the kernels, and is reported to each poller that listens and was told
+    /// at its last try that nobody waits. The others are going to try again in any case. It is refused where none
+    /// listens.
     fn connect(&mut self) {
         if self.state.waiting >= MAX_BACKLOG || !self.is_listening() {
             return;
@@ -225,8 +226,8 @@ impl Outside {
         }
     }
 
-    /// The connection in this slot, which has this claim word, is taken away from its place. From now on there is nothing
-    /// to compare at the slot but its word.
+    /// The connection in this slot, which has this claim word, is taken away from its place. From now on there is
+    /// nothing to compare at the slot but its word.
     pub fn lose(&mut self, slot: usize, word: u64) {
         if let Some(tape) = self.tapes.get_mut(slot) {
             tape.lost = Some(word);

@@ -1,4 +1,5 @@
-// What the next calls get. Each kind of call takes what is meant for it in order, and without that it gets what the kernel has.
+// What the next calls get. Each kind of call takes what is meant for it in order, and without that it gets what the
+// kernel has.
 use crate::step::{Call, Inner, Planned};
 use std::alloc::{AllocError, Global};
 use std::collections::VecDeque;

@@ -99,7 +99,8 @@ fn show_tape<R: Print>(rt: &R, tape: &Tape) -> io::Result<()> {
     print!(rt; "script\n{script}report\n{report}end\n")
 }
 
-/// Compares the server and the machines. The first difference is printed, and the script and report of the world that differs.
+/// Compares the server and the machines. The first difference is printed, and the script and report of the world that
+/// differs.
 fn agree<R: Wait + Print>(rt: &R, stage: &Stage, outside: &mut Outside) -> io::Result<Played> {
     let Err(differs) = compare(rt, stage, outside) else {
         return Ok(Played::Agreed);

@@ -112,8 +112,8 @@ fn inner(alloc: Global, text: &str) -> Option<Inner> {
     }
 }
 
-/// What happens outside of the server, as a world's scripts have it. Behind the listener and the waker the number of their
-/// poller may stand.
+/// What happens outside of the server, as a world's scripts have it. Behind the listener and the waker the number of
+/// their poller may stand.
 fn outside(alloc: Global, text: &str) -> Option<Outer> {
     let (poller, text) = match text.rsplit_once(' ') {
         Some((text, last)) if text.ends_with("listener") || text.ends_with("waker") => {

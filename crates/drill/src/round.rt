@@ -11,8 +11,8 @@ use std::io::{self, ErrorKind};
 use token::{Name, Token};
 use world::{Event, Listening, Polling};
 
-/// A connection that a poller started to open: its ends, or none where it has to be given up for want of an address, and its
-/// addresses.
+/// A connection that a poller started to open: its ends, or none where it has to be given up for want of an address,
+/// and its addresses.
 pub type Started = (Option<Descriptors>, Route);
 
 impl Outside {
@@ -44,8 +44,8 @@ impl Outside {
         }
     }
 
-    /// The worlds of the slots take a poll's names from their queues. After what happens in between, a poller delivers them, and
-    /// its round comes to its sweep.
+    /// The worlds of the slots take a poll's names from their queues. After what happens in between, a poller
+    /// delivers them, and its round comes to its sweep.
     fn report_names(&mut self, poller: usize, names: &[Name]) -> Result<(), AllocError> {
         for slot in 0..self.tapes.len() {
             let own = own_names(self.alloc, names, Some(slot))?;
@@ -123,8 +123,8 @@ impl Outside {
         reply
     }
 
-    /// A poller's front no longer listens, which it may do only once that poller has opened all that it may. Behind the last
-    /// one, the clients that wait are refused.
+    /// A poller's front no longer listens, which it may do only once that poller has opened all that it may. Behind
+    /// the last one, the clients that wait are refused.
     pub fn stop_listening(&mut self, poller: usize) {
         let Some(station) = self.stations.get_mut(poller) else {
             return;
@@ -139,8 +139,9 @@ impl Outside {
         }
     }
 
-    /// Both ends of a connection that a poller accepted are opened, or that fails as it is planned. There are no ends where a
-    /// PROXY line lacks an address: then the server has to close both at once, and to the world the connection was never open.
+    /// Both ends of a connection that a poller accepted are opened, or that fails as it is planned. There are no ends
+    /// where a PROXY line lacks an address: then the server has to close both at once, and to the world the
+    /// connection was never open.
     pub fn open(
         &mut self,
         poller: usize,
@@ -193,8 +194,8 @@ impl Outside {
         self.book.expect(Level::Info, open);
     }
 
-    /// A step of this poller's thread begins. Answers whether the thread has come to its end. Where no more connections may be
-    /// opened, it comes to know that with its step, and wakes all pollers.
+    /// A step of this poller's thread begins. Answers whether the thread has come to its end. Where no more
+    /// connections may be opened, it comes to know that with its step, and wakes all pollers.
     pub fn begin_step(&mut self, poller: usize) -> bool {
         let Some(station) = self.stations.get_mut(poller) else {
             return false;
@@ -207,7 +208,8 @@ impl Outside {
         is_due
     }
 
-    /// The step is over. Whether the thread ended as it has to: it may end in a step inside of which a fault was recorded.
+    /// The step is over. Whether the thread ended as it has to: it may end in a step inside of which a fault was
+    /// recorded.
     pub fn end_step(&mut self, poller: usize, is_due: bool, has_ended: bool) {
         let has_failed = match self.stations.get(poller) {
             Some(station) => station.standing.has_failed,

@@ -34,9 +34,9 @@ impl Sizes {
     }
 }
 
-/// The sizes of a header: that of a world without a lead, and after it perhaps ` with`, ` pollers=P`, ` stop=N` and ` proxy`.
-/// There are P pollers, or as many as the split makes of them. The server ends after N connections. Targets get a PROXY line
-/// if the last word says so.
+/// The sizes of a header: that of a world without a lead, and after it perhaps ` with`, ` pollers=P`, ` stop=N` and `
+/// proxy`. There are P pollers, or as many as the split makes of them. The server ends after N connections. Targets
+/// get a PROXY line if the last word says so.
 pub fn read_sizes(line: &str) -> Option<Sizes>
     ensures { IfSome result IsServerSize }
 {

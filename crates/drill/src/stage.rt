@@ -114,8 +114,8 @@ impl Stage {
         has_ended
     }
 
-    /// One step of a worker's thread, unless it would wait, is in a turn or has ended. Where it would wait, it takes this ticket,
-    /// which nobody made and which is no more than taken.
+    /// One step of a worker's thread, unless it would wait, is in a turn or has ended. Where it would wait, it takes
+    /// this ticket, which nobody made and which is no more than taken.
     fn turn<G: Gate, R: Wait + Log>(
         &self,
         crew: &Crew<'_, G, Ticks, R>,
@@ -174,8 +174,8 @@ impl Stage {
         is_faulty || !polling && queued == 0
     }
 
-    /// The first worker takes this ticket, which nobody made, if no other is queued and the ticket is for no slot, for a free
-    /// one, or for another connection than that of a slot without notes.
+    /// The first worker takes this ticket, which nobody made, if no other is queued and the ticket is for no slot,
+    /// for a free one, or for another connection than that of a slot without notes.
     pub fn take_made_up<R: Wait + Log>(&self, rt: &R, ticket: Ticket) {
         let generation = self
             .outside
@@ -197,7 +197,8 @@ impl Stage {
             .with((), |outside| outside.state.is_stopped = true);
     }
 
-    /// The connection in this slot is taken away, if there is one and no idle limit, by which a lost slot would get notes.
+    /// The connection in this slot is taken away, if there is one and no idle limit, by which a lost slot would get
+    /// notes.
     pub fn lose<R: Wait>(&self, rt: &R, slot: usize) {
         let (Some(word), Some(player)) = (self.word_at(slot), self.pollers.first()) else {
             return;

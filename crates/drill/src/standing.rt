@@ -11,7 +11,8 @@ pub struct Standing {
     /// The second of its last round, and that of its last sweep, at first those at which the server began.
     second: u64,
     swept: u64,
-    /// Whether its front listens, and whether it may: not once all that it may open was opened, at the end of a round and in a poll.
+    /// Whether its front listens, and whether it may: not once all that it may open was opened, at the end of a round
+    /// and in a poll.
     pub listens: bool,
     pub may_listen: bool,
     /// Whether a client was accepted of which nothing has become yet.
@@ -61,8 +62,8 @@ impl Standing {
         self.left = 0;
     }
 
-    /// Whether a sweep was due at the second of its last round, which is then that of the last sweep. Without a limit none is. Its
-    /// round goes on at this second.
+    /// Whether a sweep was due at the second of its last round, which is then that of the last sweep. Without a limit
+    /// none is. Its round goes on at this second.
     pub fn falls_due(&mut self, second: u64, limit: u64) -> bool {
         let is_due = limit > 0 && self.second.saturating_sub(self.swept) >= limit;
         if is_due {
@@ -72,8 +73,8 @@ impl Standing {
         is_due
     }
 
-    /// It asks for reports. Answers whether its front may listen meanwhile, or does not: it may not once all that the poller may
-    /// open was opened.
+    /// It asks for reports. Answers whether its front may listen meanwhile, or does not: it may not once all that the
+    /// poller may open was opened.
     pub fn begin_poll(&mut self) -> bool {
         self.may_listen = !self.has_opened_all();
         self.may_listen || !self.listens

@@ -1,4 +1,5 @@
-// One poller's share of what is outside: the kernel as its epoll instance shows it, the world beside it, and its free slots.
+// One poller's share of what is outside: the kernel as its epoll instance shows it, the world beside it, and its free
+// slots.
 ghost use Rattle.std.specs.Prelude.{◌<◌};
 ghost use Rattle.dispatch.specs.Splits.{parts_of};
 ghost use Rattle.drill.specs.Sizes.{IsServerSize};
@@ -88,8 +89,8 @@ impl Station {
         }
     }
 
-    /// A client that waited outside of the kernel comes in and is accepted at once. If it is reported on the way, the report is
-    /// withdrawn: this poller was told of it when it came, or did not have to be.
+    /// A client that waited outside of the kernel comes in and is accepted at once. If it is reported on the way, the
+    /// report is withdrawn: this poller was told of it when it came, or did not have to be.
     fn let_in(&mut self) {
         let was_queued = self.kernel.is_queued(&Name::Listener);
         self.happen(Event::Listen(Listening::Connect));
@@ -148,8 +149,8 @@ impl Station {
     }
 }
 
-/// An event follows in the world what the kernel made of it. What the kernel does not allow, the world may not allow either. Answers
-/// whether the kernel lacked memory.
+/// An event follows in the world what the kernel made of it. What the kernel does not allow, the world may not allow
+/// either. Answers whether the kernel lacked memory.
 fn follow(tape: &mut Tape, made: Result<(), Refusal>, event: Event) -> bool {
     match made {
         Ok(()) => tape.put(event),
@@ -223,8 +224,8 @@ fn chosen(alloc: Global, queue: &[Name], polled: Option<Polled>) -> Result<Vec<N
     Ok(names)
 }
 
-/// Those of a poll's names that are about an end of this slot, as the world of that slot has them. Without a slot those of the
-/// poller itself.
+/// Those of a poll's names that are about an end of this slot, as the world of that slot has them. Without a slot
+/// those of the poller itself.
 pub fn own_names(
     alloc: Global,
     names: &[Name],

@@ -14,8 +14,8 @@ pub enum Inner {
     Turn(usize),
 }
 
-/// An event outside of the server: at the network, to a report, or of the clock. It happens to the poller that has the
-/// event's slot, and if it has none, to the one that it is told. The clock is that of all.
+/// An event outside of the server: at the network, to a report, or of the clock. It happens to the poller that has
+/// the event's slot, and if it has none, to the one that it is told. The clock is that of all.
 #[derive(Drop)]
 pub struct Outer {
     pub poller: usize,

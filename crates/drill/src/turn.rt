@@ -54,7 +54,8 @@ impl Turn {
         }
     }
 
-    /// Whether a turn that has made its last call was as long as it may be, and as it has to be where it left its connection due.
+    /// Whether a turn that has made its last call was as long as it may be, and as it has to be where it left its
+    /// connection due.
     fn is_of(&self, budget: usize) -> bool {
         self.calls == budget || self.calls < budget && !self.again
     }
@@ -75,8 +76,8 @@ impl Outside {
         self.acting = former;
     }
 
-    /// The slot of a turn was claimed, and its notes were taken, which happens only while no fault is recorded. Its world refuses
-    /// that where no ticket was made.
+    /// The slot of a turn was claimed, and its notes were taken, which happens only while no fault is recorded. Its
+    /// world refuses that where no ticket was made.
     pub fn begin_turn(&mut self, slot: usize) {
         self.settle();
         self.end_round();
@@ -104,8 +105,8 @@ impl Outside {
         }
     }
 
-    /// The turn in progress has made its last call. If that left its connection due, it has spent its whole budget, and none has
-    /// spent more.
+    /// The turn in progress has made its last call. If that left its connection due, it has spent its whole budget,
+    /// and none has spent more.
     pub fn end_calls(&mut self) {
         let Some(turn) = &mut self.acting.turn else {
             return;
@@ -180,8 +181,8 @@ impl Outside {
         self.acting.turn = None;
     }
 
-    /// The slot of a turn is released, which may make a ticket. Where the turn did not spend its budget, both ends were told
-    /// to send what they held back.
+    /// The slot of a turn is released, which may make a ticket. Where the turn did not spend its budget, both ends
+    /// were told to send what they held back.
     fn release(&mut self, turn: Turn) {
         if turn.again {
             self.act(Act::Post);
@@ -193,8 +194,8 @@ impl Outside {
         self.act(Act::Release);
     }
 
-    /// The slot of a turn whose connection was closed is given back, and its poller is woken: by a worker, and by its own
-    /// thread only if no more connections may be opened.
+    /// The slot of a turn whose connection was closed is given back, and its poller is woken: by a worker, and by its
+    /// own thread only if no more connections may be opened.
     fn give_back(&mut self, slot: usize) {
         self.act(Act::Retire);
         self.act(Act::Free);

@@ -19,8 +19,9 @@ pub struct EndWire {
     outside: OutsideCell,
     /// The poller that accepted or opened it.
     poller: usize,
-    /// The name under which it is reported, and its descriptor in the poller's kernel. None for a connection that was accepted
-    /// and is not open yet, and for a target whose connection has to be given up at once: closing these changes nothing.
+    /// The name under which it is reported, and its descriptor in the poller's kernel. None for a connection that was
+    /// accepted and is not open yet, and for a target whose connection has to be given up at once: closing these
+    /// changes nothing.
     end: Option<(Token, usize)>,
     tally: Tally,
 }

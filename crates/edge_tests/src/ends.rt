@@ -3,7 +3,8 @@
 use std::alloc::{AllocError, Global};
 use std::io::{self, ErrorKind, IsTerminal, Read, Write};
 
-/// A reader over bytes: it hands over a byte a read. One read may fail, and it goes on with the rest if it is read again.
+/// A reader over bytes: it hands over a byte a read. One read may fail, and it goes on with the rest if it is read
+/// again.
 #[derive(Drop)]
 pub(crate) struct Source<'a> {
     rest: &'a [u8],
@@ -55,8 +56,8 @@ impl IsTerminal for Source<'_> {
     }
 }
 
-/// A writer into memory that fails once it took this many bytes: at its flush, or where it is to take more. It has the memory for
-/// them from the start.
+/// A writer into memory that fails once it took this many bytes: at its flush, or where it is to take more. It has
+/// the memory for them from the start.
 #[derive(Drop)]
 pub(crate) struct Sink {
     taken: Vec<u8>,

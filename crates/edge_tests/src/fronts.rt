@@ -113,13 +113,14 @@ fn opened(
     Ok(front.open(log, client, near, far)?.target)
 }
 
-/// Whether a target that refused its connection tells so at the first call, and the system's number of that (ECONNREFUSED).
+/// Whether a target that refused its connection tells so at the first call, and the system's number of that
+/// (ECONNREFUSED).
 fn is_refused(target: &mut SocketWire) -> bool {
     kind(target.joined()) == Err(ErrorKind::ConnectionRefused) && target.error() == Some(111)
 }
 
-/// Opens the connection of a client, and waits until both ends were reported. Answers whether its target refuses, and it
-/// cannot be opened again, since the client is registered already (EEXIST).
+/// Opens the connection of a client, and waits until both ends were reported. Answers whether its target refuses, and
+/// it cannot be opened again, since the client is registered already (EEXIST).
 fn opens_once(
     rt: &HostRuntime,
     log: &impl Log,

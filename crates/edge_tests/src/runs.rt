@@ -66,8 +66,8 @@ fn arguments(alloc: Global, line: &str) -> Result<Vec<String>, AllocError> {
     Ok(arguments)
 }
 
-/// Runs a command line on a reader and a writer, with a server that ends since its claim words are worn. Where memory runs out,
-/// the test fails by that, and not by a text that it doesn't expect.
+/// Runs a command line on a reader and a writer, with a server that ends since its claim words are worn. Where memory
+/// runs out, the test fails by that, and not by a text that it doesn't expect.
 fn play(
     rt: &HostRuntime,
     line: &str,
@@ -149,8 +149,8 @@ fn writes(rt: &HostRuntime, line: &str, script: &[u8], length: usize) -> Result<
     play(rt, line, &mut Source::whole(script), sink)
 }
 
-/// Whether a writer that fails after any number of bytes is reported, also at the flush after the last one, and what it took
-/// stands.
+/// Whether a writer that fails after any number of bytes is reported, also at the flush after the last one, and what
+/// it took stands.
 fn is_reported(rt: &HostRuntime, line: &str, script: &[u8]) -> Result<bool, AllocError> {
     let whole = writes(rt, line, script, ROOM)?;
     let output = whole.output.as_slice();

@@ -1,5 +1,5 @@
-// A server over real sockets on loopback, with its clients and its target in the same process. How clients are served is
-// shown by `tests/relay`, with the built program.
+// A server over real sockets on loopback, with its clients and its target in the same process. How clients are served
+// is shown by `tests/relay`, with the built program.
 ghost use Rattle.std.specs.Prelude.{◌≡◌};
 
 use crate::all_well;
@@ -19,8 +19,8 @@ use std::{io, thread};
 /// How often a held turn looks whether it may go on. Each look yields to other threads.
 const LOOKS: usize = 100_000;
 
-/// A gate that shows whether two turns can be under way at once: it holds the second turn at slot 0 until the second one at
-/// slot 1 has ended, which takes a second thread.
+/// A gate that shows whether two turns can be under way at once: it holds the second turn at slot 0 until the second
+/// one at slot 1 has ended, which takes a second thread.
 #[derive(Drop)]
 struct Holding {
     begun: AtomicUsize,
@@ -61,8 +61,8 @@ impl Clock for Still {
     }
 }
 
-/// Two workers and two slots, on a port that the system chooses, and one call a turn. So the first turn of a connection, which
-/// is its poller's, leaves it to the workers. The server ends after two connections.
+/// Two workers and two slots, on a port that the system chooses, and one call a turn. So the first turn of a
+/// connection, which is its poller's, leaves it to the workers. The server ends after two connections.
 fn settings(alloc: Global, target: SocketAddr) -> Result<Settings, Fail> {
     let text = format!(in alloc;
         "listen = \"127.0.0.1:0\"\ntarget = \"{target}\"\nworkers = 2\nslots = 2\nbudget = 1\nstop_after = 2\n"

@@ -34,13 +34,15 @@ pub record Answers (now : ℕ) (p : PairState) (call : Call) (reply : AnswerValu
 pub answered_so : (now : ℕ) (p : PairState) (call : Call) (reply : AnswerValue) (q : PairState) → Answers now p call reply q → answered now p reply ≡ Some q
 answered_so now p call reply q a = rw (a.next, a.fit) (ap Some (sym a.run))
 
-over_next : (now : ℕ) (p m q : PairState) (reply first : AnswerValue) (replies : List AnswerValue) → ((x : PairState) → over now x replies ≡ Some m → over now x (replies ++ reply ∷ []) ≡ Some q) →
+over_next : (now : ℕ) (p m q : PairState) (reply first : AnswerValue) (replies : List AnswerValue)
+    → ((x : PairState) → over now x replies ≡ Some m → over now x (replies ++ reply ∷ []) ≡ Some q) →
     (o : Option PairState) → option_and_then (λ (x : PairState). over now x replies) o ≡ Some m → option_and_then (λ (x : PairState). over now x (replies ++ reply ∷ [])) o ≡ Some q
 over_next now p m q reply first replies rest None e = absurd (cc)
 over_next now p m q reply first replies rest (Some x) e = rest x e
 
 -- one answer more, at the end of a run
-pub over_more : (now : ℕ) (m q : PairState) (reply : AnswerValue) → answered now m reply ≡ Some q → (replies : List AnswerValue) (p : PairState) → over now p replies ≡ Some m → over now p (replies ++ reply ∷ []) ≡ Some q
+pub over_more : (now : ℕ) (m q : PairState) (reply : AnswerValue) → answered now m reply ≡ Some q → (replies : List AnswerValue) (p : PairState) → over now p replies ≡ Some m
+    → over now p (replies ++ reply ∷ []) ≡ Some q
 over_more now m q reply a [] p h =
     let same : p ≡ m = cc in rw (same, a) refl
 over_more now m q reply a (first ∷ replies) p h = over_next now p m q reply first replies (λ x e. over_more now m q reply a replies x e) (answered now p first) h
@@ -49,67 +51,89 @@ over_more now m q reply a (first ∷ replies) p h = over_next now p m q reply fi
 brought_next : (now : ℕ) (d : Direction) (reply : AnswerValue) (replies : List AnswerValue) (m : PairState) (before : List ℕ) →
     ((x : PairState) → over now x replies ≡ Some m → all_brought now x d (replies ++ reply ∷ []) ≡ all_brought now x d replies ++ all_brought now m d (reply ∷ [])) →
     (o : Option PairState) → option_and_then (λ (x : PairState). over now x replies) o ≡ Some m →
-    before ++ or_nothing (option_map (λ (x : PairState). all_brought now x d (replies ++ reply ∷ [])) o) ≡ (before ++ or_nothing (option_map (λ (x : PairState). all_brought now x d replies) o)) ++ all_brought now m d (reply ∷ [])
+    before ++ or_nothing (option_map (λ (x : PairState). all_brought now x d (replies ++ reply ∷ [])) o)
+    ≡ (before ++ or_nothing (option_map (λ (x : PairState). all_brought now x d replies) o)) ++ all_brought now m d (reply ∷ [])
 brought_next now d reply replies m before rest None e = absurd (cc)
-brought_next now d reply replies m before rest (Some x) e = ap (λ (xs : List ℕ). before ++ xs) (rest x e) ∙ sym (append_assoc before (all_brought now x d replies) (all_brought now m d (reply ∷ [])))
+brought_next now d reply replies m before rest (Some x) e = ap (λ (xs : List ℕ). before ++ xs) (rest x e)
+    ∙ sym (append_assoc before (all_brought now x d replies) (all_brought now m d (reply ∷ [])))
 
-pub brought_more : (now : ℕ) (d : Direction) (reply : AnswerValue) (m : PairState) (replies : List AnswerValue) (p : PairState) → over now p replies ≡ Some m → all_brought now p d (replies ++ reply ∷ []) ≡ all_brought now p d replies ++ all_brought now m d (reply ∷ [])
+pub brought_more : (now : ℕ) (d : Direction) (reply : AnswerValue) (m : PairState) (replies : List AnswerValue) (p : PairState) → over now p replies ≡ Some m
+    → all_brought now p d (replies ++ reply ∷ []) ≡ all_brought now p d replies ++ all_brought now m d (reply ∷ [])
 brought_more now d reply m [] p h = let same : p ≡ m = cc in ap (λ (x : PairState). all_brought now x d (reply ∷ [])) same
 brought_more now d reply m (first ∷ replies) p h =
-    brought_next now d reply replies m (or_nothing (option_map (λ (call : Call). brought d call first) (next_call p))) (λ x e. brought_more now d reply m replies x e) (answered now p first) h
+    brought_next now d reply replies m (or_nothing (option_map (λ (call : Call). brought d call first) (next_call p))) (λ x e. brought_more now d reply m replies x e)
+    (answered now p first) h
 
 carried_next : (now : ℕ) (d : Direction) (reply : AnswerValue) (replies : List AnswerValue) (m : PairState) (before : List ℕ) →
     ((x : PairState) → over now x replies ≡ Some m → all_carried now x d (replies ++ reply ∷ []) ≡ all_carried now x d replies ++ all_carried now m d (reply ∷ [])) →
     (o : Option PairState) → option_and_then (λ (x : PairState). over now x replies) o ≡ Some m →
-    before ++ or_nothing (option_map (λ (x : PairState). all_carried now x d (replies ++ reply ∷ [])) o) ≡ (before ++ or_nothing (option_map (λ (x : PairState). all_carried now x d replies) o)) ++ all_carried now m d (reply ∷ [])
+    before ++ or_nothing (option_map (λ (x : PairState). all_carried now x d (replies ++ reply ∷ [])) o)
+    ≡ (before ++ or_nothing (option_map (λ (x : PairState). all_carried now x d replies) o)) ++ all_carried now m d (reply ∷ [])
 carried_next now d reply replies m before rest None e = absurd (cc)
-carried_next now d reply replies m before rest (Some x) e = ap (λ (xs : List ℕ). before ++ xs) (rest x e) ∙ sym (append_assoc before (all_carried now x d replies) (all_carried now m d (reply ∷ [])))
+carried_next now d reply replies m before rest (Some x) e = ap (λ (xs : List ℕ). before ++ xs) (rest x e)
+    ∙ sym (append_assoc before (all_carried now x d replies) (all_carried now m d (reply ∷ [])))
 
-pub carried_more : (now : ℕ) (d : Direction) (reply : AnswerValue) (m : PairState) (replies : List AnswerValue) (p : PairState) → over now p replies ≡ Some m → all_carried now p d (replies ++ reply ∷ []) ≡ all_carried now p d replies ++ all_carried now m d (reply ∷ [])
+pub carried_more : (now : ℕ) (d : Direction) (reply : AnswerValue) (m : PairState) (replies : List AnswerValue) (p : PairState) → over now p replies ≡ Some m
+    → all_carried now p d (replies ++ reply ∷ []) ≡ all_carried now p d replies ++ all_carried now m d (reply ∷ [])
 carried_more now d reply m [] p h = let same : p ≡ m = cc in ap (λ (x : PairState). all_carried now x d (reply ∷ [])) same
 carried_more now d reply m (first ∷ replies) p h =
-    carried_next now d reply replies m (or_nothing (option_map (λ (call : Call). carried p d call first) (next_call p))) (λ x e. carried_more now d reply m replies x e) (answered now p first) h
+    carried_next now d reply replies m (or_nothing (option_map (λ (call : Call). carried p d call first) (next_call p))) (λ x e. carried_more now d reply m replies x e)
+    (answered now p first) h
 
 count_next : (now : ℕ) (test : AnswerValue → Bool) (side : Side) (reply : AnswerValue) (replies : List AnswerValue) (m : PairState) (before : ℕ) →
     ((x : PairState) → over now x replies ≡ Some m → count_on test side now x (replies ++ reply ∷ []) ≡ count_on test side now x replies + count_on test side now m (reply ∷ [])) →
     (o : Option PairState) → option_and_then (λ (x : PairState). over now x replies) o ≡ Some m →
-    before + unwrap_or (option_map (λ (x : PairState). count_on test side now x (replies ++ reply ∷ [])) o) 0 ≡ (before + unwrap_or (option_map (λ (x : PairState). count_on test side now x replies) o) 0) + count_on test side now m (reply ∷ [])
+    before + unwrap_or (option_map (λ (x : PairState). count_on test side now x (replies ++ reply ∷ [])) o) 0
+    ≡ (before + unwrap_or (option_map (λ (x : PairState). count_on test side now x replies) o) 0) + count_on test side now m (reply ∷ [])
 count_next now test side reply replies m before rest None e = absurd (cc)
-count_next now test side reply replies m before rest (Some x) e = ap (λ (n : ℕ). before + n) (rest x e) ∙ sym (add_assoc before (count_on test side now x replies) (count_on test side now m (reply ∷ [])))
+count_next now test side reply replies m before rest (Some x) e = ap (λ (n : ℕ). before + n) (rest x e)
+    ∙ sym (add_assoc before (count_on test side now x replies) (count_on test side now m (reply ∷ [])))
 
-pub count_more : (now : ℕ) (test : AnswerValue → Bool) (side : Side) (reply : AnswerValue) (m : PairState) (replies : List AnswerValue) (p : PairState) → over now p replies ≡ Some m → count_on test side now p (replies ++ reply ∷ []) ≡ count_on test side now p replies + count_on test side now m (reply ∷ [])
-count_more now test side reply m [] p h = let same : p ≡ m = cc in ap (λ (x : PairState). count_on test side now x (reply ∷ [])) same ∙ sym (zero-add (count_on test side now m (reply ∷ [])))
+pub count_more : (now : ℕ) (test : AnswerValue → Bool) (side : Side) (reply : AnswerValue) (m : PairState) (replies : List AnswerValue) (p : PairState)
+    → over now p replies ≡ Some m → count_on test side now p (replies ++ reply ∷ []) ≡ count_on test side now p replies + count_on test side now m (reply ∷ [])
+count_more now test side reply m [] p h = let same : p ≡ m = cc in ap (λ (x : PairState). count_on test side now x (reply ∷ [])) same
+    ∙ sym (zero-add (count_on test side now m (reply ∷ [])))
 count_more now test side reply m (first ∷ replies) p h =
-    count_next now test side reply replies m (unwrap_or (option_map (λ (call : Call). one_if test side call first) (next_call p)) 0) (λ x e. count_more now test side reply m replies x e) (answered now p first) h
+    count_next now test side reply replies m (unwrap_or (option_map (λ (call : Call). one_if test side call first) (next_call p)) 0)
+    (λ x e. count_more now test side reply m replies x e) (answered now p first) h
 
 made_next : (now : ℕ) (side : Side) (reply : AnswerValue) (replies : List AnswerValue) (m : PairState) (before : List Made) →
     ((x : PairState) → over now x replies ≡ Some m → made_on side now x (replies ++ reply ∷ []) ≡ made_on side now x replies ++ made_on side now m (reply ∷ [])) →
     (o : Option PairState) → option_and_then (λ (x : PairState). over now x replies) o ≡ Some m →
-    before ++ unwrap_or (option_map (λ (x : PairState). made_on side now x (replies ++ reply ∷ [])) o) [] ≡ (before ++ unwrap_or (option_map (λ (x : PairState). made_on side now x replies) o) []) ++ made_on side now m (reply ∷ [])
+    before ++ unwrap_or (option_map (λ (x : PairState). made_on side now x (replies ++ reply ∷ [])) o) []
+    ≡ (before ++ unwrap_or (option_map (λ (x : PairState). made_on side now x replies) o) []) ++ made_on side now m (reply ∷ [])
 made_next now side reply replies m before rest None e = absurd (cc)
-made_next now side reply replies m before rest (Some x) e = ap (λ (xs : List Made). before ++ xs) (rest x e) ∙ sym (append_assoc before (made_on side now x replies) (made_on side now m (reply ∷ [])))
+made_next now side reply replies m before rest (Some x) e = ap (λ (xs : List Made). before ++ xs) (rest x e)
+    ∙ sym (append_assoc before (made_on side now x replies) (made_on side now m (reply ∷ [])))
 
-pub made_more : (now : ℕ) (side : Side) (reply : AnswerValue) (m : PairState) (replies : List AnswerValue) (p : PairState) → over now p replies ≡ Some m → made_on side now p (replies ++ reply ∷ []) ≡ made_on side now p replies ++ made_on side now m (reply ∷ [])
+pub made_more : (now : ℕ) (side : Side) (reply : AnswerValue) (m : PairState) (replies : List AnswerValue) (p : PairState) → over now p replies ≡ Some m
+    → made_on side now p (replies ++ reply ∷ []) ≡ made_on side now p replies ++ made_on side now m (reply ∷ [])
 made_more now side reply m [] p h = let same : p ≡ m = cc in ap (λ (x : PairState). made_on side now x (reply ∷ [])) same
 made_more now side reply m (first ∷ replies) p h =
-    made_next now side reply replies m (unwrap_or (option_map (λ (call : Call). made_if side p call first) (next_call p)) []) (λ x e. made_more now side reply m replies x e) (answered now p first) h
+    made_next now side reply replies m (unwrap_or (option_map (λ (call : Call). made_if side p call first) (next_call p)) []) (λ x e. made_more now side reply m replies x e)
+    (answered now p first) h
 
 -- calls after calls
-pub made_then : {S : Type 0} (told : S → WireView) (does : Asked → Given → S → S → Type 0) (calls more : List Made) (a b c : S) → AreMade told does calls a b → AreMade told does more b c → AreMade told does (calls ++ more) a c
+pub made_then : {S : Type 0} (told : S → WireView) (does : Asked → Given → S → S → Type 0) (calls more : List Made) (a b c : S) → AreMade told does calls a b
+    → AreMade told does more b c → AreMade told does (calls ++ more) a c
 made_then told does [] more a b c first next = rw first at next
 made_then told does (call ∷ calls) more a b c first next = (first.0, first.1, made_then told does calls more first.0 b c first.2 next)
 
 -- what one answer alone comes to
-brought_once : (now : ℕ) (d : Direction) (p : PairState) (call : Call) (reply : AnswerValue) (q : PairState) → Answers now p call reply q → all_brought now p d (reply ∷ []) ≡ brought d call reply
+brought_once : (now : ℕ) (d : Direction) (p : PairState) (call : Call) (reply : AnswerValue) (q : PairState) → Answers now p call reply q → all_brought now p d (reply ∷ [])
+    ≡ brought d call reply
 brought_once now d p call reply q a = rw (answered_so now p call reply q a, a.next) (append-nil (brought d call reply))
 
-carried_once : (now : ℕ) (d : Direction) (p : PairState) (call : Call) (reply : AnswerValue) (q : PairState) → Answers now p call reply q → all_carried now p d (reply ∷ []) ≡ carried p d call reply
+carried_once : (now : ℕ) (d : Direction) (p : PairState) (call : Call) (reply : AnswerValue) (q : PairState) → Answers now p call reply q → all_carried now p d (reply ∷ [])
+    ≡ carried p d call reply
 carried_once now d p call reply q a = rw (answered_so now p call reply q a, a.next) (append-nil (carried p d call reply))
 
-count_once : (now : ℕ) (test : AnswerValue → Bool) (side : Side) (p : PairState) (call : Call) (reply : AnswerValue) (q : PairState) → Answers now p call reply q → count_on test side now p (reply ∷ []) ≡ one_if test side call reply
+count_once : (now : ℕ) (test : AnswerValue → Bool) (side : Side) (p : PairState) (call : Call) (reply : AnswerValue) (q : PairState) → Answers now p call reply q
+    → count_on test side now p (reply ∷ []) ≡ one_if test side call reply
 count_once now test side p call reply q a = rw (answered_so now p call reply q a, a.next) (add-zero (one_if test side call reply))
 
-made_once : (now : ℕ) (side : Side) (p : PairState) (call : Call) (reply : AnswerValue) (q : PairState) → Answers now p call reply q → made_on side now p (reply ∷ []) ≡ made_if side p call reply
+made_once : (now : ℕ) (side : Side) (p : PairState) (call : Call) (reply : AnswerValue) (q : PairState) → Answers now p call reply q → made_on side now p (reply ∷ [])
+    ≡ made_if side p call reply
 made_once now side p call reply q a = rw (answered_so now p call reply q a, a.next) (append-nil (made_if side p call reply))
 
 same_again : (side : Side) → same_side side side ≡ true
@@ -129,7 +153,8 @@ made_elsewhere : (side : Side) (p : PairState) (call : Call) (reply : AnswerValu
 made_elsewhere side p call reply other = rw other refl
 
 -- the wire of the call's side
-pub served_here : {S : Type 0} (now : ℕ) (told : S → WireView) (does : Asked → Given → S → S → Type 0) (p : PairState) (call : Call) (reply : AnswerValue) (q : PairState) (old new : S) → Answers now p call reply q → IsAnswered told does call p reply old new → IsServed told does now old new (side_of call) p (reply ∷ [])
+pub served_here : {S : Type 0} (now : ℕ) (told : S → WireView) (does : Asked → Given → S → S → Type 0) (p : PairState) (call : Call) (reply : AnswerValue) (q : PairState)
+    (old new : S) → Answers now p call reply q → IsAnswered told does call p reply old new → IsServed told does now old new (side_of call) p (reply ∷ [])
 served_here now told does p call reply q old new a s = record {
   read = rw (brought_once now (way_from (side_of call)) p call reply q a) s.read;
   written = rw (carried_once now (way_to (side_of call)) p call reply q a) s.written;
@@ -138,7 +163,8 @@ served_here now told does p call reply q old new a s = record {
   made = rw (made_once now (side_of call) p call reply q a, made_here p call reply) (new, record { called = s.made; faults = s.faults; blocks = s.blocks }, refl);
 }
 
-brought_other : (side : Side) (p : PairState) (call : Call) (bytes : List ℕ) → fits p call (Bytes bytes) ≡ true → same_side (side_of call) side ≡ false → brought (way_from side) call (Bytes bytes) ≡ []
+brought_other : (side : Side) (p : PairState) (call : Call) (bytes : List ℕ) → fits p call (Bytes bytes) ≡ true → same_side (side_of call) side ≡ false
+    → brought (way_from side) call (Bytes bytes) ≡ []
 brought_other Client p (call.Read Client most) bytes fit other = absurd (cc)
 brought_other Client p (call.Read Target most) bytes fit other = refl
 brought_other Target p (call.Read Client most) bytes fit other = refl
@@ -147,7 +173,8 @@ brought_other side p (call.Write s) bytes fit other = absurd (cc)
 brought_other side p (call.Join s) bytes fit other = absurd (cc)
 brought_other side p (call.Shut s) bytes fit other = absurd (cc)
 
-brought_elsewhere : (side : Side) (p : PairState) (call : Call) (reply : AnswerValue) → fits p call reply ≡ true → same_side (side_of call) side ≡ false → brought (way_from side) call reply ≡ []
+brought_elsewhere : (side : Side) (p : PairState) (call : Call) (reply : AnswerValue) → fits p call reply ≡ true → same_side (side_of call) side ≡ false
+    → brought (way_from side) call reply ≡ []
 brought_elsewhere side p call (Bytes bytes) fit other = brought_other side p call bytes fit other
 brought_elsewhere side p call End fit other = refl
 brought_elsewhere side p call (Wrote n) fit other = refl
@@ -157,7 +184,8 @@ brought_elsewhere side p call Blocked fit other = refl
 brought_elsewhere side p call Interrupted fit other = refl
 brought_elsewhere side p call (Failed kind) fit other = refl
 
-carried_other : (side : Side) (p : PairState) (call : Call) (n : ℕ) → fits p call (Wrote n) ≡ true → same_side (side_of call) side ≡ false → carried p (way_to side) call (Wrote n) ≡ []
+carried_other : (side : Side) (p : PairState) (call : Call) (n : ℕ) → fits p call (Wrote n) ≡ true → same_side (side_of call) side ≡ false → carried p (way_to side) call (Wrote n)
+    ≡ []
 carried_other Client p (call.Write Client) n fit other = absurd (cc)
 carried_other Client p (call.Write Target) n fit other = refl
 carried_other Target p (call.Write Client) n fit other = refl
@@ -166,7 +194,8 @@ carried_other side p (call.Read s most) n fit other = absurd (cc)
 carried_other side p (call.Join s) n fit other = absurd (cc)
 carried_other side p (call.Shut s) n fit other = absurd (cc)
 
-carried_elsewhere : (side : Side) (p : PairState) (call : Call) (reply : AnswerValue) → fits p call reply ≡ true → same_side (side_of call) side ≡ false → carried p (way_to side) call reply ≡ []
+carried_elsewhere : (side : Side) (p : PairState) (call : Call) (reply : AnswerValue) → fits p call reply ≡ true → same_side (side_of call) side ≡ false
+    → carried p (way_to side) call reply ≡ []
 carried_elsewhere side p call (Bytes bytes) fit other = refl
 carried_elsewhere side p call End fit other = refl
 carried_elsewhere side p call (Wrote n) fit other = carried_other side p call n fit other
@@ -177,7 +206,8 @@ carried_elsewhere side p call Interrupted fit other = refl
 carried_elsewhere side p call (Failed kind) fit other = refl
 
 -- the wire of the other side
-pub served_elsewhere : {S : Type 0} (now : ℕ) (told : S → WireView) (does : Asked → Given → S → S → Type 0) (side : Side) (p : PairState) (call : Call) (reply : AnswerValue) (q : PairState) (wire : S) → Answers now p call reply q → same_side (side_of call) side ≡ false → IsServed told does now wire wire side p (reply ∷ [])
+pub served_elsewhere : {S : Type 0} (now : ℕ) (told : S → WireView) (does : Asked → Given → S → S → Type 0) (side : Side) (p : PairState) (call : Call) (reply : AnswerValue)
+    (q : PairState) (wire : S) → Answers now p call reply q → same_side (side_of call) side ≡ false → IsServed told does now wire wire side p (reply ∷ [])
 served_elsewhere now told does side p call reply q wire a other = record {
   read = rw (brought_once now (way_from side) p call reply q a, brought_elsewhere side p call reply a.fit other) (Consumes-nil (told wire).remaining);
   written = rw (carried_once now (way_to side) p call reply q a, carried_elsewhere side p call reply a.fit other) (Appends-nil (told wire).written);
@@ -186,7 +216,8 @@ served_elsewhere now told does side p call reply q wire a other = record {
   made = rw (made_once now side p call reply q a, made_elsewhere side p call reply other) refl;
 }
 
-pub moved_client : {A B : Type 0} (now : ℕ) (told : A → WireView) (does : Asked → Given → A → A → Type 0) (told_b : B → WireView) (does_b : Asked → Given → B → B → Type 0) (call : Call) (p q : PairState) (client client_now : A) (target : B) → next_call p ≡ Some call → Client ≡ side_of call → IsStep told does call now p q client client_now →
+pub moved_client : {A B : Type 0} (now : ℕ) (told : A → WireView) (does : Asked → Given → A → A → Type 0) (told_b : B → WireView) (does_b : Asked → Given → B → B → Type 0)
+    (call : Call) (p q : PairState) (client client_now : A) (target : B) → next_call p ≡ Some call → Client ≡ side_of call → IsStep told does call now p q client client_now →
     IsMove now p q (IsServed told does now client client_now) (IsServed told_b does_b now target target)
 moved_client now told does told_b does_b call p q client client_now target next here s =
     let a : Answers now p call s.reply q = record { next = next; fit = s.fit; run = s.run } in
@@ -198,7 +229,8 @@ moved_client now told does told_b does_b call p q client client_now target next 
       by_target = served_elsewhere now told_b does_b Target p call s.reply q target a other;
     }
 
-pub moved_target : {A B : Type 0} (now : ℕ) (told : A → WireView) (does : Asked → Given → A → A → Type 0) (told_b : B → WireView) (does_b : Asked → Given → B → B → Type 0) (call : Call) (p q : PairState) (client : A) (target target_now : B) → next_call p ≡ Some call → Target ≡ side_of call → IsStep told_b does_b call now p q target target_now →
+pub moved_target : {A B : Type 0} (now : ℕ) (told : A → WireView) (does : Asked → Given → A → A → Type 0) (told_b : B → WireView) (does_b : Asked → Given → B → B → Type 0)
+    (call : Call) (p q : PairState) (client : A) (target target_now : B) → next_call p ≡ Some call → Target ≡ side_of call → IsStep told_b does_b call now p q target target_now →
     IsMove now p q (IsServed told does now client client) (IsServed told_b does_b now target target_now)
 moved_target now told does told_b does_b call p q client target target_now next here s =
     let a : Answers now p call s.reply q = record { next = next; fit = s.fit; run = s.run } in
@@ -220,7 +252,8 @@ rises_more a b c n k first next =
     ∙ (mod-add-mod (a + n) (2 ^ 64) k
     ∙ ap (λ (x : ℕ). x % 2 ^ 64) (add_assoc a n k))))
 
-served_more : {S : Type 0} (now : ℕ) (told : S → WireView) (does : Asked → Given → S → S → Type 0) (side : Side) (p m : PairState) (reply : AnswerValue) (replies : List AnswerValue) (a b c : S) → over now p replies ≡ Some m →
+served_more : {S : Type 0} (now : ℕ) (told : S → WireView) (does : Asked → Given → S → S → Type 0) (side : Side) (p m : PairState) (reply : AnswerValue)
+    (replies : List AnswerValue) (a b c : S) → over now p replies ≡ Some m →
     IsServed told does now a b side p replies → IsServed told does now b c side m (reply ∷ []) → IsServed told does now a c side p (replies ++ reply ∷ [])
 served_more now told does side p m reply replies a b c run s t = record {
   read = rw (brought_more now (way_from side) reply m replies p run) (Consumes-trans (told a).remaining (told b).remaining (told c).remaining _ _ s.read t.read);
@@ -238,7 +271,8 @@ pub record Runs (made now : ℕ) (old ran : PairState) (client target : Side →
   pub by_client : client Client old replies
   pub by_target : target Target old replies
 
-served_none : {S : Type 0} (now : ℕ) (told : S → WireView) (does : Asked → Given → S → S → Type 0) (side : Side) (p : PairState) (wire : S) → IsServed told does now wire wire side p []
+served_none : {S : Type 0} (now : ℕ) (told : S → WireView) (does : Asked → Given → S → S → Type 0) (side : Side) (p : PairState) (wire : S)
+    → IsServed told does now wire wire side p []
 served_none now told does side p wire = record {
   read = Consumes-nil (told wire).remaining;
   written = Appends-nil (told wire).written;
@@ -247,7 +281,8 @@ served_none now told does side p wire = record {
   made = refl;
 }
 
-pub starts : {A B : Type 0} (now : ℕ) (told : A → WireView) (does : Asked → Given → A → A → Type 0) (told_b : B → WireView) (does_b : Asked → Given → B → B → Type 0) (p : PairState) (client : A) (target : B) → Runs 0 now p p (IsServed told does now client client) (IsServed told_b does_b now target target)
+pub starts : {A B : Type 0} (now : ℕ) (told : A → WireView) (does : Asked → Given → A → A → Type 0) (told_b : B → WireView) (does_b : Asked → Given → B → B → Type 0)
+    (p : PairState) (client : A) (target : B) → Runs 0 now p p (IsServed told does now client client) (IsServed told_b does_b now target target)
 starts now told does told_b does_b p client target = record {
   replies = [];
   many = refl;
@@ -256,8 +291,10 @@ starts now told does told_b does_b p client target = record {
   by_target = served_none now told_b does_b Target p target;
 }
 
-pub goes_on : {A B : Type 0} (now : ℕ) (told : A → WireView) (does : Asked → Given → A → A → Type 0) (told_b : B → WireView) (does_b : Asked → Given → B → B → Type 0) (made : ℕ) (p m q : PairState) (a b c : A) (t u v : B) →
-    Runs made now p m (IsServed told does now a b) (IsServed told_b does_b now t u) → IsMove now m q (IsServed told does now b c) (IsServed told_b does_b now u v) → Runs (made + 1) now p q (IsServed told does now a c) (IsServed told_b does_b now t v)
+pub goes_on : {A B : Type 0} (now : ℕ) (told : A → WireView) (does : Asked → Given → A → A → Type 0) (told_b : B → WireView) (does_b : Asked → Given → B → B → Type 0) (made : ℕ)
+    (p m q : PairState) (a b c : A) (t u v : B) →
+    Runs made now p m (IsServed told does now a b) (IsServed told_b does_b now t u) → IsMove now m q (IsServed told does now b c) (IsServed told_b does_b now u v)
+    → Runs (made + 1) now p q (IsServed told does now a c) (IsServed told_b does_b now t v)
 goes_on now told does told_b does_b made p m q a b c t u v r s = record {
   replies = r.replies ++ s.reply ∷ [];
   many = length-append r.replies (s.reply ∷ []) ∙ ap (λ (n : ℕ). n + 1) r.many;
@@ -283,7 +320,8 @@ told_last : (call : Call) (reply : AnswerValue) (fault : Fault) → TellsOf call
 told_last call reply (Broken side name kind) t = let same : kind ≡ t.kind = cc t.told in ([], rw (same, t.failed) refl)
 told_last call reply Idle t = absurd (cc t.told)
 
-failed_at_once : (now : ℕ) (laws : Laws) (p x q : PairState) (first : AnswerValue) (fault : Fault) → IsAnswerOf now p first x → x ≡ q → verdict q ≡ verdict.Failed fault → LastFailed (first ∷ []) fault
+failed_at_once : (now : ℕ) (laws : Laws) (p x q : PairState) (first : AnswerValue) (fault : Fault) → IsAnswerOf now p first x → x ≡ q → verdict q ≡ verdict.Failed fault
+    → LastFailed (first ∷ []) fault
 failed_at_once now laws p x q first fault s same failed =
     let here : verdict (after now p s.call first) ≡ verdict.Failed fault = sym (ap verdict s.after_it) ∙ (ap verdict same ∙ failed) in
     told_last s.call first fault ((laws.failures now p s.call first fault s.answers).0 here)
@@ -294,7 +332,8 @@ later_last first replies Idle last = absurd last
 
 failed_later : (now : ℕ) (laws : Laws) (x q : PairState) (first second : AnswerValue) (rest : List AnswerValue) (fault : Fault) →
     ((y : PairState) → verdict y ≡ verdict.Live → over now y (second ∷ rest) ≡ Some q → LastFailed (second ∷ rest) fault) →
-    (o : Option PairState) → answered now x second ≡ o → option_and_then (λ (y : PairState). over now y rest) o ≡ Some q → over now x (second ∷ rest) ≡ Some q → LastFailed (first ∷ second ∷ rest) fault
+    (o : Option PairState) → answered now x second ≡ o → option_and_then (λ (y : PairState). over now y rest) o ≡ Some q → over now x (second ∷ rest) ≡ Some q
+    → LastFailed (first ∷ second ∷ rest) fault
 failed_later now laws x q first second rest fault below None e h whole = absurd (cc)
 failed_later now laws x q first second rest fault below (Some y) e h whole =
     let s : IsAnswerOf now x second y = laws.answers now x y second e in
@@ -307,9 +346,11 @@ failed_from now laws p q first fault replies below failed None e h = absurd (cc)
 failed_from now laws p q first fault [] below failed (Some x) e h = failed_at_once now laws p x q first fault (laws.answers now p x first e) (cc) failed
 failed_from now laws p q first fault (second ∷ rest) below failed (Some x) e h = failed_later now laws x q first second rest fault below (answered now x second) refl h h
 
-pub fails_last : (now : ℕ) (laws : Laws) (q : PairState) (fault : Fault) → verdict q ≡ verdict.Failed fault → (replies : List AnswerValue) (p : PairState) → verdict p ≡ verdict.Live → over now p replies ≡ Some q → LastFailed replies fault
+pub fails_last : (now : ℕ) (laws : Laws) (q : PairState) (fault : Fault) → verdict q ≡ verdict.Failed fault → (replies : List AnswerValue) (p : PairState)
+    → verdict p ≡ verdict.Live → over now p replies ≡ Some q → LastFailed replies fault
 fails_last now laws q fault failed [] p live h = let same : p ≡ q = cc in let other : verdict q ≡ verdict.Live = rw same at live in absurd (cc)
-fails_last now laws q fault failed (first ∷ replies) p live h = failed_from now laws p q first fault replies (λ y l e. fails_last now laws q fault failed replies y l e) failed (answered now p first) refl h
+fails_last now laws q fault failed (first ∷ replies) p live h = failed_from now laws p q first fault replies (λ y l e. fails_last now laws q fault failed replies y l e) failed
+    (answered now p first) refl h
 
 -- ---- the end of a turn
 
@@ -323,7 +364,8 @@ by_answer now limit ran replies (Broken side call kind) last = last
 by_answer now limit ran replies Idle last = absurd last
 
 -- or by the limit
-by_limit : (now limit : ℕ) (ran : PairState) (replies : List AnswerValue) (fault : Fault) → IsOverdue now limit ran → verdict.Failed Idle ≡ verdict.Failed fault → FailsBy now limit ran replies fault
+by_limit : (now limit : ℕ) (ran : PairState) (replies : List AnswerValue) (fault : Fault) → IsOverdue now limit ran → verdict.Failed Idle ≡ verdict.Failed fault
+    → FailsBy now limit ran replies fault
 by_limit now limit ran replies Idle o e = o
 by_limit now limit ran replies (Broken side call kind) o e = absurd (cc e)
 
@@ -337,7 +379,8 @@ fails_either laws now limit p ran replies fault run live false is failed =
     by_answer now limit ran replies fault (fails_last now laws ran fault (sym (ap verdict kept) ∙ failed) replies p live run)
 
 -- the budget is spent
-pub spent : (laws : Laws) (budget made now limit : ℕ) (p ran q : PairState) (client target : Side → PairState → List AnswerValue → Type 0) → made ≡ budget → q ≡ expired now limit ran → Runs made now p ran client target → IsTurn budget now limit p q client target
+pub spent : (laws : Laws) (budget made now limit : ℕ) (p ran q : PairState) (client target : Side → PairState → List AnswerValue → Type 0) → made ≡ budget
+    → q ≡ expired now limit ran → Runs made now p ran client target → IsTurn budget now limit p q client target
 spent laws budget made now limit p ran q client target all held r = record {
   replies = r.replies;
   few = omega (arith, r.many, all);
@@ -356,7 +399,8 @@ none_held laws now limit ran none true is = rw is refl
 none_held laws now limit ran none false is = ap next_call ((laws.expiries now limit ran).other is) ∙ none
 
 -- no call is left
-pub stopped : (laws : Laws) (budget made now limit : ℕ) (p ran q : PairState) (client target : Side → PairState → List AnswerValue → Type 0) → made ≤ budget → next_call ran ≡ None → q ≡ expired now limit ran → Runs made now p ran client target → IsTurn budget now limit p q client target
+pub stopped : (laws : Laws) (budget made now limit : ℕ) (p ran q : PairState) (client target : Side → PairState → List AnswerValue → Type 0) → made ≤ budget → next_call ran ≡ None
+    → q ≡ expired now limit ran → Runs made now p ran client target → IsTurn budget now limit p q client target
 stopped laws budget made now limit p ran q client target few none held r = record {
   replies = r.replies;
   few = omega (arith, few, r.many);

@@ -46,7 +46,8 @@ pub stays_at : (n m : ℕ) → m ≡ n → Rises n m 0
 stays_at n m e = ap (λ (k : ℕ). k % 2 ^ 64) (e ∙ sym (add-zero n))
 
 -- an answer that moves nothing and that no wire counts
-pub still : {S : Type 0} (now : ℕ) (told : S → WireView) (does : Asked → Given → S → S → Type 0) (call : Call) (p q : PairState) (reply : AnswerValue) (old new : S) → fits p call reply ≡ true → q ≡ after now p call reply →
+pub still : {S : Type 0} (now : ℕ) (told : S → WireView) (does : Asked → Given → S → S → Type 0) (call : Call) (p q : PairState) (reply : AnswerValue) (old new : S)
+    → fits p call reply ≡ true → q ≡ after now p call reply →
     brought (way_from (side_of call)) call reply ≡ [] → carried p (way_to (side_of call)) call reply ≡ [] →
     is_failed reply ≡ false → is_blocked reply ≡ false → Stays (told old) (told new) → IsCalled does (made (asked p call) reply) old new → IsStep told does call now p q old new
 still now told does call p q reply old new fit run brings carries sound free s m = record {
@@ -76,9 +77,11 @@ fitting n most buffer some within small =
     rw (length-take-le n buffer within, le-leb 1 n some, le-leb n most small) refl
 
 -- a read brought bytes, which stand at the front of the buffer
-pub bytes_in : {S : Type 0} (now : ℕ) (told : S → WireView) (does : Asked → Given → S → S → Type 0) (side : Side) (most : ℕ) (p q : PairState) (n : ℕ) (room buffer rest : List ℕ) (old new : S) → 1 ≤ n → n ≤ length buffer → n ≤ most →
+pub bytes_in : {S : Type 0} (now : ℕ) (told : S → WireView) (does : Asked → Given → S → S → Type 0) (side : Side) (most : ℕ) (p q : PairState) (n : ℕ) (room buffer rest : List ℕ)
+    (old new : S) → 1 ≤ n → n ≤ length buffer → n ≤ most →
     q ≡ after now p (Read side most) (Bytes (take n (buffer ++ rest))) → Consumes (told old).remaining (told new).remaining (take n buffer) →
-    Stays (record (told old) { remaining = None }) (record (told new) { remaining = None }) → length room ≡ most → does (ask.Read (length room)) (Brought (take n buffer)) old new → IsStep told does (Read side most) now p q old new
+    Stays (record (told old) { remaining = None }) (record (told new) { remaining = None }) → length room ≡ most → does (ask.Read (length room)) (Brought (take n buffer)) old new
+    → IsStep told does (Read side most) now p q old new
 bytes_in now told does side most p q n room buffer rest old new some within small run taken s all did =
     let same : take n (buffer ++ rest) ≡ take n buffer = take-append-le n buffer rest within in
     record {
@@ -111,8 +114,10 @@ raised f g moved (inl same) = absurd (moved same)
 raised f g moved (inr rose) = rose
 
 -- a write took bytes
-pub bytes_out : {S : Type 0} (now : ℕ) (told : S → WireView) (does : Asked → Given → S → S → Type 0) (side : Side) (p q : PairState) (n : ℕ) (offered : List ℕ) (old new : S) → 1 ≤ n → n ≤ length offered → offered ≡ offer p side → q ≡ after now p (Write side) (Wrote n) →
-    Appends (told old).written (told new).written (take n offered) → Stays (record (told old) { written = None }) (record (told new) { written = None }) → does (ask.Write offered) (Took n) old new → IsStep told does (Write side) now p q old new
+pub bytes_out : {S : Type 0} (now : ℕ) (told : S → WireView) (does : Asked → Given → S → S → Type 0) (side : Side) (p q : PairState) (n : ℕ) (offered : List ℕ) (old new : S)
+    → 1 ≤ n → n ≤ length offered → offered ≡ offer p side → q ≡ after now p (Write side) (Wrote n) →
+    Appends (told old).written (told new).written (take n offered) → Stays (record (told old) { written = None }) (record (told new) { written = None })
+    → does (ask.Write offered) (Took n) old new → IsStep told does (Write side) now p q old new
 bytes_out now told does side p q n offered old new some within same run taken s did =
     let all : n ≤ length (offer p side) = rw same at within in
     record {
@@ -129,8 +134,10 @@ bytes_out now told does side p q n offered old new some within same run taken s 
     }
 
 -- a call failed
-pub failed : {S : Type 0} (now : ℕ) (told : S → WireView) (does : Asked → Given → S → S → Type 0) (call : Call) (p q : PairState) (kind : Kind) (old new : S) → fits p call (Failed kind) ≡ true → q ≡ after now p call (Failed kind) →
-    Keeps (told old).remaining (told new).remaining → Keeps (told old).written (told new).written → Rises (told old).faults (told new).faults 1 → (told new).blocks ≡ (told old).blocks →
+pub failed : {S : Type 0} (now : ℕ) (told : S → WireView) (does : Asked → Given → S → S → Type 0) (call : Call) (p q : PairState) (kind : Kind) (old new : S)
+    → fits p call (Failed kind) ≡ true → q ≡ after now p call (Failed kind) →
+    Keeps (told old).remaining (told new).remaining → Keeps (told old).written (told new).written → Rises (told old).faults (told new).faults 1
+    → (told new).blocks ≡ (told old).blocks →
     IsCalled does (made (asked p call) (Failed kind)) old new → IsStep told does call now p q old new
 failed now told does call p q kind old new fit run left kept faults blocks m = record {
   reply = Failed kind;
@@ -146,21 +153,25 @@ failed now told does call p q kind old new fit run left kept faults blocks m = r
 }
 
 -- a write took none of an offer
-pub none_taken : {S : Type 0} (does : Asked → Given → S → S → Type 0) (p : PairState) (side : Side) (n : ℕ) (offered : List ℕ) (old new : S) → n ≡ 0 → offered ≡ offer p side → does (ask.Write offered) (Took n) old new →
+pub none_taken : {S : Type 0} (does : Asked → Given → S → S → Type 0) (p : PairState) (side : Side) (n : ℕ) (offered : List ℕ) (old new : S) → n ≡ 0 → offered ≡ offer p side
+    → does (ask.Write offered) (Took n) old new →
     IsCalled does (made (asked p (Write side)) (Failed Zero)) old new
 none_taken does p side n offered old new none same did = record { given = Took n; told = (none, refl); did = rw same at did }
 
 -- a read met the end of input
-pub end_met : {S : Type 0} (does : Asked → Given → S → S → Type 0) (p : PairState) (side : Side) (most n : ℕ) (room buffer : List ℕ) (old new : S) → n ≡ 0 → length room ≡ most → does (ask.Read (length room)) (Brought (take n buffer)) old new →
+pub end_met : {S : Type 0} (does : Asked → Given → S → S → Type 0) (p : PairState) (side : Side) (most n : ℕ) (room buffer : List ℕ) (old new : S) → n ≡ 0 → length room ≡ most
+    → does (ask.Read (length room)) (Brought (take n buffer)) old new →
     IsCalled does (made (asked p (Read side most)) End) old new
 end_met does p side most n room buffer old new none all did = record { given = Brought (take n buffer); told = rw none refl; did = rw all at did }
 
 -- a read of as many bytes as there is room for
-pub read_of : {S : Type 0} (does : Asked → Given → S → S → Type 0) (most : ℕ) (given : Given) (room : List ℕ) (old new : S) → length room ≡ most → does (ask.Read (length room)) given old new → does (ask.Read most) given old new
+pub read_of : {S : Type 0} (does : Asked → Given → S → S → Type 0) (most : ℕ) (given : Given) (room : List ℕ) (old new : S) → length room ≡ most
+    → does (ask.Read (length room)) given old new → does (ask.Read most) given old new
 read_of does most given room old new all did = rw all at did
 
 -- an error, told as what it is
-pub refused : {S : Type 0} (does : Asked → Given → S → S → Type 0) (call : Asked) (error : ErrorKind) (reply : AnswerValue) (old new : S) → IsErrorReply (kind_of_error error) reply → does call (Refused error) old new → IsCalled does (made call reply) old new
+pub refused : {S : Type 0} (does : Asked → Given → S → S → Type 0) (call : Asked) (error : ErrorKind) (reply : AnswerValue) (old new : S) → IsErrorReply (kind_of_error error) reply
+    → does call (Refused error) old new → IsCalled does (made call reply) old new
 refused does call error Blocked old new sort did = record { given = Refused error; told = (error, refl); did = did }
 refused does call error Interrupted old new sort did = record { given = Refused error; told = (error, refl); did = did }
 refused does call error (Failed kind) old new sort did = record { given = Refused error; told = sort; did = did }
@@ -183,7 +194,8 @@ failed_fits p (Join side) kind = refl
 failed_fits p (call.Shut side) kind = refl
 
 -- an error, classed by what the wire counted
-pub erred : {S : Type 0} (now : ℕ) (told : S → WireView) (does : Asked → Given → S → S → Type 0) (call : Call) (p q : PairState) (error : ErrorKind) (reply : AnswerValue) (faults blocks : ℕ) (old new : S) → fits p call Blocked ≡ true → q ≡ after now p call reply →
+pub erred : {S : Type 0} (now : ℕ) (told : S → WireView) (does : Asked → Given → S → S → Type 0) (call : Call) (p q : PairState) (error : ErrorKind) (reply : AnswerValue)
+    (faults blocks : ℕ) (old new : S) → fits p call Blocked ≡ true → q ≡ after now p call reply →
     Keeps (told old).remaining (told new).remaining → Keeps (told old).written (told new).written → faults ≡ (told old).faults → blocks ≡ (told old).blocks →
     IsError (kind_of_error error) reply faults (told new).faults blocks (told new).blocks → does (asked p call) (Refused error) old new → IsStep told does call now p q old new
 erred now told does call p q error Blocked faults blocks old new may run left kept f b e did = record {

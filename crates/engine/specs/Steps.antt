@@ -23,7 +23,8 @@ IsErrorReply kind (Failed other) = other ≡ kind
 IsErrorReply kind reply = ⊥
 
 -- what one answer to a call did to the wire that gave it
-pub record IsAnswered {S : Type 0} (told : S → WireView) (does : Asked → Given → S → S → Type 0) (call : Call) (p : PairState) (reply : AnswerValue) (old new : S) : Type 0 where
+pub record IsAnswered {S : Type 0} (told : S → WireView) (does : Asked → Given → S → S → Type 0) (call : Call) (p : PairState)
+    (reply : AnswerValue) (old new : S) : Type 0 where
   pub read : Consumes (told old).remaining (told new).remaining (brought (way_from (side_of call)) call reply)
   pub written : Appends (told old).written (told new).written (carried p (way_to (side_of call)) call reply)
   pub faults : Rises (told old).faults (told new).faults (if is_failed reply then 1 else 0)
@@ -31,7 +32,8 @@ pub record IsAnswered {S : Type 0} (told : S → WireView) (does : Asked → Giv
   pub made : IsCalled does (made (asked p call) reply) old new
 
 -- a call was made at the second `now`, and the pair has its answer
-pub record IsStep {S : Type 0} (told : S → WireView) (does : Asked → Given → S → S → Type 0) (call : Call) (now : ℕ) (old new : PairState) (wire wire_now : S) : Type 0 where
+pub record IsStep {S : Type 0} (told : S → WireView) (does : Asked → Given → S → S → Type 0) (call : Call) (now : ℕ) (old new : PairState)
+    (wire wire_now : S) : Type 0 where
   pub reply : AnswerValue
   pub fit : fits old call reply ≡ true
   pub run : new ≡ after now old call reply

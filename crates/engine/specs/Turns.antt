@@ -136,7 +136,8 @@ AreMade {S} told does (call ∷ calls) old new = (between : S) × IsMade told do
 -- what the answers of a list did to the wire on one side: the bytes that they brought were read from it,
 -- and those that they carried were written to it, in order and nothing else; it counted each answer that
 -- was a fault, and each that was "would block"; and the calls on its side were made on it and no other
-pub record IsServed {S : Type 0} (told : S → WireView) (does : Asked → Given → S → S → Type 0) (now : ℕ) (old new : S) (side : Side) (p : PairState) (replies : List AnswerValue) : Type 0 where
+pub record IsServed {S : Type 0} (told : S → WireView) (does : Asked → Given → S → S → Type 0) (now : ℕ) (old new : S) (side : Side)
+    (p : PairState) (replies : List AnswerValue) : Type 0 where
   pub read : Consumes (told old).remaining (told new).remaining (all_brought now p (way_from side) replies)
   pub written : Appends (told old).written (told new).written (all_carried now p (way_to side) replies)
   pub faults : Rises (told old).faults (told new).faults (count_on is_failed side now p replies)

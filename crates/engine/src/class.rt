@@ -16,8 +16,8 @@ pub enum Class {
     Failed(Kind),
 }
 
-/// The class of an error by its kind. `joined` says whether the socket is known to be connected, as the client's always
-/// is: a call on a target that is still connecting would have to wait.
+/// The class of an error by its kind. `joined` says whether the socket is known to be connected, as the client's
+/// always is: a call on a target that is still connecting would have to wait.
 pub fn class_of(call: &Call, kind: ErrorKind, joined: bool) -> Class
     requires client { side_of call.now ≡ Side.Client → joined ≡ true }
     ensures { result ≡ class_of call.now joined kind }
@@ -60,8 +60,8 @@ pub(crate) fn kind_of(kind: ErrorKind) -> Kind
     }
 }
 
-/// An error by which a call on a connected socket fails by this kind. No error says that a write took no byte, so `zero`
-/// becomes `other`.
+/// An error by which a call on a connected socket fails by this kind. No error says that a write took no byte, so
+/// `zero` becomes `other`.
 pub fn error_of(kind: Kind) -> ErrorKind
     ensures { (call : Call) → class_of call true result ≡ Class.Failed (kind_told kind) }
 {

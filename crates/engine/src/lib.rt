@@ -1,9 +1,9 @@
-//! One turn of a connection over real calls: a [`Pair`](relay_core::Pair) is asked for its next call, the call is made
-//! on one of two [`Wire`]s, and the pair gets the answer, up to a budget of calls.
+//! One turn of a connection over real calls: a [`Pair`](relay_core::Pair) is asked for its next call, the call is
+//! made on one of two [`Wire`]s, and the pair gets the answer, up to a budget of calls.
 //!
-//! A wire is a socket that never waits, or anything that answers like one. It counts its faults and its answers "would
-//! block", and [`turn`] reads those counts to tell the two kinds of error apart. [`class_of`] is the rule by which
-//! wires count, and [`Tally`] counts by it. [`ScriptWire`] is an in-memory wire that plays a list of answers.
+//! A wire is a socket that never waits, or anything that answers like one. It counts its faults and its answers
+//! "would block", and [`turn`] reads those counts to tell the two kinds of error apart. [`class_of`] is the rule by
+//! which wires count, and [`Tally`] counts by it. [`ScriptWire`] is an in-memory wire that plays a list of answers.
 //!
 //! The definitions are in `specs/`: what is asked of a wire and what it gives in `Asked.antt`, what its calls do in
 //! `Wires.antt`, the classes of errors in `Classes.antt`, and what a turn does in `Turns.antt`.

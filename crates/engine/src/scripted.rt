@@ -54,8 +54,8 @@ pub enum PlayList {
 /// [`Wire::shut_write`].
 ///
 /// A play that does not fit its call is a fault of kind `other`, and is used up. With an empty list the answer is
-/// "would block", but a shutdown succeeds. The wire is joined from its first Bytes, End, Take or Joined on; until then
-/// the error "not connected" counts as "would block" for all calls but a shutdown.
+/// "would block", but a shutdown succeeds. The wire is joined from its first Bytes, End, Take or Joined on; until
+/// then the error "not connected" counts as "would block" for all calls but a shutdown.
 ///
 /// It is for tests. What is promised of it is what is promised of every [`Wire`]; what it plays, only tests show.
 #[derive(Drop)]
@@ -74,13 +74,18 @@ impl Model for ScriptWire {
 
     ghost Value = { WireView };
 
-    ghost view = { λ w. record { remaining = Some (bytes_of w.reads.items); written = Some w.taken.items; faults = w.tally.faults; blocks = w.tally.blocks } };
+    ghost view = { λ w. record {
+      remaining = Some (bytes_of w.reads.items);
+      written = Some w.taken.items;
+      faults = w.tally.faults;
+      blocks = w.tally.blocks;
+    } };
 }
 
 impl ScriptWire {
     /// A wire with these answers, on a socket that is or is not known to be connected. This allocates the memory for
-    /// the bytes of every Take, and no call of [`Wire`] allocates any. Fails with [`AllocError`] if there is not enough
-    /// memory, even if the number of bytes is too large for any memory; then the plays are dropped.
+    /// the bytes of every Take, and no call of [`Wire`] allocates any. Fails with [`AllocError`] if there is not
+    /// enough memory, even if the number of bytes is too large for any memory; then the plays are dropped.
     pub fn new(
         alloc: Global,
         joined: bool,
@@ -88,7 +93,12 @@ impl ScriptWire {
         writes: Vec<Play>,
         closings: Vec<Play>,
     ) -> Result<ScriptWire, AllocError>
-        ensures { IfOk result (λ wire. wire ≡ record { remaining = Some (bytes_of reads.items); written = Some []; faults = 0; blocks = 0 }) }
+        ensures { IfOk result (λ wire. wire ≡ record {
+          remaining = Some (bytes_of reads.items);
+          written = Some [];
+          faults = 0;
+          blocks = 0;
+        }) }
     {
         let writes = VecDeque::from(writes);
         let room = room_for(&writes, 0)?;
@@ -187,8 +197,8 @@ fn refuse(tally: &mut Tally, call: Call, play: Option<Play>) -> io::Error
     io::Error::from(kind)
 }
 
-/// Uses the next play of reads: one of bytes gives the buffer as many as fit, and what is left of it stays as the next
-/// play. Any other, or none, is handed back.
+/// Uses the next play of reads: one of bytes gives the buffer as many as fit, and what is left of it stays as the
+/// next play. Any other, or none, is handed back.
 fn read_next(reads: &mut VecDeque<Play>, buffer: &mut [u8]) -> Result<usize, Option<Play>>
     ensures most { IfOk result (λ count. count ≤ length buffer.new) }
     ensures given { IfOk result (λ count. bytes_of reads.old.items ≡ take count buffer.new ++ bytes_of reads.new.items) }

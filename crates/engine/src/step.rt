@@ -124,7 +124,8 @@ fn shut<W: Wire>(pair: &mut Pair, side: Side, now: u64, wire: &mut W)
 /// What an error means, by what the wire has counted since the call began.
 fn error_answer<W: Wire>(wire: &W, faults: u64, blocks: u64, error: &io::Error) -> Answer<'static>
     requires { CountsError faults (W.told wire.now).faults blocks (W.told wire.now).blocks }
-    ensures { IsError (kind_of_error (error_kind error.now)) (reply_of result) faults (W.told wire.now).faults blocks (W.told wire.now).blocks }
+    ensures { IsError (kind_of_error (error_kind error.now)) (reply_of result) faults (W.told wire.now).faults blocks
+        (W.told wire.now).blocks }
 {
     if wire.faults() != faults {
         Answer::Failed(kind_of(error.kind()))

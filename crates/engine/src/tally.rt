@@ -65,8 +65,8 @@ impl Tally {
         self.joined = true;
     }
 
-    /// A call answered with an error of this kind, which is counted by its class. A client's socket has to be known to
-    /// be connected.
+    /// A call answered with an error of this kind, which is counted by its class. A client's socket has to be known
+    /// to be connected.
     pub fn refuse(&mut self, call: Call, kind: ErrorKind)
         requires client { side_of call ≡ Side.Client → self.old.joined ≡ true }
         ensures { self.new ≡ counted (class_of call self.old.joined kind) self.old }

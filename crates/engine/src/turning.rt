@@ -11,12 +11,12 @@ use crate::step::step;
 use crate::wire::Wire;
 use relay_core::{Call, MAX_READ, Pair, Side, Verdict, laws};
 
-/// Makes the calls that a pair asks for, at most `budget` of them (1 to 1,024), each on the wire of its side, and gives
-/// the pair the answers. A pair that is done or failed asks for none. It allocates no memory.
+/// Makes the calls that a pair asks for, at most `budget` of them (1 to 1,024), each on the wire of its side, and
+/// gives the pair the answers. A pair that is done or failed asks for none. It allocates no memory.
 ///
-/// The calls made on each wire are exactly those that come next along the answers, in order and once each: a read of as
-/// many bytes as the pair asks for, and a write of all that the pair offers that side ([`Pair::offer`]). It invents no
-/// answer, and a failure has the kind of the error that the call gave.
+/// The calls made on each wire are exactly those that come next along the answers, in order and once each: a read of
+/// as many bytes as the pair asks for, and a write of all that the pair offers that side ([`Pair::offer`]). It
+/// invents no answer, and a failure has the kind of the error that the call gave.
 ///
 /// All its calls are made at the second `now`. A pair that is left without a call, and that has moved nothing for
 /// `limit` seconds, fails ([`Pair::expire`]); a limit of 0 is none.
@@ -34,7 +34,8 @@ pub fn turn<A: Wire, B: Wire>(
     requires least { 1 ≤ budget }
     requires most { budget ≤ 1024 }
     ensures outcome { result ≡ outcome_of pair.new }
-    ensures run { IsTurn budget now limit pair.old pair.new (IsServed A.told A.does now client.old client.new) (IsServed B.told B.does now target.old target.new) }
+    ensures run { IsTurn budget now limit pair.old pair.new (IsServed A.told A.does now client.old client.new)
+        (IsServed B.told B.does now target.old target.new) }
 {
     let moment = Moment { second: now, limit };
     turn_with(pair, client, target, budget, moment, &mut [0; MAX_READ])
@@ -53,7 +54,9 @@ pub fn turn_with<A: Wire, B: Wire>(
     requires least { 1 ≤ budget }
     requires most { budget ≤ 1024 }
     ensures outcome { result ≡ outcome_of pair.new }
-    ensures run { IsTurn budget moment.second moment.limit pair.old pair.new (IsServed A.told A.does moment.second client.old client.new) (IsServed B.told B.does moment.second target.old target.new) }
+    ensures run { IsTurn budget moment.second moment.limit pair.old pair.new
+        (IsServed A.told A.does moment.second client.old client.new)
+        (IsServed B.told B.does moment.second target.old target.new) }
 {
     rests_on_laws();
     for _calls in 0..budget {
@@ -65,8 +68,8 @@ pub fn turn_with<A: Wire, B: Wire>(
     finish(pair, moment)
 }
 
-/// The core's laws for every pair, from which it follows that a pair that was live fails only by its last answer, or by
-/// the idle limit.
+/// The core's laws for every pair, from which it follows that a pair that was live fails only by its last answer, or
+/// by the idle limit.
 fn rests_on_laws()
     ensures answers { AnswersAreToNextCalls }
     ensures calls { CallsComeWhileLive }
@@ -90,7 +93,8 @@ fn advance<A: Wire, B: Wire>(
 )
     requires next { next_call pair.old ≡ Some call }
     requires possible { IsPossible pair.old call }
-    ensures { IsMove now pair.old pair.new (IsServed A.told A.does now client.old client.new) (IsServed B.told B.does now target.old target.new) }
+    ensures { IsMove now pair.old pair.new (IsServed A.told A.does now client.old client.new)
+        (IsServed B.told B.does now target.old target.new) }
 {
     match call.side() {
         Side::Client => step(pair, call, now, client, buffer),
@@ -98,8 +102,8 @@ fn advance<A: Wire, B: Wire>(
     }
 }
 
-/// Ends a turn: the pair is held against the idle limit, unless it has a next call, and the outcome is what has become
-/// of it then.
+/// Ends a turn: the pair is held against the idle limit, unless it has a next call, and the outcome is what has
+/// become of it then.
 fn finish(pair: &mut Pair, moment: Moment) -> Turn
     ensures outcome { result ≡ outcome_of pair.new }
     ensures held { pair.new ≡ expired moment.second moment.limit pair.old }

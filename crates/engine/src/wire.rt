@@ -10,13 +10,13 @@ use std::io;
 /// A connection's socket, or something that stands for one. None of its calls waits.
 ///
 /// A wire specifies its two counts. It may specify two lists: the bytes that are left to read from it, and those that
-/// were written to it. It may also specify everything that a call does to it, by what was asked and what the call gave.
-/// A socket specifies its counts and its calls, but not its bytes.
+/// were written to it. It may also specify everything that a call does to it, by what was asked and what the call
+/// gave. A socket specifies its counts and its calls, but not its bytes.
 ///
 /// It counts its answers that are faults and those that are "would block", by [`class_of`](crate::class_of), and
-/// [`turn`](crate::turn) tells an error's class by which of the two counts rose. An answer without an error leaves both
-/// unchanged, except that a write of 0 bytes of an offer that is not empty is a fault. An error raises one of the two
-/// by one, or neither if it is an interruption. A shutdown never raises the second. Both wrap around at 2^64.
+/// [`turn`](crate::turn) tells an error's class by which of the two counts rose. An answer without an error leaves
+/// both unchanged, except that a write of 0 bytes of an offer that is not empty is a fault. An error raises one of
+/// the two by one, or neither if it is an interruption. A shutdown never raises the second. Both wrap around at 2^64.
 pub trait Wire {
     // The bytes left to read and those written, if the wire specifies them, and its two counts.
     ghost told: { Self → WireView };

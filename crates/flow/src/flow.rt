@@ -8,8 +8,8 @@ use std::marker::Model;
 
 /// One direction's ring of bytes, with a lead that goes out before them, its end of input and its shutdown.
 ///
-/// The buffer never wraps, so that the whole ring can be offered to one write(2). Bytes that have left stay in it until
-/// others take their place: overwriting bytes is a single copy, but the buffer appends bytes in a loop.
+/// The buffer never wraps, so that the whole ring can be offered to one write(2). Bytes that have left stay in it
+/// until others take their place: overwriting bytes is a single copy, but the buffer appends bytes in a loop.
 #[derive(Drop)]
 pub struct Flow {
     lead: Vec<u8>,
@@ -26,7 +26,13 @@ impl Model for Flow {
 
     ghost Value = { Stream };
 
-    ghost view = { λ f. record { lead = f.lead.items; ring = drop f.gone f.bytes.items; capacity = f.bytes.capacity; end_seen = f.end_seen; shut = f.shut } };
+    ghost view = { λ f. record {
+      lead = f.lead.items;
+      ring = drop f.gone f.bytes.items;
+      capacity = f.bytes.capacity;
+      end_seen = f.end_seen;
+      shut = f.shut;
+    } };
 
     ghost invariant = { λ f. f.gone ≤ length f.bytes.items };
 }
@@ -41,8 +47,8 @@ impl Flow {
     /// The most bytes that a lead has.
     pub const MAX_LEAD: usize = 107;
 
-    /// An empty ring for at most `capacity` bytes, 1 to 65,536, after a lead of 0 to 107 bytes. This allocates all the
-    /// memory that the ring and the lead will ever use.
+    /// An empty ring for at most `capacity` bytes, 1 to 65,536, after a lead of 0 to 107 bytes. This allocates all
+    /// the memory that the ring and the lead will ever use.
     ///
     /// Fails only if there is not enough memory; then nothing is made.
     pub fn new(alloc: Global, capacity: usize, lead: &[u8]) -> Result<Flow, AllocError>
@@ -108,8 +114,9 @@ impl Flow {
         self.bytes.capacity() - self.len()
     }
 
-    /// What is offered to the destination's next write(2): what is left of the lead, or if that is nothing, all bytes of
-    /// the ring, oldest first. They are lent to be read: if nothing is written into them, the flow stays as it was.
+    /// What is offered to the destination's next write(2): what is left of the lead, or if that is nothing, all bytes
+    /// of the ring, oldest first. They are lent to be read: if nothing is written into them, the flow stays as it
+    /// was.
     pub fn front(&mut self) -> &mut [u8]
         ensures* lends { sem 𝓛 (LendsFront self.entry result) }
         ensures value { result.now ≡ front self.old }

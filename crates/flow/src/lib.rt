@@ -1,15 +1,15 @@
 //! One direction of a relayed connection: a bounded ring of bytes between a source and a destination.
 //!
 //! Bytes enter at the back ([`Flow::take_in`]) and leave at the front ([`Flow::drop_front`]) in the same order. When
-//! the source is at its end of input ([`Flow::mark_end`]), nothing more enters, and once every byte has left the end may
-//! be passed on to the destination ([`Flow::mark_shut`], shutdown(2)).
+//! the source is at its end of input ([`Flow::mark_end`]), nothing more enters, and once every byte has left the end
+//! may be passed on to the destination ([`Flow::mark_shut`], shutdown(2)).
 //!
-//! A flow may have a lead: up to 107 bytes that go out before all that its source sends. They take no room of the ring,
-//! and are never offered together with bytes of the ring.
+//! A flow may have a lead: up to 107 bytes that go out before all that its source sends. They take no room of the
+//! ring, and are never offered together with bytes of the ring.
 //!
-//! Contracts see a [`Flow`] as the record `Stream` of `specs/Stream.antt`: what is left of the lead, the bytes of the ring,
-//! its capacity, and the two marks. How the bytes are laid out in memory is hidden; [`Flow::front`] takes `&mut` since they
-//! may have to be made contiguous, and `specs/Lending.antt` says what it lends.
+//! Contracts see a [`Flow`] as the record `Stream` of `specs/Stream.antt`: what is left of the lead, the bytes of the
+//! ring, its capacity, and the two marks. How the bytes are laid out in memory is hidden; [`Flow::front`] takes
+//! `&mut` since they may have to be made contiguous, and `specs/Lending.antt` says what it lends.
 #![tactic(auto)]
 
 mod flow;

@@ -17,7 +17,8 @@ gone : (most : ℕ) (a b c : Option (List ℕ)) (text more : List ℕ) (reads n 
 gone most a b c text more reads n r on = rw on.appended (Consumes-trans a b c text on.bytes r.consumed on.consumed)
 
 -- a read that gave some
-pub more_read : (most : ℕ) (a b c : Option (List ℕ)) (text more : List ℕ) (reads n : ℕ) → Reads most a b text reads → ReadsOn most b c text more n → n ≢ 0 → length more ≤ most → Reads most a c more (reads + 1)
+pub more_read : (most : ℕ) (a b c : Option (List ℕ)) (text more : List ℕ) (reads n : ℕ) → Reads most a b text reads → ReadsOn most b c text more n → n ≢ 0 → length more ≤ most
+    → Reads most a c more (reads + 1)
 more_read most a b c text more reads n r on some few = record {
   consumed = gone most a b c text more reads n r on;
   many = omega (arith, r.many, on.count, ap length on.appended, length-append text on.bytes, some);
@@ -41,14 +42,16 @@ whole most (Some input) (Some rest) text p none few =
 pub filled : (most : ℕ) (a b : Option (List ℕ)) (text : List ℕ) (reads : ℕ) → Reads most a b text reads → most ≤ length text → IfSome a (λ input. text ≡ take most input)
 filled most a b text reads r long = full_front most a b text r.consumed (omega (arith, long, r.few))
 
-pub ended : (most : ℕ) (a b c : Option (List ℕ)) (text more : List ℕ) (reads n : ℕ) → Reads most a b text reads → ReadsOn most b c text more n → n ≡ 0 → length text < most → length more ≤ most → IfSome a (λ input. more ≡ take most input)
+pub ended : (most : ℕ) (a b c : Option (List ℕ)) (text more : List ℕ) (reads n : ℕ) → Reads most a b text reads → ReadsOn most b c text more n → n ≡ 0 → length text < most
+    → length more ≤ most → IfSome a (λ input. more ≡ take most input)
 ended most a b c text more reads n r on none room few = whole most a c more (gone most a b c text more reads n r on) (on.at_end none room) few
 
 -- what was taken by then
 pub taken_now : (most : ℕ) (a b : Option (List ℕ)) (text : List ℕ) (reads : ℕ) → Reads most a b text reads → TakesAtMost most a b
 taken_now most a b text reads r = (text, (r.consumed, r.few))
 
-pub taken_more : (most : ℕ) (a b c : Option (List ℕ)) (text more : List ℕ) (reads n : ℕ) → Reads most a b text reads → ReadsOn most b c text more n → length more ≤ most → TakesAtMost most a c
+pub taken_more : (most : ℕ) (a b c : Option (List ℕ)) (text more : List ℕ) (reads n : ℕ) → Reads most a b text reads → ReadsOn most b c text more n → length more ≤ most
+    → TakesAtMost most a c
 taken_more most a b c text more reads n r on few = (more, (gone most a b c text more reads n r on, few))
 
 pub taken_last : (most : ℕ) (a b c : Option (List ℕ)) (text : List ℕ) (reads : ℕ) → Reads most a b text reads → Stops most b c text → TakesAtMost most a c

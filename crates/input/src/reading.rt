@@ -30,8 +30,8 @@ impl From<AllocError> for InputFault {
 /// asks for n + 1, and if it gets n + 1 knows that the input is too long.
 ///
 /// It makes at most `most` reads. The first error of the reader, even an interruption by a signal, ends it with
-/// [`InputFault::Unreadable`]. Memory runs out only for bytes that the reader gave. After a fault, the bytes that were
-/// read are lost.
+/// [`InputFault::Unreadable`]. Memory runs out only for bytes that the reader gave. After a fault, the bytes that
+/// were read are lost.
 pub fn read_at_most<R: Read>(
     alloc: Global,
     reader: &mut R,
@@ -62,7 +62,8 @@ pub fn read_at_most<R: Read>(
 /// Makes one read and appends its bytes to the text.
 fn read_on<R: Read>(reader: &mut R, text: &mut Vec<u8>, most: usize) -> Result<usize, InputFault>
     requires { vec_len text.old ≤ most }
-    ensures reads { IfOk result (λ count. ReadsOn most (R.remaining reader.old) (R.remaining reader.new) text.old.items text.new.items count) }
+    ensures reads { IfOk result (λ count. ReadsOn most (R.remaining reader.old) (R.remaining reader.new) text.old.items
+        text.new.items count) }
     ensures stops { IfErr result (λ fault. Stops most (R.remaining reader.old) (R.remaining reader.new) text.old.items) }
     ensures memory { IfErr result (λ fault. fault ≡ InputFault.NoMemory → TakesSome (R.remaining reader.old) (R.remaining reader.new)) }
     ensures most { vec_len text.new ≤ most }

@@ -33,7 +33,17 @@ has_room_at_first Client = true
 has_room_at_first Target = false
 
 abbrev pub opened : Side → EndState
-opened side = record { arrived = []; unread = []; taken = []; fin = false; err = false; room = has_room_at_first side; shut = false; read_armed = false; write_armed = false }
+opened side = record {
+  arrived = [];
+  unread = [];
+  taken = [];
+  fin = false;
+  err = false;
+  room = has_room_at_first side;
+  shut = false;
+  read_armed = false;
+  write_armed = false;
+}
 
 -- a read would not block
 abbrev pub is_readable : EndState → Bool

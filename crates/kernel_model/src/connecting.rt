@@ -37,8 +37,8 @@ impl Kernel {
 
     /// Closes both ends of a connection, as [`Kernel::close`] does, and returns them.
     ///
-    /// Refuses with `NotAllowed`, and closes neither, if a descriptor is not open, or both are the same. Never answers
-    /// `NoMemory`.
+    /// Refuses with `NotAllowed`, and closes neither, if a descriptor is not open, or both are the same. Never
+    /// answers `NoMemory`.
     pub fn close_both(&mut self, ends: Descriptors) -> Result<Sockets, Refusal>
         ensures { TellsAlways (close_both self.old ends) self.old self.new result }
     {

@@ -277,10 +277,10 @@ impl End {
 
     /// A write of `offer` gets this reply (write(2)).
     ///
-    /// Refuses with `NotAllowed` if a write may not be answered so: with a count when there is no room, or one that is
-    /// 0 or more than were offered; with blocked if the end is writable; or with a reply to another call. Refuses with
-    /// `NoMemory` if the write takes bytes and their list cannot grow; for any other reply it never answers so. A
-    /// refusal changes nothing.
+    /// Refuses with `NotAllowed` if a write may not be answered so: with a count when there is no room, or one that
+    /// is 0 or more than were offered; with blocked if the end is writable; or with a reply to another call. Refuses
+    /// with `NoMemory` if the write takes bytes and their list cannot grow; for any other reply it never answers so.
+    /// A refusal changes nothing.
     pub fn write(&mut self, offer: &[u8], reply: Reply) -> Result<(), Refusal>
         ensures outcome { Meets (after_write self.old offer.now reply) self.old self.new result }
         ensures memory { IsErrOf result Refusal.NoMemory → IsTrue (needs_memory reply) }
@@ -295,9 +295,9 @@ impl End {
 
     /// The question whether the connect has completed gets this reply (connect(2)).
     ///
-    /// Refuses with `NotAllowed`, and changes nothing, if it may not be answered so: with joined when there is no room;
-    /// with blocked if the end is writable; with a failure of the kind `Zero`; or with a reply to another call. Never
-    /// answers `NoMemory`.
+    /// Refuses with `NotAllowed`, and changes nothing, if it may not be answered so: with joined when there is no
+    /// room; with blocked if the end is writable; with a failure of the kind `Zero`; or with a reply to another call.
+    /// Never answers `NoMemory`.
     pub fn join(&mut self, reply: Reply) -> Result<(), Refusal>
         ensures { MeetsAlways (after_join self.old reply) self.old self.new result }
     {

@@ -104,8 +104,8 @@ impl Kernel {
         self.armed
     }
 
-    /// Opens an end and registers it, for reads and writes, under its token. It gets the lowest descriptor that is not
-    /// open (open(2)), which is returned.
+    /// Opens an end and registers it, for reads and writes, under its token. It gets the lowest descriptor that is
+    /// not open (open(2)), which is returned.
     ///
     /// Refuses with `NoMemory`, and changes nothing, if the table of descriptors cannot grow.
     pub fn open_end(&mut self, token: Token) -> Result<usize, Refusal>
@@ -135,8 +135,8 @@ impl Kernel {
 
     /// A report is queued without cause.
     ///
-    /// Refuses with `NotAllowed` if the descriptor is not open, and with `NoMemory` if the queue has to grow and cannot.
-    /// A refusal changes nothing.
+    /// Refuses with `NotAllowed` if the descriptor is not open, and with `NoMemory` if the queue has to grow and
+    /// cannot. A refusal changes nothing.
     pub fn spurious(&mut self, who: Watched) -> Result<(), Refusal>
         ensures outcome { Meets (spurious self.old who) self.old self.new result }
         ensures memory { IsErrOf result Refusal.NoMemory → IsTrue (queues_more self.old (spurious self.old who)) }
@@ -150,8 +150,8 @@ impl Kernel {
 
     /// A queued report is withdrawn before it is polled.
     ///
-    /// Refuses with `NotAllowed`, and changes nothing, if it is not queued, or if something could be done there: at an
-    /// end that is readable or writable, or at the listener while somebody waits. Never answers `NoMemory`.
+    /// Refuses with `NotAllowed`, and changes nothing, if it is not queued, or if something could be done there: at
+    /// an end that is readable or writable, or at the listener while somebody waits. Never answers `NoMemory`.
     pub fn vanish(&mut self, who: Watched) -> Result<(), Refusal>
         ensures { MeetsAlways (vanish self.old who) self.old self.new result }
     {
@@ -174,8 +174,8 @@ impl Kernel {
 
     /// A poll gives these names, and they leave the queue (epoll_wait(2)).
     ///
-    /// Refuses with `NotAllowed`, and changes nothing, if there are more than [`MAX_POLLED`] names, or one that is not
-    /// queued, or one twice. Never answers `NoMemory`.
+    /// Refuses with `NotAllowed`, and changes nothing, if there are more than [`MAX_POLLED`] names, or one that is
+    /// not queued, or one twice. Never answers `NoMemory`.
     pub fn poll(&mut self, names: &[Name]) -> Result<(), Refusal>
         ensures { MeetsAlways (poll self.old names.now) self.old self.new result }
     {
@@ -188,8 +188,8 @@ impl Kernel {
 
     /// A client connects, and waits at the listener (listen(2)).
     ///
-    /// Refuses with `NotAllowed` if [`MAX_BACKLOG`] wait already, and with `NoMemory` if the queue has to grow and cannot.
-    /// A refusal changes nothing.
+    /// Refuses with `NotAllowed` if [`MAX_BACKLOG`] wait already, and with `NoMemory` if the queue has to grow and
+    /// cannot. A refusal changes nothing.
     pub fn connect_in(&mut self) -> Result<(), Refusal>
         ensures outcome { Meets (connect_in self.old) self.old self.new result }
         ensures memory { IsErrOf result Refusal.NoMemory → IsTrue (queues_more self.old (connect_in self.old)) }
@@ -207,8 +207,8 @@ impl Kernel {
 
     /// The listener replies to accept(2) in this way.
     ///
-    /// Refuses `Accepted` if nobody waits, and `Blocked` if somebody does, with `NotAllowed`, and then changes nothing.
-    /// Never answers `NoMemory`.
+    /// Refuses `Accepted` if nobody waits, and `Blocked` if somebody does, with `NotAllowed`, and then changes
+    /// nothing. Never answers `NoMemory`.
     pub fn accept(&mut self, reply: Accepting) -> Result<(), Refusal>
         ensures { MeetsAlways (accept self.old reply) self.old self.new result }
     {

@@ -17,8 +17,8 @@ use token::Name;
 impl Kernel {
     /// Bytes arrive at an end, and are reported if reads are armed there.
     ///
-    /// Refuses with `NotAllowed` if the descriptor is not open, if there are no bytes, and after the end of input or an
-    /// error; and with `NoMemory` if a list cannot grow. A refusal changes nothing.
+    /// Refuses with `NotAllowed` if the descriptor is not open, if there are no bytes, and after the end of input or
+    /// an error; and with `NoMemory` if a list cannot grow. A refusal changes nothing.
     pub fn arrive(&mut self, descriptor: usize, bytes: &[u8]) -> Result<(), Refusal>
         ensures { Meets (arrive self.old descriptor bytes.now) self.old self.new result }
     {
@@ -27,8 +27,8 @@ impl Kernel {
 
     /// The peer's end of input arrives at an end, and is reported if reads are armed there.
     ///
-    /// Refuses with `NotAllowed` if the descriptor is not open, if it has arrived before, and after an error; and with
-    /// `NoMemory` if the queue has to grow and cannot. A refusal changes nothing.
+    /// Refuses with `NotAllowed` if the descriptor is not open, if it has arrived before, and after an error; and
+    /// with `NoMemory` if the queue has to grow and cannot. A refusal changes nothing.
     pub fn fin(&mut self, descriptor: usize) -> Result<(), Refusal>
         ensures outcome { Meets (fin self.old descriptor) self.old self.new result }
         ensures memory { IsErrOf result Refusal.NoMemory → IsTrue (queues_more self.old (fin self.old descriptor)) }
@@ -38,8 +38,8 @@ impl Kernel {
 
     /// An error arrives at an end, such as a reset by the peer, and is reported if reads or writes are armed there.
     ///
-    /// Refuses with `NotAllowed` if the descriptor is not open, and if an error has arrived before; and with `NoMemory`
-    /// if the queue has to grow and cannot. A refusal changes nothing.
+    /// Refuses with `NotAllowed` if the descriptor is not open, and if an error has arrived before; and with
+    /// `NoMemory` if the queue has to grow and cannot. A refusal changes nothing.
     pub fn reset(&mut self, descriptor: usize) -> Result<(), Refusal>
         ensures outcome { Meets (reset self.old descriptor) self.old self.new result }
         ensures memory { IsErrOf result Refusal.NoMemory → IsTrue (queues_more self.old (reset self.old descriptor)) }
@@ -61,7 +61,9 @@ impl Kernel {
     /// The network changes something at an end, and that is reported if the end is armed for it.
     fn change(&mut self, descriptor: usize, change: Change<'_>) -> Result<(), Refusal>
         ensures outcome { Meets (changed self.old descriptor (λ (e : EndState). change_of change.entry e)) self.old self.new result }
-        ensures memory { IsErrOf result Refusal.NoMemory → IsTrue (brings_bytes change.entry || queues_more self.old (changed self.old descriptor (λ (e : EndState). change_of change.entry e))) }
+        ensures memory { IsErrOf result Refusal.NoMemory
+            → IsTrue (brings_bytes change.entry || queues_more self.old
+            (changed self.old descriptor (λ (e : EndState). change_of change.entry e))) }
     {
         if descriptor >= self.ends.len() {
             return Err(Refusal::NotAllowed);
@@ -74,8 +76,8 @@ impl Kernel {
 
     /// A read of at most `most` bytes gets this reply ([`End::read`]).
     ///
-    /// Refuses with `NotAllowed`, and changes nothing, if the descriptor is not open, or if a read may not be answered
-    /// so. Never answers `NoMemory`.
+    /// Refuses with `NotAllowed`, and changes nothing, if the descriptor is not open, or if a read may not be
+    /// answered so. Never answers `NoMemory`.
     pub fn read(&mut self, descriptor: usize, most: usize, reply: Reply) -> Result<(), Refusal>
         ensures { MeetsAlways (read self.old descriptor most reply) self.old self.new result }
     {
@@ -140,8 +142,13 @@ impl Kernel {
 
 /// A change at an open end, whose name is queued if the end is armed for it.
 fn tell(registered: &mut Open, queue: &mut Vec<Name>, change: Change<'_>) -> Result<(), Refusal>
-    ensures outcome { Meets (told change.entry (record { registered = registered.old; queue = queue.old.items })) (record { registered = registered.old; queue = queue.old.items }) (record { registered = registered.new; queue = queue.new.items }) result }
-    ensures memory { IsErrOf result Refusal.NoMemory → IsTrue (brings_bytes change.entry || lengthens (record { registered = registered.old; queue = queue.old.items }) (told change.entry (record { registered = registered.old; queue = queue.old.items }))) }
+    ensures outcome { Meets (told change.entry (record { registered = registered.old; queue = queue.old.items }))
+        (record { registered = registered.old; queue = queue.old.items })
+        (record { registered = registered.new; queue = queue.new.items }) result }
+    ensures memory { IsErrOf result Refusal.NoMemory
+        → IsTrue (brings_bytes change.entry || lengthens
+        (record { registered = registered.old; queue = queue.old.items })
+        (told change.entry (record { registered = registered.old; queue = queue.old.items }))) }
 {
     if !registered.socket.may_change(change) {
         return Err(Refusal::NotAllowed);

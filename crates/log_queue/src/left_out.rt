@@ -4,11 +4,11 @@ ghost use Rattle.log_queue.specs.Lines.{CountStep, Added, Taken};
 
 use std::sync::atomic::{AtomicU64, Ordering};
 
-/// A count that threads share. Each method is one step, and there is no other: what is added between a load of the count and a
-/// store of 0 would be lost.
+/// A count that threads share. Each method is one step, and there is no other: what is added between a load of the
+/// count and a store of 0 would be lost.
 ///
-/// No clause can name what a count holds, so the trait leaves open what a step does. What is proved of any such count says
-/// which steps are made on it.
+/// No clause can name what a count holds, so the trait leaves open what a step does. What is proved of any such count
+/// says which steps are made on it.
 pub(crate) trait Count {
     // What a step may do: the step with its answer, and the count.
     ghost did: { CountStep → Self → Type 0 };

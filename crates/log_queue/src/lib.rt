@@ -1,10 +1,10 @@
-//! A log that never stops the thread that logs: finished lines wait in a bounded queue, and one thread of their own writes
-//! them to standard error.
+//! A log that never stops the thread that logs: finished lines wait in a bounded queue, and one thread of their own
+//! writes them to standard error.
 //!
-//! A thread that logs prints its line into the queue ([`Queued`], a sink of the crate `log`). That takes no memory, and no
-//! system call but the one that wakes a writer that sleeps. If the queue is full, because whoever reads standard error is slow or gone, the line is left out and
-//! counted. [`write_lines`] writes the lines, in the order in which each thread logged them, and tells how many were left
-//! out in a line of its own:
+//! A thread that logs prints its line into the queue ([`Queued`], a sink of the crate `log`). That takes no memory,
+//! and no system call but the one that wakes a writer that sleeps. If the queue is full, because whoever reads
+//! standard error is slow or gone, the line is left out and counted. [`write_lines`] writes the lines, in the order
+//! in which each thread logged them, and tells how many were left out in a line of its own:
 //!
 //! ```text
 //! [WARN  relayd] log: 312 lines left out

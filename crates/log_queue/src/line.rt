@@ -34,8 +34,10 @@ impl LogLine {
 
     /// Adds a text, or as many of its first characters as fit. Nothing is added to a line that is cut.
     pub fn add(&mut self, text: &str)
-        ensures whole { self.old.cut ≡ false → length self.old.text + length text.now ≤ 240 → self.new ≡ record { text = self.old.text ++ text.now; cut = false } }
-        ensures part { self.old.cut ≡ false → 240 < length self.old.text + length text.now → IsCut (240 - length self.old.text) text.now self.old self.new }
+        ensures whole { self.old.cut ≡ false → length self.old.text + length text.now ≤ 240
+            → self.new ≡ record { text = self.old.text ++ text.now; cut = false } }
+        ensures part { self.old.cut ≡ false → 240 < length self.old.text + length text.now
+            → IsCut (240 - length self.old.text) text.now self.old self.new }
         ensures cut { self.old.cut ≡ true → self.new ≡ self.old }
     {
         if self.is_cut || self.text.try_push_str(text).is_ok() {

@@ -12,8 +12,8 @@ use std::sync::Wait;
 use std::sync::atomic::{AtomicBool, Ordering};
 use std::thread::Parker;
 
-/// A look at the queue before its lines are taken. Where it shows that the queue was closed, every line that was put before
-/// the close is found after it.
+/// A look at the queue before its lines are taken. Where it shows that the queue was closed, every line that was put
+/// before the close is found after it.
 #[derive(Drop)]
 pub(crate) struct Look {
     pub(crate) is_closed: bool,
@@ -77,8 +77,8 @@ impl LogQueue {
 
     /// Wakes the writer if it sleeps. Only one of those who put lines meanwhile does.
     fn wake(&self) {
-        // Pairs with `look_last`. A put pushes and then reads the mark; the writer sets it and then looks. So one of the
-        // two sees the other's step.
+        // Pairs with `look_last`. A put pushes and then reads the mark; the writer sets it and then looks. So one of
+        // the two sees the other's step.
         if self.is_asleep.load(Ordering::SeqCst) && self.is_asleep.swap(false, Ordering::SeqCst) {
             self.writer.unpark();
         }

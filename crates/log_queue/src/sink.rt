@@ -11,8 +11,8 @@ use std::fmt::{Display, Write};
 use std::io::Eprint;
 use std::sync::Wait;
 
-/// Puts each record into the queue as the line that a console would show. It takes no memory, and no system call unless the
-/// writer sleeps.
+/// Puts each record into the queue as the line that a console would show. It takes no memory, and no system call
+/// unless the writer sleeps.
 #[derive(Drop)]
 pub struct Queued<'q, R> {
     pub rt: R,

@@ -8,8 +8,8 @@ use log::warn;
 use std::io::Eprint;
 use std::sync::Wait;
 
-/// Writes the queue's lines to standard error, each by one write, until the queue is closed and all are written. How many
-/// lines were left out is logged once a write has ended after the loss. A line that cannot be written is lost.
+/// Writes the queue's lines to standard error, each by one write, until the queue is closed and all are written. How
+/// many lines were left out is logged once a write has ended after the loss. A line that cannot be written is lost.
 pub fn write_lines<R: Eprint + Wait>(rt: &R, queue: &LogQueue) {
     for _look in rt.forever() {
         let found = write_waiting(rt, queue, queue.look());

@@ -22,10 +22,12 @@ has_fault text (settings.OutOfRange key) few is = (few, is (λ e. subst IsMemory
 has_fault text (settings.BadAddress key) few is = (few, is (λ e. subst IsMemory (sym e) tt))
 
 -- the same of a text that was read into a slice
-pub has_fault_of : (left : Option (List ℕ)) (text slice : List ℕ) (fault : SettingsFault) (told : ConfigFault) → IfSome left (λ bytes. text ≡ bytes) → length text ≤ most_bytes → slice ≡ text → (fault ≢ settings.NoMemory → IsFaultOf slice fault) → told ≡ settings_fault fault → IfSome left (λ bytes. HasFault bytes told)
+pub has_fault_of : (left : Option (List ℕ)) (text slice : List ℕ) (fault : SettingsFault) (told : ConfigFault) → IfSome left (λ bytes. text ≡ bytes) → length text ≤ most_bytes
+    → slice ≡ text → (fault ≢ settings.NoMemory → IsFaultOf slice fault) → told ≡ settings_fault fault → IfSome left (λ bytes. HasFault bytes told)
 has_fault_of None text slice fault told same few all is by = tt
 has_fault_of (Some bytes) text slice fault told same few all is by = rw (by, ← same, ← all) (has_fault slice fault (rw all few) is)
 
-pub file_sets_of : (left : Option (List ℕ)) (text slice : List ℕ) (s : Settings) → IfSome left (λ bytes. text ≡ bytes) → length text ≤ most_bytes → slice ≡ text → IsSettingsOf slice s → IfSome left (λ bytes. FileSets bytes s)
+pub file_sets_of : (left : Option (List ℕ)) (text slice : List ℕ) (s : Settings) → IfSome left (λ bytes. text ≡ bytes) → length text ≤ most_bytes → slice ≡ text
+    → IsSettingsOf slice s → IfSome left (λ bytes. FileSets bytes s)
 file_sets_of None text slice s same few all is = tt
 file_sets_of (Some bytes) text slice s same few all is = rw (← same, ← all) (rw (all) few, is)

@@ -17,6 +17,7 @@ long_front most text input front =
     let long : length text ≡ min most (length input) = ap length front ∙ length-take most input in
     omega (arith, long)
 
-pub long_front_of : (most : ℕ) (text : List ℕ) (left : Option (List ℕ)) → most < length text → IfSome left (λ input. text ≡ take (most + 1) input) → IfSome left (λ input. most < length input)
+pub long_front_of : (most : ℕ) (text : List ℕ) (left : Option (List ℕ)) → most < length text → IfSome left (λ input. text ≡ take (most + 1) input)
+    → IfSome left (λ input. most < length input)
 long_front_of most text None long front = tt
 long_front_of most text (Some input) long front = omega (arith, long, long_front (most + 1) text input front)

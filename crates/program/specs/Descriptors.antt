@@ -2,7 +2,8 @@
 use Rattle.std.specs.Prelude.{ℕ, ◌+◌, ◌*◌, ◌≤◌}
 use Rattle.settings.specs.Pollers.{pollers_for}
 
--- what this many slots and workers need beside what is open: two descriptors for each connection, and two for each poller
+-- what this many slots and workers need beside what is open: two descriptors for each connection, and two for each
+-- poller
 abbrev pub needed : ℕ → ℕ → ℕ
 needed slots workers = 2 * slots + 2 * pollers_for slots workers
 

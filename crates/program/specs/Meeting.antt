@@ -9,8 +9,8 @@ every = 0 ∷ 0 ∷ 0 ∷ 0 ∷ []
 abbrev pub loopback : List ℕ
 loopback = 127 ∷ 0 ∷ 0 ∷ 1 ∷ []
 
--- One port, and one address; or the relay listens on every address, and the target's is of loopback (127.0.0.0/8) or one that
--- the system says is of this machine; or it listens on loopback, and a connection to every address goes there
+-- One port, and one address; or the relay listens on every address, and the target's is of loopback (127.0.0.0/8) or
+-- one that the system says is of this machine; or it listens on loopback, and a connection to every address goes there
 abbrev pub Meets : SocketAddress → SocketAddress → Bool → Type 0
 Meets listen target here =
     (listen.1 ≡ target.1)

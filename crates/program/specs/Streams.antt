@@ -11,7 +11,8 @@ number Input = pos 0
 number Output = pos 1
 number Errors = pos 2
 
--- a file that is opened so refuses what is done with the stream, as the closed one would: read(2) and write(2) give EBADF
+-- a file that is opened so refuses what is done with the stream, as the closed one would: read(2) and write(2) give
+-- EBADF
 abbrev pub Refuses : StandardStream → OpenOptions → Type 0
 Refuses Input how = asks_read how ≡ false
 Refuses _ how = (asks_write how ≡ false) × (asks_append how ≡ false)

@@ -60,10 +60,12 @@ pub fn report_arguments_fault<E: Write>(errors: &mut E, fault: ArgumentsFault) -
 ///
 /// Returns the exit status: 0 if the command was carried out, or help or the version printed; 1 for a fault, which is
 /// written to `errors` after `relayd: ` unless it is a fault of the script itself; 2 for a usage error, which is
-/// written to `errors`. Where the command line is refused, nothing has been read from `reader` or written to `writer`.
+/// written to `errors`. Where the command line is refused, nothing has been read from `reader` or written to
+/// `writer`.
 ///
-/// `serve` serves on a bound socket with the process's own handle: a thread can only be started with that one. It is told what
-/// the options ask for beside the settings, and records into the file, if there is one. `player` plays a recording.
+/// `serve` serves on a bound socket with the process's own handle: a thread can only be started with that one. It is
+/// told what the options ask for beside the settings, and records into the file, if there is one. `player` plays a
+/// recording.
 pub fn act<R, S, P: Replay, I: Read + IsTerminal, O: Write, E: Write>(
     rt: &R,
     arguments: &[String],
@@ -127,8 +129,8 @@ pub(crate) fn texts(alloc: Global, arguments: &[String]) -> Result<Vec<&str>, Al
         .collect(alloc)
 }
 
-/// Carries out a command. The causes of faults, and warnings of `check`, go to `log`, whatever level a settings file sets:
-/// what it says about `log` is not yet known where it has a fault.
+/// Carries out a command. The causes of faults, and warnings of `check`, go to `log`, whatever level a settings file
+/// sets: what it says about `log` is not yet known where it has a fault.
 fn carry_out<R, S, P: Replay, L: Log, I: Read, O: Write>(
     rt: &R,
     log: &L,
@@ -243,10 +245,12 @@ fn simulate<L: Log, I: Read, O: Write>(
     reader: &mut I,
     writer: &mut O,
 ) -> Result<u8, ProgramFault>
-    ensures report { result ≡ Ok 0 → IfSome (I.remaining reader.old) (λ text. WritesReport text (O.contents writer.old) (O.contents writer.new)) }
+    ensures report { result ≡ Ok 0 → IfSome (I.remaining reader.old)
+        (λ text. WritesReport text (O.contents writer.old) (O.contents writer.new)) }
     ensures done { IfOk result (λ status. IsCarriedOut status) }
     ensures fault { IfErr result (λ fault. status_of fault ≡ 1) }
-    ensures refused { result ≡ Ok 1 → IfSome (I.remaining reader.old) (λ text. WritesFault text (O.contents writer.old) (O.contents writer.new)) }
+    ensures refused { result ≡ Ok 1 → IfSome (I.remaining reader.old)
+        (λ text. WritesFault text (O.contents writer.old) (O.contents writer.new)) }
 {
     match script::run(alloc, reader, writer, &LoggedCauses { alloc, log }) {
         Ok(Outcome::Report) => Ok(DONE),
@@ -255,18 +259,20 @@ fn simulate<L: Log, I: Read, O: Write>(
     }
 }
 
-/// Runs a script and shows each step. Returns 0 if all of it was shown, and 1 if the line of its fault was written. The
-/// cause of a fault is logged.
+/// Runs a script and shows each step. Returns 0 if all of it was shown, and 1 if the line of its fault was written.
+/// The cause of a fault is logged.
 fn simulate_each<L: Log, I: Read, O: Write>(
     alloc: Global,
     log: &L,
     reader: &mut I,
     writer: &mut O,
 ) -> Result<u8, ProgramFault>
-    ensures report { result ≡ Ok 0 → IfSome (I.remaining reader.old) (λ text. WritesEach text (O.contents writer.old) (O.contents writer.new)) }
+    ensures report { result ≡ Ok 0 → IfSome (I.remaining reader.old)
+        (λ text. WritesEach text (O.contents writer.old) (O.contents writer.new)) }
     ensures done { IfOk result (λ status. IsCarriedOut status) }
     ensures fault { IfErr result (λ fault. status_of fault ≡ 1) }
-    ensures refused { result ≡ Ok 1 → IfSome (I.remaining reader.old) (λ text. WritesEachFault text (O.contents writer.old) (O.contents writer.new)) }
+    ensures refused { result ≡ Ok 1 → IfSome (I.remaining reader.old)
+        (λ text. WritesEachFault text (O.contents writer.old) (O.contents writer.new)) }
 {
     match script::run_each(alloc, reader, writer, &LoggedCauses { alloc, log }) {
         Ok(Outcome::Report) => Ok(DONE),
@@ -285,8 +291,8 @@ fn print(alloc: Global, settings: &Settings, writer: &mut impl Write) -> Result<
     Ok(DONE)
 }
 
-/// Listens as the settings say, looks at what they need, makes the file to record into at a path, prints the address, and
-/// serves.
+/// Listens as the settings say, looks at what they need, makes the file to record into at a path, prints the address,
+/// and serves.
 fn run<R, S, O: Write>(
     rt: &R,
     settings: Settings,

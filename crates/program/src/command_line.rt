@@ -13,8 +13,8 @@ pub enum Command<'a> {
     Simulate { each: bool },
     /// Read this settings file and print what it sets.
     Check(&'a str),
-    /// Read this settings file and serve as it says, with the messages of another level if one is named, and record into a
-    /// file if one is named.
+    /// Read this settings file and serve as it says, with the messages of another level if one is named, and record
+    /// into a file if one is named.
     Run(&'a str, Option<&'a str>, Option<&'a str>, TypedExtras<'a>),
     /// Serve as this text of settings says, and record into a file if one is named.
     Forward(String, Option<&'a str>, TypedExtras<'a>),

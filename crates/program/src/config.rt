@@ -85,8 +85,8 @@ impl fmt::Display for Length {
 /// The settings of a file, from all of its bytes, or its fault.
 ///
 /// Refuses with `Read` if the reader gives an error, `Long` if there are more than 65,536 bytes, whatever their text,
-/// `Settings` if the text has a fault, whose cause is logged with the path, and `NoMemory`. The bytes that were read are
-/// then lost.
+/// `Settings` if the text has a fault, whose cause is logged with the path, and `NoMemory`. The bytes that were read
+/// are then lost.
 pub fn read<F: Read, L: Log>(
     log: &L,
     alloc: Global,
@@ -168,7 +168,8 @@ fn log_cause(log: &impl Log, alloc: Global, path: &str, text: &[u8], fault: &Set
     }
 }
 
-/// All bytes of a file. It is read to its end, or to one byte past the maximum length, which shows that it is too long.
+/// All bytes of a file. It is read to its end, or to one byte past the maximum length, which shows that it is too
+/// long.
 fn read_whole<F: Read>(alloc: Global, file: &mut F) -> Result<Vec<u8>, ConfigFault>
     ensures most { IfOk result (λ text. vec_len text ≤ 65536) }
     ensures whole { IfOk result (λ text. IfSome (F.remaining file.old) (λ bytes. text.items ≡ bytes)) }

@@ -1,5 +1,5 @@
-//! How many connections the descriptors of the process are enough for. A client beyond them waits in the backlog, as it
-//! does if all slots are taken, and is not accepted only to be closed.
+//! How many connections the descriptors of the process are enough for. A client beyond them waits in the backlog, as
+//! it does if all slots are taken, and is not accepted only to be closed.
 ghost use Rattle.std.specs.Prelude.{◌≡◌, ◌≤◌, ◌<◌, ◌+◌};
 ghost use Rattle.program.specs.Descriptors.{HasFor, needed};
 
@@ -37,8 +37,8 @@ pub fn read_descriptors<R: AllocGlobal + Files + Copy + Drop>(rt: &R) -> Option<
     })
 }
 
-/// The soft limit of open files in the text of `/proc/self/limits` (proc(5)). None if there is no such line, or it says
-/// `unlimited`.
+/// The soft limit of open files in the text of `/proc/self/limits` (proc(5)). None if there is no such line, or it
+/// says `unlimited`.
 pub(crate) fn soft_limit(text: &str) -> Option<u64> {
     for line in text.lines() {
         if let Some(rest) = line.strip_prefix("Max open files ") {
@@ -48,8 +48,8 @@ pub(crate) fn soft_limit(text: &str) -> Option<u64> {
     None
 }
 
-/// How many slots the descriptors are enough for, with the pollers of this many slots: as many as are set, or else the most
-/// that have descriptors. It is 0 where there are none for one.
+/// How many slots the descriptors are enough for, with the pollers of this many slots: as many as are set, or else
+/// the most that have descriptors. It is 0 where there are none for one.
 pub(crate) fn covered(slots: usize, workers: usize, descriptors: Descriptors) -> usize
     requires slots { (1 ≤ slots) × (slots ≤ 4096) }
     requires workers { (1 ≤ workers) × (workers ≤ 16) }
@@ -65,8 +65,8 @@ pub(crate) fn covered(slots: usize, workers: usize, descriptors: Descriptors) ->
     covered
 }
 
-/// How many descriptors a relay with this many slots and workers opens, beside its listening socket: two for each connection,
-/// and two for each poller.
+/// How many descriptors a relay with this many slots and workers opens, beside its listening socket: two for each
+/// connection, and two for each poller.
 pub(crate) fn needed(slots: usize, workers: usize) -> u64
     requires slots { (1 ≤ slots) × (slots ≤ 4096) }
     requires workers { (1 ≤ workers) × (workers ≤ 16) }

@@ -1,5 +1,5 @@
-//! The settings that the arguments of `relayd forward` give. They become the text of a settings file, so that they have
-//! the same ranges, defaults and faults.
+//! The settings that the arguments of `relayd forward` give. They become the text of a settings file, so that they
+//! have the same ranges, defaults and faults.
 
 use clap::{Arg, ArgMatches};
 use settings::{Key, ROWS, Row, has_leading_zero};
@@ -64,8 +64,8 @@ pub fn setting_text(alloc: Global, key: Key, value: &str) -> Result<String, Allo
     format!(in alloc; "{line}")
 }
 
-/// A key with a value as it was typed. A whole number without leading zeros stands for itself, and so do `true` and `false`
-/// for a key that takes them; anything else stands for a text.
+/// A key with a value as it was typed. A whole number without leading zeros stands for itself, and so do `true` and
+/// `false` for a key that takes them; anything else stands for a text.
 #[derive(Clone, Copy)]
 struct Assignment<'a> {
     key: Key,

@@ -21,8 +21,8 @@ pub fn level_filter(level: LogLevel) -> LevelFilter
     }
 }
 
-/// The filter of the log before the relay serves: that of the level, but at `off` the cause of a fault is still logged, since
-/// nothing else says why there is no relay.
+/// The filter of the log before the relay serves: that of the level, but at `off` the cause of a fault is still
+/// logged, since nothing else says why there is no relay.
 pub(crate) fn starting_filter(level: LogLevel) -> LevelFilter
     ensures off { level ≡ LogLevel.Off → result ≡ LevelFilter.Error }
     ensures others { level ≢ LogLevel.Off → map to_ascii_lowercase (filter_name result) ≡ level_name level }

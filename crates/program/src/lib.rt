@@ -1,5 +1,5 @@
-//! What the program does: it forwards connections by a settings file, checks such a file, and runs the relay's simulator
-//! on standard input and output.
+//! What the program does: it forwards connections by a settings file, checks such a file, and runs the relay's
+//! simulator on standard input and output.
 //!
 //! [`act`] does all of that: from its arguments, a reader, two writers and a closure that serves, to a status.
 //! [`arguments`] are those of the process, and [`report_arguments_fault`] reports that they cannot be read.

@@ -1,6 +1,7 @@
 //! The log of a relay that serves: a queue, and a thread that writes it to standard error.
 //!
-//! The thread is never waited for but at the end, and then for a second: a write to a pipe that nobody reads may not end.
+//! The thread is never waited for but at the end, and then for a second: a write to a pipe that nobody reads may not
+//! end.
 ghost use Rattle.std.specs.Prelude.{◌≡◌, ◌⊎◌, IfErr};
 
 use crate::journal::log_form;
@@ -20,8 +21,8 @@ const LAST_WAIT: u64 = 1_000;
 
 /// Starts the thread that writes the queue. It runs until the queue is closed, or the program ends.
 ///
-/// Refuses with `NoMemory` if there is none for the queue, and `Threads` if the thread cannot be started; its cause is
-/// logged.
+/// Refuses with `NoMemory` if there is none for the queue, and `Threads` if the thread cannot be started; its cause
+/// is logged.
 pub fn start<R>(rt: R) -> Result<Arc<LogQueue>, ServerFault>
 where
     R: AllocGlobal + Threads + Eprint + Wait + Env + Files + Send + Copy + Drop + 'static,

@@ -12,8 +12,8 @@ const EVERY: [u8; 4] = [0, 0, 0, 0];
 /// The address that a connection to [`EVERY`] goes to.
 const LOOPBACK: [u8; 4] = [127, 0, 0, 1];
 
-/// Whether connections to the target reach the relay itself. `is_here` says whether the target's address is one of this
-/// machine.
+/// Whether connections to the target reach the relay itself. `is_here` says whether the target's address is one of
+/// this machine.
 pub(crate) fn meets(listen: Address, target: Address, is_here: bool) -> bool
     ensures { IsTrue result ↔ Meets listen target is_here }
 {

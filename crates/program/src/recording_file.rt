@@ -1,5 +1,5 @@
-//! The file that a relay records into. No file is emptied for it: a recording that is there is kept under another name, and
-//! any other file that is not empty is refused.
+//! The file that a relay records into. No file is emptied for it: a recording that is there is kept under another
+//! name, and any other file that is not empty is refused.
 ghost use Rattle.std.specs.Prelude.{◌≡◌, IfErr, true, false};
 ghost use Rattle.std.specs.Fs.{asks_read, asks_write, asks_append, asks_truncate, asks_create, asks_create_new};
 ghost use Rattle.program.specs.Statuses.{status_of};
@@ -45,8 +45,8 @@ impl From<AllocError> for Unmade {
 
 /// The file to record into at a path, if one is given.
 ///
-/// Refuses with `Record` if it cannot be made, or if a file is there that is neither empty nor a recording, whose cause is
-/// logged; and with `NoMemory`.
+/// Refuses with `Record` if it cannot be made, or if a file is there that is neither empty nor a recording, whose
+/// cause is logged; and with `NoMemory`.
 pub(crate) fn create<R: AllocGlobal + Files>(
     rt: &R,
     log: &impl Log,
@@ -84,8 +84,8 @@ fn open_new<R: AllocGlobal + Files>(rt: &R, log: &impl Log, path: &str) -> Resul
     Ok(how_to_open(is_there).open(rt, path)?)
 }
 
-/// How a file is opened to record into: one that is there, or one that is not, which is then made. Whatever is there by now, it
-/// is not emptied (open(2), `O_APPEND` and `O_EXCL`).
+/// How a file is opened to record into: one that is there, or one that is not, which is then made. Whatever is there
+/// by now, it is not emptied (open(2), `O_APPEND` and `O_EXCL`).
 fn how_to_open(is_there: bool) -> OpenOptions
     ensures whole { (asks_truncate result ≡ false) × (asks_create result ≡ false) }
     ensures behind { (asks_append result ≡ true) × (asks_write result ≡ false) × (asks_read result ≡ false) }

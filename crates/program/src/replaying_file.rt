@@ -15,8 +15,8 @@ use std::fs::{self, File};
 use std::io::Write;
 use std::rt::Files;
 
-/// Replays the recording in a file. Returns 0 if it is of runs of the machine, and 1 if not. What is wrong with the file is
-/// logged.
+/// Replays the recording in a file. Returns 0 if it is of runs of the machine, and 1 if not. What is wrong with the
+/// file is logged.
 pub(crate) fn replay_file<R: AllocGlobal + Files, L: Log, O: Write, P: Replay>(
     rt: &R,
     log: &L,
@@ -66,7 +66,8 @@ fn is_other_file(rt: &impl Files, path: &str) -> bool {
     }
 }
 
-/// What is wanted of a recording. Refuses with `Connection` the script of what is no name of a connection, whose cause is logged.
+/// What is wanted of a recording. Refuses with `Connection` the script of what is no name of a connection, whose
+/// cause is logged.
 pub(crate) fn find_wanted(log: &impl Log, replayed: Replayed<'_>) -> Result<Wanted, ProgramFault>
     ensures { IfErr result (λ fault. fault ≡ ProgramFault.Connection) }
 {

@@ -14,10 +14,10 @@ use std::rt::Files;
 /// The descriptor of the listening socket.
 const LISTENER: u64 = 1;
 
-/// The settings to serve with: those that are set, with no more slots than there are descriptors for, or with all slots
-/// if the system does not say how many there are. This many descriptors more are opened before the relay serves: it listens
-/// by now. A warning says that there are too few, another that the relay is its own target, and another that its idle limit
-/// is too short.
+/// The settings to serve with: those that are set, with no more slots than there are descriptors for, or with all
+/// slots if the system does not say how many there are. This many descriptors more are opened before the relay
+/// serves: it listens by now. A warning says that there are too few, another that the relay is its own target, and
+/// another that its idle limit is too short.
 ///
 /// Refuses with `Descriptors` where there are not enough for one connection.
 pub fn prepare<R: AllocGlobal + Files + Net + Copy + Drop>(

@@ -32,8 +32,8 @@ impl fmt::Display for Tip<'_> {
     }
 }
 
-/// What to type in place of the arguments of a command line that is refused, if that is likely enough. The first argument is the
-/// program's own name.
+/// What to type in place of the arguments of a command line that is refused, if that is likely enough. The first
+/// argument is the program's own name.
 pub(crate) fn find_tip<'a>(arguments: &[&'a str]) -> Option<Tip<'a>> {
     let first = *arguments.get(1)?;
     let second = arguments.get(2).copied();
@@ -65,7 +65,8 @@ fn no_option(word: Option<&str>) -> Option<&str> {
     word.filter(|word| !word.starts_with('-'))
 }
 
-/// The first of these arguments that gives a setting as `relayd forward` takes it. `--log` is an option of `relayd run`, too.
+/// The first of these arguments that gives a setting as `relayd forward` takes it. `--log` is an option of `relayd
+/// run`, too.
 fn setting_in<'a>(arguments: &[&'a str]) -> Option<&'a str> {
     for argument in arguments {
         if let Some(option) = argument.strip_prefix("--") {

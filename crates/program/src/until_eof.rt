@@ -14,11 +14,11 @@ use std::sync::atomic::Ordering::SeqCst;
 use std::sync::{Arc, Wait};
 use std::thread::{Builder, Threads};
 
-/// Starts a thread, if the options ask for it, that reads standard input to its end, throws away what it reads, and then sets
-/// what is answered. A read that fails counts as the end; both are logged, at levels warn and info.
+/// Starts a thread, if the options ask for it, that reads standard input to its end, throws away what it reads, and
+/// then sets what is answered. A read that fails counts as the end; both are logged, at levels warn and info.
 ///
-/// Refuses with `NoMemory` if there is none for what it answers, and `Threads` if the thread cannot be started; its cause is
-/// logged.
+/// Refuses with `NoMemory` if there is none for what it answers, and `Threads` if the thread cannot be started; its
+/// cause is logged.
 pub fn watch<R>(
     rt: R,
     input: Stdin,

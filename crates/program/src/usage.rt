@@ -22,8 +22,8 @@ const COLUMNS: usize = 80;
 /// The most columns that the lines after the first are indented by.
 const MOST_INDENT: usize = 40;
 
-/// Prints what the parser answers to the arguments of a command line in place of a command: help and the version to `writer`,
-/// and to `errors` why they are refused, with what to type instead. Returns the exit status.
+/// Prints what the parser answers to the arguments of a command line in place of a command: help and the version to
+/// `writer`, and to `errors` why they are refused, with what to type instead. Returns the exit status.
 pub(crate) fn answer_usage<L: Log, O: Write, E: Write>(
     alloc: Global,
     log: &L,
@@ -33,7 +33,8 @@ pub(crate) fn answer_usage<L: Log, O: Write, E: Write>(
     errors: &mut E,
 ) -> u8
     ensures memory { kind_of error.now ≡ ErrorKind.OutOfMemory → result ≡ 1 }
-    ensures refused { kind_of error.now ≢ ErrorKind.OutOfMemory → kind_of error.now ≢ ErrorKind.DisplayHelp → kind_of error.now ≢ ErrorKind.DisplayVersion → result ≡ 2 }
+    ensures refused { kind_of error.now ≢ ErrorKind.OutOfMemory → kind_of error.now ≢ ErrorKind.DisplayHelp → kind_of error.now
+        ≢ ErrorKind.DisplayVersion → result ≡ 2 }
     ensures status { IsCarriedOut result ⊎ (result ≡ 2) }
     ensures unwritten { result ≡ 2 → O.contents writer.new ≡ O.contents writer.old }
 {
@@ -99,7 +100,8 @@ impl fmt::Display for Escaped<'_> {
     }
 }
 
-/// Prints why arguments are refused. What to type instead stands below the first paragraph, in place of a tip of the parser's.
+/// Prints why arguments are refused. What to type instead stands below the first paragraph, in place of a tip of the
+/// parser's.
 fn print_error(alloc: Global, error: &Error, tip: Option<Tip<'_>>, errors: &mut impl Write) {
     // If this cannot be written, only the status is left to report it.
     let Some(tip) = tip else {
@@ -132,8 +134,8 @@ fn without_tip(rest: &str) -> &str {
     }
 }
 
-/// A text whose long lines are broken between words. What is broken off stands below the beginning of the description, where the
-/// line is that of an option.
+/// A text whose long lines are broken between words. What is broken off stands below the beginning of the
+/// description, where the line is that of an option.
 #[derive(Clone, Copy)]
 struct Wrapped<'a>(&'a str);
 

@@ -80,12 +80,14 @@ nothing_late : (w : Way) (late : List Change) → w.reads ≡ true → Waits w l
 nothing_late w late reads (Prompt none) = none
 nothing_late w late reads (Behind asleep) = absurd (let no : w.reads ≡ false = asleep.reads in cc)
 
-read_now : (w v : Way) (late : List Change) (s : Seen) (most : ℕ) (r : Reply) → Held w late s → (a : Asked w v (Read most) r) → (reads_after w.reads (Read most) r ≡ false → Rests a.socket) →
+read_now : (w v : Way) (late : List Change) (s : Seen) (most : ℕ) (r : Reply) → Held w late s → (a : Asked w v (Read most) r)
+    → (reads_after w.reads (Read most) r ≡ false → Rests a.socket) →
     Goes v s late late (Called (Read most) r ∷ []) (Calls (Read most) r)
 read_now w v late s most r held a rests =
     let none : late ≡ [] = nothing_late w late a.may held.waits in
     let same : s.socket ≡ w.socket = same_socket s w late held.due none in
-    rw a.after (one_call w late s (Read most) r a.socket a.socket (reads_after w.reads (Read most) r) held (rw same a.allowed) (rw none refl) (Prompt none) (λ reads told. rests reads))
+    rw a.after (one_call w late s (Read most) r a.socket a.socket (reads_after w.reads (Read most) r) held (rw same a.allowed) (rw none refl) (Prompt none)
+    (λ reads told. rests reads))
 
 still_reads : (w v : Way) (most : ℕ) (r : Reply) (e : EndState) → Asked w v (Read most) r → w.reads ≡ false → Rests e
 still_reads w v most r e a reads = absurd (let yes : w.reads ≡ true = a.may in cc)
@@ -99,7 +101,8 @@ rests_now w v most a =
     let p : (not (is_readable w.socket) ≡ true) × (a.socket ≡ record (w.socket) { read_armed = true }) = passed _ _ a.socket a.allowed in
     rw p.1 (record { empty = is_down (is_readable w.socket) p.0; armed = refl })
 
-reads : (w v : Way) (late : List Change) (s : Seen) (most : ℕ) (r : Reply) → Held w late s → Asked w v (Read most) r → Goes v s late (late_call r late) (at_call late (Read most) r) (Calls (Read most) r)
+reads : (w v : Way) (late : List Change) (s : Seen) (most : ℕ) (r : Reply) → Held w late s → Asked w v (Read most) r
+    → Goes v s late (late_call r late) (at_call late (Read most) r) (Calls (Read most) r)
 reads w v late s most (reply.Bytes n) held a = read_now w v late s most (reply.Bytes n) held a (still_reads w v most (reply.Bytes n) a.socket a)
 reads w v late s most reply.End held a = read_now w v late s most reply.End held a (still_reads w v most reply.End a.socket a)
 reads w v late s most reply.Blocked held a = read_now w v late s most reply.Blocked held a (λ asleep. rests_now w v most a)
@@ -122,7 +125,8 @@ waits_aside w late f same (Behind asleep) = Behind (record { reads = asleep.read
 rests_aside : (e x : EndState) → IsAside e x → Rests x → Rests e
 rests_aside e x same r = record { empty = rw same.readable r.empty; armed = rw same.armed r.armed }
 
-aside : (w : Way) (late : List Change) (s : Seen) (call : Call) (r : Reply) (e f : EndState) → Held w late s → after_call s.socket call r ≡ Some e → settled e late ≡ Some f → IsAside e s.socket → IsAside f w.socket →
+aside : (w : Way) (late : List Change) (s : Seen) (call : Call) (r : Reply) (e f : EndState) → Held w late s → after_call s.socket call r ≡ Some e → settled e late ≡ Some f
+    → IsAside e s.socket → IsAside f w.socket →
     Goes (record w { socket = f }) s late late (Called call r ∷ []) (Calls call r)
 aside w late s call r e f held allowed due there here =
     one_call w late s call r e f w.reads held allowed due (waits_aside w late f here held.waits) (λ asleep told. rests_aside e s.socket there (held.rests asleep told))
@@ -132,13 +136,15 @@ allowed_now true x h = refl
 allowed_now false x h = absurd (cc)
 
 -- nothing happens
-untouched : (w v : Way) (late : List Change) (s : Seen) (call : Call) (r : Reply) (f : EndState) → Held w late s → f ≡ w.socket → v ≡ record w { socket = f } → after_call s.socket call r ≡ Some s.socket →
+untouched : (w v : Way) (late : List Change) (s : Seen) (call : Call) (r : Reply) (f : EndState) → Held w late s → f ≡ w.socket → v ≡ record w { socket = f }
+    → after_call s.socket call r ≡ Some s.socket →
     Goes v s late late (Called call r ∷ []) (Calls call r)
 untouched w v late s call r f held same after there =
     rw (after, same) (aside w late s call r s.socket w.socket held there held.due (record { readable = refl; armed = refl }) (record { readable = refl; armed = refl }))
 
 -- the next room must be reported
-blocks : (w v : Way) (late : List Change) (s : Seen) (call : Call) (f : EndState) → Held w late s → guard (not (is_writable w.socket)) (with_arm w.socket) ≡ Some f → v ≡ record w { socket = f } →
+blocks : (w v : Way) (late : List Change) (s : Seen) (call : Call) (f : EndState) → Held w late s → guard (not (is_writable w.socket)) (with_arm w.socket) ≡ Some f
+    → v ≡ record w { socket = f } →
     ((e : EndState) → guard (not (is_writable s.socket)) (with_arm s.socket) ≡ Some e → after_call s.socket call reply.Blocked ≡ Some e) →
     Goes v s late late (Called call reply.Blocked ∷ []) (Calls call reply.Blocked)
 blocks w v late s call f held allowed after there =
@@ -150,7 +156,8 @@ blocks w v late s call f held allowed after there =
     let room : s.socket.room ≡ false = rw b.room full in
     let err : s.socket.err ≡ false = b.err sound in
     let here : not (is_writable s.socket) ≡ true = rw (room, err) refl in
-    rw (after, p.1) (aside w late s call reply.Blocked (with_arm s.socket) (with_arm w.socket) held (there (with_arm s.socket) (allowed_now _ (with_arm s.socket) here)) (settle_arm late s.socket w.socket sound held.due)
+    rw (after, p.1) (aside w late s call reply.Blocked (with_arm s.socket) (with_arm w.socket) held (there (with_arm s.socket) (allowed_now _ (with_arm s.socket) here))
+    (settle_arm late s.socket w.socket sound held.due)
     (record { readable = refl; armed = refl }) (record { readable = refl; armed = refl }))
 
 sends : (w v : Way) (late : List Change) (s : Seen) (offer : List ℕ) (n : ℕ) (full : Bool) → Held w late s → Asked w v (Write offer) (reply.Wrote n full) →
@@ -160,13 +167,16 @@ sends w v late s offer n full held a =
     let p : ((w.socket.room && is_count n (length offer)) ≡ true) × (a.socket ≡ g w.socket) = passed _ _ a.socket a.allowed in
     let b : IsBeside w.socket s.socket = is_beside late s.socket w.socket held.due in
     let may : (s.socket.room && is_count n (length offer)) ≡ true = rw b.room p.0 in
-    rw (a.after, p.1) (aside w late s (Write offer) (reply.Wrote n full) (g s.socket) (g w.socket) held (allowed_now _ (g s.socket) may) (settle_sent (take n offer) (not full) late s.socket w.socket held.due)
+    rw (a.after, p.1) (aside w late s (Write offer) (reply.Wrote n full) (g s.socket) (g w.socket) held (allowed_now _ (g s.socket) may)
+    (settle_sent (take n offer) (not full) late s.socket w.socket held.due)
     (record { readable = refl; armed = refl }) (record { readable = refl; armed = refl }))
 
-writes : (w v : Way) (late : List Change) (s : Seen) (offer : List ℕ) (r : Reply) → Held w late s → Asked w v (Write offer) r → Goes v s late (late_call r late) (at_call late (Write offer) r) (Calls (Write offer) r)
+writes : (w v : Way) (late : List Change) (s : Seen) (offer : List ℕ) (r : Reply) → Held w late s → Asked w v (Write offer) r
+    → Goes v s late (late_call r late) (at_call late (Write offer) r) (Calls (Write offer) r)
 writes w v late s offer (reply.Wrote n full) held a = sends w v late s offer n full held a
 writes w v late s offer reply.Blocked held a = blocks w v late s (Write offer) a.socket held a.allowed a.after (λ e h. h)
-writes w v late s offer reply.Interrupted held a = untouched w v late s (Write offer) reply.Interrupted a.socket held (let is : Some w.socket ≡ Some a.socket = a.allowed in cc) a.after refl
+writes w v late s offer reply.Interrupted held a = untouched w v late s (Write offer) reply.Interrupted a.socket held (let is : Some w.socket ≡ Some a.socket = a.allowed in cc)
+    a.after refl
 writes w v late s offer (reply.Failed kind) held a = fails w v late s (Write offer) kind held a
 writes w v late s offer (reply.Bytes n) held a = absurd (let never : None ≡ Some a.socket = a.allowed in cc)
 writes w v late s offer reply.End held a = absurd (let never : None ≡ Some a.socket = a.allowed in cc)
@@ -199,11 +209,13 @@ shuts w v late s (reply.Wrote n full) held a = absurd (let never : None ≡ Some
 shuts w v late s reply.Joined held a = absurd (let never : None ≡ Some a.socket = a.allowed in cc)
 shuts w v late s reply.Blocked held a = absurd (let never : None ≡ Some a.socket = a.allowed in cc)
 
-calls_of : (w v : Way) (late : List Change) (s : Seen) (call : Call) (r : Reply) → Held w late s → Asked w v call r → Goes v s late (late_call r late) (at_call late call r) (Calls call r)
+calls_of : (w v : Way) (late : List Change) (s : Seen) (call : Call) (r : Reply) → Held w late s → Asked w v call r
+    → Goes v s late (late_call r late) (at_call late call r) (Calls call r)
 calls_of w v late s (Read most) r held a = reads w v late s most r held a
 calls_of w v late s (Write offer) r held a = writes w v late s offer r held a
 calls_of w v late s Join r held a = joins w v late s r held a
 calls_of w v late s Shut r held a = shuts w v late s r held a
 
-pub calls : (w v : Way) (late : List Change) (s : Seen) (call : Call) (r : Reply) → Held w late s → step w (Calls call r) ≡ Some v → Goes v s late (late_call r late) (at_call late call r) (Calls call r)
+pub calls : (w v : Way) (late : List Change) (s : Seen) (call : Call) (r : Reply) → Held w late s → step w (Calls call r) ≡ Some v
+    → Goes v s late (late_call r late) (at_call late call r) (Calls call r)
 calls w v late s call r held h = calls_of w v late s call r held (asked_of w v call r h)

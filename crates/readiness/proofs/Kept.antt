@@ -31,8 +31,8 @@ pub record Held (w : Way) (late : List Change) (s : Seen) : Type 0 where
   pub queued : s.queued ≡ true → IsOnItsWay w
   pub owed : w.owed ≡ true → s.queued ≡ true
 
--- A step, after which the wire's socket is as in v: what happens where no wire answers by itself may happen there, and the
--- same is kept
+-- A step, after which the wire's socket is as in v: what happens where no wire answers by itself may happen there, and
+-- the same is kept
 pub record Goes (v : Way) (s : Seen) (late later : List Change) (happens : List Event) (made : Step) : Type 0 where
   pub next : Seen
   pub allowed : events s happens ≡ Some next
@@ -71,12 +71,14 @@ still_on_its_way : (w : Way) (e : EndState) (told : Bool) → IsOnItsWay w → I
 still_on_its_way w e told (inl queued) = inl (or_left w.queued told queued)
 still_on_its_way w e told (inr rest) = inr rest
 
-one_of_two : (w : Way) (e : EndState) (queued there told : Bool) → (queued ≡ true → IsOnItsWay w) → (there ≡ true → told ≡ true) → (queued ≡ true) ⊎ (there ≡ true) → IsOnItsWay (reported w e told)
+one_of_two : (w : Way) (e : EndState) (queued there told : Bool) → (queued ≡ true → IsOnItsWay w) → (there ≡ true → told ≡ true) → (queued ≡ true) ⊎ (there ≡ true)
+    → IsOnItsWay (reported w e told)
 one_of_two w e queued there told before here (inl h) = still_on_its_way w e told (before h)
 one_of_two w e queued there told before here (inr h) = inl (or_right w.queued told (here h))
 
 -- it is reported in both machines, or was on its way before
-pub queued_too : (w : Way) (e : EndState) (queued there told : Bool) → (queued ≡ true → IsOnItsWay w) → (there ≡ true → told ≡ true) → (queued || there) ≡ true → IsOnItsWay (reported w e told)
+pub queued_too : (w : Way) (e : EndState) (queued there told : Bool) → (queued ≡ true → IsOnItsWay w) → (there ≡ true → told ≡ true) → (queued || there) ≡ true
+    → IsOnItsWay (reported w e told)
 queued_too w e queued there told before here h = one_of_two w e queued there told before here (true_or queued there h)
 
 -- the change that was made
@@ -90,6 +92,7 @@ changed_of w v None h = absurd (cc)
 changed_of w v (Some t) h = record { told = t; is = refl; after = cc }
 
 -- once all that is late has come
-pub on_its_way_still : (w v : Way) (late : List Change) (s : Seen) → Held w late s → (c : Caught s late w.socket) → (IsOnItsWay w → IsOnItsWay v) → Waits w late → c.seen.queued ≡ true → IsOnItsWay v
+pub on_its_way_still : (w v : Way) (late : List Change) (s : Seen) → Held w late s → (c : Caught s late w.socket) → (IsOnItsWay w → IsOnItsWay v) → Waits w late
+    → c.seen.queued ≡ true → IsOnItsWay v
 on_its_way_still w v late s held c still (Prompt none) q = still (held.queued (let same : c.seen ≡ s = c.same none in rw same at q))
 on_its_way_still w v late s held c still (Behind asleep) q = still (on_its_way w asleep.coming)

@@ -43,7 +43,8 @@ settle_back P back (c ∷ late) e f due last = back_more P back late e f c (valu
 abbrev pub GoesBeside : (EndState → EndState) → (EndState → Type 0) → Type 0
 GoesBeside g P = (c : Change) (e f : EndState) → value_of (change_of e c) ≡ Some f → P f → value_of (change_of (g e) c) ≡ Some (g f)
 
-beside_more : (g : EndState → EndState) (P : EndState → Type 0) → GoesBack P → GoesBeside g P → (late : List Change) (e f : EndState) (c : Change) → P f → (o : Option EndState) → value_of (change_of e c) ≡ o →
+beside_more : (g : EndState → EndState) (P : EndState → Type 0) → GoesBack P → GoesBeside g P → (late : List Change) (e f : EndState) (c : Change) → P f → (o : Option EndState)
+    → value_of (change_of e c) ≡ o →
     ((x : EndState) → settled x late ≡ Some f → settled (g x) late ≡ Some (g f)) → option_and_then (λ (x : EndState). settled x late) o ≡ Some f →
     option_and_then (λ (x : EndState). settled x late) (value_of (change_of (g e) c)) ≡ Some (g f)
 beside_more g P back beside late e f c last None is rest due = absurd (cc)
@@ -51,7 +52,8 @@ beside_more g P back beside late e f c last (Some x) is rest due =
     let here : value_of (change_of (g e) c) ≡ Some (g x) = beside c e x is (settle_back P back late x f due last) in
     rw here (rest x due)
 
-pub settle_beside : (g : EndState → EndState) (P : EndState → Type 0) → GoesBack P → GoesBeside g P → (late : List Change) (e f : EndState) → P f → settled e late ≡ Some f → settled (g e) late ≡ Some (g f)
+pub settle_beside : (g : EndState → EndState) (P : EndState → Type 0) → GoesBack P → GoesBeside g P → (late : List Change) (e f : EndState) → P f → settled e late ≡ Some f
+    → settled (g e) late ≡ Some (g f)
 settle_beside g P back beside [] e f last due = let same : e ≡ f = cc in rw same refl
 settle_beside g P back beside (c ∷ late) e f last due =
     beside_more g P back beside late e f c last (value_of (change_of e c)) refl (λ x h. settle_beside g P back beside late x f last h) due
@@ -65,7 +67,8 @@ pub made_of : (b : Bool) (t : Told EndState Bool) (f : EndState) → value_of (g
 made_of true t f h = record { may = refl; is = cc }
 made_of false t f h = absurd (cc)
 
-pub made_too : (g : EndState → EndState) (b : Bool) (t u : Told EndState Bool) (f : EndState) → value_of (guard b t) ≡ Some f → (f ≡ t.value → u.value ≡ g t.value) → value_of (guard b u) ≡ Some (g f)
+pub made_too : (g : EndState → EndState) (b : Bool) (t u : Told EndState Bool) (f : EndState) → value_of (guard b t) ≡ Some f → (f ≡ t.value → u.value ≡ g t.value)
+    → value_of (guard b u) ≡ Some (g f)
 made_too g true t u f h same = let is : f ≡ t.value = cc in let then : u.value ≡ g t.value = same is in rw (is, then) refl
 made_too g false t u f h same = absurd (cc)
 
@@ -119,7 +122,8 @@ sent_beside bytes room (Bytes more) e f h last = made_too (with_sent bytes room)
 sent_beside bytes room Fin e f h last = made_too (with_sent bytes room) _ _ _ f h (λ is. refl)
 sent_beside bytes room Error e f h last = made_too (with_sent bytes room) _ _ _ f h (λ is. refl)
 
-pub settle_sent : (bytes : List ℕ) (room : Bool) (late : List Change) (e f : EndState) → settled e late ≡ Some f → settled (with_sent bytes room e) late ≡ Some (with_sent bytes room f)
+pub settle_sent : (bytes : List ℕ) (room : Bool) (late : List Change) (e f : EndState) → settled e late ≡ Some f → settled (with_sent bytes room e) late
+    ≡ Some (with_sent bytes room f)
 settle_sent bytes room late e f due = settle_beside (with_sent bytes room) Any any_back (sent_beside bytes room) late e f tt due
 
 abbrev pub with_shut : EndState → EndState

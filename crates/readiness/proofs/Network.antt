@@ -32,7 +32,10 @@ nonempty_more xs ys h =
 
 heard : (c : Change) (e : EndState) (t : Told EndState Bool) → change_of e c ≡ Some t → Heard e t
 heard (Bytes bytes) e t h =
-    let p : Passed (is_nonempty bytes && (not e.fin && not e.err)) (record { value = record e { arrived = e.arrived ++ bytes; unread = e.unread ++ bytes; read_armed = false }; told = e.read_armed }) t = passed _ _ t h in
+    let p : Passed (is_nonempty bytes && (not e.fin && not e.err)) (record {
+      value = record e { arrived = e.arrived ++ bytes; unread = e.unread ++ bytes; read_armed = false };
+      told = e.read_armed;
+    }) t = passed _ _ t h in
     rw p.is (record {
       readable = or_left (is_nonempty (e.unread ++ bytes)) (e.fin || e.err) (nonempty_more e.unread bytes (first_so (is_nonempty bytes) _ p.may));
       told = λ armed. armed;
@@ -49,7 +52,8 @@ heard Error e t h =
 
 -- A change while the wire does not read and was not told is late
 
-first_told : (w : Way) (late : List Change) (s : Seen) (t : Told EndState Bool) → Held w late s → Heard w.socket t → w.reads ≡ false → w.told ≡ false → Waits w late → WillBeTold (reported w t.value t.told)
+first_told : (w : Way) (late : List Change) (s : Seen) (t : Told EndState Bool) → Held w late s → Heard w.socket t → w.reads ≡ false → w.told ≡ false → Waits w late
+    → WillBeTold (reported w t.value t.told)
 first_told w late s t held h reads told (Behind asleep) = still_coming w t.value t.told asleep.coming
 first_told w late s t held h reads told (Prompt none) =
     let same : s.socket ≡ w.socket = same_socket s w late held.due none in
@@ -86,7 +90,8 @@ nothing_late w late awake (Behind asleep) = absurd (let yes : is_late w ≡ true
 late_unheard : (w : Way) → w.reads ≡ false → w.told ≡ false → is_late w ≡ true
 late_unheard w reads told = rw (reads, told) refl
 
-came_now : (w : Way) (late : List Change) (s : Seen) (c : Change) (t : Told EndState Bool) → late ≡ [] → s.socket ≡ w.socket → change_of w.socket c ≡ Some t → is_late w ≡ false → Held w late s →
+came_now : (w : Way) (late : List Change) (s : Seen) (c : Change) (t : Told EndState Bool) → late ≡ [] → s.socket ≡ w.socket → change_of w.socket c ≡ Some t → is_late w ≡ false
+    → Held w late s →
     Goes (reported w t.value t.told) s late late (Came c ∷ []) (Comes c)
 came_now w late s c t none same is awake held =
     let there : change_of s.socket c ≡ Some t = rw same is in
@@ -114,7 +119,8 @@ comes_either w late s c t held is false awake =
     let none : late ≡ [] = nothing_late w late awake held.waits in
     came_now w late s c t none (same_socket s w late held.due none) is awake held
 
-pub comes : (w v : Way) (late : List Change) (s : Seen) (c : Change) → Held w late s → step w (Comes c) ≡ Some v → Goes v s late (late_after w late (Comes c)) (meanwhile w late (Comes c)) (Comes c)
+pub comes : (w v : Way) (late : List Change) (s : Seen) (c : Change) → Held w late s → step w (Comes c) ≡ Some v
+    → Goes v s late (late_after w late (Comes c)) (meanwhile w late (Comes c)) (Comes c)
 comes w v late s c held h =
     let ch : Changed w v (change_of w.socket c) = changed_of w v (change_of w.socket c) h in
     rw ch.after (comes_either w late s c ch.told held ch.is (is_late w) refl)

@@ -98,14 +98,16 @@ named false names h is = absurd (cc)
 
 polled_of : (w v : Way) (names : Bool) → polled w names ≡ Some v → IsPolled w v names
 polled_of w v names h =
-    let p : ((w.queued && (not (is_readable w.socket) || names)) ≡ true) × (v ≡ record w { queued = false; taken = w.taken ++ names ∷ [] }) = passed _ (record w { queued = false; taken = w.taken ++ names ∷ [] }) v h in
+    let p : ((w.queued && (not (is_readable w.socket) || names)) ≡ true) × (v ≡ record w { queued = false; taken = w.taken ++ names ∷ [] }) =
+    passed _ (record w { queued = false; taken = w.taken ++ names ∷ [] }) v h in
     record { naming = named (is_readable w.socket) names (second_so w.queued _ p.0); after = p.1 }
 
 some_behind : (xs : List Bool) (b : Bool) → (xs ++ b ∷ []) ≡ [] → ⊥
 some_behind [] b none = cc
 some_behind (x ∷ xs) b none = cc
 
-waits_polled : (w : Way) (late : List Change) (names : Bool) → (is_readable w.socket ≡ true → names ≡ true) → Waits w late → Waits (record w { queued = false; taken = w.taken ++ names ∷ [] }) late
+waits_polled : (w : Way) (late : List Change) (names : Bool) → (is_readable w.socket ≡ true → names ≡ true) → Waits w late
+    → Waits (record w { queued = false; taken = w.taken ++ names ∷ [] }) late
 waits_polled w late names naming (Prompt none) = Prompt none
 waits_polled w late names naming (Behind asleep) = Behind (record {
   reads = asleep.reads;
@@ -159,7 +161,8 @@ other_first : (w : Way) (rest : List Bool) → w.taken ≡ false ∷ rest → Wi
 other_first w rest is (inl queued) = inl queued
 other_first w rest is (inr taken) = inr (behind_first rest (rw is at taken))
 
-waits_other : (w : Way) (late : List Change) (rest : List Bool) → w.taken ≡ false ∷ rest → Waits w late → Waits (record w { taken = rest; owed = true; told = w.told || false }) late
+waits_other : (w : Way) (late : List Change) (rest : List Bool) → w.taken ≡ false ∷ rest → Waits w late
+    → Waits (record w { taken = rest; owed = true; told = w.told || false }) late
 waits_other w late rest is (Prompt none) = Prompt none
 waits_other w late rest is (Behind asleep) = Behind (record {
   reads = asleep.reads;
@@ -184,7 +187,8 @@ told_other w late s rest held is = record {
   };
 }
 
-telling : (w v : Way) (late : List Change) (s : Seen) → Held w late s → (taken : List Bool) → w.taken ≡ taken → tells w taken ≡ Some v → Goes v s late (late_telling taken late) (at_telling taken late) Tells
+telling : (w v : Way) (late : List Change) (s : Seen) → Held w late s → (taken : List Bool) → w.taken ≡ taken → tells w taken ≡ Some v
+    → Goes v s late (late_telling taken late) (at_telling taken late) Tells
 telling w v late s held [] is h = absurd (cc)
 telling w v late s held (true ∷ rest) is h =
     let after : v ≡ record w { taken = rest; owed = true; told = w.told || true } = cc in
@@ -297,7 +301,8 @@ blocks_again s most r =
     let same : record (s.socket) { read_armed = true } ≡ s.socket = armed_again s.socket r.armed in
     rw r.empty (ap (λ (e : EndState). Some (record s { socket = e })) same)
 
-pub unasked : (w v : Way) (late : List Change) (s : Seen) (most : ℕ) → Held w late s → step w (Unasked most) ≡ Some v → Goes v s late late (Called (Read most) reply.Blocked ∷ []) (Unasked most)
+pub unasked : (w v : Way) (late : List Change) (s : Seen) (most : ℕ) → Held w late s → step w (Unasked most) ≡ Some v
+    → Goes v s late late (Called (Read most) reply.Blocked ∷ []) (Unasked most)
 unasked w v late s most held h =
     let p : ((not w.reads && not w.told) ≡ true) × (v ≡ w) = passed (not w.reads && not w.told) w v h in
     let none : (w.reads ≡ false) × (w.told ≡ false) = both_down w.reads w.told p.0 in

@@ -59,7 +59,8 @@ went_on w v to late s st steps is g r =
       seen = r.seen;
       allowed = rw is (events-append s es more ∙ rw g.allowed r.allowed);
       answers = rw is (replies-append es more ∙ rw (g.answers, r.answers) refl);
-      changes = rw (is, came-append es more) (seam (came_in es) (came_in more) (late_after w late st) (still_late v (late_after w late st) steps) late (change_in st) (changes_of steps) g.changes r.changes);
+      changes = rw (is, came-append es more) (seam (came_in es) (came_in more) (late_after w late st) (still_late v (late_after w late st) steps) late (change_in st)
+          (changes_of steps) g.changes r.changes);
       kept = rw is r.kept;
     }
 

@@ -1,5 +1,5 @@
--- The same connection in the machine that knows no such wire (`kernel_model`). Part of the promises. While the wire does
--- not read and no report was passed on to it, what comes to be read is late there: it comes with the report.
+-- The same connection in the machine that knows no such wire (`kernel_model`). Part of the promises. While the wire
+-- does not read and no report was passed on to it, what comes to be read is late there: it comes with the report.
 use Rattle.std.specs.Prelude.{◌≡◌, ◌≢◌, ◌⊎◌, Bool, true, false, not, ◌&&◌, ◌||◌, if◌then◌else◌, List, [], ◌∷◌, ◌++◌, map, Contains, Option, Some, option_map, option_and_then, unwrap_or}
 use Rattle.token.specs.declared.side.Side.{Side}
 use Rattle.kernel_model.specs.Outcome.{guard, Told}
@@ -14,7 +14,8 @@ pub record Seen : Type 0 where
   pub queued : Bool
 
 -- What may happen to it: a change of the network (`arrive`, `fin`, `reset`), room for writes (`room`), a report without
--- cause (`spurious`), one that is taken back (`vanish`), a poll that hands its name over (`poll`), and a call with its reply
+-- cause (`spurious`), one that is taken back (`vanish`), a poll that hands its name over (`poll`), and a call with its
+-- reply
 pub data Event : Type 0 where
   Came : Change → Event
   GotRoom : Event
@@ -46,7 +47,8 @@ unseen side = record { socket = opened side; queued = false }
 abbrev pub is_late : Way → Bool
 is_late w = not w.reads && not w.told
 
--- what a report does there when it is passed on: what is late comes, if the report names reading, and its name is queued
+-- what a report does there when it is passed on: what is late comes, if the report names reading, and its name is
+-- queued
 abbrev pub at_telling : List Bool → List Change → List Event
 at_telling [] late = []
 at_telling (true ∷ rest) late = map Came late ++ Stray ∷ []
@@ -57,8 +59,8 @@ abbrev pub at_call : List Change → Call → Reply → List Event
 at_call late call (reply.Failed kind) = map Came late ++ Called call (reply.Failed kind) ∷ []
 at_call late call r = Called call r ∷ []
 
--- What happens there at a step. A report vanishes there, too, even if its name was not queued; but what is still owed stays
--- queued
+-- What happens there at a step. A report vanishes there, too, even if its name was not queued; but what is still owed
+-- stays queued
 abbrev pub meanwhile : Way → List Change → Step → List Event
 meanwhile w late (Comes change) = if is_late w then [] else Came change ∷ []
 meanwhile w late HasRoom = GotRoom ∷ []
@@ -91,7 +93,8 @@ late_after w late s = late
 -- what happens there at a list of steps, in order, and what is late after it
 abbrev pub happened : Way → List Change → List Step → List Event
 happened w late [] = []
-happened w late (s ∷ steps) = meanwhile w late s ++ unwrap_or (option_map (λ (v : Way). happened v (late_after w late s) steps) (step w s)) []
+happened w late (s ∷ steps) = meanwhile w late s ++ unwrap_or (option_map (λ (v : Way). happened v (late_after w late s) steps) (step w s))
+    []
 
 abbrev pub still_late : Way → List Change → List Step → List Change
 still_late w late [] = late
@@ -122,9 +125,9 @@ IsOnItsWay w = (w.queued ≡ true) ⊎ ((w.taken ≢ []) ⊎ (w.owed ≡ true))
 abbrev pub WillBeTold : Way → Type 0
 WillBeTold w = (w.queued ≡ true) ⊎ Contains w.taken true
 
--- Every run of the steps is a run of the machine: all that happens there may happen there. Its wire has the same answers,
--- in order. The same comes to its end, in order, and what has not come yet are the last changes. Its name is queued only
--- while a report is on its way
+-- Every run of the steps is a run of the machine: all that happens there may happen there. Its wire has the same
+-- answers, in order. The same comes to its end, in order, and what has not come yet are the last changes. Its name is
+-- queued only while a report is on its way
 pub record IsDelayed (from to : Way) (steps : List Step) (side : Side) : Type 0 where
   pub seen : Seen
   pub allowed : events (unseen side) (happened from [] steps) ≡ Some seen
@@ -134,8 +137,8 @@ pub record IsDelayed (from to : Way) (steps : List Step) (side : Side) : Type 0 
   pub late : still_late from [] steps ≢ [] → WillBeTold to
   pub caught_up : still_late from [] steps ≡ [] → seen.socket ≡ to.socket
 
--- nothing is missed: if there is nothing to read, the system reports what comes next, and if there is, its report is on its
--- way to the wire
+-- nothing is missed: if there is nothing to read, the system reports what comes next, and if there is, its report is on
+-- its way to the wire
 pub record IsCovered (w : Way) : Type 0 where
   pub armed : is_readable w.socket ≡ false → w.socket.read_armed ≡ true
   pub coming : is_readable w.socket ≡ true → WillBeTold w
@@ -147,7 +150,8 @@ MissesNothing w = w.reads ≡ false → w.told ≡ false → IsCovered w
 -- for every run from the opening of a connection, whatever was passed on before
 
 abbrev pub WiresAreDelayed : Type 0
-WiresAreDelayed = (side : Side) (told : Bool) (steps : List Step) (w : Way) → run (opening side told) steps ≡ Some w → IsDelayed (opening side told) w steps side
+WiresAreDelayed = (side : Side) (told : Bool) (steps : List Step) (w : Way) → run (opening side told) steps ≡ Some w
+    → IsDelayed (opening side told) w steps side
 
 abbrev pub WiresMissNothing : Type 0
 WiresMissNothing = (side : Side) (told : Bool) (steps : List Step) (w : Way) → run (opening side told) steps ≡ Some w → MissesNothing w

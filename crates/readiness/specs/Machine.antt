@@ -1,6 +1,6 @@
 -- What is on its way from one socket to its wire. Part of the promises. A poller takes the socket's reports from the
--- system (epoll(7), edge-triggered), and passes on to the wire those that name reading, while any thread makes the wire's
--- calls. The socket is an end of the modelled kernel.
+-- system (epoll(7), edge-triggered), and passes on to the wire those that name reading, while any thread makes the
+-- wire's calls. The socket is an end of the modelled kernel.
 use Rattle.std.specs.Prelude.{ℕ, Bool, true, false, not, ◌&&◌, ◌||◌, List, [], ◌∷◌, ◌++◌, Option, Some, None, option_map, option_and_then}
 use Rattle.token.specs.declared.side.Side.{Side}
 use Rattle.kernel_model.specs.Outcome.{guard, Told}
@@ -34,9 +34,10 @@ after_call e (Write offer) r = after_write e offer r
 after_call e Join r = after_join e r
 after_call e Shut r = after_shut e r
 
--- The socket; whether a report of it is queued; for each report that a poll has taken and that is not passed on yet, the oldest
--- first, whether it names reading; whether one was passed on that the poll has not handed over yet; whether the wire had a report of
--- reading since it last looked; and whether the wire reads its socket, or answers "would block" by itself
+-- The socket; whether a report of it is queued; for each report that a poll has taken and that is not passed on yet,
+-- the oldest first, whether it names reading; whether one was passed on that the poll has not handed over yet; whether
+-- the wire had a report of reading since it last looked; and whether the wire reads its socket, or answers "would
+-- block" by itself
 pub record Way : Type 0 where
   pub socket : EndState
   pub queued : Bool
@@ -45,10 +46,10 @@ pub record Way : Type 0 where
   pub told : Bool
   pub reads : Bool
 
--- One step of the network (`Comes`, `HasRoom`), the system (`Spurious`, `Vanished`, `Polled`), the poller (`Tells`, `Old`,
--- `Handed`) or the wire (`Looks`, `Calls`, `Unasked`). `Vanished` takes a queued report back. `Old` passes on a report of an
--- earlier connection under the same name. `Handed` is the end of a poll: what was passed on is handed over. `Unasked` is the
--- answer "would block" that the wire gives to a read by itself
+-- One step of the network (`Comes`, `HasRoom`), the system (`Spurious`, `Vanished`, `Polled`), the poller (`Tells`,
+-- `Old`, `Handed`) or the wire (`Looks`, `Calls`, `Unasked`). `Vanished` takes a queued report back. `Old` passes on a
+-- report of an earlier connection under the same name. `Handed` is the end of a poll: what was passed on is handed
+-- over. `Unasked` is the answer "would block" that the wire gives to a read by itself
 pub data Step : Type 0 where
   Comes : Change → Step
   HasRoom : Step

@@ -2,12 +2,12 @@
 //!
 //! Where a read would block, the system reports the socket again when something can be read there (epoll(7),
 //! edge-triggered), and the report names reading. Until then a read would give the same answer. So a wire keeps an
-//! [`Attention`]: it ends with a read that would block, and begins again when the poller passes on a report that names
-//! reading ([`Reports`]). In between the wire answers "would block" without a system call.
+//! [`Attention`]: it ends with a read that would block, and begins again when the poller passes on a report that
+//! names reading ([`Reports`]). In between the wire answers "would block" without a system call.
 //!
-//! [`laws`] says that nothing is missed by this: over an end of the modelled kernel, in every order of the steps of the
-//! network, the system, the poller and the wire, such a wire gives the answers that the end could give if what comes came
-//! when its report is passed on.
+//! [`laws`] says that nothing is missed by this: over an end of the modelled kernel, in every order of the steps of
+//! the network, the system, the poller and the wire, such a wire gives the answers that the end could give if what
+//! comes came when its report is passed on.
 #![tactic(auto)]
 
 mod attention;

@@ -8,7 +8,8 @@ use std::marker::Model;
 use std::sync::Arc;
 use token::Side;
 
-/// For each end of each slot's connection, whether a report that names reading was passed on since its wire last looked.
+/// For each end of each slot's connection, whether a report that names reading was passed on since its wire last
+/// looked.
 ///
 /// In a clause it is the number of its slots.
 #[derive(Drop)]
@@ -41,7 +42,8 @@ impl Model for Ends {
     ghost view = { λ e. (arc_value e.client, arc_value e.target) };
 }
 
-/// What is reported of one end. It has the word of that end and no other, so a look finds and clears what was reported of that end.
+/// What is reported of one end. It has the word of that end and no other, so a look finds and clears what was
+/// reported of that end.
 ///
 /// In a clause it is the name of the word.
 #[derive(Drop)]
@@ -71,8 +73,8 @@ impl Reports {
         Ok(Reports { ends })
     }
 
-    /// Passes on a report that names reading, at the word of that end alone. A slot that it does not have is left alone: its
-    /// wires always read.
+    /// Passes on a report that names reading, at the word of that end alone. A slot that it does not have is left
+    /// alone: its wires always read.
     pub fn tell(&self, slot: usize, side: Side) -> Option<Heard>
         ensures { result ≡ word_of self.now slot side }
     {

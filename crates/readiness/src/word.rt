@@ -1,5 +1,5 @@
-// What is reported of one end, and the two steps on it, which are sequentially consistent, as are those of the claim words. A
-// word knows whose it is, so that a clause can say at which word a step was made.
+// What is reported of one end, and the two steps on it, which are sequentially consistent, as are those of the claim
+// words. A word knows whose it is, so that a clause can say at which word a step was made.
 ghost use Rattle.std.specs.Prelude.{◌≡◌};
 
 use std::marker::Model;
@@ -53,8 +53,8 @@ impl Word {
     pub(crate) fn tell(&self) -> Heard
         ensures { result ≡ self.now }
     {
-        // Pairs with `take`. The poller does so before it hands its reports over, and so before the report becomes a note:
-        // a holder who takes that note finds what was passed on.
+        // Pairs with `take`. The poller does so before it hands its reports over, and so before the report becomes a
+        // note: a holder who takes that note finds what was passed on.
         self.told.store(true, SeqCst);
         Heard {
             slot: self.slot,
@@ -64,8 +64,8 @@ impl Word {
 
     /// Whether a report was passed on since the last look, which this is.
     pub(crate) fn take(&self) -> bool {
-        // Pairs with `tell`. What is passed on after the exchange stands until the next look. Most looks find nothing, and a
-        // load is cheaper than an exchange.
+        // Pairs with `tell`. What is passed on after the exchange stands until the next look. Most looks find
+        // nothing, and a load is cheaper than an exchange.
         self.told.load(SeqCst) && self.told.swap(false, SeqCst)
     }
 }

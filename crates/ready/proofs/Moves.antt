@@ -59,7 +59,8 @@ module _ {T : Type 0} where
           put_once = λ k. sums_same (λ u. u.put) views port (length (rule.gone ++ (x ∷ items))) v w at refl rule.put_once k ∙ ap (λ l. once_below (length l) k) (sym same);
           taken_once = λ k. sums_more (λ u. u.taken) views port (length rule.gone) v w x at refl rule.taken_once k ∙ ap (λ m. once_below m k) (sym (one_longer rule.gone x));
           puts_fit = subst (λ l. All (λ u. Fits l u.put) (set views port w)) (sym same)
-              (All-set (λ u. Fits (rule.gone ++ (x ∷ items)) u.put) views port w (each_at (λ u. Fits (rule.gone ++ (x ∷ items)) u.put) views port v at rule.puts_fit) rule.puts_fit);
+              (All-set (λ u. Fits (rule.gone ++ (x ∷ items)) u.put) views port w (each_at (λ u. Fits (rule.gone ++ (x ∷ items)) u.put) views port v at rule.puts_fit)
+              rule.puts_fit);
           takes_fit = All-set (λ u. Fits gone u.taken) views port w (fits_more rule.gone x v.taken (each_at (λ u. Fits rule.gone u.taken) views port v at rule.takes_fit))
               (weaker (λ u. Fits rule.gone u.taken) (λ u. Fits gone u.taken) views (λ u. fits_longer rule.gone x u.taken) rule.takes_fit);
           alone = still_alone views port (length (rule.gone ++ (x ∷ items))) v at rule.alone (length (gone ++ items)) w (λ lone. (lone, λ e. e ∙ ap length (sym same)));

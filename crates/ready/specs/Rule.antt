@@ -22,10 +22,11 @@ module _ {T : Type 0} where
 
   -- an end beside which no other was made yet has put all that was put
   abbrev pub FirstPutAll : ℕ → List (History T) → Type 0
-  FirstPutAll count views = (number : ℕ) (v : History T) → get_elem? views number ≡ some v → v.alone ≡ true → (views ≡ v ∷ []) × (length v.put ≡ count)
+  FirstPutAll count views = (number : ℕ) (v : History T) → get_elem? views number ≡ some v → v.alone ≡ true → (views ≡ v ∷ [])
+      × (length v.put ≡ count)
 
-  -- A place counts the items that were put before. All that was ever put, in order, is what was taken and then what the queue holds.
-  -- Over all ends each place was put once, and each place below the first that is left was taken once
+  -- A place counts the items that were put before. All that was ever put, in order, is what was taken and then what the
+  -- queue holds. Over all ends each place was put once, and each place below the first that is left was taken once
   pub record QueueRule (items : List T) (views : List (History T)) : Type 0 where
     pub gone : List T
     pub put_once : (place : ℕ) → sum_by (λ v. times place v.put) views ≡ once_below (length (gone ++ items)) place

@@ -79,7 +79,8 @@ in_order first (suc n) = in_order first n ++ (n, first + n) ∷ []
 abbrev pub opened : ℕ → ℕ → EndState ℕ
 opened first slots = record { capacity = slots; history = record blank { put = in_order first slots } }
 
--- One step on the bits of the idle ends, with its answer: the bits; or bits that were set or cleared, and what was there before
+-- One step on the bits of the idle ends, with its answer: the bits; or bits that were set or cleared, and what was
+-- there before
 pub data BitStep : Type 0 where
   ReadBits : ℕ → BitStep
   SetBits : ℕ → ℕ → BitStep

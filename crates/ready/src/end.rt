@@ -56,8 +56,8 @@ impl End {
         Ok(())
     }
 
-    // Wakes an idle end for the ticket that this end has just put, unless this end will come back for it itself. An end
-    // that is woken before the ticket is in the queue could look, find none, and go to sleep beside it.
+    // Wakes an idle end for the ticket that this end has just put, unless this end will come back for it itself. An
+    // end that is woken before the ticket is in the queue could look, find none, and go to sleep beside it.
     fn wake_for(&mut self, _ticket: Ticket)
         requires { PutLast _ticket (view self.old.pass) }
         ensures comes_back { self.new.comes_back ≡ false }

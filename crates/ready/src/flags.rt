@@ -1,6 +1,6 @@
 // The words that the ends of a queue of tickets share, and all the atomic steps on them. Each step is sequentially
-// consistent, as are those of the queue: all threads see them in one order. A comment at each step names the step that
-// it pairs with.
+// consistent, as are those of the queue: all threads see them in one order. A comment at each step names the step
+// that it pairs with.
 ghost use Rattle.std.specs.Prelude.{◌≡◌, ◌≢◌, ◌<◌, ◌↔◌, ℕ, IsSome, IsTrue, None, true, not};
 ghost use Rattle.ready.specs.Steps.{BitStep, ReadBits, SetBits, ClearedBits, bit_of, has_bit};
 
@@ -9,11 +9,11 @@ use crate::ticket::Ticket;
 use std::sync::atomic::Ordering::SeqCst;
 use std::sync::atomic::{AtomicBool, AtomicU64};
 
-/// A word of bits that threads share. Each method is one step, and there is no other: none reads the bits in one step and
-/// writes them in another, between which a second thread's step could be lost.
+/// A word of bits that threads share. Each method is one step, and there is no other: none reads the bits in one step
+/// and writes them in another, between which a second thread's step could be lost.
 ///
-/// No clause can name what a word holds, so the trait leaves open what a step does. What is proved of any such word says
-/// which steps are made on it, and what their answers come to.
+/// No clause can name what a word holds, so the trait leaves open what a step does. What is proved of any such word
+/// says which steps are made on it, and what their answers come to.
 pub(crate) trait Bits {
     // What a step may do: the step with its answer, and the word.
     ghost did: { BitStep → Self → Type 0 };
@@ -51,8 +51,8 @@ impl Bits for AtomicU64 {
 #[derive(Drop)]
 pub(crate) struct IdleBits<W = AtomicU64>(W);
 
-/// One look at the bits of the idle ends found none set. Only [`IdleBits::all_busy`] makes one, and it cannot be copied: who
-/// asks for one asks for a look of its own.
+/// One look at the bits of the idle ends found none set. Only [`IdleBits::all_busy`] makes one, and it cannot be
+/// copied: who asks for one asks for a look of its own.
 #[derive(Drop)]
 pub struct AllBusy {
     bits: u64,
@@ -61,14 +61,15 @@ pub struct AllBusy {
 
 /// An end that has announced that it is idle. It has to look at the queue before it parks.
 ///
-/// Only [`IdleBits::announce`] makes one. It can be neither copied nor dropped, so each announcement is withdrawn once.
+/// Only [`IdleBits::announce`] makes one. It can be neither copied nor dropped, so each announcement is withdrawn
+/// once.
 pub(crate) struct Announced {
     end: usize,
     ghost few: { end < 32 },
 }
 
-/// Another thread has woken an end that had announced itself. Only [`IdleBits::withdraw`] makes one, and it cannot be dropped: an
-/// end that found nothing takes the wake itself, and another one passes it on.
+/// Another thread has woken an end that had announced itself. Only [`IdleBits::withdraw`] makes one, and it cannot be
+/// dropped: an end that found nothing takes the wake itself, and another one passes it on.
 pub(crate) struct SpentWake(());
 
 impl SpentWake {
@@ -100,17 +101,18 @@ impl<W: Bits> IdleBits<W> {
         ensures same { result.end ≡ end }
         ensures set { (before : ℕ) × W.did (SetBits (bit_of end) before) self.now.0 }
     {
-        // Pairs with `read`. A put pushes and then reads the bits; an end sets its bit and then looks. So one of the two
-        // sees the other's step. If an end looked first and set the bit afterwards, a put could come in between: it
-        // would find no bit, and the end would park beside its ticket.
+        // Pairs with `read`. A put pushes and then reads the bits; an end sets its bit and then looks. So one of the
+        // two sees the other's step. If an end looked first and set the bit afterwards, a put could come in between:
+        // it would find no bit, and the end would park beside its ticket.
         self.0.set(1u64 << end);
         Announced { end }
     }
 
-    /// Clears the bit of an end that has announced itself. The wake that another thread spent on it, if that had cleared it
-    /// before.
+    /// Clears the bit of an end that has announced itself. The wake that another thread spent on it, if that had
+    /// cleared it before.
     pub(crate) fn withdraw(&self, announced: Announced) -> Option<SpentWake>
-        ensures cleared { (before : ℕ) × W.did (ClearedBits (bit_of announced.end) before) self.now.0 × (IsSome result ↔ IsTrue (not (has_bit announced.end before))) }
+        ensures cleared { (before : ℕ) × W.did (ClearedBits (bit_of announced.end) before) self.now.0
+            × (IsSome result ↔ IsTrue (not (has_bit announced.end before))) }
     {
         // Pairs with `wake`: only one of the two finds the bit. With a load and then a store, both could find it, and
         // nobody would pass that wake on: the other put's ticket would wait until this end comes back, while a third
@@ -136,8 +138,8 @@ impl<W: Bits> IdleBits<W> {
     pub(crate) fn read(&self) -> u64
         ensures { W.did (ReadBits result) self.now.0 }
     {
-        // Pairs with `announce`. An end whose bit is set after this load looks at the queue after it, and so finds what
-        // was pushed before.
+        // Pairs with `announce`. An end whose bit is set after this load looks at the queue after it, and so finds
+        // what was pushed before.
         self.0.read()
     }
 
@@ -145,7 +147,8 @@ impl<W: Bits> IdleBits<W> {
     pub(crate) fn all_busy(&self) -> Option<AllBusy>
         ensures looked { (bits : ℕ) × W.did (ReadBits bits) self.now.0 × (IsSome result ↔ bits ≡ 0) }
     {
-        // Pairs with nothing: an end may announce itself right after it. Who keeps a ticket for that has to come back to it.
+        // Pairs with nothing: an end may announce itself right after it. Who keeps a ticket for that has to come back
+        // to it.
         let bits = self.0.read();
         if bits == 0 {
             Some(AllBusy { bits })
@@ -159,8 +162,8 @@ impl<W: Bits> IdleBits<W> {
 #[derive(Drop)]
 pub(crate) struct ClosedMark(AtomicBool);
 
-/// What a step on the mark saw or made of it. Only such a step makes one, and it cannot be copied: who asks for one asks
-/// for a step of its own.
+/// What a step on the mark saw or made of it. Only such a step makes one, and it cannot be copied: who asks for one
+/// asks for a step of its own.
 #[derive(Drop)]
 pub(crate) struct MarkSeen {
     closed: bool,
@@ -183,8 +186,8 @@ impl ClosedMark {
     pub(crate) fn set(&self) -> MarkSeen
         ensures { result.closed ≡ true }
     {
-        // Pairs with `read`. The mark is set before the ends are woken: an end that a wake reaches finds it. The other
-        // way round, an end could spend its wake, find no mark and sleep forever.
+        // Pairs with `read`. The mark is set before the ends are woken: an end that a wake reaches finds it. The
+        // other way round, an end could spend its wake, find no mark and sleep forever.
         self.0.store(true, SeqCst);
         MarkSeen { closed: true }
     }

@@ -33,8 +33,8 @@ impl Model for FreeQueue {
 }
 
 impl FreeQueue {
-    /// Makes a queue that holds this many slots, from the first on, in order, and its ends. This allocates all the memory
-    /// that it ever uses.
+    /// Makes a queue that holds this many slots, from the first on, in order, and its ends. This allocates all the
+    /// memory that it ever uses.
     ///
     /// The first end has put the slots, the first one at place 0.
     ///

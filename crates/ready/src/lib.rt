@@ -20,22 +20,22 @@
 //!
 //! # How an end sleeps, and who wakes it
 //!
-//! A thread with nothing to do parks in [`ReadyQueue::take`]. One word has a bit for each end that is idle. An end that
-//! is about to park sets its bit, looks at the queue again, and only then parks. A put first pushes its ticket, and
-//! then clears the lowest bit that is set and unparks that end. So at most one end is woken for a ticket, and no ticket
-//! is left in the queue while an end sleeps: either the put finds the bit, or the end's second look, which comes after
-//! the bit, finds the ticket.
+//! A thread with nothing to do parks in [`ReadyQueue::take`]. One word has a bit for each end that is idle. An end
+//! that is about to park sets its bit, looks at the queue again, and only then parks. A put first pushes its ticket,
+//! and then clears the lowest bit that is set and unparks that end. So at most one end is woken for a ticket, and no
+//! ticket is left in the queue while an end sleeps: either the put finds the bit, or the end's second look, which
+//! comes after the bit, finds the ticket.
 //!
 //! A put by an end that will take next wakes nobody. After each [`ReadyQueue::take`] that gave a ticket, the end's
 //! first put counts on the end itself coming back: it is awake, and takes one ticket when it is done. Its second put,
 //! and each later one, wakes an end. An end that never calls `take` wakes one with each put.
 //!
-//! An end that has tickets to put may first look whether any end sleeps ([`ReadyQueue::all_busy`]): it may have better use
-//! for a ticket that would only wait in the queue.
+//! An end that has tickets to put may first look whether any end sleeps ([`ReadyQueue::all_busy`]): it may have
+//! better use for a ticket that would only wait in the queue.
 //!
 //! No thread spins. The order of these steps is kept by values: each step gives one that the next step asks for, and
-//! nothing else makes it. `src/flags.rt` has the atomic steps, with the step that each pairs with, `src/sleeper.rt` how
-//! an end goes to sleep, and `src/idle.rt` how it is woken.
+//! nothing else makes it. `src/flags.rt` has the atomic steps, with the step that each pairs with, `src/sleeper.rt`
+//! how an end goes to sleep, and `src/idle.rt` how it is woken.
 //!
 //! # Inside
 //!

@@ -85,7 +85,8 @@ pub(crate) fn push<T, R: Wait>(
 pub(crate) fn pop<T, R: Wait>(rt: &R, line: &Line<T>, pass: &mut LinePass<T>) -> Option<T>
     requires { IsPassOf line.now pass.old }
     ensures same { IsSamePass pass.old pass.new }
-    ensures taken { MatchOption result ((view pass.new ≡ view pass.old) × HeldOnce 0 (view pass.old)) (λ item. TookOne (view pass.old) item (view pass.new)) }
+    ensures taken { MatchOption result ((view pass.new ≡ view pass.old) × HeldOnce 0 (view pass.old))
+        (λ item. TookOne (view pass.old) item (view pass.new)) }
 {
     line.pop_as::<Take, R>(rt, pass)
 }

@@ -4,8 +4,8 @@ use Rattle.std.specs.declared.io.ErrorKind.TheVariants.{Interrupted, ConnectionA
 use Rattle.records.specs.declared.act.Accepted.{Accepted}
 use Rattle.records.specs.declared.act.Accepted.TheVariants.{Again, Blocked, Starved}
 
--- the classes of `dispatch`, which a poller goes by: a signal, a connection that was given up before it was accepted, or a network
--- error that the new socket had pending; that none waits; anything else
+-- the classes of `dispatch`, which a poller goes by: a signal, a connection that was given up before it was accepted,
+-- or a network error that the new socket had pending; that none waits; anything else
 abbrev pub accept_answer : ErrorKind → Accepted
 accept_answer Interrupted = Again
 accept_answer ConnectionAborted = Again

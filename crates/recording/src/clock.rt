@@ -5,7 +5,8 @@ use log::Log;
 use records::Act;
 use std::sync::Wait;
 
-/// A clock that tells what the one in it tells, and records it if there is an idle limit: for nothing else does a replay need it.
+/// A clock that tells what the one in it tells, and records it if there is an idle limit: for nothing else does a
+/// replay need it.
 #[derive(Drop)]
 pub struct RecordedClock<'r, C, R> {
     inner: &'r C,

@@ -1,14 +1,15 @@
-//! What a relay writes down of its own run: each thread records what it did, as [`Record`](records::Record)s, and one thread of
-//! its own writes them to a file.
+//! What a relay writes down of its own run: each thread records what it did, as [`Record`](records::Record)s, and one
+//! thread of its own writes them to a file.
 //!
-//! It is done around the parts that a server is made of, by its own type parameters: [`RecordedFront`] is a front that records
-//! its waits for reports, what it accepts and what it opens; [`RecordedWire`] is a wire that records its calls and its end;
-//! [`RecordedGate`] records where turns begin and end, and [`RecordedClock`] what second was told. Each does what the part in
-//! it does, and promises what that promises. Nothing is recorded of the bytes but how many there were.
+//! It is done around the parts that a server is made of, by its own type parameters: [`RecordedFront`] is a front
+//! that records its waits for reports, what it accepts and what it opens; [`RecordedWire`] is a wire that records its
+//! calls and its end; [`RecordedGate`] records where turns begin and end, and [`RecordedClock`] what second was told.
+//! Each does what the part in it does, and promises what that promises. Nothing is recorded of the bytes but how many
+//! there were.
 //!
-//! A thread that records waits for nobody, and takes no memory: its record goes into a bounded queue ([`RecordQueue`]), and a
-//! writer that sleeps is woken ([`write_records`]). Where a queue is full the recording ends, which its last line says and a
-//! warning tells, and the relay serves on.
+//! A thread that records waits for nobody, and takes no memory: its record goes into a bounded queue
+//! ([`RecordQueue`]), and a writer that sleeps is woken ([`write_records`]). Where a queue is full the recording
+//! ends, which its last line says and a warning tells, and the relay serves on.
 //!
 //! # Inside
 //!

@@ -12,8 +12,8 @@ use std::sync::Wait;
 use std::sync::atomic::{AtomicBool, AtomicU64, Ordering};
 use std::thread::Parker;
 
-/// A look at the queue before its records are taken. Every record that was put before the end that it shows is found after
-/// it.
+/// A look at the queue before its records are taken. Every record that was put before the end that it shows is found
+/// after it.
 #[derive(Drop)]
 pub(crate) struct Look {
     /// The last record, if no more are to be written than are found now.
@@ -30,9 +30,9 @@ pub(crate) struct Found {
     pub(crate) some: bool,
 }
 
-/// The records between the threads that record and the one that writes, and the count by which all of them tell when an act
-/// was. There are [`QUEUES`] queues, of at most [`MAX_RECORDS`] records each: what a poller did, and what was done at its slots,
-/// waits in one of them, in the order in which it was done.
+/// The records between the threads that record and the one that writes, and the count by which all of them tell when
+/// an act was. There are [`QUEUES`] queues, of at most [`MAX_RECORDS`] records each: what a poller did, and what was
+/// done at its slots, waits in one of them, in the order in which it was done.
 #[derive(Drop)]
 pub struct RecordQueue {
     queues: [ArrayQueue<Record>; QUEUES],
@@ -49,7 +49,8 @@ pub struct RecordQueue {
 }
 
 impl RecordQueue {
-    /// Empty queues for a relay whose pollers have these slots. It takes memory for all records; no later call takes any.
+    /// Empty queues for a relay whose pollers have these slots. It takes memory for all records; no later call takes
+    /// any.
     pub fn new(alloc: Global, split: Split) -> Result<RecordQueue, AllocError>
         ensures room { IfOk result (λ made. All (λ queue. queue_capacity queue ≡ 131072) made.queues) }
     {
@@ -91,8 +92,8 @@ impl RecordQueue {
         is_first
     }
 
-    /// Puts a record after the others, and wakes a writer that sleeps. One that has found records a moment ago looks by
-    /// itself, so that most records cost no system call. Answers whether there was room.
+    /// Puts a record after the others, and wakes a writer that sleeps. One that has found records a moment ago looks
+    /// by itself, so that most records cost no system call. Answers whether there was room.
     pub(crate) fn put(&self, rt: &impl Wait, record: Record) -> bool {
         let at = self.poller_of(&record.act) % QUEUES;
         let is_put = self.queues[at].push(rt, record).is_ok();
@@ -112,8 +113,8 @@ impl RecordQueue {
 
     /// Wakes the writer if it sleeps. Only one of those who put records meanwhile does.
     fn wake(&self) {
-        // Pairs with `look_last`. A put pushes and then reads the mark; the writer sets it and then looks. So one of the
-        // two sees the other's step.
+        // Pairs with `look_last`. A put pushes and then reads the mark; the writer sets it and then looks. So one of
+        // the two sees the other's step.
         if self.is_asleep.load(Ordering::SeqCst) && self.is_asleep.swap(false, Ordering::SeqCst) {
             self.writer.unpark();
         }
@@ -126,8 +127,8 @@ impl RecordQueue {
         self.queues[at].pop(rt)
     }
 
-    /// Lets the writer end once every record is written, and wakes it. It is for when the relay has ended: what is put later
-    /// may not be written.
+    /// Lets the writer end once every record is written, and wakes it. It is for when the relay has ended: what is
+    /// put later may not be written.
     pub fn close(&self) {
         self.is_closed.store(true, Ordering::SeqCst);
         self.writer.unpark();
@@ -170,8 +171,8 @@ impl RecordQueue {
         self.writer.park_timeout(rt, soon());
     }
 
-    /// The writer sleeps until a record is put or the recording ends. It may only once it has said so and then found nothing:
-    /// else it could sleep beside a record.
+    /// The writer sleeps until a record is put or the recording ends. It may only once it has said so and then found
+    /// nothing: else it could sleep beside a record.
     pub(crate) fn sleep(&self, rt: &impl Wait, found: Found)
         requires last { found.look.is_asleep ≡ true }
         requires open { IsNone found.look.last }

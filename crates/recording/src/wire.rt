@@ -12,8 +12,8 @@ use std::io;
 use std::sync::Wait;
 use token::Token;
 
-/// A wire that does and promises what the one in it does and promises, and records each call, and its end. It is recorded
-/// from when it has a name on.
+/// A wire that does and promises what the one in it does and promises, and records each call, and its end. It is
+/// recorded from when it has a name on.
 pub struct RecordedWire<'r, W: Drop, R: Wait + Log> {
     pub(crate) inner: W,
     /// The name of its end, once its connection is open.

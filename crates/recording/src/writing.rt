@@ -12,9 +12,9 @@ use std::io::{self, BufWriter, ErrorKind, Write};
 use std::sync::Wait;
 
 /// Writes the header and the queue's records, in the order in which each queue has them, until the queue is closed or
-/// nothing is recorded any more, and then the last record. It writes what it has before it rests. It takes memory at its
-/// beginning alone. If there is none, or the file cannot be written, the recording ends, which is logged, and what was written
-/// stays.
+/// nothing is recorded any more, and then the last record. It writes what it has before it rests. It takes memory at
+/// its beginning alone. If there is none, or the file cannot be written, the recording ends, which is logged, and
+/// what was written stays.
 pub fn write_records<R: Wait + Log, W: Write + Drop>(
     rt: &R,
     alloc: Global,
@@ -93,8 +93,8 @@ fn write_all<R: Wait, W: Write>(rt: &R, queue: &RecordQueue, file: &mut W) -> io
     Ok(found)
 }
 
-/// Writes records of one queue, and answers whether there was one. This many at most, since threads may put them there as fast as
-/// they are written, and the others fill meanwhile.
+/// Writes records of one queue, and answers whether there was one. This many at most, since threads may put them
+/// there as fast as they are written, and the others fill meanwhile.
 fn write_run<R: Wait, W: Write>(
     rt: &R,
     queue: &RecordQueue,

@@ -51,7 +51,8 @@ static OPENINGS: [(&str, Opening); 3] = [
     ("register", Opening::Register),
 ];
 
-/// Reads the record of a line, which is given without its line feed. What is read from the text of a record is that record.
+/// Reads the record of a line, which is given without its line feed. What is read from the text of a record is that
+/// record.
 ///
 /// It refuses a line of another form, with its first word from the left that is wrong. Numbers are below 2^64 and have no
 /// leading zeros.

@@ -1,4 +1,5 @@
-//! What a replay is asked, and what it answers. Who hands a recording on need not know the machine on which it is played.
+//! What a replay is asked, and what it answers. Who hands a recording on need not know the machine on which it is
+//! played.
 use std::alloc::{AllocError, AllocFailed, Global};
 use std::io::{Read, Write};
 use thiserror::Error;
@@ -25,8 +26,8 @@ pub enum Outcome {
 
 /// Replays recordings.
 pub trait Replay {
-    /// Reads a recording, plays it, and writes what is wanted of it. With `rests` the relay had come to rest when it was
-    /// stopped.
+    /// Reads a recording, plays it, and writes what is wanted of it. With `rests` the relay had come to rest when it
+    /// was stopped.
     fn replay<R: Read, W: Write>(
         &self,
         alloc: Global,

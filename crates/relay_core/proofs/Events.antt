@@ -76,7 +76,8 @@ named_way : (e d : Direction) (reply : AnswerValue) (S : Type 0) → S ⊎ ((sam
 named_way e d reply S (inl h) = inl h
 named_way e d reply S (inr h) = inr (same_direction e d h.0, h.1)
 
-seen_again : (p : PairState) (call : Call) (reply : AnswerValue) (d : Direction) → ((stream_of p d).end_seen ≡ true) ⊎ ((direction_of call ≡ d) × (reply ≡ End)) → (if same_way (direction_of call) d then served reply (stream_of p d) else stream_of p d).end_seen ≡ true
+seen_again : (p : PairState) (call : Call) (reply : AnswerValue) (d : Direction) → ((stream_of p d).end_seen ≡ true) ⊎ ((direction_of call ≡ d) × (reply ≡ End))
+    → (if same_way (direction_of call) d then served reply (stream_of p d) else stream_of p d).end_seen ≡ true
 seen_again p call reply d (inl h) = stays_seen (same_way (direction_of call) d) reply (stream_of p d) h
 seen_again p call reply d (inr h) = rw h.1 (by_end (same_way (direction_of call) d) (stream_of p d) (way_of (direction_of call) d h.0))
 
@@ -131,7 +132,8 @@ expired_to false p q e = absurd (cc)
 unmoved : (p q : PairState) (d : Direction) → stream_of q d ≡ stream_of p d → waiting (stream_of p d) ++ [] ≡ [] ++ waiting (stream_of q d)
 unmoved p q d same = append-nil (waiting (stream_of p d)) ∙ sym (ap (λ (s : Stream). waiting s) same)
 
-event_order : (p q : PairState) (event : Event) (d : Direction) → happened p event ≡ Some q → waiting (stream_of p d) ++ brought_by p d event ≡ carried_by p d event ++ waiting (stream_of q d)
+event_order : (p q : PairState) (event : Event) (d : Direction) → happened p event ≡ Some q → waiting (stream_of p d) ++ brought_by p d event ≡ carried_by p d event
+    ++ waiting (stream_of q d)
 event_order p q (Answered now reply) d e =
     let s : Step now p reply q = step_of now p reply q e in
     rw s.next (order_kept now p s.call reply q s.is d)
@@ -168,9 +170,11 @@ more_order : (p q : PairState) (event : Event) (events : List Event) (d : Direct
     waiting (stream_of p d) ++ ever_brought p d (event ∷ events) ≡ ever_carried p d (event ∷ events) ++ waiting (stream_of q d)
 more_order p q event events d rest None e h = absurd (cc)
 more_order p q event events d rest (Some m) e h =
-    rw e (seam (waiting (stream_of p d)) (brought_by p d event) (ever_brought m d events) (carried_by p d event) (ever_carried m d events) (waiting (stream_of m d)) (waiting (stream_of q d)) (event_order p m event d e) (rest m h))
+    rw e (seam (waiting (stream_of p d)) (brought_by p d event) (ever_brought m d events) (carried_by p d event) (ever_carried m d events) (waiting (stream_of m d))
+    (waiting (stream_of q d)) (event_order p m event d e) (rest m h))
 
-run_order : (p q : PairState) (d : Direction) (events : List Event) → through p events ≡ Some q → waiting (stream_of p d) ++ ever_brought p d events ≡ ever_carried p d events ++ waiting (stream_of q d)
+run_order : (p q : PairState) (d : Direction) (events : List Event) → through p events ≡ Some q → waiting (stream_of p d) ++ ever_brought p d events ≡ ever_carried p d events
+    ++ waiting (stream_of q d)
 run_order p q d [] h = let same : p ≡ q = cc in append-nil (waiting (stream_of p d)) ∙ ap (λ (x : PairState). waiting (stream_of x d)) same
 run_order p q d (event ∷ events) h = more_order p q event events d (λ m e. run_order m q d events e) (happened p event) refl h
 
@@ -185,7 +189,8 @@ more_kept : (P : PairState → Type 0) → (p q : PairState) (event : Event) (ev
 more_kept P p q event events each rest None e h c = absurd (cc)
 more_kept P p q event events each rest (Some m) e h c = rest m h (each p m event e c)
 
-run_kept : (P : PairState → Type 0) → ((a b : PairState) (e : Event) → happened a e ≡ Some b → P a → P b) → (p q : PairState) (events : List Event) → through p events ≡ Some q → P p → P q
+run_kept : (P : PairState → Type 0) → ((a b : PairState) (e : Event) → happened a e ≡ Some b → P a → P b) → (p q : PairState) (events : List Event) → through p events ≡ Some q
+    → P p → P q
 run_kept P each p q [] h c = let same : p ≡ q = cc in rw same at c
 run_kept P each p q (event ∷ events) h c = more_kept P p q event events each (λ m e k. run_kept P each m q events e k) (happened p event) refl h c
 
@@ -197,7 +202,8 @@ runs_pass_end_last p q events c h =
     let kept : KeepsEndLast q = run_kept KeepsEndLast event_closed p q events h c in
     record {
       kept = kept;
-      last = λ d shut. all_left (waiting (stream_of p d)) (ever_brought p d events) (ever_carried p d events) (waiting (stream_of q d)) (run_order p q d events h) ((kept d).empty shut);
+      last = λ d shut. all_left (waiting (stream_of p d)) (ever_brought p d events) (ever_carried p d events) (waiting (stream_of q d)) (run_order p q d events h)
+          ((kept d).empty shut);
     }
 
 pub fresh_pairs_keep_end_last : FreshPairsKeepEndLast
@@ -208,7 +214,8 @@ runs_keep_place p q events h = run_kept (λ (x : PairState). place_of x ≡ plac
 
 -- answers alone
 
-same_run : (now : ℕ) (replies : List AnswerValue) (o : Option PairState) → ((m : PairState) → through m (map (Answered now) replies) ≡ over now m replies) → option_and_then (λ (m : PairState). through m (map (Answered now) replies)) o ≡ option_and_then (λ (m : PairState). over now m replies) o
+same_run : (now : ℕ) (replies : List AnswerValue) (o : Option PairState) → ((m : PairState) → through m (map (Answered now) replies) ≡ over now m replies)
+    → option_and_then (λ (m : PairState). through m (map (Answered now) replies)) o ≡ option_and_then (λ (m : PairState). over now m replies) o
 same_run now replies None rest = refl
 same_run now replies (Some m) rest = rest m
 
@@ -223,12 +230,14 @@ run_of_answers now p (reply ∷ replies) = same_run now replies (answered now p 
 brought_by_answers : (now : ℕ) (p : PairState) (d : Direction) (replies : List AnswerValue) → ever_brought p d (map (Answered now) replies) ≡ all_brought now p d replies
 brought_by_answers now p d [] = refl
 brought_by_answers now p d (reply ∷ replies) =
-    ap (λ (rest : List ℕ). brought_by p d (Answered now reply) ++ rest) (same_bytes (λ m. ever_brought m d (map (Answered now) replies)) (λ m. all_brought now m d replies) (answered now p reply) (λ m. brought_by_answers now m d replies))
+    ap (λ (rest : List ℕ). brought_by p d (Answered now reply) ++ rest) (same_bytes (λ m. ever_brought m d (map (Answered now) replies)) (λ m. all_brought now m d replies)
+    (answered now p reply) (λ m. brought_by_answers now m d replies))
 
 carried_by_answers : (now : ℕ) (p : PairState) (d : Direction) (replies : List AnswerValue) → ever_carried p d (map (Answered now) replies) ≡ all_carried now p d replies
 carried_by_answers now p d [] = refl
 carried_by_answers now p d (reply ∷ replies) =
-    ap (λ (rest : List ℕ). carried_by p d (Answered now reply) ++ rest) (same_bytes (λ m. ever_carried m d (map (Answered now) replies)) (λ m. all_carried now m d replies) (answered now p reply) (λ m. carried_by_answers now m d replies))
+    ap (λ (rest : List ℕ). carried_by p d (Answered now reply) ++ rest) (same_bytes (λ m. ever_carried m d (map (Answered now) replies)) (λ m. all_carried now m d replies)
+    (answered now p reply) (λ m. carried_by_answers now m d replies))
 
 pub answers_are_events : AnswersAreEvents
 answers_are_events now p replies = record {

@@ -54,10 +54,12 @@ none_is_no_failure None true fault e h = absurd (cc)
 none_is_no_failure None false fault e h = absurd (cc)
 
 -- an answer by which no call failed leaves the pair without a fault
-sound : (now : ℕ) (p : PairState) (call : Call) (reply : AnswerValue) (fault : Fault) → p.failure ≡ None → (after now p call reply).failure ≡ p.failure → verdict (after now p call reply) ≡ verdict.Failed fault → TellsOf call reply fault
+sound : (now : ℕ) (p : PairState) (call : Call) (reply : AnswerValue) (fault : Fault) → p.failure ≡ None → (after now p call reply).failure ≡ p.failure
+    → verdict (after now p call reply) ≡ verdict.Failed fault → TellsOf call reply fault
 sound now p call reply fault none same failed = absurd (none_is_no_failure (after now p call reply).failure _ fault (same ∙ none) failed)
 
-told : (now : ℕ) (p : PairState) (call : Call) (reply : AnswerValue) (fault : Fault) → p.failure ≡ None → verdict (after now p call reply) ≡ verdict.Failed fault → TellsOf call reply fault
+told : (now : ℕ) (p : PairState) (call : Call) (reply : AnswerValue) (fault : Fault) → p.failure ≡ None → verdict (after now p call reply) ≡ verdict.Failed fault
+    → TellsOf call reply fault
 told now p call (Bytes bytes) fault none = sound now p call (Bytes bytes) fault none
     (failure_joined _ (side_of call) ∙ failure_with_stream p (direction_of call) _)
 told now p call End fault none = sound now p call End fault none
@@ -74,11 +76,13 @@ tells : (now : ℕ) (p : PairState) (call : Call) (reply : AnswerValue) (fault :
 tells now p call reply fault t = rw (t.failed, t.told) refl
 
 -- the pair fails by a failed call and by nothing else, and its fault names that call
-pub fails_by_call : (now : ℕ) (p : PairState) (call : Call) (reply : AnswerValue) (q : PairState) → next_call p ≡ Some call → q ≡ after now p call reply → (fault : Fault) → (verdict q ≡ verdict.Failed fault) ↔ TellsOf call reply fault
+pub fails_by_call : (now : ℕ) (p : PairState) (call : Call) (reply : AnswerValue) (q : PairState) → next_call p ≡ Some call → q ≡ after now p call reply → (fault : Fault)
+    → (verdict q ≡ verdict.Failed fault) ↔ TellsOf call reply fault
 fails_by_call now p call reply q next e fault =
     let none : p.failure ≡ None = faultless p.failure _ (asked_while_live p call next) in
     rw e (told now p call reply fault none, tells now p call reply fault)
 
 -- an interrupted call changes nothing but the turn
-pub interrupted_changes_turn : (now : ℕ) (p : PairState) (call : Call) (reply : AnswerValue) (q : PairState) → q ≡ after now p call reply → reply ≡ Interrupted → q ≡ record p { turn = q.turn }
+pub interrupted_changes_turn : (now : ℕ) (p : PairState) (call : Call) (reply : AnswerValue) (q : PairState) → q ≡ after now p call reply → reply ≡ Interrupted
+    → q ≡ record p { turn = q.turn }
 interrupted_changes_turn now p call reply q e i = rw (e, i)

@@ -96,7 +96,8 @@ pub asked_is_possible : (p : PairState) (call : Call) → next_call p ≡ Some c
 asked_is_possible p call e = rw e at (next_is_possible p)
 
 -- what a read gives goes into the ring
-pub bytes_fit : (p : PairState) (call : Call) (bytes : List ℕ) → next_call p ≡ Some call → fits p call (Bytes bytes) ≡ true → (length bytes ≤ free_room (stream_of p (direction_of call))) × ((stream_of p (direction_of call)).end_seen ≡ false)
+pub bytes_fit : (p : PairState) (call : Call) (bytes : List ℕ) → next_call p ≡ Some call → fits p call (Bytes bytes) ≡ true
+    → (length bytes ≤ free_room (stream_of p (direction_of call))) × ((stream_of p (direction_of call)).end_seen ≡ false)
 bytes_fit p (Read side most) bytes next fit =
     let within : length bytes ≤ most = leb-true (length bytes) most (second_so (nat_le 1 (length bytes)) (nat_le (length bytes) most) fit) in
     let asked : HasRoomFor (stream_of p (outward side)) most = asked_is_possible p (Read side most) next in

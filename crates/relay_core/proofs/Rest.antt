@@ -56,7 +56,8 @@ either_idle p Up Down e = idle p Down e.1
 either_idle p Down Up e = idle p Up e.1
 either_idle p Down Down e = idle p Down e.0
 
-live_none : (p : PairState) (b : Bool) → b ≡ true → (if b then option_or (call_for p p.turn) (call_for p (opposite p.turn)) else None) ≡ None → (call_for p p.turn ≡ None) × (call_for p (opposite p.turn) ≡ None)
+live_none : (p : PairState) (b : Bool) → b ≡ true → (if b then option_or (call_for p p.turn) (call_for p (opposite p.turn)) else None) ≡ None → (call_for p p.turn ≡ None)
+    × (call_for p (opposite p.turn) ≡ None)
 live_none p true h e = none_of_either _ _ e
 live_none p false h e = absurd (cc)
 

@@ -47,7 +47,8 @@ stream_with_sent p Up n Down = refl
 stream_with_sent p Down n Up = refl
 stream_with_sent p Down n Down = refl
 
-stream_changed : (p : PairState) (e : Direction) (f : Stream → Stream) (d : Direction) → stream_of (with_stream p e (f (stream_of p e))) d ≡ (if same_way e d then f (stream_of p d) else stream_of p d)
+stream_changed : (p : PairState) (e : Direction) (f : Stream → Stream) (d : Direction) → stream_of (with_stream p e (f (stream_of p e))) d
+    ≡ (if same_way e d then f (stream_of p d) else stream_of p d)
 stream_changed p Up f Up = refl
 stream_changed p Up f Down = refl
 stream_changed p Down f Up = refl
@@ -58,7 +59,8 @@ alike true s = refl
 alike false s = refl
 
 -- only the direction that the call serves changes, and only by the answer
-pub stream_after : (now : ℕ) (p : PairState) (d : Direction) (call : Call) (reply : AnswerValue) → stream_of (after now p call reply) d ≡ (if same_way (direction_of call) d then served reply (stream_of p d) else stream_of p d)
+pub stream_after : (now : ℕ) (p : PairState) (d : Direction) (call : Call) (reply : AnswerValue) → stream_of (after now p call reply) d
+    ≡ (if same_way (direction_of call) d then served reply (stream_of p d) else stream_of p d)
 stream_after now p d call (Bytes bytes) =
     stream_at (effect p call (Bytes bytes)) (opposite (direction_of call)) now d
     ∙ (stream_joined (change_stream p call (λ s. taken_in s bytes)) (side_of call) d
@@ -108,7 +110,8 @@ same_order : (b : Bool) (s t : Stream) → waiting t ≡ waiting s → waiting s
 same_order true s t e = append-nil (waiting s) ∙ sym e
 same_order false s t e = append-nil (waiting s)
 
-waiting_after : (now : ℕ) (p : PairState) (d : Direction) (call : Call) (reply : AnswerValue) → waiting (if same_way (direction_of call) d then served reply (stream_of p d) else stream_of p d) ≡ waiting (stream_of (after now p call reply) d)
+waiting_after : (now : ℕ) (p : PairState) (d : Direction) (call : Call) (reply : AnswerValue)
+    → waiting (if same_way (direction_of call) d then served reply (stream_of p d) else stream_of p d) ≡ waiting (stream_of (after now p call reply) d)
 waiting_after now p d call reply = sym (ap (λ (s : Stream). waiting s) (stream_after now p d call reply))
 
 pub after_keeps_order : (now : ℕ) (p : PairState) (call : Call) (reply : AnswerValue) → KeepsOrder p call reply (after now p call reply)
@@ -161,13 +164,15 @@ stays true Blocked s h = h
 stays true Interrupted s h = h
 stays true (Failed kind) s h = h
 
-drained_before : (p : PairState) (d : Direction) (call : Call) (reply : AnswerValue) → next_call p ≡ Some call → fits p call reply ≡ true → same_way (direction_of call) d ≡ true → reply ≡ Shut → IsDrained (stream_of p d)
+drained_before : (p : PairState) (d : Direction) (call : Call) (reply : AnswerValue) → next_call p ≡ Some call → fits p call reply ≡ true → same_way (direction_of call) d ≡ true
+    → reply ≡ Shut → IsDrained (stream_of p d)
 drained_before p d call reply next fit way shut =
     let e : direction_of call ≡ d = same_direction (direction_of call) d way in
     let fit_shut : fits p call Shut ≡ true = rw shut at fit in
     rw e at (shut_fits p call next fit_shut)
 
-open_before : (p : PairState) (d : Direction) (call : Call) (reply : AnswerValue) → next_call p ≡ Some call → fits p call reply ≡ true → same_way (direction_of call) d ≡ true → (bytes : List ℕ) → reply ≡ Bytes bytes → (stream_of p d).end_seen ≡ false
+open_before : (p : PairState) (d : Direction) (call : Call) (reply : AnswerValue) → next_call p ≡ Some call → fits p call reply ≡ true → same_way (direction_of call) d ≡ true
+    → (bytes : List ℕ) → reply ≡ Bytes bytes → (stream_of p d).end_seen ≡ false
 open_before p d call reply next fit way bytes came =
     let e : direction_of call ≡ d = same_direction (direction_of call) d way in
     let fit_bytes : fits p call (Bytes bytes) ≡ true = rw came at fit in
@@ -175,9 +180,14 @@ open_before p d call reply next fit way bytes came =
     rw e at (room.1)
 
 -- nothing comes after the end, and the end is passed on after everything
-closed_last : (b : Bool) (reply : AnswerValue) (s : Stream) → (b ≡ true → (bytes : List ℕ) → reply ≡ Bytes bytes → s.end_seen ≡ false) → (b ≡ true → reply ≡ Shut → IsDrained s) → IsClosedLast s → IsClosedLast (if b then served reply s else s)
+closed_last : (b : Bool) (reply : AnswerValue) (s : Stream) → (b ≡ true → (bytes : List ℕ) → reply ≡ Bytes bytes → s.end_seen ≡ false) → (b ≡ true → reply ≡ Shut → IsDrained s)
+    → IsClosedLast s → IsClosedLast (if b then served reply s else s)
 closed_last false reply s open_end drained c = c
-closed_last true (Bytes bytes) s open_end drained c = record { ended = c.ended; empty = λ h. let seen : s.end_seen ≡ true = c.ended h in let unseen : s.end_seen ≡ false = open_end refl bytes refl in absurd (cc) }
+closed_last true (Bytes bytes) s open_end drained c = record {
+  ended = c.ended;
+  empty = λ h. let seen : s.end_seen ≡ true = c.ended h in let unseen : s.end_seen ≡ false =
+      open_end refl bytes refl in absurd (cc);
+}
 closed_last true End s open_end drained c = record { ended = λ h. refl; empty = c.empty }
 closed_last true (Wrote n) s open_end drained c = record { ended = c.ended; empty = λ h. waiting-dropped s n ∙ (ap (λ (bytes : List ℕ). drop n bytes) (c.empty h) ∙ drop-nil n) }
 closed_last true Shut s open_end drained c = record { ended = λ h. (drained refl refl).ended; empty = λ h. (drained refl refl).empty }
@@ -187,11 +197,13 @@ closed_last true Interrupted s open_end drained c = c
 closed_last true (Failed kind) s open_end drained c = c
 
 -- the end of input is passed on last, and for good
-pub end_passed_last : (now : ℕ) (p : PairState) (call : Call) (reply : AnswerValue) (q : PairState) → next_call p ≡ Some call → fits p call reply ≡ true → q ≡ after now p call reply → (d : Direction) → PassesEndLast (stream_of p d) (stream_of q d)
+pub end_passed_last : (now : ℕ) (p : PairState) (call : Call) (reply : AnswerValue) (q : PairState) → next_call p ≡ Some call → fits p call reply ≡ true
+    → q ≡ after now p call reply → (d : Direction) → PassesEndLast (stream_of p d) (stream_of q d)
 end_passed_last now p call reply q next fit e d =
     let is : stream_of q d ≡ (if same_way (direction_of call) d then served reply (stream_of p d) else stream_of p d) = rw e (stream_after now p d call reply) in
     record {
       last = λ h. marked (same_way (direction_of call) d) reply (stream_of p d) (IsDrained (stream_of p d)) (drained_before p d call reply next fit) (rw is at h);
       for_good = λ h. rw is (stays (same_way (direction_of call) d) reply (stream_of p d) h);
-      closed_last = λ c. rw is (closed_last (same_way (direction_of call) d) reply (stream_of p d) (open_before p d call reply next fit) (drained_before p d call reply next fit) c);
+      closed_last = λ c. rw is (closed_last (same_way (direction_of call) d) reply (stream_of p d) (open_before p d call reply next fit) (drained_before p d call reply next fit)
+          c);
     }

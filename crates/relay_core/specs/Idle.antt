@@ -1,5 +1,5 @@
--- The idle limit: when a pair that moves nothing fails. Part of the promises. Seconds are of one clock, and a limit of 0
--- is none.
+-- The idle limit: when a pair that moves nothing fails. Part of the promises. Seconds are of one clock, and a limit of
+-- 0 is none.
 use Rattle.std.specs.Prelude.{ℕ, ◌-◌, Bool, ◌&&◌, nat_lt, nat_le, if◌then◌else◌, Some}
 use Rattle.std.specs.Option.{is_none}
 use Rattle.relay_core.specs.declared.verdict.Fault.TheVariants.{Idle}

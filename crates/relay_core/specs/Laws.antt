@@ -110,7 +110,8 @@ AnswersPassEndLast =
 abbrev pub OnlyEndsAreSeen : Type 0
 OnlyEndsAreSeen =
     (now : ℕ) (p : PairState) (call : Call) (reply : AnswerValue) (d : Direction) →
-    ((stream_of (after now p call reply) d).end_seen ≡ true) ↔ (((stream_of p d).end_seen ≡ true) ⊎ ((direction_of call ≡ d) × (reply ≡ End)))
+    ((stream_of (after now p call reply) d).end_seen ≡ true)
+    ↔ (((stream_of p d).end_seen ≡ true) ⊎ ((direction_of call ≡ d) × (reply ≡ End)))
 
 abbrev pub AnswersKeepPlace : Type 0
 AnswersKeepPlace = (now : ℕ) (p : PairState) (call : Call) (reply : AnswerValue) → place_of (after now p call reply) ≡ place_of p

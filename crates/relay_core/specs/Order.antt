@@ -29,7 +29,8 @@ read_most stream = min (free_room stream) 16384
 abbrev pub call_for : PairState → Direction → Option Call
 call_for p d =
     if is_waiting (stream_of p d) && (flags_of p (destination d)).write then Some (Write (destination d))
-    else if is_drained (stream_of p d) && not (is_joined p (destination d)) && (flags_of p (destination d)).write then Some (Join (destination d))
+    else if is_drained (stream_of p d) && not (is_joined p (destination d)) && (flags_of p (destination d)).write then Some
+    (Join (destination d))
     else if is_drained (stream_of p d) && is_joined p (destination d) then Some (Shut (destination d))
     else if is_open (stream_of p d) && (flags_of p (source d)).read then Some (Read (source d) (read_most (stream_of p d)))
     else None

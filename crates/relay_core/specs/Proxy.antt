@@ -1,5 +1,5 @@
--- The line that tells a target who its client is. Part of the promises. It is a line of the PROXY protocol, version 1, for
--- TCP over IPv4: it goes out before the client's own bytes.
+-- The line that tells a target who its client is. Part of the promises. It is a line of the PROXY protocol, version 1,
+-- for TCP over IPv4: it goes out before the client's own bytes.
 use Rattle.std.specs.Prelude.{ℕ, List, ◌++◌, slice_index, codes, decimal}
 
 -- the four numbers of an address in decimal, joined by dots

@@ -26,8 +26,8 @@ pub enum Answer<'a> {
 }
 
 impl Answer<'_> {
-    /// Whether the connection moved by this answer: bytes or an end came in, bytes went out, the socket is connected, or
-    /// the end was passed on.
+    /// Whether the connection moved by this answer: bytes or an end came in, bytes went out, the socket is connected,
+    /// or the end was passed on.
     pub fn moves(self) -> bool
         ensures { result ≡ moves (reply_of self.entry) }
     {

@@ -66,8 +66,8 @@ impl Call {
         }
     }
 
-    /// The direction that the call serves: for a read the one that starts at its side, for the others the one that ends
-    /// there.
+    /// The direction that the call serves: for a read the one that starts at its side, for the others the one that
+    /// ends there.
     pub fn direction(self) -> Direction
         ensures { result ≡ direction_of self }
     {

@@ -1,8 +1,8 @@
-//! What holds for every pair, whatever answers and reports arrive and whenever the idle limit passes. The functions do nothing: the contract of each is
-//! the law that it is named after, so that the layers above can use it.
+//! What holds for every pair, whatever answers and reports arrive and whenever the idle limit passes. The functions
+//! do nothing: the contract of each is the law that it is named after, so that the layers above can use it.
 //!
-//! The first laws are about one answer, about the next call, about a report and about the idle limit, and the last ones
-//! about whole runs: any list of answers, reports and expiries.
+//! The first laws are about one answer, about the next call, about a report and about the idle limit, and the last
+//! ones about whole runs: any list of answers, reports and expiries.
 
 ghost use Rattle.relay_core.specs.Laws.{AnswersAreEvents, AnswersAreToNextCalls, AnswersKeepOrder, AnswersKeepPlace, AnswersPassEndLast, CallsComeWhileLive, ExpiriesChangeVerdictAlone, FailuresAreTold, FreshPairsKeepEndLast, LivePairsRest, OnlyEndsAreSeen, OnlyOverduePairsExpire, ReportsKeepStreams, ReportsSetFlags, RunsKeepOrder, RunsKeepPlace, RunsPassEndLast};
 
@@ -61,8 +61,8 @@ pub fn reports_change_flags_alone()
     ensures streams { ReportsKeepStreams }
 {}
 
-/// A pair is failed by the idle limit only while it is live, has no next call, and has moved nothing for that long; any
-/// other stays as it was.
+/// A pair is failed by the idle limit only while it is live, has no next call, and has moved nothing for that long;
+/// any other stays as it was.
 pub fn only_overdue_pairs_expire()
     ensures { OnlyOverduePairsExpire }
 {}
@@ -73,15 +73,15 @@ pub fn expiries_change_verdict_alone()
     ensures { ExpiriesChangeVerdictAlone }
 {}
 
-/// Over any list of answers, reports and expiries, the bytes that writes take are, in each direction and in order, those
-/// that waited and those that reads bring; none is lost or duplicated.
+/// Over any list of answers, reports and expiries, the bytes that writes take are, in each direction and in order,
+/// those that waited and those that reads bring; none is lost or duplicated.
 #[tactic(auto, using(crate::proofs::Events::runs_keep_order))]
 pub fn runs_keep_order()
     ensures { RunsKeepOrder }
 {}
 
-/// If every end that was passed on came last, this is still so after any list of answers, reports and expiries, and an
-/// end that is passed on then comes after every byte that waited or was ever read.
+/// If every end that was passed on came last, this is still so after any list of answers, reports and expiries, and
+/// an end that is passed on then comes after every byte that waited or was ever read.
 #[tactic(auto, using(crate::proofs::Events::runs_pass_end_last))]
 pub fn runs_pass_end_last()
     ensures { RunsPassEndLast }
@@ -99,8 +99,8 @@ pub fn runs_keep_place()
     ensures { RunsKeepPlace }
 {}
 
-/// A list of answers of one second is a list of events without reports and expiries: it does the same, and moves the same
-/// bytes.
+/// A list of answers of one second is a list of events without reports and expiries: it does the same, and moves the
+/// same bytes.
 pub fn answers_are_events()
     ensures { AnswersAreEvents }
 {}

@@ -14,16 +14,17 @@
 //! block", and only that answer, never a short count, keeps it from being tried again before the next report
 //! ([`Pair::note`], epoll(7)). When nothing is left to try, `next` is none.
 //!
-//! A pair may be made with a lead: bytes that the target is sent before the client's own. [`proxy_line`] makes such a lead,
-//! which tells the target who its client is.
+//! A pair may be made with a lead: bytes that the target is sent before the client's own. [`proxy_line`] makes such a
+//! lead, which tells the target who its client is.
 //!
-//! The pair knows the second at which it last moved ([`Answer::moves`]), since its owner says at which second an answer
-//! came. A pair that moved nothing for a limit, and has nothing left to try, can be failed ([`Pair::expire`]).
+//! The pair knows the second at which it last moved ([`Answer::moves`]), since its owner says at which second an
+//! answer came. A pair that moved nothing for a limit, and has nothing left to try, can be failed ([`Pair::expire`]).
 //!
 //! The definitions are in `specs/`: the pair and its verdict in `Pairs.antt`, the order of work in `Order.antt`, what
 //! each answer does in `Replies.antt`, lists of answers in `Runs.antt`, the bytes that they move in `Moved.antt`, the
-//! idle limit in `Idle.antt`, answers, reports and expiries in `Events.antt`, what an offer lends in `Lending.antt`, the
-//! line in `Proxy.antt`, and what follows from all this in `Laws.antt`. [`laws`] states each law about all pairs as the contract of a function.
+//! idle limit in `Idle.antt`, answers, reports and expiries in `Events.antt`, what an offer lends in `Lending.antt`,
+//! the line in `Proxy.antt`, and what follows from all this in `Laws.antt`. [`laws`] states each law about all pairs
+//! as the contract of a function.
 #![tactic(auto)]
 
 mod answer;

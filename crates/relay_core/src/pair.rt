@@ -44,7 +44,20 @@ impl Model for Pair {
 
     ghost Value = { PairState };
 
-    ghost view = { λ p. record { slot = p.slot; generation = p.generation; up = p.up; down = p.down; client = p.client; target = p.target; joined = p.joined; turn = p.turn; failure = p.failure; sent_up = p.sent_up; sent_down = p.sent_down; moved = p.moved } };
+    ghost view = { λ p. record {
+      slot = p.slot;
+      generation = p.generation;
+      up = p.up;
+      down = p.down;
+      client = p.client;
+      target = p.target;
+      joined = p.joined;
+      turn = p.turn;
+      failure = p.failure;
+      sent_up = p.sent_up;
+      sent_down = p.sent_down;
+      moved = p.moved;
+    } };
 }
 
 impl Pair {
@@ -52,8 +65,8 @@ impl Pair {
     ghost use Rattle.relay_core.specs.Lending.{with_offer, LendsOffer, LendsStream};
 
     /// A new connection, in a slot that has been opened `generation` times, with a ring of `capacity` bytes, 1 to
-    /// 65,536, for each direction, made at the second `now`. The target is sent `lead`, 0 to 107 bytes, before the client's
-    /// own bytes. This allocates all the memory that the pair will ever use.
+    /// 65,536, for each direction, made at the second `now`. The target is sent `lead`, 0 to 107 bytes, before the
+    /// client's own bytes. This allocates all the memory that the pair will ever use.
     ///
     /// Fails only if there is no memory for a ring or the lead; then no pair is made.
     pub fn new(
@@ -101,8 +114,9 @@ impl Pair {
         }
     }
 
-    /// What a write to a side offers of the bytes that are bound for it: the rest of the lead, or if that is nothing, all
-    /// that wait in the ring. They are lent to be read: if nothing is written into them, the pair stays as it was.
+    /// What a write to a side offers of the bytes that are bound for it: the rest of the lead, or if that is nothing,
+    /// all that wait in the ring. They are lent to be read: if nothing is written into them, the pair stays as it
+    /// was.
     pub fn offer(&mut self, side: Side) -> &mut [u8]
         ensures* lends { sem 𝓛 (LendsOffer self.entry side result) }
         ensures value { result.now ≡ offer self.old side }
@@ -154,8 +168,8 @@ impl Pair {
         self.target = Flags::READY;
     }
 
-    /// Holds a live pair that has no next call against the idle limit: if it has moved nothing for `limit` seconds at the
-    /// second `now`, it fails, and the answer is true. Otherwise nothing changes. A limit of 0 is none.
+    /// Holds a live pair that has no next call against the idle limit: if it has moved nothing for `limit` seconds at
+    /// the second `now`, it fails, and the answer is true. Otherwise nothing changes. A limit of 0 is none.
     pub fn expire(&mut self, now: u64, limit: u64) -> bool
         ensures value { self.new ≡ expired now limit self.old }
         ensures told { result ≡ is_overdue now limit self.old }
@@ -240,8 +254,8 @@ impl Pair {
         self.turn
     }
 
-    /// How many bytes are left of the lead of one direction. A lead is bound for the target, so that of the way down is
-    /// empty.
+    /// How many bytes are left of the lead of one direction. A lead is bound for the target, so that of the way down
+    /// is empty.
     pub fn lead_len(&self, direction: Direction) -> usize
         ensures { result ≡ length (stream_of self.now direction).lead }
     {

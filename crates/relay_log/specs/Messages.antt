@@ -49,7 +49,8 @@ drops_message cause more = codes "drops kind=" ++ (cause_name cause ++ (codes " 
 abbrev pub full_message : ℕ → List ℕ
 full_message slots = codes "slots: all " ++ (decimal slots ++ codes " are taken; further clients wait")
 
--- whose connection has ended: its slot and generation, if it was opened, and then its client's address, as it is written
+-- whose connection has ended: its slot and generation, if it was opened, and then its client's address, as it is
+-- written
 abbrev pub gone_begins : Option (ℕ × ℕ) → List ℕ
 gone_begins (Some name) = codes "gone s=" ++ (decimal name.0 ++ (codes " g=" ++ (decimal name.1 ++ codes " from=")))
 gone_begins None = codes "gone from="
@@ -60,8 +61,8 @@ yes_or_no (Some true) = codes "yes"
 yes_or_no (Some false) = codes "no"
 yes_or_no None = codes "unknown"
 
--- what stands between that address and the cause: whether its target was ever connected, in such a word, bytes each way, and how
--- long it was open
+-- what stands between that address and the cause: whether its target was ever connected, in such a word, bytes each
+-- way, and how long it was open
 abbrev pub gone_counts : List ℕ → ℕ → ℕ → ℕ → List ℕ
 gone_counts connected up down seconds =
     codes " connected=" ++ (connected ++ (codes " up=" ++ (decimal up ++ (codes " down=" ++ (decimal down

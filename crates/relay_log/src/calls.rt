@@ -9,8 +9,8 @@ use relay_core::Fault;
 use std::fmt::Display;
 use std::io;
 
-/// Why a thread is not started: "resource temporarily unavailable" (EAGAIN of pthread_create(3)). Its other errors are of attributes
-/// that no thread here has, and the number itself is not handed on.
+/// Why a thread is not started: "resource temporarily unavailable" (EAGAIN of pthread_create(3)). Its other errors
+/// are of attributes that no thread here has, and the number itself is not handed on.
 const NO_THREAD: i32 = 11;
 
 /// Passes the `open` message to the log, at level info.

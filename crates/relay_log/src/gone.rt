@@ -51,7 +51,8 @@ pub struct Gone<'a, D, E> {
 }
 
 impl<'a, D: Display, E: Display> Display for Gone<'a, D, E> {
-    ghost output = { λ gone. Some (gone_begins gone.opened) ++? D.output gone.from.now ++? Some (gone_between gone.connected gone.up gone.down gone.seconds) ++? E.output gone.cause.now };
+    ghost output = { λ gone. Some (gone_begins gone.opened) ++? D.output gone.from.now ++? Some
+        (gone_between gone.connected gone.up gone.down gone.seconds) ++? E.output gone.cause.now };
 
     fn fmt<W: fmt::Write>(&self, f: &mut fmt::Formatter<W>) -> fmt::Result {
         let (begins, from, cause) = (Begins(self.opened), self.from, self.cause);

@@ -1,5 +1,5 @@
-//! The log messages of the relay, byte for byte, and the calls that pass them to a log; and why a server ends early, with
-//! what a person is told then ([`ServerFault`]).
+//! The log messages of the relay, byte for byte, and the calls that pass them to a log; and why a server ends early,
+//! with what a person is told then ([`ServerFault`]).
 //!
 //! | message | level | when |
 //! |---|---|---|

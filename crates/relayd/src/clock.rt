@@ -2,8 +2,8 @@
 use server::Clock;
 use std::time;
 
-/// The system's monotonic clock (clock_gettime(2)) in whole seconds, from some moment before the program began. It shows
-/// 0 while it cannot be read.
+/// The system's monotonic clock (clock_gettime(2)) in whole seconds, from some moment before the program began. It
+/// shows 0 while it cannot be read.
 #[derive(Clone, Copy)]
 pub struct MonotonicClock<R>(pub R);
 

@@ -7,7 +7,7 @@ pub record IsMissing (counts : List ℕ) (place count : ℕ) : Type 0 where
   pub after : 1 ≤ place → slice_index counts (place - 1) < count
   pub before : count < slice_index counts place
 
--- as many acts as were begun, in the order of the least counts that they can have: of those that are missing, this one is the act's
--- at the place that this many others have which are missing before it
+-- as many acts as were begun, in the order of the least counts that they can have: of those that are missing, this one
+-- is the act's at the place that this many others have which are missing before it
 abbrev pub IsBegun : List ℕ → ℕ → ℕ → Type 0
 IsBegun begun place count = (count - place < length begun) × (slice_index begun (count - place) ≤ count)

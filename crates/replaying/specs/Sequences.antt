@@ -16,4 +16,5 @@ Follows last next = (last.after < next.before) ⊎ ((is_report next.act ≡ true
 
 -- the act at a place, of which 0 is the first, follows the one before it
 abbrev pub FollowsAt : List Numbered → ℕ → Type 0
-FollowsAt list place = (last next : Numbered) → slice_get list (place - 1) ≡ Some last → slice_get list place ≡ Some next → Follows last.record next.record
+FollowsAt list place = (last next : Numbered) → slice_get list (place - 1) ≡ Some last → slice_get list place ≡ Some next
+    → Follows last.record next.record

@@ -1,5 +1,5 @@
-//! The calls of a turn, and what the network did before them. That is told as late as can be: bytes and ends arrive just
-//! before the call that shows them, and room comes just before the write that takes it.
+//! The calls of a turn, and what the network did before them. That is told as late as can be: bytes and ends arrive
+//! just before the call that shows them, and room comes just before the write that takes it.
 use crate::flaw::Flaw;
 use crate::player::{Phase, Player};
 use crate::recording::Numbered;

@@ -3,8 +3,8 @@ use crate::recording::Numbered;
 use records::Act;
 use std::alloc::{AllocError, Global};
 
-/// The readings of the clock, by the counts around them. The lists `before` and `after` rise by their first numbers, and have with
-/// each the latest second up to there.
+/// The readings of the clock, by the counts around them. The lists `before` and `after` rise by their first numbers,
+/// and have with each the latest second up to there.
 #[derive(Drop)]
 pub(crate) struct Clock {
     before: Vec<(u64, u64)>,
@@ -40,8 +40,8 @@ impl Clock {
         Ok(())
     }
 
-    /// The earliest and the latest second of a reading between these two counts, which was made by a thread of which nothing
-    /// else is recorded there. Without one these are the seconds that the clock can have shown.
+    /// The earliest and the latest second of a reading between these two counts, which was made by a thread of which
+    /// nothing else is recorded there. Without one these are the seconds that the clock can have shown.
     pub(crate) fn between(&self, from: u64, to: u64) -> (u64, u64) {
         let readings = self.before.as_slice();
         let last = count_below(readings, to).saturating_sub(1);

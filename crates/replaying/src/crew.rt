@@ -1,4 +1,5 @@
-//! How many threads were at work at once: a turn is made by the poller of its slot, while that does nothing else, or by a worker.
+//! How many threads were at work at once: a turn is made by the poller of its slot, while that does nothing else, or
+//! by a worker.
 use crate::reading::{broken, wanted};
 use crate::recording::{Numbered, Recording};
 use records::{Act, Made, ReplayFault};
@@ -173,7 +174,8 @@ impl Crew {
         };
     }
 
-    /// One more of what may be a poller's own, or one less. Answers whether it is the only one, which the poller does itself.
+    /// One more of what may be a poller's own, or one less. Answers whether it is the only one, which the poller does
+    /// itself.
     fn is_first(&mut self, poller: usize, begins: bool) -> bool {
         let Some(own) = self.own.get_mut(poller) else {
             return false;

@@ -1,9 +1,10 @@
 //! What a recording of a relay comes to on the machine ([`OnMachine`]).
 //!
-//! `reading` reads the file into the lists of `recording`, and `order` puts these in order. `sequence`, `round` and `crew` refuse what
-//! no thread does: two acts at once, what does not follow in a round, more turns at once than there are threads. `rounds` finds what
-//! was posted when, by the seconds of `clock` and what `swept` makes of them. `player` plays a slot, with `opening`, `turns`, `calls` and `posts`, and `listener` what a poller did
-//! at its listener, both on the world of `stage`. `told` gathers what came of it, and `telling` writes it.
+//! `reading` reads the file into the lists of `recording`, and `order` puts these in order. `sequence`, `round` and
+//! `crew` refuse what no thread does: two acts at once, what does not follow in a round, more turns at once than
+//! there are threads. `rounds` finds what was posted when, by the seconds of `clock` and what `swept` makes of them.
+//! `player` plays a slot, with `opening`, `turns`, `calls` and `posts`, and `listener` what a poller did at its
+//! listener, both on the world of `stage`. `told` gathers what came of it, and `telling` writes it.
 #![tactic(auto)]
 
 mod calls;

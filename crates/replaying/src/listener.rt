@@ -29,8 +29,8 @@ impl Stage {
         self.put(Event::Listen(Listening::Accept(reply)))
     }
 
-    /// A client comes in and is accepted. Where that is reported, the report vanishes: the poller was told of it when it came,
-    /// or did not have to be.
+    /// A client comes in and is accepted. Where that is reported, the report vanishes: the poller was told of it when
+    /// it came, or did not have to be.
     fn accept(&mut self) -> Result<(), Flaw> {
         let was_queued = self.is_queued(&Name::Listener);
         self.come_in()?;

@@ -69,8 +69,8 @@ impl Player<'_> {
         };
     }
 
-    /// The count when the poll before the last one of the slot's poller had ended, both before this count. The round has read its
-    /// second since then, before its poll or after it. A round has few acts, so the search is short.
+    /// The count when the poll before the last one of the slot's poller had ended, both before this count. The round
+    /// has read its second since then, before its poll or after it. A round has few acts, so the search is short.
     fn second_last_poll(&self, count: u64) -> u64 {
         let acts = self.score.recording.poller(self.poller);
         let place = acts.partition_point(|own| own.record.before < count);

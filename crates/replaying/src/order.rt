@@ -8,12 +8,12 @@ use crate::sequence::{first_overlap, is_report};
 use records::{Act, Made, ReplayFault};
 use std::alloc::{AllocError, Global};
 
-/// Puts the lists of a recording in the order of the counts before the records. Refuses with `Broken` if what one thread at a time
-/// does overlaps, if two acts have the same count, if the last record has not the greatest counts, or if a recording that says it
-/// is complete is not.
+/// Puts the lists of a recording in the order of the counts before the records. Refuses with `Broken` if what one
+/// thread at a time does overlaps, if two acts have the same count, if the last record has not the greatest counts,
+/// or if a recording that says it is complete is not.
 ///
-/// Where a recording was stopped, threads lost what they had not handed over: then only the records before the first lost
-/// one are left. Answers how many were left out.
+/// Where a recording was stopped, threads lost what they had not handed over: then only the records before the first
+/// lost one are left. Answers how many were left out.
 pub(crate) fn put_in_order(alloc: Global, recording: &mut Recording) -> Result<usize, ReplayFault> {
     sort(recording)?;
     check_sequences(alloc, recording)?;
@@ -128,7 +128,8 @@ fn first_missing(counts: &[u64]) -> usize
     counts.len()
 }
 
-/// For each act that may have been begun and not ended when the relay was stopped, the least count that it can have, in order.
+/// For each act that may have been begun and not ended when the relay was stopped, the least count that it can have,
+/// in order.
 fn begun(alloc: Global, recording: &Recording) -> Result<Vec<u64>, AllocError> {
     let mut begun = vec![in alloc; u64::MAX; recording.lists.len()]?;
     if recording.last != Last::Ended {
@@ -140,8 +141,8 @@ fn begun(alloc: Global, recording: &Recording) -> Result<Vec<u64>, AllocError> {
     Ok(begun)
 }
 
-/// The count after the last of a poller, which may have been waiting for reports, or after that of a turn which has not ended, or
-/// else the greatest.
+/// The count after the last of a poller, which may have been waiting for reports, or after that of a turn which has
+/// not ended, or else the greatest.
 fn next_begun(recording: &Recording, at: usize) -> u64 {
     let is_poller = at >= recording.header.slots && at < recording.lists.len().saturating_sub(1);
     match recording.list(at).last() {
@@ -162,7 +163,8 @@ fn is_of_turn(act: &Act) -> bool {
     }
 }
 
-/// The first count from 0 up, below the greatest of these, that is of no record, where each act that was begun lacks one.
+/// The first count from 0 up, below the greatest of these, that is of no record, where each act that was begun lacks
+/// one.
 fn first_lost(counts: &[u64], begun: &[u64]) -> Option<u64>
     ensures none { IfNone result ((place count : ℕ) → IsMissing counts.now place count → IsBegun begun.now place count) }
     ensures some { IfSome result (λ lost. (place : ℕ) × IsMissing counts.now place lost × (IsBegun begun.now place lost → ⊥)) }
@@ -175,8 +177,8 @@ fn first_lost(counts: &[u64], begun: &[u64]) -> Option<u64>
     None
 }
 
-/// The same between the count at a place and the one before it. Each count that is missing uses up one act that was begun, so there
-/// are few of them.
+/// The same between the count at a place and the one before it. Each count that is missing uses up one act that was
+/// begun, so there are few of them.
 fn lost_before(counts: &[u64], place: usize, begun: &[u64]) -> Option<u64>
     requires { place < length counts.now }
     ensures none { IfNone result ((count : ℕ) → IsMissing counts.now place count → IsBegun begun.now place count) }

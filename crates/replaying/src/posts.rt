@@ -1,5 +1,5 @@
-//! The notes of a slot: what its poller was told becomes a note where a turn needs one, and before the last moment at which
-//! it can have been posted.
+//! The notes of a slot: what its poller was told becomes a note where a turn needs one, and before the last moment at
+//! which it can have been posted.
 use crate::flaw::Flaw;
 use crate::player::{Player, State};
 use records::{Act, Polling};
@@ -13,7 +13,8 @@ pub(crate) struct Post {
     pub place: usize,
     /// The generation of which an end was reported. None for a sweep.
     pub generation: Option<u64>,
-    /// The count when the poll had ended, and the one before the next thing that the poller did: it was made between these.
+    /// The count when the poll had ended, and the one before the next thing that the poller did: it was made between
+    /// these.
     pub from: u64,
     pub to: u64,
     /// If it is certain that it was made, or for a sweep one before it, that happened from this count on.
@@ -58,8 +59,8 @@ pub(crate) fn posts_at(lists: &[Vec<Post>], at: usize) -> Queue<'_> {
 }
 
 impl Queue<'_> {
-    /// Until when the first post was made that can be for the connection, if it can have come before this count. What is before
-    /// it never can.
+    /// Until when the first post was made that can be for the connection, if it can have come before this count. What
+    /// is before it never can.
     fn first(&mut self, state: &State, before: u64) -> Option<u64> {
         for _post in 0..self.0.len() {
             let (first, next) = self.0.split_first()?;
@@ -93,8 +94,8 @@ impl Queue<'_> {
 }
 
 impl Posts<'_> {
-    /// The next post before a turn that begins before this count: one that came while the slot was held; or where the slot has no
-    /// note, of what can have come by now the report or the sweep that must have come first.
+    /// The next post before a turn that begins before this count: one that came while the slot was held; or where the
+    /// slot has no note, of what can have come by now the report or the sweep that must have come first.
     fn next(&mut self, state: &State, before: u64, has_notes: bool) -> Option<Post> {
         let report = self.reports.first(state, before);
         match report {
@@ -112,7 +113,8 @@ impl Posts<'_> {
 }
 
 impl Player<'_> {
-    /// A turn begins before this count, so the slot has a note by then. Answers from which count on the turn has its ticket.
+    /// A turn begins before this count, so the slot has a note by then. Answers from which count on the turn has its
+    /// ticket.
     pub(crate) fn gather_notes(&mut self, before: u64) -> Result<u64, Flaw> {
         let mut since = self.state.free_from;
         for _post in 0..self.posts.reports.0.len().saturating_add(1) {

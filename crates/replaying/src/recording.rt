@@ -28,8 +28,8 @@ pub(crate) struct Recording {
     pub header: Header,
     /// Which slots are which poller's.
     pub split: Split,
-    /// A list for each slot, of openings, turns, calls and drops; after them one for each poller, of all that it did; and one of
-    /// what belongs to neither: readings of the clock, and the last record.
+    /// A list for each slot, of openings, turns, calls and drops; after them one for each poller, of all that it did;
+    /// and one of what belongs to neither: readings of the clock, and the last record.
     pub lists: Vec<Vec<Numbered>>,
     pub last: Last,
     /// The count after the first wait for reports that failed, if one did: then the relay ended before all was done.

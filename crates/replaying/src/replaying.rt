@@ -19,20 +19,20 @@ use std::alloc::Global;
 use std::io::{Read, Write};
 use world::{Lead, Limits};
 
-/// The machine on which recordings are played: what each slot and each poller's listener did, on a world of its own, event by
-/// event. What is told of a slot is read off that world, whose events all happened there ([`world::Tape`]).
+/// The machine on which recordings are played: what each slot and each poller's listener did, on a world of its own,
+/// event by event. What is told of a slot is read off that world, whose events all happened there ([`world::Tape`]).
 pub struct OnMachine;
 
 impl Replay for OnMachine {
     /// Reads a recording, and plays it.
     ///
-    /// With `rests`, or where the recording ends with the record `end`, the relay had come to rest: nothing may be left to do
-    /// at any slot. With `rests` alone nothing is asked of that where records after a lost one were left out, since what was
-    /// left to do may have been done there, and in neither case where a wait for reports had failed, since that ends a relay
-    /// before all is done.
+    /// With `rests`, or where the recording ends with the record `end`, the relay had come to rest: nothing may be
+    /// left to do at any slot. With `rests` alone nothing is asked of that where records after a lost one were left
+    /// out, since what was left to do may have been done there, and in neither case where a wait for reports had
+    /// failed, since that ends a relay before all is done.
     ///
-    /// Refuses with `Read` if the reader gives an error, `Broken` if the file is no recording, `Unknown` if it lacks the
-    /// connection that is wanted, `Write` if the outcome could not be written, and `NoMemory`.
+    /// Refuses with `Read` if the reader gives an error, `Broken` if the file is no recording, `Unknown` if it lacks
+    /// the connection that is wanted, `Write` if the outcome could not be written, and `NoMemory`.
     fn replay<R: Read, W: Write>(
         &self,
         alloc: Global,

@@ -1,5 +1,5 @@
-//! What a poller does in a round, one act after the other: it waits for reports once, and then accepts connections, each of
-//! which it opens at once.
+//! What a poller does in a round, one act after the other: it waits for reports once, and then accepts connections,
+//! each of which it opens at once.
 use crate::clock::Clock;
 use crate::reading::{broken, wanted};
 use crate::recording::{Last, Recording};

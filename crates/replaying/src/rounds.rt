@@ -24,8 +24,9 @@ struct Rounds<'a> {
     swept: Option<Swept>,
 }
 
-/// What was posted in the rounds of a recording: a list for each slot, of the reports that its poller was given, and after
-/// them one for each poller, of its sweeps. Each of these posted to each slot in which the poller had opened a connection.
+/// What was posted in the rounds of a recording: a list for each slot, of the reports that its poller was given, and
+/// after them one for each poller, of its sweeps. Each of these posted to each slot in which the poller had opened a
+/// connection.
 ///
 /// Refuses with `Broken` for a poll with other reports than it gave.
 pub(crate) fn play_rounds(
@@ -113,8 +114,8 @@ impl Rounds<'_> {
         u64::MAX
     }
 
-    /// The round after a poll may have made a sweep, by the second that the round before it read. Where that is in doubt, it may
-    /// or may not.
+    /// The round after a poll may have made a sweep, by the second that the round before it read. Where that is in
+    /// doubt, it may or may not.
     fn sweep(&mut self, before: u64, poll: &Post) -> Option<Post> {
         let limit = self.recording.header.idle;
         if limit == 0 {

@@ -5,8 +5,8 @@ ghost use Rattle.replaying.specs.Sequences.{Follows, FollowsAt, is_report};
 use crate::recording::Numbered;
 use records::{Act, Polling};
 
-/// The place of the first of these acts that does not follow the one before it, or how many there are. They are those at a
-/// slot, or those of a poller.
+/// The place of the first of these acts that does not follow the one before it, or how many there are. They are those
+/// at a slot, or those of a poller.
 pub(crate) fn first_overlap(list: &[Numbered]) -> usize
     ensures within { result ≤ length list.now }
     ensures before { (place : ℕ) → place < result → 1 ≤ place → FollowsAt list.now place }

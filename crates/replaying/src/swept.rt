@@ -23,8 +23,9 @@ impl Swept {
         }
     }
 
-    /// A round read a second between these two, and makes its posts from this count on: a sweep, if the limit has passed since the
-    /// last one. None: it makes none. With a count it, or a round since that count, makes one for certain.
+    /// A round read a second between these two, and makes its posts from this count on: a sweep, if the limit has
+    /// passed since the last one. None: it makes none. With a count it, or a round since that count, makes one for
+    /// certain.
     pub(crate) fn pass(
         &mut self,
         limit: u64,

@@ -49,7 +49,8 @@ acts_one act old new adds = record {
   table = adds.only.table;
   traces = λ slot. dite (ℕ_discrete act.ticket.slot slot)
       (λ same. subst (λ (s : ℕ). trace_at new s ≡ trace_at old s ++ act.exchanges) same adds.here
-      ∙ ap (λ (t : List Exchange). trace_at old slot ++ t) (sym (append-nil act.exchanges) ∙ sym (ap (λ (b : Bool). (if b then act.exchanges else []) ++ []) (eq-eqb act.ticket.slot slot same))))
+      ∙ ap (λ (t : List Exchange). trace_at old slot ++ t) (sym (append-nil act.exchanges)
+      ∙ sym (ap (λ (b : Bool). (if b then act.exchanges else []) ++ []) (eq-eqb act.ticket.slot slot same))))
       (λ other. adds.only.others slot (λ e. other (sym e)) ∙ sym (append-nil (trace_at old slot))
       ∙ ap (λ (t : List Exchange). trace_at old slot ++ t) (sym (ap (λ (b : Bool). (if b then act.exchanges else []) ++ []) (ne_eqb act.ticket.slot slot other))));
 }

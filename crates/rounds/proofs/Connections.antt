@@ -279,7 +279,8 @@ module _ (p q : PollerState) (a : Own) (hand : HandState) (taken : hand ≡ reco
         → Connected (t ∷ []) [] 0 s q (record a { hand = hand }) b ⊎ Connected [] (t.slot ∷ []) 1 s q (record a { hand = hand }) b
         → b.free ≡ a.free → b.hand.slots ≡ hand.slots → AcceptDone p q a b
     opened_there s b t still here placed free slots =
-        there b t here (subst (λ (x : PollerState). Connected (t ∷ []) [] 0 x q (record a { hand = hand }) b ⊎ Connected [] (t.slot ∷ []) 1 x q (record a { hand = hand }) b) still placed) free slots
+        there b t here (subst (λ (x : PollerState). Connected (t ∷ []) [] 0 x q (record a { hand = hand }) b ⊎ Connected [] (t.slot ∷ []) 1 x q (record a { hand = hand }) b) still
+        placed) free slots
 
 -- three clauses of a call that answered Ok give a fourth
 pub on_ok : {T E A B C D : Type 0} (r : Result T E) → (A → B → C → D) → OnOk r A → OnOk r B → OnOk r C → OnOk r D
@@ -334,7 +335,16 @@ room_left try a b c took one room = let same = room_same a b took in omega arith
 
 -- what trying accept(2) may change of what the poller keeps
 abbrev pub tried : PollerState → PollerState → PollerState
-tried p q = record p { table = q.table; accepting = q.accepting; starved = q.starved; tries = q.tries; opened = q.opened; dropped = q.dropped; lost = q.lost; episodes = q.episodes }
+tried p q = record p {
+  table = q.table;
+  accepting = q.accepting;
+  starved = q.starved;
+  tries = q.tries;
+  opened = q.opened;
+  dropped = q.dropped;
+  lost = q.lost;
+  episodes = q.episodes;
+}
 
 pub accept_again : (p q r : PollerState) → q ≡ tried p q → r ≡ tried q r → r ≡ tried p r
 accept_again p q r one two = two ∙ ap (λ (s : PollerState). tried s r) one
@@ -374,7 +384,8 @@ opens_lost p q lost is = subst (λ (s : PollerState). s ≡ opens p s) (sym is) 
 
 pub opens_dropped : (p r q : PollerState) (episodes : Episodes) (dropped : ℕ) → r ≡ record p { episodes = episodes } → q ≡ record r { dropped = dropped } → q ≡ opens p q
 opens_dropped p r q episodes dropped one two =
-    subst (λ (s : PollerState). s ≡ opens p s) (sym two) (ap (λ (s : PollerState). record s { dropped = dropped }) one ∙ sym (ap (λ (s : PollerState). opens p (record s { dropped = dropped })) one))
+    subst (λ (s : PollerState). s ≡ opens p s) (sym two) (ap (λ (s : PollerState). record s { dropped = dropped }) one
+    ∙ sym (ap (λ (s : PollerState). opens p (record s { dropped = dropped })) one))
 
 -- what became of an accepted connection in the first slot in hand, as it counts
 abbrev IsCounted : PollerState → PollerState → SeatState → SeatState → ℕ → Type 0
@@ -513,7 +524,8 @@ let_go_quiet t a b adds none hand = record {
 }
 
 -- the note of an opening was posted by the slot's holder, who then let it go
-pub started_by : (t : Ticket) (noted : ℕ) (r : Posted) (a : Own) (first second : SeatState) (b : Own) → HoldsOnly t.slot a.seat → Adds t.slot (exchange.Take noted ∷ []) a.seat first
+pub started_by : (t : Ticket) (noted : ℕ) (r : Posted) (a : Own) (first second : SeatState) (b : Own) → HoldsOnly t.slot a.seat
+    → Adds t.slot (exchange.Take noted ∷ []) a.seat first
     → PostChange t.slot first r second → (r ≡ posted.Wake) ⊎ (r ≡ posted.Quiet) → LetGo t (record a { seat = second }) b → Started t a b
 started_by t noted posted.Wake a first second b only took change is left =
     absurd (false≢true (sym change.1 ∙ (holds_still t.slot (exchange.Take noted ∷ []) a.seat first took only refl).here))

@@ -38,11 +38,13 @@ posted_both {xs} {ys} {a} {b} {c} {h} {k} {l} one two = record {
   made = acts_both one.posts two.posts a b c one.made two.made;
   hand = two.hand
       ∙ ap (λ (s : HandState). record s { tickets = s.tickets ++ due_of two.posts }) one.hand
-      ∙ ap (λ (ts : List Ticket). record h { tickets = ts }) (append_assoc h.tickets (due_of one.posts) (due_of two.posts) ∙ ap (λ (ts : List Ticket). h.tickets ++ ts) (sym (due-append one.posts two.posts)));
+      ∙ ap (λ (ts : List Ticket). record h { tickets = ts }) (append_assoc h.tickets (due_of one.posts) (due_of two.posts)
+      ∙ ap (λ (ts : List Ticket). h.tickets ++ ts) (sym (due-append one.posts two.posts)));
 }
 
 -- reports, and then others
-pub delivered_both : (generations xs ys : List ℕ) {a b c : SeatState} {h k l : HandState} → Delivered generations xs a b h k → Delivered generations ys b c k l → Delivered generations (xs ++ ys) a c h l
+pub delivered_both : (generations xs ys : List ℕ) {a b c : SeatState} {h k l : HandState} → Delivered generations xs a b h k → Delivered generations ys b c k l
+    → Delivered generations (xs ++ ys) a c h l
 delivered_both generations xs ys {a} {b} {c} {h} {k} {l} one two =
     subst (λ (ts : List Ticket). ArePosted ts a c h l) (sym (filter_map-append (reported generations) xs ys)) (posted_both one two)
 
@@ -54,7 +56,8 @@ pub one_reported : (generations : List ℕ) (number : ℕ) (t : Ticket) → repo
 one_reported generations number t is = ap (λ (o : Option Ticket). cons_option o []) is
 
 module _ {t : Ticket} {old new : SeatState} where
-  one_posted : (woke : Bool) {h k : HandState} → Adds t.slot (exchange.Post woke ∷ []) old new → k ≡ record h { tickets = h.tickets ++ (made_by (minted_by (exchange.Post woke ∷ [])) t ++ []) } → ArePosted (t ∷ []) old new h k
+  one_posted : (woke : Bool) {h k : HandState} → Adds t.slot (exchange.Post woke ∷ []) old new
+      → k ≡ record h { tickets = h.tickets ++ (made_by (minted_by (exchange.Post woke ∷ [])) t ++ []) } → ArePosted (t ∷ []) old new h k
   one_posted woke {h} {k} adds hand =
       let act : Act = record { ticket = t; exchanges = exchange.Post woke ∷ [] } in
       record { posts = act ∷ []; are = record { each = all_one IsPost act (woke, refl); in_order = refl }; made = acts_one act old new adds; hand = hand }
@@ -79,7 +82,8 @@ module _ {xs : List Ticket} {old new : SeatState} {had has : HandState} (posted 
   pub few_tickets : length has.tickets ≤ length had.tickets + length xs
   few_tickets =
       let some = posts_le xs posted.posts posted.are in
-      let tickets : length has.tickets ≡ length had.tickets + length (due_of posted.posts) = ap (λ (s : HandState). length s.tickets) posted.hand ∙ length-append had.tickets (due_of posted.posts) in
+      let tickets : length has.tickets ≡ length had.tickets + length (due_of posted.posts) = ap (λ (s : HandState). length s.tickets) posted.hand
+      ∙ length-append had.tickets (due_of posted.posts) in
       omega arith
 
   pub capacity_kept : has.capacity ≡ had.capacity

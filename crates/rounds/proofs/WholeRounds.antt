@@ -41,7 +41,8 @@ begun_is same = record {
   swept = ap (λ (s : PollerState). s.swept) same;
 }
 
-pub looked_is : {p q r : PollerState} → q ≡ record p { batch = [] } → r ≡ record q { listening = r.listening; reported = r.reported; failed = r.failed; batch = r.batch } → SameTable p r
+pub looked_is : {p q r : PollerState} → q ≡ record p { batch = [] } → r ≡ record q { listening = r.listening; reported = r.reported; failed = r.failed; batch = r.batch }
+    → SameTable p r
 looked_is begun looked = record {
   table = ap (λ (s : PollerState). s.table) looked ∙ ap (λ (s : PollerState). s.table) begun;
   opened = ap (λ (s : PollerState). s.opened) looked ∙ ap (λ (s : PollerState). s.opened) begun;
@@ -163,7 +164,8 @@ pub kept : (p q : PollerState) → Listens p q → ListenerKept p q
 kept p q (inl same) = inl same
 kept p q (inr closed) = inr (inl closed.0, closed.1)
 
--- what the steps of a round leave as it is, but that a front may listen no longer; the end of a round may change the last two
+-- what the steps of a round leave as it is, but that a front may listen no longer; the end of a round may change the
+-- last two
 pub record Lasting (old new : PollerState) : Type 0 where
   pub opening : new.opening ≡ old.opening
   pub most : new.most ≡ old.most
@@ -171,7 +173,8 @@ pub record Lasting (old new : PollerState) : Type 0 where
   pub over : new.over ≡ old.over
   pub listening : Listens old new
 
-pub looked_lasts : (p q r : PollerState) → q ≡ record p { batch = [] } → r ≡ record q { listening = r.listening; reported = r.reported; failed = r.failed; batch = r.batch } → Listens q r → Lasting p r
+pub looked_lasts : (p q r : PollerState) → q ≡ record p { batch = [] } → r ≡ record q { listening = r.listening; reported = r.reported; failed = r.failed; batch = r.batch }
+    → Listens q r → Lasting p r
 looked_lasts p q r begun looked listens = record {
   opening = ap (λ (s : PollerState). s.opening) looked ∙ ap (λ (s : PollerState). s.opening) begun;
   most = ap (λ (s : PollerState). s.most) looked ∙ ap (λ (s : PollerState). s.most) begun;
@@ -181,13 +184,34 @@ looked_lasts p q r begun looked listens = record {
 }
 
 pub delivered_lasts : {p q r : PollerState} → Lasting p q → r ≡ record q { accepting = r.accepting } → Lasting p r
-delivered_lasts {p} before is = subst (λ (s : PollerState). Lasting p s) (sym is) (record { opening = before.opening; most = before.most; heavy = before.heavy; over = before.over; listening = before.listening })
+delivered_lasts {p} before is =
+    subst (λ (s : PollerState). Lasting p s) (sym is) (record {
+      opening = before.opening;
+      most = before.most;
+      heavy = before.heavy;
+      over = before.over;
+      listening = before.listening;
+    })
 
 pub swept_lasts : {p q r : PollerState} → Lasting p q → r ≡ record q { second = r.second; swept = r.swept } → Lasting p r
-swept_lasts {p} before is = subst (λ (s : PollerState). Lasting p s) (sym is) (record { opening = before.opening; most = before.most; heavy = before.heavy; over = before.over; listening = before.listening })
+swept_lasts {p} before is =
+    subst (λ (s : PollerState). Lasting p s) (sym is) (record {
+      opening = before.opening;
+      most = before.most;
+      heavy = before.heavy;
+      over = before.over;
+      listening = before.listening;
+    })
 
 pub accepted_lasts : {p q r : PollerState} → Lasting p q → r ≡ tried q r → Lasting p r
-accepted_lasts {p} before is = subst (λ (s : PollerState). Lasting p s) (sym is) (record { opening = before.opening; most = before.most; heavy = before.heavy; over = before.over; listening = before.listening })
+accepted_lasts {p} before is =
+    subst (λ (s : PollerState). Lasting p s) (sym is) (record {
+      opening = before.opening;
+      most = before.most;
+      heavy = before.heavy;
+      over = before.over;
+      listening = before.listening;
+    })
 
 -- from the look on, the batch is what was reported
 abbrev IsRead : PollerState → Type 0

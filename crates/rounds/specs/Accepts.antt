@@ -6,8 +6,9 @@ use Rattle.rounds.specs.declared.accepting.Accepted.{Accepted}
 use Rattle.rounds.specs.declared.accepting.Accepted.TheVariants.{Again, Blocked, Starved}
 use Rattle.dispatch.specs.declared.episodes.Episodes.{Episodes}
 
--- A signal, a connection that was given up before it was accepted, or a network error that the new socket had pending: the next
--- connection may be accepted at once. EAGAIN says that none waits. Anything else counts as a lack of descriptors or memory
+-- A signal, a connection that was given up before it was accepted, or a network error that the new socket had pending:
+-- the next connection may be accepted at once. EAGAIN says that none waits. Anything else counts as a lack of
+-- descriptors or memory
 abbrev pub accepted_of : ErrorKind → Accepted
 accepted_of Interrupted = Again
 accepted_of ConnectionAborted = Again
@@ -29,7 +30,8 @@ starved_after Again starved = starved
 starved_after Blocked starved = false
 starved_after Starved starved = true
 
--- what the log is told once for as long as it lasts: a lack was told, and that clients wait for a slot is over once none waits
+-- what the log is told once for as long as it lasts: a lack was told, and that clients wait for a slot is over once
+-- none waits
 abbrev pub episodes_after : Accepted → Episodes → Episodes
 episodes_after Again e = e
 episodes_after Blocked e = record e { full = false }

@@ -43,8 +43,8 @@ pub record ArePosts (tickets : List Ticket) (posts : List Act) : Type 0 where
   pub each : All IsPost posts
   pub in_order : tickets_of posts ≡ tickets
 
--- a connection was opened: its slot was adopted, the notes of the connection before it were taken, the note of the opening was posted,
--- and the slot was released
+-- a connection was opened: its slot was adopted, the notes of the connection before it were taken, the note of the
+-- opening was posted, and the slot was released
 abbrev pub opening : ℕ → ℕ → List Exchange
 opening found noted = Adopted found ∷ Take noted ∷ Post false ∷ Release true ∷ []
 

@@ -10,8 +10,8 @@ use Rattle.token.specs.Numbers.{name_of}
 use Rattle.dispatch.specs.Hands.{HandState}
 use Rattle.rounds.specs.Acts.{Act, due_of, ActsMade, ArePosts}
 
--- The connection that a name is of, if its slot still has it: the slot's generation in the table is the name's. A slot that the table
--- lacks reads as generation 0, which no end has
+-- The connection that a name is of, if its slot still has it: the slot's generation in the table is the name's. A slot
+-- that the table lacks reads as generation 0, which no end has
 abbrev pub connection : List ℕ → Option Name → Option Ticket
 connection generations (Some (End end)) =
     if slice_index generations end.slot == end.generation then Some (record { slot = end.slot; generation = end.generation }) else None
@@ -31,8 +31,8 @@ all_reported generations batch = filter_map (reported generations) batch
 abbrev pub at_slot : ℕ → List Ticket → ℕ
 at_slot slot tickets = count_by (λ t. t.slot == slot) tickets
 
--- A note was posted for each of these connections, in order, by one exchange at its slot, and those of them that woke left their tickets in
--- hand, in order. Nothing else of the seat or of the hand changed
+-- A note was posted for each of these connections, in order, by one exchange at its slot, and those of them that woke
+-- left their tickets in hand, in order. Nothing else of the seat or of the hand changed
 pub record ArePosted (tickets : List Ticket) (old new : SeatState) (had has : HandState) : Type 0 where
   pub posts : List Act
   pub are : ArePosts tickets posts

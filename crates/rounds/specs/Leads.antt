@@ -10,7 +10,8 @@ use Rattle.dispatch.specs.declared.route.Route.{Route}
 
 -- the line of the PROXY protocol from a client's own address to the one on which it was accepted, if both are told
 abbrev pub line_between : Option SocketAddrV4 → Option SocketAddrV4 → Option (List ℕ)
-line_between (Some client) (Some accepted) = Some (proxy_line (ipv4_octets (v4_ip client)) (v4_port client) (ipv4_octets (v4_ip accepted)) (v4_port accepted))
+line_between (Some client) (Some accepted) =
+    Some (proxy_line (ipv4_octets (v4_ip client)) (v4_port client) (ipv4_octets (v4_ip accepted)) (v4_port accepted))
 line_between (Some client) None = None
 line_between None accepted = None
 

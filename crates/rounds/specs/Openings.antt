@@ -19,8 +19,8 @@ use Rattle.dispatch.specs.declared.part.Part.{Part}
 use Rattle.dispatch.specs.Drops.{dropped_for}
 use Rattle.dispatch.specs.Episodes.{opened_after}
 
--- Between two steps of a round the poller's thread holds no slot, its seat is one of these claim words, and its table has a
--- generation for each slot
+-- Between two steps of a round the poller's thread holds no slot, its seat is one of these claim words, and its table
+-- has a generation for each slot
 pub record Between (claims : TableId) (own : Own) (poller : PollerState) : Type 0 where
   pub same : own.seat.table ≡ claims
   pub idle : HoldsNothing own.seat
@@ -58,7 +58,8 @@ pub record OnlyTook (had has : Own) : Type 0 where
   pub gave : has.free.history.put ≡ had.free.history.put
   pub slots : SlotsCounted had has [] []
 
--- The slot of a connection was released. The ticket is in hand if that answered Wake, as it does where the seat knew of a note
+-- The slot of a connection was released. The ticket is in hand if that answered Wake, as it does where the seat knew of
+-- a note
 pub record LetGo (ticket : Ticket) (old new : Own) : Type 0 where
   pub woke : Bool
   pub quiet : woke ≡ false → (account_at old.seat ticket.slot).known ≡ 0
@@ -71,9 +72,9 @@ pub record Started (ticket : Ticket) (old new : Own) : Type 0 where
   pub seat : Adds ticket.slot (drop 1 (opening 0 noted)) old.seat new.seat
   pub hand : new.hand ≡ record old.hand { tickets = old.hand.tickets ++ ticket ∷ [] }
 
--- These connections were opened in the poller's own slots, each with the next generation of its slot, with one note and with one
--- ticket, which is in hand after the others. And these slots are no longer used, this many of which were found not to be free. That is all
--- that the seat did
+-- These connections were opened in the poller's own slots, each with the next generation of its slot, with one note and
+-- with one ticket, which is in hand after the others. And these slots are no longer used, this many of which were found
+-- not to be free. That is all that the seat did
 pub record Connected (opened : List Ticket) (lost : List ℕ) (held : ℕ) (old new : PollerState) (had has : Own) : Type 0 where
   pub table : AreOpened old.table opened new.table
   pub counted : Counted old.opened (length opened) new.opened
@@ -89,8 +90,9 @@ pub record Connected (opened : List Ticket) (lost : List ℕ) (held : ℕ) (old 
   pub ready : has.ready ≡ had.ready
   pub gave : has.free.history.put ≡ had.free.history.put
 
--- What became of an accepted connection, as it counts: it was opened, or closed unopened with a line that says why or tells how many
--- more there were, or its slot is no longer used. An opening alone ends what the log is told once for as long as it lasts
+-- What became of an accepted connection, as it counts: it was opened, or closed unopened with a line that says why or
+-- tells how many more there were, or its slot is no longer used. An opening alone ends what the log is told once for as
+-- long as it lasts
 abbrev pub IsOpened : PollerState → PollerState → Type 0
 IsOpened old new =
     (new.opened ≡ counted_up old.opened 1) × (new.dropped ≡ old.dropped) × (new.lost ≡ old.lost)
@@ -106,15 +108,16 @@ IsLost old new =
     (new.opened ≡ old.opened) × (new.dropped ≡ old.dropped) × (new.lost ≡ counted_up old.lost 1)
     × (new.episodes ≡ old.episodes)
 
--- Why an accepted connection is closed unopened: memory ran out, or the front refused to open it, or an address is missing of the line
--- that its target is to be sent
+-- Why an accepted connection is closed unopened: memory ran out, or the front refused to open it, or an address is
+-- missing of the line that its target is to be sent
 abbrev pub DropsFor : (Unopened → Type 0) → (Route → Type 0) → Bool → Cause → Type 0
 DropsFor may_refuse may_tell proxy cause.Memory = Unit {0}
 DropsFor may_refuse may_tell proxy cause.Connect = may_refuse unopened.Connect
 DropsFor may_refuse may_tell proxy cause.Register = may_refuse unopened.Register
 DropsFor may_refuse may_tell proxy cause.Address = LeadTold may_tell proxy None
 
--- no connection can be opened in this slot: it is another poller's, or the table or the names lack it, or its generation is the last
+-- no connection can be opened in this slot: it is another poller's, or the table or the names lack it, or its
+-- generation is the last
 abbrev pub IsSpent : PollerState → ℕ → Type 0
 IsSpent p slot = (IsIn p.part slot → ⊥) ⊎ ((length p.table ≤ slot) ⊎ ((32768 ≤ slot) ⊎ (slice_index p.table slot ≡ 140737488355327)))
 
@@ -122,8 +125,8 @@ IsSpent p slot = (IsIn p.part slot → ⊥) ⊎ ((length p.table ≤ slot) ⊎ (
 abbrev pub LostFor : PollerState → ℕ → SeatState → SeatState → Type 0
 LostFor p slot old new = IsSpent p slot ⊎ Adds slot (exchange.NotFree ∷ []) old new
 
--- What accepting did: connections were opened, and each slot that was taken was opened, or is in hand, or is no longer used. A
--- connection whose opening failed leaves its slot in hand
+-- What accepting did: connections were opened, and each slot that was taken was opened, or is in hand, or is no longer
+-- used. A connection whose opening failed leaves its slot in hand
 pub record AcceptDone (old new : PollerState) (had has : Own) : Type 0 where
   pub opened : List Ticket
   pub lost : List ℕ

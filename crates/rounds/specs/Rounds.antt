@@ -11,11 +11,12 @@ use Rattle.dispatch.specs.Outgoing.{tickets_out}
 use Rattle.dispatch.specs.Polls.{PollerState, HasOpenedAll, Counted}
 use Rattle.rounds.specs.Sweeps.{is_due, sweep_of}
 
--- The reports of the batch were delivered: each that is for a connection was posted at its slot, and those that woke made their
--- tickets. Then came the posts of a sweep, if one was made, and those that woke made theirs. Then connections were opened, each with
--- one post and one ticket at its slot. All tickets that were to be put before, then those of the reports, of the sweep and of the
--- openings are put or in hand, in this order. Each slot that was taken was opened, or is in hand, or is no longer used. These acts, in
--- this order, are all that the seat did: this many of the last found a slot held. Nothing was posted or opened at a slot of another poller
+-- The reports of the batch were delivered: each that is for a connection was posted at its slot, and those that woke
+-- made their tickets. Then came the posts of a sweep, if one was made, and those that woke made theirs. Then
+-- connections were opened, each with one post and one ticket at its slot. All tickets that were to be put before, then
+-- those of the reports, of the sweep and of the openings are put or in hand, in this order. Each slot that was taken
+-- was opened, or is in hand, or is no longer used. These acts, in this order, are all that the seat did: this many of
+-- the last found a slot held. Nothing was posted or opened at a slot of another poller
 pub record RoundDone (old new : PollerState) (had has : Own) : Type 0 where
   pub reports : List Act
   pub sweep : List Act
@@ -78,12 +79,13 @@ pub record MayAccept (p : PollerState) (own : Own) : Type 0 where
   pub left : HasOpenedAll p → ⊥
   pub slot : 1 ≤ length own.hand.slots
 
--- why the poller does not wait: a sweep is due, or a ticket is in hand, or a connection may be accepted now, and the system did not
--- lack what that needs
+-- why the poller does not wait: a sweep is due, or a ticket is in hand, or a connection may be accepted now, and the
+-- system did not lack what that needs
 abbrev pub MayNotWait : ℕ → PollerState → Own → Type 0
 MayNotWait limit p own = (is_due limit p ≡ true) ⊎ ((own.hand.tickets ≢ []) ⊎ ((p.starved ≡ false) × MayAccept p own))
 
--- a client waits for a slot: the listener was reported, and connections would be opened, but no slot was free even before any was
+-- a client waits for a slot: the listener was reported, and connections would be opened, but no slot was free even
+-- before any was
 pub record IsFull (p : PollerState) (own : Own) : Type 0 where
   pub reported : Contains p.batch 0
   pub left : HasOpenedAll p → ⊥
@@ -93,15 +95,18 @@ pub record IsFull (p : PollerState) (own : Own) : Type 0 where
 abbrev pub IsBack : PollerState → Own → Type 0
 IsBack p own = p.part.slots ≤ length own.hand.slots + p.lost
 
--- the poller is over only once all connections that it may open were opened, and each of its slots is back in hand or no longer used
+-- the poller is over only once all connections that it may open were opened, and each of its slots is back in hand or
+-- no longer used
 pub record IsOver (p : PollerState) (own : Own) : Type 0 where
   pub opened : HasOpenedAll p
   pub back : IsBack p own
 
--- free slots were taken in hand: at one moment none was left in the queue, or there are this many in hand, or no more fit
+-- free slots were taken in hand: at one moment none was left in the queue, or there are this many in hand, or no more
+-- fit
 abbrev pub TookAll : ℕ → Own → Type 0
 TookAll slots own = HeldOnce 0 own.free.history ⊎ ((slots ≤ length own.hand.slots) ⊎ (HasRoom own.hand → ⊥))
 
--- once all connections that it may open were opened, the poller takes its slots in hand, and is over where all of them are back
+-- once all connections that it may open were opened, the poller takes its slots in hand, and is over where all of them
+-- are back
 abbrev pub LooksForAll : PollerState → Own → Type 0
 LooksForAll p own = HasOpenedAll p → TookAll p.part.slots own × (IsBack p own → p.over ≡ true)

@@ -21,8 +21,8 @@ opened_below table (suc slots) = opened_below table slots ++ opened_in table slo
 abbrev pub all_opened : List ℕ → List Ticket
 all_opened table = opened_below table (length table)
 
--- A sweep is due in a round: at the second that the round before it read, the limit had passed since the last sweep. The round
--- has asked for reports since then
+-- A sweep is due in a round: at the second that the round before it read, the limit had passed since the last sweep.
+-- The round has asked for reports since then
 abbrev pub is_due : ℕ → PollerState → Bool
 is_due limit p = is_past p.second limit p.swept
 

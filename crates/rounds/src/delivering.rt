@@ -15,8 +15,8 @@ use token::{Name, Token, unpack};
 /// whether the listener was reported.
 ///
 /// A batch has the numbers of the tokens that were reported, in order (epoll_wait(2)), and the table has each slot's
-/// generation. A number that names no end, such as the waker's, leaves no note, and neither does an end whose slot the
-/// table lacks or has with another generation: its connection was closed after the report arrived.
+/// generation. A number that names no end, such as the waker's, leaves no note, and neither does an end whose slot
+/// the table lacks or has with another generation: its connection was closed after the report arrived.
 ///
 /// The only refusal is `Worn`: the seat has posted 2^56 times. Then the reports before that one are delivered.
 pub fn deliver(
@@ -66,7 +66,8 @@ fn report(
     post_note(claims, seat, ticket, hand)
 }
 
-/// Posts a note at a connection's slot, and adds its ticket to the hand if the post answers Wake. `Worn` changes nothing.
+/// Posts a note at a connection's slot, and adds its ticket to the hand if the post answers Wake. `Worn` changes
+/// nothing.
 pub(crate) fn post_note(
     claims: &Claims,
     seat: &mut ClaimSeat,

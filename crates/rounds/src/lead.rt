@@ -32,7 +32,8 @@ pub(crate) fn lead(alloc: Global, proxy: bool, route: &Route) -> Result<Vec<u8>,
 
 /// The line for a client with this address, which was accepted on that one. Refuses with `Memory` if there is none.
 fn line(alloc: Global, client: SocketAddrV4, accepted: SocketAddrV4) -> Result<Vec<u8>, Cause>
-    ensures line { IfOk result (λ line. line.items ≡ proxy_line (ipv4_octets (v4_ip client)) (v4_port client) (ipv4_octets (v4_ip accepted)) (v4_port accepted)) }
+    ensures line { IfOk result (λ line. line.items ≡ proxy_line (ipv4_octets (v4_ip client)) (v4_port client)
+        (ipv4_octets (v4_ip accepted)) (v4_port accepted)) }
     ensures short { IfOk result (λ line. length line.items ≤ 107) }
     ensures refused { IfErr result (λ cause. cause ≡ Cause.Memory) }
 {

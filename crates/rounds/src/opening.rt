@@ -1,6 +1,6 @@
 //! Opens an accepted connection, in the order in which it happens: a free slot, the names of the slot's next
-//! connection, the connection to the target, what the target is sent first, the pair, the place, and the one note that
-//! starts it.
+//! connection, the connection to the target, what the target is sent first, the pair, the place, and the one note
+//! that starts it.
 ghost use Rattle.std.specs.Prelude.{◌≡◌, ◌≢◌, ◌⊎◌, ◌+◌, ◌<◌, ◌≤◌, [], ◌∷◌, ◌++◌, length, Err, Some, None, IfOk, IfErr, OnOk, OnErr, OnSome, IfSome, IsNone, slice_get, slice_index};
 ghost use Rattle.claims.specs.declared.view.Exchange.TheVariants as exchange;
 ghost use Rattle.claims.specs.Seats.{Adds, HoldsNothing, OnlyAt};
@@ -33,11 +33,12 @@ pub(crate) struct Names {
     pub(crate) target: Token,
 }
 
-/// Opens an accepted connection in the free slot in hand. It gets the slot's next generation, one note and one ticket,
-/// and is logged. If its opening fails, it is closed and logged or counted, and its slot is as it was, and in hand.
+/// Opens an accepted connection in the free slot in hand. It gets the slot's next generation, one note and one
+/// ticket, and is logged. If its opening fails, it is closed and logged or counted, and its slot is as it was, and in
+/// hand.
 ///
-/// A slot of another poller, outside the table, at its last generation or not free, none of which happens in any run, is no longer used,
-/// and the connection is closed.
+/// A slot of another poller, outside the table, at its last generation or not free, none of which happens in any run,
+/// is no longer used, and the connection is closed.
 ///
 /// The only refusal is `Worn`: the seat has posted 2^56 times.
 pub(crate) fn open<F: Front, R: Wait + Log>(
@@ -54,10 +55,18 @@ pub(crate) fn open<F: Front, R: Wait + Log>(
     requires slot { 1 ≤ length own.old.hand.slots }
     ensures between { Between shared.now.claims own.new poller.new }
     ensures worn { IfErr result (λ fault. OnlyWorn fault own.new.seat) }
-    ensures counted { OnOk result (IfSome (slice_get own.old.hand.slots 0) (λ slot. IsOpened poller.old poller.new ⊎ (IsDropped poller.old poller.new ⊎ (IsLost poller.old poller.new × LostFor poller.old slot own.old.seat own.new.seat)))) }
+    ensures counted { OnOk result (IfSome (slice_get own.old.hand.slots 0) (λ slot. IsOpened poller.old poller.new
+        ⊎ (IsDropped poller.old poller.new
+        ⊎ (IsLost poller.old poller.new × LostFor poller.old slot own.old.seat own.new.seat)))) }
     ensures done { OnOk result (AcceptDone poller.old poller.new own.old own.new) }
     ensures ready { own.new.ready ≡ own.old.ready }
-    ensures poller { poller.new ≡ record poller.old { table = poller.new.table; opened = poller.new.opened; dropped = poller.new.dropped; lost = poller.new.lost; episodes = poller.new.episodes } }
+    ensures poller { poller.new ≡ record poller.old {
+      table = poller.new.table;
+      opened = poller.new.opened;
+      dropped = poller.new.dropped;
+      lost = poller.new.lost;
+      episodes = poller.new.episodes;
+    } }
     ensures room { OnOk result (ticket_room own.old.hand ≤ ticket_room own.new.hand + 1) }
 {
     let Some(slot) = own.hand.take_slot() else {
@@ -89,8 +98,8 @@ pub(crate) fn open<F: Front, R: Wait + Log>(
     }
 }
 
-/// Starts the connection to the target, and makes the pair. If that fails, it is closed and logged or counted, and its slot is
-/// in hand again.
+/// Starts the connection to the target, and makes the pair. If that fails, it is closed and logged or counted, and
+/// its slot is in hand again.
 fn prepare<F: Front, N: Log>(
     rt: &N,
     alloc: Global,
@@ -107,7 +116,11 @@ fn prepare<F: Front, N: Log>(
     ensures cause { IfErr result (λ dropped. DropsFor (F.may_refuse client) (F.may_tell client) poller.old.opening.proxy dropped) }
     ensures failed { OnErr result (hand.new ≡ record hand.old { slots = hand.old.slots ++ names.client.slot ∷ [] }) }
     ensures same { OnOk result (poller.new ≡ poller.old) }
-    ensures told { IfErr result (λ dropped. poller.new ≡ record poller.old { episodes = record poller.old.episodes { drops = dropped_for dropped poller.old.second poller.old.episodes.drops } }) }
+    ensures told { IfErr result (λ dropped. poller.new
+        ≡ record poller.old {
+          episodes =
+              record poller.old.episodes { drops = dropped_for dropped poller.old.second poller.old.episodes.drops };
+        }) }
 {
     let slot = names.client.slot();
     match connect(rt, alloc, clients, poller, client, names) {
@@ -119,12 +132,20 @@ fn prepare<F: Front, N: Log>(
     }
 }
 
-/// The names of the ends of a slot's next connection. None if the table lacks the slot, or if the slot has had its last
-/// generation.
+/// The names of the ends of a slot's next connection. None if the table lacks the slot, or if the slot has had its
+/// last generation.
 pub(crate) fn next_names(table: &[u64], slot: usize) -> Option<Names>
     requires { AreGenerations table.now }
-    ensures client { IfSome result (λ names. names.client ≡ record { slot = slot; side = Side.Client; generation = slice_index table.now slot + 1 }) }
-    ensures target { IfSome result (λ names. names.target ≡ record { slot = slot; side = Side.Target; generation = slice_index table.now slot + 1 }) }
+    ensures client { IfSome result (λ names. names.client ≡ record {
+      slot = slot;
+      side = Side.Client;
+      generation = slice_index table.now slot + 1;
+    }) }
+    ensures target { IfSome result (λ names. names.target ≡ record {
+      slot = slot;
+      side = Side.Target;
+      generation = slice_index table.now slot + 1;
+    }) }
     ensures inside { OnSome result (slot < length table.now) }
     ensures none { IsNone result → slot ≤ 32767 → slot < length table.now → slice_index table.now slot ≡ 140737488355327 }
 {
@@ -134,8 +155,8 @@ pub(crate) fn next_names(table: &[u64], slot: usize) -> Option<Names>
     Some(Names { client, target })
 }
 
-/// Starts the connection to the target, and makes the pair. A refusal closes the client's connection, and the target's if it
-/// had been started, and the log may say whose it was.
+/// Starts the connection to the target, and makes the pair. A refusal closes the client's connection, and the
+/// target's if it had been started, and the log may say whose it was.
 pub(crate) fn connect<F: Front, N: Log>(
     rt: &N,
     alloc: Global,
@@ -144,7 +165,8 @@ pub(crate) fn connect<F: Front, N: Log>(
     mut client: F::Client,
     names: Names,
 ) -> Result<Berth<F::Client, F::Target>, Cause>
-    ensures pair { IfOk result (λ berth. berth.pair ≡ fresh names.client.slot names.client.generation poller.old.opening.ring poller.old.second berth.pair.up.lead) }
+    ensures pair { IfOk result (λ berth. berth.pair ≡ fresh names.client.slot names.client.generation poller.old.opening.ring
+        poller.old.second berth.pair.up.lead) }
     ensures second { IfOk result (λ berth. berth.second ≡ poller.old.second) }
     ensures lead { IfOk result (λ berth. LeadTold (F.may_tell client) poller.old.opening.proxy (Some berth.pair.up.lead)) }
     ensures cause { IfErr result (λ cause. DropsFor (F.may_refuse client) (F.may_tell client) poller.old.opening.proxy cause) }
@@ -165,10 +187,10 @@ pub(crate) fn connect<F: Front, N: Log>(
     }
 }
 
-/// Starts the connection to the target, and makes the pair, at the second of the round. If targets are sent a line with
-/// the addresses of their clients' connections, the pair begins with it on the way up. A refusal closes the target's
-/// connection if it had been started. It is what the front answered, or `Address` if the line is to be sent and an address is
-/// missing, or `Memory`.
+/// Starts the connection to the target, and makes the pair, at the second of the round. If targets are sent a line
+/// with the addresses of their clients' connections, the pair begins with it on the way up. A refusal closes the
+/// target's connection if it had been started. It is what the front answered, or `Address` if the line is to be sent
+/// and an address is missing, or `Memory`.
 #[tactic(auto, using(crate::proofs::Connections::refused_drops, crate::proofs::Connections::lacking_drops, crate::proofs::Connections::memory_drops))]
 fn reach<F: Front, N: Log>(
     rt: &N,
@@ -177,7 +199,8 @@ fn reach<F: Front, N: Log>(
     client: &mut F::Client,
     names: Names,
 ) -> Result<(Pair, F::Target), Cause>
-    ensures pair { IfOk result (λ made. made.0 ≡ fresh names.client.slot names.client.generation poller.old.opening.ring poller.old.second made.0.up.lead) }
+    ensures pair { IfOk result (λ made. made.0 ≡ fresh names.client.slot names.client.generation poller.old.opening.ring
+        poller.old.second made.0.up.lead) }
     ensures lead { IfOk result (λ made. LeadTold (F.may_tell client.old) poller.old.opening.proxy (Some made.0.up.lead)) }
     ensures cause { IfErr result (λ cause. DropsFor (F.may_refuse client.old) (F.may_tell client.old) poller.old.opening.proxy cause) }
     ensures same { poller.new ≡ poller.old }
@@ -232,10 +255,18 @@ fn place<F: Front, R: Wait + Log>(
     requires room { 1 ≤ ticket_room own.old.hand }
     ensures between { Between shared.now.claims own.new poller.new }
     ensures worn { IfErr result (λ fault. OnlyWorn fault own.new.seat) }
-    ensures done { OnOk result (Connected (record { slot = berth.pair.slot; generation = berth.pair.generation } ∷ []) [] 0 poller.old poller.new own.old own.new ⊎ Connected [] (berth.pair.slot ∷ []) 1 poller.old poller.new own.old own.new) }
-    ensures poller { poller.new ≡ record poller.old { table = poller.new.table; opened = poller.new.opened; lost = poller.new.lost; episodes = poller.new.episodes } }
+    ensures done { OnOk result (Connected (record { slot = berth.pair.slot; generation = berth.pair.generation } ∷ []) [] 0
+        poller.old poller.new own.old own.new ⊎ Connected [] (berth.pair.slot ∷ []) 1 poller.old poller.new own.old
+        own.new) }
+    ensures poller { poller.new ≡ record poller.old {
+      table = poller.new.table;
+      opened = poller.new.opened;
+      lost = poller.new.lost;
+      episodes = poller.new.episodes;
+    } }
     ensures ready { own.new.ready ≡ own.old.ready }
-    ensures counted { OnOk result (IsOpened poller.old poller.new ⊎ (IsLost poller.old poller.new × Adds berth.pair.slot (exchange.NotFree ∷ []) own.old.seat own.new.seat)) }
+    ensures counted { OnOk result (IsOpened poller.old poller.new
+        ⊎ (IsLost poller.old poller.new × Adds berth.pair.slot (exchange.NotFree ∷ []) own.old.seat own.new.seat)) }
     ensures free { OnOk result (own.new.free ≡ own.old.free) }
     ensures slots { OnOk result (own.new.hand.slots ≡ own.old.hand.slots) }
     ensures room { OnOk result (ticket_room own.old.hand ≤ ticket_room own.new.hand + 1) }

@@ -29,20 +29,21 @@ use std::sync::Wait;
 
 /// One round of the poller.
 ///
-/// The tickets in hand stay there, in front of those of the round; if the hand has no room for a ticket of each slot and 512
-/// more, the round ends there. Then it asks once for reports and delivers them ([`deliver`]); it waits for them only if no
-/// sweep is due, no ticket is in hand and no connection can be accepted now. A sweep is due if at the second of the round before at
-/// least the idle limit had passed since the last sweep, or since the poller began: it posts a note at each slot in which it has opened
-/// a connection, in rising order. Without a limit none is made. Then it reads its second. While connections may be waiting and a slot is free, it accepts and opens them, with
-/// at most 4 calls of accept(2).
+/// The tickets in hand stay there, in front of those of the round; if the hand has no room for a ticket of each slot
+/// and 512 more, the round ends there. Then it asks once for reports and delivers them ([`deliver`]); it waits for
+/// them only if no sweep is due, no ticket is in hand and no connection can be accepted now. A sweep is due if at the
+/// second of the round before at least the idle limit had passed since the last sweep, or since the poller began: it
+/// posts a note at each slot in which it has opened a connection, in rising order. Without a limit none is made. Then
+/// it reads its second. While connections may be waiting and a slot is free, it accepts and opens them, with at most
+/// 4 calls of accept(2).
 ///
-/// Once all connections that the poller may open were opened, its front no longer listens: neither at the round's end, nor while it
-/// asks for reports, where that was so before.
+/// Once all connections that the poller may open were opened, its front no longer listens: neither at the round's
+/// end, nor while it asks for reports, where that was so before.
 ///
 /// An opened connection has the slot's next generation, one note and one ticket, and is logged. A connection whose
-/// opening fails is closed and logged or counted, and its slot is as it was, and in hand. At its end the log is told of what is
-/// counted, once a second. Where the listener was reported and no slot is free, the last poller to find so tells the log. What
-/// connections are opened with stays the same.
+/// opening fails is closed and logged or counted, and its slot is as it was, and in hand. At its end the log is told
+/// of what is counted, once a second. Where the listener was reported and no slot is free, the last poller to find so
+/// tells the log. What connections are opened with stays the same.
 ///
 /// Refusals: `Poll` if waiting for reports failed, and `Worn` if the seat has posted 2^56 times. Then, too, the seat
 /// holds nothing.
@@ -63,8 +64,10 @@ pub fn poller_round<F: Front, C: Clock, R: Wait + Log>(
     ensures round { result ≢ Err ServerFault.Worn → RoundDone poller.old poller.new own.old own.new }
     ensures batch { result ≢ Err ServerFault.Worn → EndedEarly shared.now.claims.words own.new ⊎ (poller.new.batch ≡ poller.new.reported) }
     ensures told { OnOk result (EndedEarly shared.now.claims.words own.new ⊎ C.tells timing.now.clock.now poller.new.second) }
-    ensures swept { OnOk result (EndedEarly shared.now.claims.words own.new ⊎ (poller.new.swept ≡ swept_after timing.now.limit poller.old.second poller.old.swept)) }
-    ensures unswept { (poller.new.swept ≡ poller.old.swept) ⊎ (poller.new.swept ≡ swept_after timing.now.limit poller.old.second poller.old.swept) }
+    ensures swept { OnOk result (EndedEarly shared.now.claims.words own.new
+        ⊎ (poller.new.swept ≡ swept_after timing.now.limit poller.old.second poller.old.swept)) }
+    ensures unswept { (poller.new.swept ≡ poller.old.swept)
+        ⊎ (poller.new.swept ≡ swept_after timing.now.limit poller.old.second poller.old.swept) }
     ensures accepted { OnOk result (EndedEarly shared.now.claims.words own.new ⊎ AcceptEnded poller.new own.new) }
     ensures over { OnOk result (poller.new.over ≡ true → (poller.old.over ≡ true) ⊎ IsOver poller.new own.new) }
     ensures listens { ListenerKept poller.old poller.new }
@@ -98,7 +101,8 @@ fn begin<F: Front>(hand: &Hand, poller: &mut Poller<F>, slots: usize) -> bool
     room >= ROUND_ROOM && room - ROUND_ROOM >= slots
 }
 
-/// Takes the reports, with a front that listens no longer where no connection is to be opened. It waits for them, unless a sweep is due, a ticket is in hand, or a connection can be accepted now.
+/// Takes the reports, with a front that listens no longer where no connection is to be opened. It waits for them,
+/// unless a sweep is due, a ticket is in hand, or a connection can be accepted now.
 fn look<F: Front, R: Wait + Log>(
     rt: &R,
     own: &mut Own,
@@ -107,7 +111,12 @@ fn look<F: Front, R: Wait + Log>(
 ) -> Result<(), ServerFault>
     requires room { 1 ≤ ticket_room own.old.hand }
     ensures took { OnlyTook own.old own.new }
-    ensures poller { poller.new ≡ record poller.old { listening = poller.new.listening; reported = poller.new.reported; failed = poller.new.failed; batch = poller.new.batch } }
+    ensures poller { poller.new ≡ record poller.old {
+      listening = poller.new.listening;
+      reported = poller.new.reported;
+      failed = poller.new.failed;
+      batch = poller.new.batch;
+    } }
     ensures listens { (poller.new.listening ≡ poller.old.listening) ⊎ (HasOpenedAll poller.old × (poller.new.listening ≡ false)) }
     ensures batch { poller.new.batch ≡ poller.new.reported }
     ensures failed { IfErr result (λ fault. (fault ≡ ServerFault.Poll) × (poller.new.failed ≡ true) × (poller.new.batch ≡ [])) }
@@ -141,8 +150,9 @@ fn may_wait<F: Front, R: Wait>(rt: &R, own: &mut Own, poller: &Poller<F>, limit:
         && (poller.is_starved() || !may_accept(rt, own, poller))
 }
 
-/// Asks for reports, with a front that does not listen where all was opened. After a signal the batch is empty. While it waits no sweep is due, no ticket is in hand, and no connection is
-/// to be accepted, unless the system lacked what accept(2) needs.
+/// Asks for reports, with a front that does not listen where all was opened. After a signal the batch is empty. While
+/// it waits no sweep is due, no ticket is in hand, and no connection is to be accepted, unless the system lacked what
+/// accept(2) needs.
 fn poll<F: Front, R: Log>(
     rt: &R,
     _own: &Own,
@@ -209,8 +219,8 @@ fn deliver_batch<F: Front>(
     Ok(())
 }
 
-/// Accepts and opens connections while one may be waiting and a slot is free. The log is told where a client waits for a slot, and of
-/// what was closed unopened.
+/// Accepts and opens connections while one may be waiting and a slot is free. The log is told where a client waits
+/// for a slot, and of what was closed unopened.
 fn accept<F: Front, R: Wait + Log>(
     rt: &R,
     alloc: Global,
@@ -225,7 +235,16 @@ fn accept<F: Front, R: Wait + Log>(
     ensures done { OnOk result (AcceptDone poller.old poller.new own.old own.new) }
     ensures ended { OnOk result (AcceptEnded poller.new own.new) }
     ensures ready { own.new.ready ≡ own.old.ready }
-    ensures poller { poller.new ≡ record poller.old { table = poller.new.table; accepting = poller.new.accepting; starved = poller.new.starved; tries = poller.new.tries; opened = poller.new.opened; dropped = poller.new.dropped; lost = poller.new.lost; episodes = poller.new.episodes } }
+    ensures poller { poller.new ≡ record poller.old {
+      table = poller.new.table;
+      accepting = poller.new.accepting;
+      starved = poller.new.starved;
+      tries = poller.new.tries;
+      opened = poller.new.opened;
+      dropped = poller.new.dropped;
+      lost = poller.new.lost;
+      episodes = poller.new.episodes;
+    } }
     ensures told { OnOk result (AreTold poller.new.second poller.new.episodes.drops) }
 {
     tell_if_full(rt, shared, own, poller);
@@ -234,8 +253,8 @@ fn accept<F: Front, R: Wait + Log>(
     Ok(())
 }
 
-/// Before any is accepted: if a client waits for a slot, the poller is full until accept(2) answers that nobody waits. The log is told
-/// by the last poller that becomes so.
+/// Before any is accepted: if a client waits for a slot, the poller is full until accept(2) answers that nobody
+/// waits. The log is told by the last poller that becomes so.
 fn tell_if_full<F: Front, R: Wait + Log>(
     rt: &R,
     shared: &Shared<F>,
@@ -286,7 +305,16 @@ fn accept_all<F: Front, R: Wait + Log>(
     ensures done { OnOk result (AcceptDone poller.old poller.new own.old own.new) }
     ensures ended { OnOk result (AcceptEnded poller.new own.new) }
     ensures ready { own.new.ready ≡ own.old.ready }
-    ensures poller { poller.new ≡ record poller.old { table = poller.new.table; accepting = poller.new.accepting; starved = poller.new.starved; tries = poller.new.tries; opened = poller.new.opened; dropped = poller.new.dropped; lost = poller.new.lost; episodes = poller.new.episodes } }
+    ensures poller { poller.new ≡ record poller.old {
+      table = poller.new.table;
+      accepting = poller.new.accepting;
+      starved = poller.new.starved;
+      tries = poller.new.tries;
+      opened = poller.new.opened;
+      dropped = poller.new.dropped;
+      lost = poller.new.lost;
+      episodes = poller.new.episodes;
+    } }
 {
     poller.reset_tries();
     for _try in 0..MAX_ACCEPTS {
@@ -331,7 +359,16 @@ fn accept_next<F: Front, R: Wait + Log>(
     ensures ready { own.new.ready ≡ own.old.ready }
     ensures tries { poller.new.tries + 1 ≡ poller.old.tries }
     ensures starved { IfOk result (λ more. more ≡ false → poller.new.starved ≡ true) }
-    ensures poller { poller.new ≡ record poller.old { table = poller.new.table; accepting = poller.new.accepting; starved = poller.new.starved; tries = poller.new.tries; opened = poller.new.opened; dropped = poller.new.dropped; lost = poller.new.lost; episodes = poller.new.episodes } }
+    ensures poller { poller.new ≡ record poller.old {
+      table = poller.new.table;
+      accepting = poller.new.accepting;
+      starved = poller.new.starved;
+      tries = poller.new.tries;
+      opened = poller.new.opened;
+      dropped = poller.new.dropped;
+      lost = poller.new.lost;
+      episodes = poller.new.episodes;
+    } }
 {
     match poller.accept() {
         Ok((client, uncounted)) => {
@@ -371,8 +408,8 @@ fn take_one<R: Wait>(rt: &R, own: &mut Own) -> bool
     }
 }
 
-/// What an answer without a connection does to the accept flag. That accept(2) is starved is logged once until a connection is
-/// opened.
+/// What an answer without a connection does to the accept flag. That accept(2) is starved is logged once until a
+/// connection is opened.
 fn not_accepted<F: Front, R: Log>(
     rt: &R,
     shared: &Shared<F>,
@@ -380,7 +417,11 @@ fn not_accepted<F: Front, R: Log>(
     error: &io::Error,
 ) -> Accepted
     ensures class { result ≡ accepted_of (error_kind error.now) }
-    ensures flag { poller.new ≡ record poller.old { accepting = flag_after result poller.old.accepting; starved = starved_after result poller.old.starved; episodes = episodes_after result poller.old.episodes } }
+    ensures flag { poller.new ≡ record poller.old {
+      accepting = flag_after result poller.old.accepting;
+      starved = starved_after result poller.old.starved;
+      episodes = episodes_after result poller.old.episodes;
+    } }
     ensures starved { result ≡ Accepted.Starved → poller.new.starved ≡ true }
 {
     let class = accepted_of(error.kind());
@@ -414,8 +455,8 @@ fn log_failure<R: Log>(rt: &R, call: &str, error: &io::Error) {
     error!(rt; target: "relayd", "{call}: {error}");
 }
 
-/// Once all connections that it may open have been opened, it listens no longer, takes the free slots in hand and checks whether
-/// they are all there. A slot that is no longer used counts as free.
+/// Once all connections that it may open have been opened, it listens no longer, takes the free slots in hand and
+/// checks whether they are all there. A slot that is no longer used counts as free.
 fn take_back<F: Front, R: Wait>(rt: &R, own: &mut Own, poller: &mut Poller<F>)
     ensures took { OnlyTook own.old own.new }
     ensures poller { poller.new ≡ record poller.old { listening = poller.new.listening; over = poller.new.over } }

@@ -13,9 +13,9 @@ use dispatch::{Clock, Front, Hand, Own, Poller, Shared, Timing};
 use ready::Ticket;
 use relay_log::ServerFault;
 
-/// Makes a sweep if one is due, and reads the second of the round. The next round's sweep goes by that second, and this one's by
-/// the one before, so a round has asked for reports since: whatever came while the relay was stopped (SIGSTOP, a paused machine) is a
-/// note before a sweep says that the limit has passed.
+/// Makes a sweep if one is due, and reads the second of the round. The next round's sweep goes by that second, and
+/// this one's by the one before, so a round has asked for reports since: whatever came while the relay was stopped
+/// (SIGSTOP, a paused machine) is a note before a sweep says that the limit has passed.
 pub(crate) fn keep_time<F: Front, C: Clock>(
     shared: &Shared<F>,
     own: &mut Own,
@@ -67,7 +67,8 @@ fn sweep_if_due<F: Front>(
     Ok(())
 }
 
-/// Whether a sweep is due: at the second of the last round the limit, if there is one, had passed since the last sweep.
+/// Whether a sweep is due: at the second of the last round the limit, if there is one, had passed since the last
+/// sweep.
 pub(crate) fn is_due<F: Front>(poller: &Poller<F>, limit: u64) -> bool
     ensures { result ≡ is_due limit poller.now }
 {

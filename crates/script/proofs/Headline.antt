@@ -13,7 +13,8 @@ use Rattle.script.specs.Runs.{EveryRunIsSound, EveryRun}
 
 -- events that happened line by line are a run
 goes_on : (e : NumberedEvent) (es : List NumberedEvent) (w : State) → ((q : State) → played line_happened q es ≡ Ok w → run q (events_in es) ≡ Some w)
-    → (o : Option State) → and_then (λ q. played line_happened q es) (or_not_allowed e.line (event_word e.event) o) ≡ Ok w → option_and_then (λ (q : State). run q (events_in es)) o ≡ Some w
+    → (o : Option State) → and_then (λ q. played line_happened q es) (or_not_allowed e.line (event_word e.event) o) ≡ Ok w → option_and_then (λ (q : State). run q (events_in es)) o
+    ≡ Some w
 goes_on e es w rest None h = absurd (cc)
 goes_on e es w rest (Some q) h = rest q h
 

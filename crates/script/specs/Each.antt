@@ -75,7 +75,8 @@ ShowsBefore {X} stepped told lines x steps fault text =
     (y : X) × ((stop : StopsAt stepped always x steps fault y) × (text ≡ shown_to stepped told lines x steps stop.index))
 
 -- this is what is shown of steps that are all allowed, or that stop with this fault
-abbrev pub ShowsSteps : {X L : Type 0} → (X → L → Result X Fault) → (X → List ℕ) → List NumberedLine → X → List L → Option Fault → List ℕ → Type 0
+abbrev pub ShowsSteps : {X L : Type 0} → (X → L → Result X Fault) → (X → List ℕ) → List NumberedLine → X → List L → Option Fault → List ℕ
+    → Type 0
 ShowsSteps stepped told lines x steps None text = ShowsAll stepped told lines x steps text
 ShowsSteps stepped told lines x steps (Some fault) text = ShowsBefore stepped told lines x steps fault text
 
@@ -85,8 +86,8 @@ abbrev pub ShowsScript : List NumberedLine → Script → Option Fault → List 
 ShowsScript lines (Flow plan) stop text = ShowsSteps line_stepped report lines (flow.opening plan.ring) plan.steps stop text
 ShowsScript lines (World plan) stop text = ShowsSteps line_happened world_report lines (opening plan.limits) plan.events stop text
 
--- The same of the script that a text is. The lines of the text that say something are the header's and then one for each
--- step.
+-- The same of the script that a text is. The lines of the text that say something are the header's and then one for
+-- each step.
 abbrev pub ShowsText : List ℕ → Option Fault → List ℕ → Type 0
 ShowsText text stop shown =
     (script : Script) × ((parsed text ≡ Ok (said_by script)) × ShowsScript (telling_lines 1 (lines_of text)) script stop shown)
@@ -104,20 +105,25 @@ WritesEach text old new =
 -- those before the script's first fault, or before memory ran out, and then the fault's line
 abbrev pub AnswersEach : List ℕ → Option (List ℕ) → Option (List ℕ) → Type 0
 AnswersEach text old new =
-    (fault : Fault) × (LeadsTo text (Err fault) × ((shown : List ℕ) × (ShowsFront text fault shown × Appends old new (shown ++ fault_line fault))))
+    (fault : Fault) × (LeadsTo text (Err fault)
+    × ((shown : List ℕ) × (ShowsFront text fault shown × Appends old new (shown ++ fault_line fault))))
 
 -- the same, or that memory ran out before the script was read, which has a byte at least
 abbrev pub WritesEachFault : List ℕ → Option (List ℕ) → Option (List ℕ) → Type 0
 WritesEachFault text old new = AnswersEach text old new ⊎ ((text ≢ []) × Appends old new (fault_line NoMemory))
 
 -- what was written of steps, or of a text, up to where it ended, without the fault's line
-abbrev pub Shows : {X L : Type 0} → (X → L → Result X Fault) → (X → List ℕ) → List NumberedLine → X → List L → Result (Unit {0}) Halt → Option (List ℕ) → Option (List ℕ) → Type 0
-Shows stepped told lines x steps (Ok all) old new = (text : List ℕ) × (ShowsSteps stepped told lines x steps None text × Appends old new text)
+abbrev pub Shows : {X L : Type 0} → (X → L → Result X Fault) → (X → List ℕ) → List NumberedLine → X → List L → Result (Unit {0}) Halt
+    → Option (List ℕ) → Option (List ℕ) → Type 0
+Shows stepped told lines x steps (Ok all) old new = (text : List ℕ)
+    × (ShowsSteps stepped told lines x steps None text × Appends old new text)
 Shows stepped told lines x steps (Err (Refused fault)) old new =
-    (text : List ℕ) × ((((text ≡ []) × (fault ≡ NoMemory)) ⊎ ShowsSteps stepped told lines x steps (Some fault) text) × Appends old new text)
+    (text : List ℕ) × ((((text ≡ []) × (fault ≡ NoMemory)) ⊎ ShowsSteps stepped told lines x steps (Some fault) text)
+    × Appends old new text)
 Shows stepped told lines x steps (Err Unwritten) old new = Unit {0}
 
 abbrev pub ShowsEach : List ℕ → Result (Unit {0}) Halt → Option (List ℕ) → Option (List ℕ) → Type 0
 ShowsEach text (Ok all) old new = WritesEach text old new
-ShowsEach text (Err (Refused fault)) old new = LeadsTo text (Err fault) × ((shown : List ℕ) × (ShowsFront text fault shown × Appends old new shown))
+ShowsEach text (Err (Refused fault)) old new = LeadsTo text (Err fault)
+    × ((shown : List ℕ) × (ShowsFront text fault shown × Appends old new shown))
 ShowsEach text (Err Unwritten) old new = Unit {0}

@@ -35,8 +35,8 @@ abbrev pub or_not_allowed : {X : Type 0} → ℕ → Word → Option X → Resul
 or_not_allowed line word (Some x) = Ok x
 or_not_allowed line word None = Err (NotAllowed line word)
 
--- Why a line is refused: the fault that it is defined to have, or that memory ran out for one that has none and that may
--- take memory.
+-- Why a line is refused: the fault that it is defined to have, or that memory ran out for one that has none and that
+-- may take memory.
 abbrev pub Refused : {X : Type 0} → Bool → Result X Fault → Fault → Type 0
 Refused takes (Ok x) fault = (fault ≡ NoMemory) × IsTrue takes
 Refused takes (Err defined) fault = fault ≡ defined
@@ -52,7 +52,8 @@ played stepped x [] = Ok x
 played stepped x (l ∷ ls) = and_then (λ y. played stepped y ls) (stepped x l)
 
 -- The steps were made up to a line that is refused; `takes` says for which lines memory may run out.
-pub record StopsAt {X L : Type 0} (stepped : X → L → Result X Fault) (takes : X → L → Bool) (old : X) (ls : List L) (fault : Fault) (new : X) : Type 0 where
+pub record StopsAt {X L : Type 0} (stepped : X → L → Result X Fault) (takes : X → L → Bool) (old : X) (ls : List L) (fault : Fault)
+    (new : X) : Type 0 where
   pub index : ℕ
   pub line : L
   pub there : slice_get ls index ≡ Some line

@@ -32,7 +32,8 @@ report_of (World state) = world_report state
 abbrev pub LeadsTo : List ℕ → Result Reached Fault → Type 0
 LeadsTo text (Ok reached) = (script : Script) × ((parsed text ≡ Ok (said_by script)) × (reached_by script ≡ Ok reached))
 LeadsTo text (Err NoMemory) = TakesMemory text
-LeadsTo text (Err fault) = (parsed text ≡ Err fault) ⊎ ((script : Script) × ((parsed text ≡ Ok (said_by script)) × (reached_by script ≡ Err fault)))
+LeadsTo text (Err fault) = (parsed text ≡ Err fault)
+    ⊎ ((script : Script) × ((parsed text ≡ Ok (said_by script)) × (reached_by script ≡ Err fault)))
 
 -- the report of the state after the whole script, and nothing else
 abbrev pub WritesReport : List ℕ → Option (List ℕ) → Option (List ℕ) → Type 0

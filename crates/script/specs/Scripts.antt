@@ -28,7 +28,8 @@ or_malformed line None = Err (Malformed line)
 abbrev pub steps_of : List NumberedLine → Result (List NumberedStep) Fault
 steps_of [] = Ok []
 steps_of (l ∷ ls) =
-    and_then (λ step. and_then (λ steps. Ok ((record { line = l.number; step = step }) ∷ steps)) (steps_of ls)) (or_malformed l.number (step_of l.text))
+    and_then (λ step. and_then (λ steps. Ok ((record { line = l.number; step = step }) ∷ steps)) (steps_of ls))
+    (or_malformed l.number (step_of l.text))
 
 -- an event as its line says it
 pub record SaidLine : Type 0 where
@@ -38,7 +39,8 @@ pub record SaidLine : Type 0 where
 abbrev pub events_of : List NumberedLine → Result (List SaidLine) Fault
 events_of [] = Ok []
 events_of (l ∷ ls) =
-    and_then (λ said. and_then (λ rest. Ok ((record { line = l.number; said = said }) ∷ rest)) (events_of ls)) (or_malformed l.number (event_of l.text))
+    and_then (λ said. and_then (λ rest. Ok ((record { line = l.number; said = said }) ∷ rest)) (events_of ls))
+    (or_malformed l.number (event_of l.text))
 
 -- a script as a text says it
 pub data Plan : Type 0 where

@@ -31,7 +31,8 @@ stepped t Fin = option_map (λ r. record t { source = r.value }) (finish t.sourc
 stepped t Room = option_map (λ r. record t { destination = r.value }) (new_room t.destination)
 stepped t (Read n) =
     if t.flow.end_seen then None
-    else option_map (λ e. record t { source = e; flow = taken_in t.flow (take n t.source.unread) }) (after_read t.source (read_size t.flow) (reply.Bytes n))
+    else option_map (λ e. record t { source = e; flow = taken_in t.flow (take n t.source.unread) })
+    (after_read t.source (read_size t.flow) (reply.Bytes n))
 stepped t End =
     if t.flow.end_seen then None
     else option_map (λ e. record t { source = e; flow = ended t.flow }) (after_read t.source (read_size t.flow) reply.End)

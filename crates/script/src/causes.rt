@@ -9,9 +9,9 @@ use script_text::{
 };
 use std::alloc::Global;
 
-/// The cause of a fault, for a person, on one line: which word is malformed and what is expected there, or why the step
-/// is not allowed. `text` is the script that has the fault. None if nothing more is known, or there is no memory for
-/// it.
+/// The cause of a fault, for a person, on one line: which word is malformed and what is expected there, or why the
+/// step is not allowed. `text` is the script that has the fault. None if nothing more is known, or there is no memory
+/// for it.
 pub fn cause(alloc: Global, text: &[u8], fault: Fault) -> Option<String> {
     match fault {
         Fault::TooLong => String::from_str(alloc, "a script has at most 1048576 bytes").ok(),

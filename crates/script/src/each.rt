@@ -15,22 +15,25 @@ use std::alloc::{AllocError, Global};
 use std::io::{Read, Write};
 
 /// Does what [`run`](crate::run) does, and writes the report after each step in place of the one at the end: the line
-/// of the script's header and then of each step, as `> LINE`, and below it those lines of the report after it that are
-/// not in the report before. The step of a line is written before the next one is made.
+/// of the script's header and then of each step, as `> LINE`, and below it those lines of the report after it that
+/// are not in the report before. The step of a line is written before the next one is made.
 ///
 /// The faults are those of `run`. What is written before a step that is not allowed stands, and the line of the fault
-/// follows. `explain` is called once for a fault, before its line is written, also if memory runs out for what is to be
-/// written.
+/// follows. `explain` is called once for a fault, before its line is written, also if memory runs out for what is to
+/// be written.
 pub fn run_each<R: Read, W: Write, X: Explain>(
     alloc: Global,
     reader: &mut R,
     writer: &mut W,
     explain: &X,
 ) -> Result<Outcome, ScriptFault>
-    // What is written is what is shown of each step of the script that was read; or of those before its fault, and the
-    // line of the fault; and nothing else.
-    ensures report { result ≡ Ok Outcome.Report → IfSome (R.remaining reader.old) (λ text. WritesEach text (W.contents writer.old) (W.contents writer.new)) }
-    ensures refused { result ≡ Ok Outcome.Refused → IfSome (R.remaining reader.old) (λ text. WritesEachFault text (W.contents writer.old) (W.contents writer.new)) }
+    // What is written is what is shown of each step of the script that was read; or of those before its fault, and
+    // the line of the fault; and nothing else.
+    ensures report { result ≡ Ok Outcome.Report
+        → IfSome (R.remaining reader.old) (λ text. WritesEach text (W.contents writer.old) (W.contents writer.new)) }
+    ensures refused { result ≡ Ok Outcome.Refused
+        → IfSome (R.remaining reader.old)
+        (λ text. WritesEachFault text (W.contents writer.old) (W.contents writer.new)) }
 
     // If the script could not be read, nothing is written.
     ensures unread { result ≡ Err ScriptFault.Read → writer.new ≡ writer.old }
@@ -44,8 +47,8 @@ pub fn run_each<R: Read, W: Write, X: Explain>(
     }
 }
 
-/// Shows each step of the script that a text stands for, or those before its fault, which `explain` is given, and then
-/// the line of the fault.
+/// Shows each step of the script that a text stands for, or those before its fault, which `explain` is given, and
+/// then the line of the fault.
 fn answer_each<W: Write, X: Explain>(
     alloc: Global,
     text: &[u8],

@@ -60,8 +60,8 @@ impl FlowScript {
         Transfer::new(alloc, self.ring)
     }
 
-    /// Makes all steps, or those before the first that is refused, which has the fault: it is not allowed, or it is, takes
-    /// memory, and that ran out.
+    /// Makes all steps, or those before the first that is refused, which has the fault: it is not allowed, or it is,
+    /// takes memory, and that ran out.
     #[tactic(auto, using(crate::proofs::Playing::played_more, std::proofs::lemmas::Option::gets, std::proofs::lemmas::Grind::common_steps))]
     pub fn play(&self, transfer: &mut Transfer) -> Result<(), Fault>
         ensures { Plays line_stepped line_takes_memory transfer.old self.now.steps result transfer.new }

@@ -1,11 +1,11 @@
 //! The simulator: it takes a script of steps, and gives a report of the state after them.
 //!
-//! A script is a text. Its first line that is not skipped is the header: `flow ring=R` for one direction with a ring of
-//! at most R bytes, or `world slots=S workers=W ring=R budget=B` for the whole relay. Each further line is a step: what
-//! arrives from the network, what a socket replies to the relay's next call, or what the poller or a worker does.
-//! [`parse`] reads the whole text before the first step is made, [`Script::carry_out`] makes the steps one by one, and
-//! [`Reached::report`] is the report. [`run`] does all three, from a reader to a writer; [`run_each`] writes what is new in
-//! the report after each step.
+//! A script is a text. Its first line that is not skipped is the header: `flow ring=R` for one direction with a ring
+//! of at most R bytes, or `world slots=S workers=W ring=R budget=B` for the whole relay. Each further line is a step:
+//! what arrives from the network, what a socket replies to the relay's next call, or what the poller or a worker
+//! does. [`parse`] reads the whole text before the first step is made, [`Script::carry_out`] makes the steps one by
+//! one, and [`Reached::report`] is the report. [`run`] does all three, from a reader to a writer; [`run_each`] writes
+//! what is new in the report after each step.
 //!
 //! A script that has a fault gives one line in place of the report. [`cause`] tells a person more: which word is
 //! malformed and what is expected there, or why a step is not allowed. [`run`] passes text and fault to its
@@ -13,9 +13,9 @@
 //!
 //! What a line says, and what is printed of a world, is the crate `script_text`.
 //!
-//! `docs/FORMATS.md` describes scripts and reports; `specs/` has the same as definitions: `Scripts` for the text, over those of
-//! `script_text`; `Transfers` and `Plays` for the steps; `Reports` and `Each` for what is written, over those of the same crate;
-//! and `Laws` and `Runs` for what holds for every run.
+//! `docs/FORMATS.md` describes scripts and reports; `specs/` has the same as definitions: `Scripts` for the text,
+//! over those of `script_text`; `Transfers` and `Plays` for the steps; `Reports` and `Each` for what is written, over
+//! those of the same crate; and `Laws` and `Runs` for what holds for every run.
 #![tactic(auto)]
 
 mod causes;

@@ -10,8 +10,8 @@ use script_text::{
 use std::alloc::Global;
 
 /// The script that a text stands for, or its first fault: too long before all else, then no line that is not skipped,
-/// then the first malformed line of the whole text. Or memory ran out, which is answered only for a text that begins with
-/// a good header and a good line after it.
+/// then the first malformed line of the whole text. Or memory ran out, which is answered only for a text that begins
+/// with a good header and a good line after it.
 pub fn parse(alloc: Global, text: &[u8]) -> Result<Script, Fault>
     ensures script { GivesBy said_by (parsed text.now) result }
     ensures memory { IsErrOf result Fault.NoMemory → BeginsWell text.now }

@@ -37,8 +37,8 @@ pub enum ScriptFault {
 /// state after it or the one line of its fault.
 ///
 /// It makes at most 1,048,577 reads. Any error of the reader, even one that a signal causes, is [`ScriptFault::Read`]
-/// at once. If memory runs out, the line is `out of memory`: so never for an input without a byte, nor, once it was read,
-/// for one that is too long, or whose header or first line after it is malformed.
+/// at once. If memory runs out, the line is `out of memory`: so never for an input without a byte, nor, once it was
+/// read, for one that is too long, or whose header or first line after it is malformed.
 ///
 /// If the script that was read has a fault, `explain` is called once, before anything is written. Otherwise it is not
 /// called; nor is it if memory runs out before the script was read, or for what is to be written.
@@ -48,10 +48,13 @@ pub fn run<R: Read, W: Write, X: Explain>(
     writer: &mut W,
     explain: &X,
 ) -> Result<Outcome, ScriptFault>
-    // What is written is the report of the script that was read, or the line of its fault, or that memory ran out, and
-    // nothing else.
-    ensures report { result ≡ Ok Outcome.Report → IfSome (R.remaining reader.old) (λ text. WritesReport text (W.contents writer.old) (W.contents writer.new)) }
-    ensures refused { result ≡ Ok Outcome.Refused → IfSome (R.remaining reader.old) (λ text. WritesFault text (W.contents writer.old) (W.contents writer.new)) }
+    // What is written is the report of the script that was read, or the line of its fault, or that memory ran out,
+    // and nothing else.
+    ensures report { result ≡ Ok Outcome.Report
+        → IfSome (R.remaining reader.old)
+        (λ text. WritesReport text (W.contents writer.old) (W.contents writer.new)) }
+    ensures refused { result ≡ Ok Outcome.Refused
+        → IfSome (R.remaining reader.old) (λ text. WritesFault text (W.contents writer.old) (W.contents writer.new)) }
 
     // If the script could not be read, nothing is written.
     ensures unread { result ≡ Err ScriptFault.Read → writer.new ≡ writer.old }
@@ -137,7 +140,8 @@ fn tell_report<W: Write>(
 
 /// Writes the line of a fault. It allocates no memory, so each fault is reported as itself.
 pub(crate) fn tell_fault<W: Write>(writer: &mut W, fault: Fault) -> Result<Outcome, ScriptFault>
-    ensures ok { IfOk result (λ told. (told ≡ Outcome.Refused) × Appends (W.contents writer.old) (W.contents writer.new) (fault_line fault)) }
+    ensures ok { IfOk result (λ told. (told ≡ Outcome.Refused) × Appends (W.contents writer.old) (W.contents writer.new)
+        (fault_line fault)) }
     ensures err { IfErr result (λ fault. fault ≡ ScriptFault.Write) }
 {
     if write!(writer, "{fault}\n").is_err() || writer.flush().is_err() {

@@ -35,7 +35,8 @@ impl<'a> Showing<'a> {
         step: &M::Step,
     ) -> Result<Vec<u8>, Fault>
         ensures made { IfOk result (λ _. M.stepped machine.old step.now ≡ Ok machine.new) }
-        ensures text { IfOk result (λ text. text.items ≡ shown (first_line self.old.lines) (string_bytes self.old.report) (M.told machine.new)) }
+        ensures text { IfOk result (λ text. text.items ≡ shown (first_line self.old.lines) (string_bytes self.old.report)
+            (M.told machine.new)) }
         ensures lines { IfOk result (λ _. self.new.lines ≡ drop 1 self.old.lines) }
         ensures report { IfOk result (λ _. string_bytes self.new.report ≡ M.told machine.new) }
         ensures refused { IfErr result (λ fault. Refused true (M.stepped machine.old step.now) fault) }
@@ -50,7 +51,8 @@ impl<'a> Showing<'a> {
         alloc: Global,
         machine: &M,
     ) -> Result<Vec<u8>, AllocError>
-        ensures text { IfOk result (λ text. text.items ≡ shown (first_line self.old.lines) (string_bytes self.old.report) (M.told machine.now)) }
+        ensures text { IfOk result (λ text. text.items ≡ shown (first_line self.old.lines) (string_bytes self.old.report)
+            (M.told machine.now)) }
         ensures lines { IfOk result (λ _. self.new.lines ≡ drop 1 self.old.lines) }
         ensures report { IfOk result (λ _. string_bytes self.new.report ≡ M.told machine.now) }
     {

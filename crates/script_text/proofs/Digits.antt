@@ -29,7 +29,8 @@ drop_at : (text : List ℕ) (i : ℕ) → i < length text → drop i text ≡ ge
 drop_at text i within = rw (add-one i) (drop-cons text i 0 within)
 
 -- a digit that takes the value to 2^64 or past it
-pub too_large_at : (text : List ℕ) (value i : ℕ) → value_of text ≡ fold with_digit value (drop i text) → i < length text → 2 ^ 64 ≤ with_digit value (get_or text i 0) → number_of text ≡ None
+pub too_large_at : (text : List ℕ) (value i : ℕ) → value_of text ≡ fold with_digit value (drop i text) → i < length text → 2 ^ 64 ≤ with_digit value (get_or text i 0)
+    → number_of text ≡ None
 too_large_at text value i is within large =
     too_large text (with_digit value (get_or text i 0)) (drop (i + 1) text) (is ∙ ap (fold with_digit value) (drop_at text i within)) large
 
@@ -38,7 +39,8 @@ pub not_digits : (text : List ℕ) → list_all is_digit text ≡ false → numb
 not_digits text other = rw other (none_at_second (is_plain text) (ltb (value_of text) (2 ^ 64)) (value_of text))
 
 -- digits to the end, whose value fits
-pub whole_number : (text : List ℕ) (value i : ℕ) → length text ≤ i → is_plain text ≡ true → list_all is_digit text ≡ list_all is_digit (drop i text) → value_of text ≡ fold with_digit value (drop i text) → value < 2 ^ 64 → Some value ≡ number_of text
+pub whole_number : (text : List ℕ) (value i : ℕ) → length text ≤ i → is_plain text ≡ true → list_all is_digit text ≡ list_all is_digit (drop i text)
+    → value_of text ≡ fold with_digit value (drop i text) → value < 2 ^ 64 → Some value ≡ number_of text
 whole_number text value i past plain digits is fits =
     let ended = drop_of_length-le text past in
     let all : list_all is_digit text ≡ true = digits ∙ ap (list_all is_digit) ended in

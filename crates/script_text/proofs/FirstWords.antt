@@ -11,7 +11,33 @@ use Rattle.script_text.specs.Steps.{plain_step, step_of_words}
 pub no_event : (words : List (List ℕ)) → BeginsOtherwise words → event_of_words words ≡ None
 no_event [] none = refl
 no_event (name ∷ words) none =
-    rw (none word.Arrive, none word.Poll, none word.Tick, none word.Connect, none word.Accept, none word.Drop, none word.Fin, none word.Reset, none word.Room, none word.Spurious, none word.Vanish, none word.Open, none word.Deliver, none word.Sweep, none word.Put, none word.Call, none word.Pop, none word.Claim, none word.Take, none word.Post, none word.Release, none word.Idle, none word.Close, none word.Retire, none word.Free) refl
+    rw (
+      none word.Arrive,
+      none word.Poll,
+      none word.Tick,
+      none word.Connect,
+      none word.Accept,
+      none word.Drop,
+      none word.Fin,
+      none word.Reset,
+      none word.Room,
+      none word.Spurious,
+      none word.Vanish,
+      none word.Open,
+      none word.Deliver,
+      none word.Sweep,
+      none word.Put,
+      none word.Call,
+      none word.Pop,
+      none word.Claim,
+      none word.Take,
+      none word.Post,
+      none word.Release,
+      none word.Idle,
+      none word.Close,
+      none word.Retire,
+      none word.Free,
+    ) refl
 
 -- no step begins with such a text
 pub no_step : (words : List (List ℕ)) → BeginsOtherwise words → step_of_words words ≡ None
@@ -20,7 +46,8 @@ no_step (name ∷ words) none =
     rw (none word.Arrive, none word.Fin, none word.Room, none word.Read, none word.End, none word.Wrote, none word.Shut) refl
 
 -- an event of another word than two carries no list
-pub plain_event_of : (w : Word) (words : List (List ℕ)) → (w ≡ word.Arrive → ⊥) → (w ≡ word.Poll → ⊥) → event_of_words (word_text w ∷ words) ≡ option_map said_of (plain_event (word_text w) words)
+pub plain_event_of : (w : Word) (words : List (List ℕ)) → (w ≡ word.Arrive → ⊥) → (w ≡ word.Poll → ⊥) → event_of_words (word_text w ∷ words)
+    ≡ option_map said_of (plain_event (word_text w) words)
 plain_event_of word.Accept words a p = refl
 plain_event_of word.Arrive words a p = absurd (a refl)
 plain_event_of word.Call words a p = refl
@@ -84,7 +111,8 @@ plain_step_of word.Vanish words a = refl
 plain_step_of word.Wrote words a = refl
 
 -- what is left of the steps: no step begins with such a word
-pub other_step : (w : Word) (words : List (List ℕ)) → (w ≡ word.Fin → ⊥) → (w ≡ word.Room → ⊥) → (w ≡ word.Read → ⊥) → (w ≡ word.End → ⊥) → (w ≡ word.Wrote → ⊥) → (w ≡ word.Shut → ⊥) → plain_step (word_text w) words ≡ None
+pub other_step : (w : Word) (words : List (List ℕ)) → (w ≡ word.Fin → ⊥) → (w ≡ word.Room → ⊥) → (w ≡ word.Read → ⊥) → (w ≡ word.End → ⊥) → (w ≡ word.Wrote → ⊥)
+    → (w ≡ word.Shut → ⊥) → plain_step (word_text w) words ≡ None
 other_step word.Accept words f r d e w s = refl
 other_step word.Arrive words f r d e w s = refl
 other_step word.Call words f r d e w s = refl

@@ -51,7 +51,8 @@ generation_of word = option_and_then (λ n. if nat_lt 0 n && nat_le n 1407374883
 -- `SLOT.GEN.SIDE`, by its parts
 abbrev pub end_of : List (List ℕ) → Option Name
 end_of (slot ∷ generation ∷ side ∷ []) =
-    option_and_then (λ s. option_and_then (λ g. option_map (λ d. name.End (record { slot = s; side = d; generation = g })) (side_named side)) (generation_of generation)) (slot_of slot)
+    option_and_then (λ s. option_and_then (λ g. option_map (λ d. name.End (record { slot = s; side = d; generation = g }))
+    (side_named side)) (generation_of generation)) (slot_of slot)
 end_of _ = None
 
 -- `listener`, `waker` or the name of an end, whose parts stand between dots

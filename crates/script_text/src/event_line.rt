@@ -1,5 +1,5 @@
-//! The header of a world's script, and the line of an event, as the readers of this crate read them. No clause says what they
-//! are: what is written of a drill or of a recording, `sim` reads back.
+//! The header of a world's script, and the line of an event, as the readers of this crate read them. No clause says
+//! what they are: what is written of a drill or of a recording, `sim` reads back.
 
 use crate::names::put_names;
 use crate::page::{Page, Piece};

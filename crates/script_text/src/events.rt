@@ -20,8 +20,8 @@ use world::{Act, Change, Event, Listening, Polling};
 const EVENTS: &str =
     "not a step of a world; one of accept, arrive, call, claim, close, connect, deliver, drop, fin, free, idle, open, poll, pop, post, put, release, reset, retire, room, spurious, sweep, take, tick and vanish is wanted";
 
-/// The event that a line of a world's script stands for, or what is wrong with it: the first such word from the left. If memory
-/// ran out for the list that an event has, that is answered instead.
+/// The event that a line of a world's script stands for, or what is wrong with it: the first such word from the left.
+/// If memory ran out for the list that an event has, that is answered instead.
 pub fn read_event<'a>(alloc: Global, line: &'a [u8]) -> Result<Event, NotRead<'a>>
     ensures { ReadsBy said_of (event_of line.now) result }
 {

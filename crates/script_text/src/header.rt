@@ -23,7 +23,8 @@ pub enum Header {
     World(Limits),
 }
 
-/// The header that a line stands for, or what is wrong with it: the first such word from the left. Allocates no memory.
+/// The header that a line stands for, or what is wrong with it: the first such word from the left. Allocates no
+/// memory.
 pub fn read_header(line: &[u8]) -> Result<Header, Wrong<'_>>
     ensures value { Reads (header_of line.now) result }
     ensures range { IfOk result IsWithin }
@@ -52,7 +53,8 @@ fn lone_ring(mut words: Pieces<'_>) -> Result<usize, Wrong<'_>>
     last(ring, words)
 }
 
-/// The sizes of a world: `slots=S workers=W ring=R budget=B`, perhaps `gen=G`, perhaps `idle=L`, and perhaps `lead=HEX`.
+/// The sizes of a world: `slots=S workers=W ring=R budget=B`, perhaps `gen=G`, perhaps `idle=L`, and perhaps
+/// `lead=HEX`.
 fn limits(mut words: Pieces<'_>) -> Result<Limits, Wrong<'_>>
     ensures value { Reads (limits_of words.entry) result }
     ensures range { IfOk result IsWithinLimits }

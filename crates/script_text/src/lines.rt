@@ -110,7 +110,8 @@ impl<'a> Lines<'a> {
 
     /// The next line that is not skipped.
     pub fn next(&mut self) -> Option<Line<'a>>
-        ensures { MatchOption result ((self.old ≡ []) × (self.new ≡ [])) (λ line. self.old ≡ (record { number = line.number; text = line.text.now }) ∷ self.new) }
+        ensures { MatchOption result ((self.old ≡ []) × (self.new ≡ []))
+            (λ line. self.old ≡ (record { number = line.number; text = line.text.now }) ∷ self.new) }
     {
         while let Some(text) = self.texts.next() {
             self.number += 1;

@@ -1,5 +1,5 @@
-//! What reads the next word of a line, or says what is wrong with it. The numbers in the texts are those of `limits`; a
-//! row of `tests/program/causes` tries each text with the last word that is taken and the first that is not.
+//! What reads the next word of a line, or says what is wrong with it. The numbers in the texts are those of `limits`;
+//! a row of `tests/program/causes` tries each text with the last word that is taken and the first that is not.
 ghost use Rattle.std.specs.Prelude.{◌≡◌, ◌∷◌, [], MatchResult};
 ghost use Rattle.token.specs.Sides.{side_named};
 ghost use Rattle.script_text.specs.Words.{word_text, BeginsOtherwise};

@@ -1,4 +1,5 @@
-//! Why an event is not allowed at that point, by the world before it. Where more than one reason holds, the first is told.
+//! Why an event is not allowed at that point, by the world before it. Where more than one reason holds, the first is
+//! told.
 
 use crate::ends::{
     BROKEN, NOT_HERE, end_reason, ended_reason, read_reason, room_reason, wrote_reason,

@@ -15,8 +15,8 @@ use std::alloc::Global;
 const STEPS: &str =
     "not a step of a flow; one of arrive, end, fin, read, room, shut and wrote is wanted";
 
-/// The step that a line of a script of one direction stands for, or what is wrong with it: the first such word from the left. If
-/// memory ran out for the bytes that a step brings, that is answered instead.
+/// The step that a line of a script of one direction stands for, or what is wrong with it: the first such word from
+/// the left. If memory ran out for the bytes that a step brings, that is answered instead.
 pub fn read_step<'a>(alloc: Global, line: &'a [u8]) -> Result<Step, NotRead<'a>>
     ensures { ReadsBy (λ step. step) (step_of line.now) result }
 {

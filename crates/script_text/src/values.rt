@@ -66,8 +66,8 @@ fn is_plain(text: &[u8]) -> bool
     }
 }
 
-/// The bytes that a text stands for in lower-case hexadecimal, 1 to 1,024 of them. Memory is asked for only if it stands for
-/// some.
+/// The bytes that a text stands for in lower-case hexadecimal, 1 to 1,024 of them. Memory is asked for only if it
+/// stands for some.
 pub(crate) fn bytes(alloc: Global, text: &[u8]) -> Result<Option<Bytes>, AllocError>
     ensures value { IfOk result (λ bytes. bytes ≡ bytes_of text.now) }
     ensures memory { IfErr result (λ _. IsSome (bytes_of text.now)) }

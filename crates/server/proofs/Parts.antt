@@ -29,8 +29,29 @@ pub mapped_all : {A B : Type 0} (of : A → B) (f : ℕ → B) (xs : List A) (n 
 mapped_all of f xs n m all each = subst (λ (k : ℕ). map of xs ≡ map f (range_with_len 0 k)) all each
 
 -- one poller more that has opened nothing yet
-pub begun_one : (slots : ℕ) (opening : Opening) (ps qs : List PollerState) {p : PollerState} {reported : List ℕ} {failed listening : Bool} {part : Part} {most : ℕ} → qs ≡ ps ++ p ∷ []
-    → p ≡ record { reported = reported; failed = failed; listening = listening; table = replicate slots 0; batch = []; accepting = true; starved = false; tries = 0; opening = opening; part = part; heavy = replicate slots 0; most = most; opened = 0; dropped = 0; lost = 0; second = 0; swept = 0; over = false; episodes = no_episodes }
+pub begun_one : (slots : ℕ) (opening : Opening) (ps qs : List PollerState) {p : PollerState} {reported : List ℕ} {failed listening : Bool} {part : Part} {most : ℕ}
+    → qs ≡ ps ++ p ∷ []
+    → p ≡ record {
+      reported = reported;
+      failed = failed;
+      listening = listening;
+      table = replicate slots 0;
+      batch = [];
+      accepting = true;
+      starved = false;
+      tries = 0;
+      opening = opening;
+      part = part;
+      heavy = replicate slots 0;
+      most = most;
+      opened = 0;
+      dropped = 0;
+      lost = 0;
+      second = 0;
+      swept = 0;
+      over = false;
+      episodes = no_episodes;
+    }
     → All (λ (q : PollerState). HasBegun slots opening q) ps → All (λ (q : PollerState). HasBegun slots opening q) qs
 begun_one slots opening ps qs {p} more is all =
     let one : HasBegun slots opening p = record {

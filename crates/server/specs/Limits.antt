@@ -2,8 +2,8 @@
 use Rattle.std.specs.Prelude.{ℕ, zero, suc, ◌+◌, ◌/◌, ◌%◌, nat_lt, if◌then◌else◌, List, map}
 use Rattle.std.specs.List.{range_with_len}
 
--- How many connections the poller with this number may open, of all that the setting `stop_after` allows: with 0 as many as can be
--- counted. The shares differ by one at most, and those of the first pollers are the greater
+-- How many connections the poller with this number may open, of all that the setting `stop_after` allows: with 0 as
+-- many as can be counted. The shares differ by one at most, and those of the first pollers are the greater
 abbrev pub share_of : ℕ → ℕ → ℕ → ℕ
 share_of zero pollers number = 18446744073709551615
 share_of (suc n) pollers number = if nat_lt number (suc n % pollers) then suc n / pollers + 1 else suc n / pollers

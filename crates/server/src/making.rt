@@ -27,8 +27,8 @@ pub fn split_of(settings: &Settings) -> Split
     Split::new(settings.slots, pollers)
 }
 
-/// A server as the settings say, with a poller for each part of the slots. `fronts` has the front of each, in the order of
-/// the parts.
+/// A server as the settings say, with a poller for each part of the slots. `fronts` has the front of each, in the
+/// order of the parts.
 ///
 /// Refuses with `NoMemory` alone; then the fronts and the waker are dropped, and nothing is left.
 pub fn build<F: Front + Drop, R: Wait>(
@@ -45,12 +45,20 @@ where
     requires fronts { length fronts.items ≡ parts_of split.slots split.size }
     ensures slots { IfOk result (λ made. made.shared.claims.words ≡ settings.now.slots) }
     ensures budget { IfOk result (λ made. made.shared.budget ≡ settings.now.budget) }
-    ensures seats { IfOk result (λ made. made.parts.seats.items ≡ replicate (parts_of split.slots split.size + settings.now.workers) (fresh_seat made.shared.claims)) }
-    ensures ready { IfOk result (λ made. made.parts.ready.items ≡ replicate (parts_of split.slots split.size + settings.now.workers) (unused settings.now.slots)) }
-    ensures free { IfOk result (λ made. map (λ ends. ends.items) made.free.items ≡ each_part split.slots split.size (λ part. filled part.first part.slots ∷ replicate settings.now.workers (unused part.slots))) }
-    ensures pollers { IfOk result (λ made. map (λ poller. poller.part) made.pollers.items ≡ each_part split.slots split.size (λ part. part)) }
-    ensures begun { IfOk result (λ made. All (λ poller. HasBegun settings.now.slots (record { ring = settings.now.ring; proxy = settings.now.proxy }) poller) made.pollers.items) }
-    ensures shares { IfOk result (λ made. map (λ poller. poller.most) made.pollers.items ≡ shares_of settings.now.stop_after (parts_of split.slots split.size)) }
+    ensures seats { IfOk result (λ made. made.parts.seats.items ≡ replicate (parts_of split.slots split.size + settings.now.workers)
+        (fresh_seat made.shared.claims)) }
+    ensures ready { IfOk result (λ made. made.parts.ready.items ≡ replicate (parts_of split.slots split.size + settings.now.workers)
+        (unused settings.now.slots)) }
+    ensures free { IfOk result (λ made. map (λ ends. ends.items) made.free.items
+        ≡ each_part split.slots split.size (λ part. filled part.first part.slots
+        ∷ replicate settings.now.workers (unused part.slots))) }
+    ensures pollers { IfOk result (λ made. map (λ poller. poller.part) made.pollers.items
+        ≡ each_part split.slots split.size (λ part. part)) }
+    ensures begun { IfOk result (λ made. All
+        (λ poller. HasBegun settings.now.slots (record { ring = settings.now.ring; proxy = settings.now.proxy })
+        poller) made.pollers.items) }
+    ensures shares { IfOk result (λ made. map (λ poller. poller.most) made.pollers.items
+        ≡ shares_of settings.now.stop_after (parts_of split.slots split.size)) }
     ensures reported { IfOk result (λ made. map (λ poller. poller.reported) made.pollers.items ≡ map F.reported fronts.items) }
     ensures failed { IfOk result (λ made. map (λ poller. poller.failed) made.pollers.items ≡ map F.failed fronts.items) }
     ensures waker { IfOk result (λ made. made.shared.waker ≡ waker) }
@@ -81,7 +89,9 @@ fn frees_of(
     workers: usize,
 ) -> Result<Vec<Vec<FreeQueue>>, AllocError>
     requires { workers ≤ 31 }
-    ensures { IfOk result (λ all. map (λ ends. ends.items) all.items ≡ each_part split.slots split.size (λ part. filled part.first part.slots ∷ replicate workers (unused part.slots))) }
+    ensures { IfOk result (λ all. map (λ ends. ends.items) all.items
+        ≡ each_part split.slots split.size (λ part. filled part.first part.slots
+        ∷ replicate workers (unused part.slots))) }
 {
     let pollers = split.pollers();
     let mut frees = Vec::with_capacity(alloc, pollers)?;
@@ -101,8 +111,11 @@ fn pollers_of<F: Front + Drop>(
 ) -> Result<Vec<Poller<F>>, AllocError>
     requires { length fronts.items ≡ parts_of split.slots split.size }
     ensures parts { IfOk result (λ all. map (λ poller. poller.part) all.items ≡ each_part split.slots split.size (λ part. part)) }
-    ensures begun { IfOk result (λ all. All (λ poller. HasBegun settings.now.slots (record { ring = settings.now.ring; proxy = settings.now.proxy }) poller) all.items) }
-    ensures shares { IfOk result (λ all. map (λ poller. poller.most) all.items ≡ shares_of settings.now.stop_after (parts_of split.slots split.size)) }
+    ensures begun { IfOk result (λ all. All
+        (λ poller. HasBegun settings.now.slots (record { ring = settings.now.ring; proxy = settings.now.proxy })
+        poller) all.items) }
+    ensures shares { IfOk result (λ all. map (λ poller. poller.most) all.items
+        ≡ shares_of settings.now.stop_after (parts_of split.slots split.size)) }
     ensures reported { IfOk result (λ all. map (λ poller. poller.reported) all.items ≡ map F.reported fronts.items) }
     ensures failed { IfOk result (λ all. map (λ poller. poller.failed) all.items ≡ map F.failed fronts.items) }
 {
@@ -128,7 +141,9 @@ fn free_of(
 ) -> Result<Vec<FreeQueue>, AllocError>
     requires number { number < parts_of split.slots split.size }
     requires workers { workers ≤ 31 }
-    ensures { IfOk result (λ all. all.items ≡ filled (part_of split.slots split.size number).first (part_of split.slots split.size number).slots ∷ replicate workers (unused (part_of split.slots split.size number).slots)) }
+    ensures { IfOk result (λ all. all.items ≡ filled (part_of split.slots split.size number).first
+        (part_of split.slots split.size number).slots
+        ∷ replicate workers (unused (part_of split.slots split.size number).slots)) }
 {
     let part = split.part(number);
     FreeQueue::new(rt, alloc, part.first, part.slots, workers + 1)
@@ -143,7 +158,27 @@ fn poller_of<F: Front + Drop>(
     front: F,
 ) -> Result<Poller<F>, AllocError>
     requires number { number < parts_of split.slots split.size }
-    ensures { IfOk result (λ poller. poller ≡ record { reported = F.reported front; failed = F.failed front; listening = F.listens front; table = replicate settings.now.slots 0; batch = []; accepting = true; starved = false; tries = 0; opening = record { ring = settings.now.ring; proxy = settings.now.proxy }; part = part_of split.slots split.size number; heavy = replicate settings.now.slots 0; most = share_of settings.now.stop_after (parts_of split.slots split.size) number; opened = 0; dropped = 0; lost = 0; second = 0; swept = 0; over = false; episodes = no_episodes }) }
+    ensures { IfOk result (λ poller. poller ≡ record {
+      reported = F.reported front;
+      failed = F.failed front;
+      listening = F.listens front;
+      table = replicate settings.now.slots 0;
+      batch = [];
+      accepting = true;
+      starved = false;
+      tries = 0;
+      opening = record { ring = settings.now.ring; proxy = settings.now.proxy };
+      part = part_of split.slots split.size number;
+      heavy = replicate settings.now.slots 0;
+      most = share_of settings.now.stop_after (parts_of split.slots split.size) number;
+      opened = 0;
+      dropped = 0;
+      lost = 0;
+      second = 0;
+      swept = 0;
+      over = false;
+      episodes = no_episodes;
+    }) }
 {
     let most = share_of(settings.stop_after, split.pollers(), number);
     let part = split.part(number);

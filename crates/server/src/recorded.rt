@@ -17,10 +17,10 @@ use std::net::Net;
 use std::sync::{Mutex, Wait};
 use std::thread::{self, Threads};
 
-/// Serves as [`serve`](crate::serve) does, and records into the file what each thread does, until the server ends: then the
-/// last line says that all is recorded. One thread more writes the file, and the call returns once it has written all.
-/// Where records come faster than they are written, or the file cannot be written, the recording ends, a warning is logged,
-/// and the server serves on.
+/// Serves as [`serve`](crate::serve) does, and records into the file what each thread does, until the server ends:
+/// then the last line says that all is recorded. One thread more writes the file, and the call returns once it has
+/// written all. Where records come faster than they are written, or the file cannot be written, the recording ends, a
+/// warning is logged, and the server serves on.
 ///
 /// Refuses what `serve` refuses, and also with `NoMemory` and `Threads` if the recording cannot begin.
 pub fn serve_recorded<

@@ -34,16 +34,17 @@ pub struct Lent<'a, G, C> {
 
 /// Serves on the bound socket: accepts connections and forwards each one to the settings' target, with the settings'
 /// number of workers in addition to the threads that poll. There are as many of these as workers, but at most one for
-/// each 64 slots, and at least one; one of them is the calling thread. The settings' idle limit is counted by the clock that is
-/// lent. If the settings' `proxy` is set, each target is first sent a line with the addresses of its client's connection.
+/// each 64 slots, and at least one; one of them is the calling thread. The settings' idle limit is counted by the
+/// clock that is lent. If the settings' `proxy` is set, each target is first sent a line with the addresses of its
+/// client's connection.
 ///
-/// It returns once `stop_after` connections were opened, or `is_stopped` was set, and all connections that were opened are
-/// closed; or on a fault. Once no more may be opened, the listening socket is closed. When it returns, every thread
-/// has ended, and every socket is closed.
+/// It returns once `stop_after` connections were opened, or `is_stopped` was set, and all connections that were
+/// opened are closed; or on a fault. Once no more may be opened, the listening socket is closed. When it returns,
+/// every thread has ended, and every socket is closed.
 ///
 /// Refuses with `NoMemory` if there is not enough to begin with, `Poll` if the system cannot report on sockets,
-/// `Threads` if a thread cannot be started, and `Worn` if a thread has posted 2^56 notes. Of several faults it answers
-/// that of the first poller, or else of the first worker.
+/// `Threads` if a thread cannot be started, and `Worn` if a thread has posted 2^56 notes. Of several faults it
+/// answers that of the first poller, or else of the first worker.
 pub fn serve<G: Gate + Sync, C: Clock + Sync, R: Net + Dial + Wait + Threads + Log + Sync>(
     rt: &R,
     alloc: Global,

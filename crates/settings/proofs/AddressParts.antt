@@ -89,7 +89,8 @@ four_items (a ∷ b ∷ c ∷ d ∷ []) h = refl
 four_items (a ∷ b ∷ c ∷ d ∷ e ∷ more) h = absurd (omega arith)
 
 -- an address is its four numbers and its port
-pub from_parts : (b : SocketAddress) (first second third fourth port : ℕ) → IsAddress b → octet_at b 0 ≡ first → octet_at b 1 ≡ second → octet_at b 2 ≡ third → octet_at b 3 ≡ fourth → b.1 ≡ port
+pub from_parts : (b : SocketAddress) (first second third fourth port : ℕ) → IsAddress b → octet_at b 0 ≡ first → octet_at b 1 ≡ second → octet_at b 2 ≡ third
+    → octet_at b 3 ≡ fourth → b.1 ≡ port
     → b ≡ (first ∷ second ∷ third ∷ fourth ∷ [], port)
 from_parts b first second third fourth port h e0 e1 e2 e3 e4 =
     let four = four_items b.0 h.0 in

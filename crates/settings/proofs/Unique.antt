@@ -41,7 +41,8 @@ same_number c m n r s separates p q e =
 -- an address has a text of its own
 address_once : (a b : SocketAddress) → IsAddress a → IsAddress b → address_text a ≡ address_text b → a ≡ b
 address_once a b p q e =
-    let zero = same_number 46 (octet_at a 0) (octet_at b 0) (rest_of_first a) (rest_of_first b) (inl refl) (is_byte a 0 p (omega arith)) (is_byte b 0 q (omega arith)) (sym (text_parts a p) ∙ e ∙ text_parts b q) in
+    let zero = same_number 46 (octet_at a 0) (octet_at b 0) (rest_of_first a) (rest_of_first b) (inl refl) (is_byte a 0 p (omega arith)) (is_byte b 0 q (omega arith))
+    (sym (text_parts a p) ∙ e ∙ text_parts b q) in
     let one = same_number 46 (octet_at a 1) (octet_at b 1) (rest_of_second a) (rest_of_second b) (inl refl) (is_byte a 1 p (omega arith)) (is_byte b 1 q (omega arith)) zero.1 in
     let two = same_number 46 (octet_at a 2) (octet_at b 2) (rest_of_third a) (rest_of_third b) (inl refl) (is_byte a 2 p (omega arith)) (is_byte b 2 q (omega arith)) one.1 in
     let three = same_number 58 (octet_at a 3) (octet_at b 3) (rest_of_fourth a) (rest_of_fourth b) (inr refl) (is_byte a 3 p (omega arith)) (is_byte b 3 q (omega arith)) two.1 in
@@ -95,7 +96,8 @@ writes_once a_truth d (address a) w p q = absurd p
 writes_once a_truth d (number m) w p q = absurd p
 writes_once a_truth d (level l) w p q = absurd p
 
-gives_once_at : (found : Option Data) (kind : ValueKind) (default : Option Setting) (v w : Setting) → MatchOption found (default ≡ Some v) (λ d. Writes kind d v) → MatchOption found (default ≡ Some w) (λ d. Writes kind d w) → v ≡ w
+gives_once_at : (found : Option Data) (kind : ValueKind) (default : Option Setting) (v w : Setting) → MatchOption found (default ≡ Some v) (λ d. Writes kind d v)
+    → MatchOption found (default ≡ Some w) (λ d. Writes kind d w) → v ≡ w
 gives_once_at None kind default v w p q = same_Some _ _ (sym p ∙ q)
 gives_once_at (Some d) kind default v w p q = writes_once kind d v w p q
 

@@ -83,13 +83,15 @@ left_more doc k left key known h =
 pub none_left : (doc : Members) → IsLeft doc [] → HasNoUnknown doc
 none_left doc h name u = absurd (h.unknown name u)
 
-not_above : (k : List ℕ) (name : List ℕ) (left : List (String Global)) → AllByRecursion (λ y. slice_cmp nat_cmp k (string_bytes y) ≡ Less) left → IsAmongTexts name left → slice_cmp nat_cmp k name ≢ Greater
+not_above : (k : List ℕ) (name : List ℕ) (left : List (String Global)) → AllByRecursion (λ y. slice_cmp nat_cmp k (string_bytes y) ≡ Less) left → IsAmongTexts name left
+    → slice_cmp nat_cmp k name ≢ Greater
 not_above k name [] sorted among = absurd among
 not_above k name (y ∷ left) sorted (inl same) = λ greater. let less : slice_cmp nat_cmp k name ≡ Less = rw (← same) sorted.0 in cc
 not_above k name (y ∷ left) sorted (inr more) = not_above k name left sorted.1 more
 
 -- an unknown name in front is the first one
-pub first_left : (doc : Members) (k : String Global) (left : List (String Global)) → ((key : Key) → string_bytes k ≢ key_name key) → IsLeft doc (k ∷ left) → IsFirstUnknown doc (string_bytes k)
+pub first_left : (doc : Members) (k : String Global) (left : List (String Global)) → ((key : Key) → string_bytes k ≢ key_name key) → IsLeft doc (k ∷ left)
+    → IsFirstUnknown doc (string_bytes k)
 unfolding IsStrictlySortedBy
 first_left doc k left no_key h = (
   (h.present (string_bytes k) (inl refl), no_key),
@@ -100,12 +102,14 @@ first_left doc k left no_key h = (
 )
 
 -- by what the look-up of the name in front answers
-pub left_known : (doc : Members) (k : String Global) (left : List (String Global)) (text : List ℕ) (r : Option Key) → text ≡ string_bytes k → is_some r ≡ true → IfSome r (λ key. text ≡ key_name key)
+pub left_known : (doc : Members) (k : String Global) (left : List (String Global)) (text : List ℕ) (r : Option Key) → text ≡ string_bytes k → is_some r ≡ true
+    → IfSome r (λ key. text ≡ key_name key)
     → IsLeft doc (k ∷ left) → IsLeft doc left
 left_known doc k left text (Some key) same found known h = left_more doc k left key (sym same ∙ known) h
 left_known doc k left text None same found known h = absurd (cc found)
 
-pub first_unnamed : (doc : Members) (k : String Global) (left : List (String Global)) (text : List ℕ) (r : Option Key) → text ≡ string_bytes k → is_some r ≡ false → IfNone r ((key : Key) → text ≢ key_name key)
+pub first_unnamed : (doc : Members) (k : String Global) (left : List (String Global)) (text : List ℕ) (r : Option Key) → text ≡ string_bytes k → is_some r ≡ false
+    → IfNone r ((key : Key) → text ≢ key_name key)
     → IsLeft doc (k ∷ left) → IsFirstUnknown doc (string_bytes k)
 first_unnamed doc k left text (Some key) same missed unknown h = absurd (cc missed)
 first_unnamed doc k left text None same missed unknown h = first_left doc k left (λ key e. unknown key (same ∙ e)) h

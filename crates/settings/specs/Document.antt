@@ -46,7 +46,8 @@ Refuses kind k d fault =
 -- the key has this fault in the document: a required key is missing, or its value is refused
 abbrev pub Faults : Row → Members → SettingsFault → Type 0
 Faults row doc fault =
-    MatchOption (get_member (key_name row.key) doc) ((row.default ≡ None) × (fault ≡ Missing row.key)) (λ d. Refuses row.kind row.key d fault)
+    MatchOption (get_member (key_name row.key) doc) ((row.default ≡ None) × (fault ≡ Missing row.key))
+    (λ d. Refuses row.kind row.key d fault)
 
 -- each key is set
 abbrev pub GivesEach : Members → (Key → Setting) → Type 0

@@ -15,4 +15,5 @@ one_line text = flat_map shown_character (take 64 (chars text)) ++ (if nat_lt 64
 
 -- the last 64 characters, and `..` where there are more
 abbrev pub end_of_line : List ℕ → List ℕ
-end_of_line text = (if nat_lt 64 (length (chars text)) then codes ".." else []) ++ flat_map shown_character (drop (length (chars text) - 64) (chars text))
+end_of_line text = (if nat_lt 64 (length (chars text)) then codes ".." else [])
+    ++ flat_map shown_character (drop (length (chars text) - 64) (chars text))

@@ -1,4 +1,5 @@
--- The table of the settings: each key with its name, the kind of its value, its range and its default. Part of the promises.
+-- The table of the settings: each key with its name, the kind of its value, its range and its default. Part of the
+-- promises.
 use Rattle.std.specs.Prelude.{◌≡◌, ℕ, List, [], ◌∷◌, Bool, false, Option, Some, None, codes}
 use Rattle.settings.specs.Addresses.{SocketAddress}
 use Rattle.settings.specs.declared.table.Key.{Key}
@@ -29,8 +30,8 @@ pub data Setting : Type 0 where
   level : LogLevel → Setting
   truth : Bool → Setting
 
--- what a key takes: an address whose port is at least this, a whole number from the one to the other, the name of a level,
--- or a truth value
+-- what a key takes: an address whose port is at least this, a whole number from the one to the other, the name of a
+-- level, or a truth value
 pub data ValueKind : Type 0 where
   an_address : ℕ → ValueKind
   a_number : ℕ → ℕ → ValueKind

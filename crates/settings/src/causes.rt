@@ -12,8 +12,8 @@ use std::alloc::{AllocError, Global};
 use std::fmt;
 use toml::{Table, Value};
 
-/// The cause of a fault, for a person: the line, what it says, and what is expected there. `bytes` is the text with the
-/// fault. `None` if there is no memory for the cause.
+/// The cause of a fault, for a person: the line, what it says, and what is expected there. `bytes` is the text with
+/// the fault. `None` if there is no memory for the cause.
 pub fn cause(alloc: Global, bytes: &[u8], fault: &SettingsFault) -> Option<String>
     ensures memory { IsUtf8 bytes.now → fault.now ≡ SettingsFault.NoMemory → result ≡ None }
 {
@@ -97,8 +97,9 @@ fn refused_value(
     format!(in alloc; "{place}{key} = {value}: {wanted}")
 }
 
-/// The cause of a fault in a text that says what the arguments of a command line say: the argument and its value, as they
-/// are typed, and what is expected there. `None` if it is no fault of a value, or there is no memory for the cause.
+/// The cause of a fault in a text that says what the arguments of a command line say: the argument and its value, as
+/// they are typed, and what is expected there. `None` if it is no fault of a value, or there is no memory for the
+/// cause.
 pub fn argument_cause(alloc: Global, bytes: &[u8], fault: &SettingsFault) -> Option<String>
     ensures other { (IsOfValue fault.now → ⊥) → result ≡ None }
 {
@@ -169,9 +170,9 @@ fn place_of(alloc: Global, text: &str, name: &str) -> Result<String, AllocError>
     }
 }
 
-/// The first line, from 1, that begins what sets a key: the text up to its end, or up to the end of a value that spans
-/// lines, is TOML that has the key. Only lines that contain the name as it is are tried, and the text is parsed at most
-/// [`MAX_LOOKS`] times.
+/// The first line, from 1, that begins what sets a key: the text up to its end, or up to the end of a value that
+/// spans lines, is TOML that has the key. Only lines that contain the name as it is are tried, and the text is parsed
+/// at most [`MAX_LOOKS`] times.
 pub(crate) fn line_of(alloc: Global, text: &str, name: &str) -> Result<Option<usize>, AllocError> {
     let mut looks = 0usize;
     let mut start = 0usize;

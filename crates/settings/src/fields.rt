@@ -30,8 +30,8 @@ pub struct Settings {
     pub log: LogLevel,
     /// How many seconds a connection may move nothing before it fails, up to 86,400; 0 for no such limit.
     pub idle: u32,
-    /// Whether the target is first sent a line of the PROXY protocol's version 1, with the client's address and the one on
-    /// which the client was accepted.
+    /// Whether the target is first sent a line of the PROXY protocol's version 1, with the client's address and the
+    /// one on which the client was accepted.
     pub proxy: bool,
     // What every reader may rely on: the ranges hold for every value of the type.
     pub ghost target_port: { 1 ≤ target.1 },

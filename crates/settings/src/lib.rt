@@ -1,10 +1,10 @@
 //! The settings of a relay: what a TOML text sets, or the first thing that is wrong in it.
 //!
 //! `parse` reads a text. `Settings` has one field for each key and prints as `KEY=VALUE` lines, and `SettingsFault`
-//! prints as the line that a person sees. The table of the keys, with kinds, ranges and defaults, is in `src/table.rt`,
-//! and for the promises in `specs/Table.antt`. `cause` gives the details of a fault
-//! that help a person to find it, `argument_cause` those of a fault of a command line.
-//! `pollers_for` says how many threads poll, which no key sets.
+//! prints as the line that a person sees. The table of the keys, with kinds, ranges and defaults, is in
+//! `src/table.rt`, and for the promises in `specs/Table.antt`. `cause` gives the details of a fault that help a
+//! person to find it, `argument_cause` those of a fault of a command line. `pollers_for` says how many threads poll,
+//! which no key sets.
 #![tactic(auto)]
 
 mod addresses;

@@ -4,8 +4,8 @@ ghost use Rattle.settings.specs.Pollers.{pollers_for};
 
 use crate::limits::LEAST_SLOTS;
 
-/// How many threads poll in a relay with this many slots and workers: as many as there are workers, but at most one for each
-/// 64 slots, and at least one.
+/// How many threads poll in a relay with this many slots and workers: as many as there are workers, but at most one
+/// for each 64 slots, and at least one.
 #[tactic(auto, using(crate::proofs::FewPollers::are_few))]
 pub fn pollers_for(slots: usize, workers: usize) -> usize
     requires slots { 1 ≤ slots }

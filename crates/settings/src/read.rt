@@ -79,7 +79,8 @@ pub(crate) fn address_at(document: &Table, row: AddressRow) -> Result<Address, S
 /// The whole number of a row's key.
 pub(crate) fn number_at(document: &Table, row: NumberRow) -> Result<u32, SettingsFault>
     requires { (row.low ≤ row.default) × (row.default ≤ row.high) }
-    ensures gives { IfOk result (λ n. Gives (optional row.key (a_number row.low row.high) (number row.default)) (table_view document.now) (number n)) }
+    ensures gives { IfOk result (λ n. Gives (optional row.key (a_number row.low row.high) (number row.default))
+        (table_view document.now) (number n)) }
     ensures range { IfOk result (λ n. (row.low ≤ n) × (n ≤ row.high)) }
     ensures fault { IfErr result (Faults (optional row.key (a_number row.low row.high) (number row.default)) (table_view document.now)) }
 {

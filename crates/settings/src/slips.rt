@@ -17,8 +17,8 @@ pub(crate) enum Slip<'a> {
 }
 
 impl<'a> Slip<'a> {
-    /// What is wrong in the line of a text in which this byte stands, where the text stops being TOML. None if it is nothing
-    /// that has a word here, or there is no memory to find out.
+    /// What is wrong in the line of a text in which this byte stands, where the text stops being TOML. None if it is
+    /// nothing that has a word here, or there is no memory to find out.
     pub(crate) fn of(alloc: Global, text: &'a str, index: usize) -> Option<Slip<'a>> {
         let (before, line) = line_around(text, index)?;
         let (name, written) = line.split_once('=')?;

@@ -23,7 +23,8 @@ use Rattle.mio.specs.Event.{event_token, is_readable, is_error, is_read_closed, 
 abbrev pub numbers : List Event → List ℕ
 numbers events = map (λ (event : Event). (event_token event).0) events
 
--- an event names reading: there is something to read, or the socket has failed, or the peer has closed it (epoll_ctl(2))
+-- an event names reading: there is something to read, or the socket has failed, or the peer has closed it
+-- (epoll_ctl(2))
 abbrev pub names_reading : Event → Bool
 names_reading event = is_readable event || (is_error event || (is_read_closed event || is_write_closed event))
 
@@ -48,8 +49,8 @@ abbrev pub Fails : Result (Unit {0}) Error → Type 0
 Fails (Ok done) = ⊥
 Fails (Err error) = error_kind error ≢ Interrupted
 
--- how a front's connections are forwarded, the most milliseconds that it waits for reports, the numbers that its last poll was told,
--- whether that failed, and whether it has a share of the listening socket
+-- how a front's connections are forwarded, the most milliseconds that it waits for reports, the numbers that its last
+-- poll was told, whether that failed, and whether it has a share of the listening socket
 pub record Watched : Type 0 where
   pub forwarding : Forwarding
   pub wait : ℕ
@@ -57,8 +58,8 @@ pub record Watched : Type 0 where
   pub failed : Bool
   pub listening : Bool
 
--- the longest wait for reports of each of this many pollers, 16 at most, in milliseconds: together they wake at most 10 times a second by
--- themselves
+-- the longest wait for reports of each of this many pollers, 16 at most, in milliseconds: together they wake at most 10
+-- times a second by themselves
 abbrev pub wait_of : ℕ → ℕ
 wait_of pollers = 100 * max (min pollers 16) 2
 
@@ -79,8 +80,8 @@ v4_of (Some (V4 address)) = Some address
 v4_of (Some (V6 address)) = None
 v4_of None = None
 
--- What a front tells of a client's connection: no address unless targets are sent a line, and else the client's own, as it was told at
--- accept(2). The one on which it was accepted only the system knows
+-- What a front tells of a client's connection: no address unless targets are sent a line, and else the client's own, as
+-- it was told at accept(2). The one on which it was accepted only the system knows
 abbrev pub IsRoute : Bool → Option SocketAddr → Route → Type 0
 IsRoute false peer route = route ≡ record { client = None; accepted = None }
 IsRoute true peer route = route.client ≡ v4_of peer

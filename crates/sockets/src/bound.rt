@@ -36,8 +36,8 @@ impl<L> Bound<L> {
     }
 }
 
-/// Listens on the settings' address and on no other, with the longest backlog that the system allows. The address of a
-/// server that ended a moment ago can be reused at once (SO_REUSEADDR of socket(7)).
+/// Listens on the settings' address and on no other, with the longest backlog that the system allows. The address of
+/// a server that ended a moment ago can be reused at once (SO_REUSEADDR of socket(7)).
 ///
 /// Refuses with `Listen` if the system refuses. The cause was then logged, at level error.
 pub fn bind<R: Net + Log>(rt: &R, settings: &Settings) -> Result<Bound, ServerFault>
@@ -70,8 +70,8 @@ fn listen<R: Net, L: Listening + Drop>(rt: &R, asked: SocketAddr) -> io::Result<
 
 /// A socket that the system has listen at an address.
 ///
-/// Only the system knows at which addresses a socket listens, so the trait leaves that open. What is proved of any such
-/// socket says for which address the system was asked.
+/// Only the system knows at which addresses a socket listens, so the trait leaves that open. What is proved of any
+/// such socket says for which address the system was asked.
 trait Listening: Sized {
     ghost use Rattle.std.specs.declared.net.SocketAddr.{SocketAddr};
 

@@ -5,11 +5,11 @@ use crate::limits::BULK;
 use relay_core::MAX_READ;
 use std::marker::Model;
 
-/// When a socket sends at once, by TCP_NODELAY of tcp(7): from the first quiet turn on, but for bulk until the connection
-/// is quiet again.
+/// When a socket sends at once, by TCP_NODELAY of tcp(7): from the first quiet turn on, but for bulk until the
+/// connection is quiet again.
 ///
-/// Sending at once, a request in two writes is not held back by a peer that is slow to acknowledge the first. In bulk it
-/// costs up to 30 % more processor time. The switch back at a quiet turn's end also sends a short tail that waits.
+/// Sending at once, a request in two writes is not held back by a peer that is slow to acknowledge the first. In bulk
+/// it costs up to 30 % more processor time. The switch back at a quiet turn's end also sends a short tail that waits.
 #[derive(Clone, Copy)]
 pub(crate) struct Delay {
     at_once: bool,

@@ -10,7 +10,8 @@ use std::net::SocketAddr;
 pub struct Forwarding {
     /// The address to which each client is connected.
     pub target: SocketAddr,
-    /// Whether the targets are sent a line with the addresses of their clients' connections, for which the system is asked.
+    /// Whether the targets are sent a line with the addresses of their clients' connections, for which the system is
+    /// asked.
     pub proxy: bool,
     /// For how long a target or a client that does not answer is waited for.
     pub patience: Patience,

@@ -1,5 +1,6 @@
-//! The front over the system's sockets: a listener ([`bind`]), a connection to the target for each client, and epoll(7)
-//! ([`open_all`]). All sockets are edge-triggered, and nothing waits except [`Front::poll`](dispatch::Front::poll).
+//! The front over the system's sockets: a listener ([`bind`]), a connection to the target for each client, and
+//! epoll(7) ([`open_all`]). All sockets are edge-triggered, and nothing waits except
+//! [`Front::poll`](dispatch::Front::poll).
 //!
 //! - [`Sockets`] is the front of one poller, and [`Forwarding`] says where it connects clients, and whether it tells their
 //!   addresses. All fronts have one listening socket ([`Bound`]), and [`Wakers`] wakes the poller of a slot.

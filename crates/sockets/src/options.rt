@@ -1,4 +1,5 @@
-//! The options of a TCP socket that say for how long its peer is waited for. Neither the standard library nor `mio` sets them.
+//! The options of a TCP socket that say for how long its peer is waited for. Neither the standard library nor `mio`
+//! sets them.
 ghost use Rattle.libc.specs.Net.{SockOption};
 
 use crate::limits::PROBES;
@@ -20,9 +21,9 @@ pub(crate) fn give_up_after(socket: &TcpStream, millis: u64) -> io::Result<()> {
     )
 }
 
-/// Has the peer probed after it was silent for this many seconds, then at every fifth of that, and given up after five probes
-/// without an answer (SO_KEEPALIVE of socket(7), TCP_KEEPIDLE, TCP_KEEPINTVL and TCP_KEEPCNT of tcp(7)). The switch comes
-/// last, so that a socket never probes by the system's own numbers.
+/// Has the peer probed after it was silent for this many seconds, then at every fifth of that, and given up after
+/// five probes without an answer (SO_KEEPALIVE of socket(7), TCP_KEEPIDLE, TCP_KEEPINTVL and TCP_KEEPCNT of tcp(7)).
+/// The switch comes last, so that a socket never probes by the system's own numbers.
 pub(crate) fn probe(socket: &TcpStream, seconds: u32) -> io::Result<()> {
     let socket = socket.as_raw_fd();
     let between = (seconds / PROBES).max(1);

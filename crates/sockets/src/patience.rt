@@ -1,8 +1,8 @@
 ghost use Rattle.std.specs.Prelude.{◌≡◌};
 ghost use Rattle.sockets.specs.Wires.{unlimited};
 
-/// For how many seconds a peer that does not answer is waited for. Where it is `None`, it is waited for as long as the system
-/// does by itself.
+/// For how many seconds a peer that does not answer is waited for. Where it is `None`, it is waited for as long as
+/// the system does by itself.
 #[derive(Clone, Copy)]
 pub struct Patience {
     /// How long the connection to the target may take, 1 to 3600.

@@ -34,8 +34,8 @@ use std::sync::Arc;
 use std::time::Duration;
 use token::{Name, Token, unpack};
 
-/// The front of one poller over the system's sockets: the listening socket, which all pollers have, one target, and an
-/// epoll(7) instance of its own. It tells the addresses of clients only if targets are sent them.
+/// The front of one poller over the system's sockets: the listening socket, which all pollers have, one target, and
+/// an epoll(7) instance of its own. It tells the addresses of clients only if targets are sent them.
 #[derive(Drop)]
 pub struct Sockets<'r, R> {
     rt: &'r R,
@@ -60,7 +60,13 @@ impl<'r, R> Model for Sockets<'r, R> {
 
     ghost Value = { Watched };
 
-    ghost view = { λ s. record { forwarding = s.forwarding; wait = s.wait; reported = numbers (items s.events); failed = s.failed; listening = is_some s.listener } };
+    ghost view = { λ s. record {
+      forwarding = s.forwarding;
+      wait = s.wait;
+      reported = numbers (items s.events);
+      failed = s.failed;
+      listening = is_some s.listener;
+    } };
 
     // The most reports that one wait gives, MAX_BATCH.
     ghost invariant = { λ s. events_capacity s.events ≡ 256 };
@@ -73,12 +79,12 @@ pub struct Wakers {
     each: Vec<Waker>,
 }
 
-/// A front for each part of the slots, all on one bound socket, which connect each client as this says, and the wakers for
-/// other threads. The listening socket is reported to each of them.
+/// A front for each part of the slots, all on one bound socket, which connect each client as this says, and the
+/// wakers for other threads. The listening socket is reported to each of them.
 ///
 /// Refuses with `NoMemory` if there is not enough, and with `Poll` if the system cannot report on sockets
-/// (epoll_create1(2), eventfd(2), epoll_ctl(2)). The cause was then logged, at level error. In both cases the listening
-/// socket is closed.
+/// (epoll_create1(2), eventfd(2), epoll_ctl(2)). The cause was then logged, at level error. In both cases the
+/// listening socket is closed.
 pub fn open_all<'r, R: Net + Log>(
     rt: &'r R,
     alloc: Global,
@@ -86,7 +92,14 @@ pub fn open_all<'r, R: Net + Log>(
     forwarding: Forwarding,
     split: Split,
 ) -> Result<(Vec<Sockets<'r, R>>, Wakers), ServerFault>
-    ensures opened { IfOk result (λ made. made.0.items ≡ replicate (parts_of split.slots split.size) (record { forwarding = forwarding; wait = wait_of (parts_of split.slots split.size); reported = []; failed = false; listening = true })) }
+    ensures opened { IfOk result (λ made. made.0.items ≡ replicate (parts_of split.slots split.size)
+        (record {
+          forwarding = forwarding;
+          wait = wait_of (parts_of split.slots split.size);
+          reported = [];
+          failed = false;
+          listening = true;
+        })) }
     ensures wakers { IfOk result (λ made. made.1.split ≡ split) }
     ensures refused { IfErr result (λ fault. (fault ≡ ServerFault.Poll) ⊎ (fault ≡ ServerFault.NoMemory)) }
 {
@@ -126,7 +139,14 @@ fn fronts_of<'r, R>(
     mut polls: Vec<Poll>,
     forwarding: Forwarding,
 ) -> Result<Vec<Sockets<'r, R>>, AllocError>
-    ensures { IfOk result (λ fronts. fronts.items ≡ replicate (vec_len polls) (record { forwarding = forwarding; wait = wait_of (vec_len polls); reported = []; failed = false; listening = true })) }
+    ensures { IfOk result (λ fronts. fronts.items
+        ≡ replicate (vec_len polls) (record {
+          forwarding = forwarding;
+          wait = wait_of (vec_len polls);
+          reported = [];
+          failed = false;
+          listening = true;
+        })) }
 {
     let listener = Arc::new(alloc, listener)?;
     let count = polls.len();
@@ -172,8 +192,8 @@ fn watched<R: Net + Log>(rt: &R, listener: &mut TcpListener) -> Result<(Poll, Wa
 }
 
 impl<R: Dial> Sockets<'_, R> {
-    /// Starts the connection to the target, with the limit that it is to have. The system looks at that when it sends again, so
-    /// it may come after the start. If the start fails, the client's wire keeps the cause.
+    /// Starts the connection to the target, with the limit that it is to have. The system looks at that when it sends
+    /// again, so it may come after the start. If the start fails, the client's wire keeps the cause.
     fn begin<N: Log>(&self, rt: &N, client: &mut SocketWire) -> Result<SocketWire, Unopened>
         ensures client { client.new ≡ client.old }
         ensures begun { IfOk result (λ target. target.socket ≡ patient self.now.forwarding.patience (fresh_wire false None)) }
@@ -211,8 +231,8 @@ impl<R: Dial> Sockets<'_, R> {
         }
     }
 
-    /// The addresses of a client's connection, if they are to be told. The client's own came with accept(2), and the system
-    /// is asked for the other one.
+    /// The addresses of a client's connection, if they are to be told. The client's own came with accept(2), and the
+    /// system is asked for the other one.
     fn route(&self, client: &SocketWire) -> Route
         ensures { IsRoute self.now.forwarding.proxy client.now.socket.peer result }
     {
@@ -262,8 +282,8 @@ struct Reported {
     heard: Option<Heard>,
 }
 
-/// Tells of an event if it names reading, at the word of the end that its number names. The number is given only then, so
-/// that a wire is told before the report becomes a note.
+/// Tells of an event if it names reading, at the word of the end that its number names. The number is given only
+/// then, so that a wire is told before the report becomes a note.
 fn tell(told: &Reports, event: &Event) -> Reported
     ensures number { result.number ≡ (event_token event.now).0 }
     ensures heard { result.heard ≡ heard_of told.now event.now }
@@ -296,8 +316,8 @@ fn end_of(number: u64) -> Option<Token>
     }
 }
 
-/// Whether an event names reading: there is something to read, or the socket has failed, or the peer has closed it, which
-/// a read finds out.
+/// Whether an event names reading: there is something to read, or the socket has failed, or the peer has closed it,
+/// which a read finds out.
 fn names_reading(event: &Event) -> bool
     ensures { result ≡ names_reading event.now }
 {
@@ -371,11 +391,13 @@ impl<R: Dial> Front for Sockets<'_, R> {
         client_token: Token,
         target_token: Token,
     ) -> Result<Opened<SocketWire>, Unopened>
-        ensures opened { IfOk result (λ opened. opened.target.socket ≡ under target_token (patient self.old.forwarding.patience (fresh_wire false None))) }
+        ensures opened { IfOk result (λ opened. opened.target.socket
+            ≡ under target_token (patient self.old.forwarding.patience (fresh_wire false None))) }
         ensures route { IfOk result (λ opened. IsRoute self.old.forwarding.proxy client.old.socket.peer opened.route) }
         ensures told { IfOk result (λ opened. MayTell client.old.socket.peer opened.route) }
         ensures refused { IfErr result (λ why. (why ≡ Unopened.Connect) ⊎ (why ≡ Unopened.Register)) }
-        ensures client { OnOk result (client.new.socket ≡ patient (unlimited self.old.forwarding.patience) (under client_token client.old.socket)) }
+        ensures client { OnOk result (client.new.socket ≡ patient (unlimited self.old.forwarding.patience)
+            (under client_token client.old.socket)) }
         ensures unopened { OnErr result (SameButWatched client.old.socket client.new.socket) }
         ensures same { client.new.socket.tally ≡ client.old.socket.tally }
         ensures kept { self.new ≡ self.old }

@@ -9,11 +9,12 @@ use readiness::Told;
 use std::io;
 use std::net::SocketAddr;
 
-/// A stream socket of the system, and what is told of its reports, as a wire uses them. Each method but `is_told` and `probe`
-/// is one system call, which never waits.
+/// A stream socket of the system, and what is told of its reports, as a wire uses them. Each method but `is_told` and
+/// `probe` is one system call, which never waits.
 ///
-/// Only the system knows what a call does, so the trait leaves that open. What is proved of a wire over any such socket
-/// therefore says which calls it makes, with all that it was asked for, and that it gives their answers unchanged.
+/// Only the system knows what a call does, so the trait leaves that open. What is proved of a wire over any such
+/// socket therefore says which calls it makes, with all that it was asked for, and that it gives their answers
+/// unchanged.
 pub trait Stream {
     // What a system call may do: the call with its answer, and the socket before and after.
     ghost did: { Made → Self → Self → Type 0 };
@@ -45,8 +46,9 @@ pub trait Stream {
     fn send_at_once(&mut self, at_once: bool)
         ensures { did (SentAtOnce at_once) self.old self.new };
 
-    /// Has the connection fail once it has waited for this many milliseconds to be made, or for what it sent to be taken
-    /// (TCP_USER_TIMEOUT of tcp(7)); after 0, as the system does by itself. It stays as it was if the system refuses.
+    /// Has the connection fail once it has waited for this many milliseconds to be made, or for what it sent to be
+    /// taken (TCP_USER_TIMEOUT of tcp(7)); after 0, as the system does by itself. It stays as it was if the system
+    /// refuses.
     fn give_up_after(&mut self, millis: u64) -> io::Result<()>
         ensures { did (GivesUpAfter millis) self.old self.new };
 
@@ -55,8 +57,8 @@ pub trait Stream {
     fn probe(&mut self, seconds: u32) -> io::Result<()>
         ensures { did (Probes seconds) self.old self.new };
 
-    /// Has the socket reported for reading and writing, edge-triggered, under a token (epoll_ctl(2)). Those of its reports
-    /// that name reading are told by `told`. Without it, each look finds that one was told.
+    /// Has the socket reported for reading and writing, edge-triggered, under a token (epoll_ctl(2)). Those of its
+    /// reports that name reading are told by `told`. Without it, each look finds that one was told.
     fn register(&mut self, registry: &Registry, token: Token, told: Option<Told>) -> io::Result<()>
         ensures { OnOk result (did (Registered token.0 told) self.old self.new) };
 

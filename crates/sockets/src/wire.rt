@@ -25,12 +25,12 @@ use std::marker::Model;
 use std::net::SocketAddr;
 use token::Token;
 
-/// The wire over one system socket. A write is one system call, which never waits, and so is a read, unless the wire knows
-/// its answer: after a read that would block, it answers "would block" by itself until it is told of a report that names
-/// reading, or a call fails.
+/// The wire over one system socket. A write is one system call, which never waits, and so is a read, unless the wire
+/// knows its answer: after a read that would block, it answers "would block" by itself until it is told of a report
+/// that names reading, or a call fails.
 ///
-/// It counts its answers by [`class_of`](engine::class_of). It specifies the system calls that it makes, and gives their
-/// answers unchanged. It does not specify its bytes, since only the system knows which bytes come.
+/// It counts its answers by [`class_of`](engine::class_of). It specifies the system calls that it makes, and gives
+/// their answers unchanged. It does not specify its bytes, since only the system knows which bytes come.
 #[derive(Drop)]
 pub struct SocketWire<S = Socket> {
     stream: S,
@@ -50,7 +50,17 @@ impl<S> Model for SocketWire<S> {
 
     ghost Value = { Wired S };
 
-    ghost view = { λ w. record { stream = w.stream; socket = record { tally = w.tally; sending = w.delay; reads = w.attention; peer = w.peer; watched = w.watched; patience = w.patience } } };
+    ghost view = { λ w. record {
+      stream = w.stream;
+      socket = record {
+        tally = w.tally;
+        sending = w.delay;
+        reads = w.attention;
+        peer = w.peer;
+        watched = w.watched;
+        patience = w.patience;
+      };
+    } };
 }
 
 impl<S: Stream> SocketWire<S> {
@@ -119,8 +129,8 @@ impl<S: Stream> SocketWire<S> {
         Ok(())
     }
 
-    /// Gives the socket so long to wait for its peer. If the system refuses, that is logged at level debug, and the socket waits
-    /// as the system does by itself.
+    /// Gives the socket so long to wait for its peer. If the system refuses, that is logged at level debug, and the
+    /// socket waits as the system does by itself.
     pub(crate) fn wait_for_peer<N: Log>(&mut self, rt: &N, patience: Patience)
         ensures waits { Waits S.did patience self.old.stream self.new.stream }
         ensures given { self.new.socket ≡ patient patience self.old.socket }
@@ -156,8 +166,8 @@ impl<S: Stream> SocketWire<S> {
         }
     }
 
-    /// The socket is known to be connected. If it had a limit for that, it loses it: the limit also ends a connection whose
-    /// peer takes nothing.
+    /// The socket is known to be connected. If it had a limit for that, it loses it: the limit also ends a connection
+    /// whose peer takes nothing.
     fn connect(&mut self)
         ensures connected { self.new.socket ≡ record self.old.socket { tally = connected self.old.socket.tally } }
         ensures lifted { Lifts S.did self.old.socket.patience.connect self.old.socket.tally.joined true self.old.stream self.new.stream }
@@ -176,8 +186,8 @@ impl<S: Stream> SocketWire<S> {
         self.error = error.raw_os_error();
     }
 
-    /// Whether the wire reads its socket. If it does not, it looks, and reads from now on if it was told of something to
-    /// read.
+    /// Whether the wire reads its socket. If it does not, it looks, and reads from now on if it was told of something
+    /// to read.
     fn looks(&mut self) -> bool
         ensures kept { self.old.socket.reads ≡ true → (result ≡ true) × (self.new.stream ≡ self.old.stream) }
         ensures look { self.old.socket.reads ≡ false → S.did (Looked result) self.old.stream self.new.stream }
@@ -191,13 +201,15 @@ impl<S: Stream> SocketWire<S> {
         told
     }
 
-    /// Counts an error of a call by its class, and gives it. After a read that would block the wire does not read, and
-    /// after a failure it does.
+    /// Counts an error of a call by its class, and gives it. After a read that would block the wire does not read,
+    /// and after a failure it does.
     fn refuse(&mut self, call: Call, error: io::Error) -> io::Error
         requires { side_of call ≡ Side.Target }
         ensures same { result ≡ error }
-        ensures counted { self.new.socket.tally ≡ counted (class_of call self.old.socket.tally.joined (error_kind error)) self.old.socket.tally }
-        ensures reads { self.new.socket.reads ≡ goes_on call (class_of call self.old.socket.tally.joined (error_kind error)) self.old.socket.reads }
+        ensures counted { self.new.socket.tally ≡ counted (class_of call self.old.socket.tally.joined (error_kind error))
+            self.old.socket.tally }
+        ensures reads { self.new.socket.reads ≡ goes_on call (class_of call self.old.socket.tally.joined (error_kind error))
+            self.old.socket.reads }
         ensures joined { self.new.socket.tally.joined ≡ self.old.socket.tally.joined }
         ensures rest { self.new.socket ≡ record self.old.socket { tally = self.new.socket.tally; reads = self.new.socket.reads } }
         ensures stream { self.new.stream ≡ self.old.stream }
@@ -227,8 +239,12 @@ impl<S: Stream> SocketWire<S> {
 
     /// A write took `count` of the bytes that were offered.
     fn took(&mut self, count: usize, offered: usize)
-        ensures counted { self.new.socket ≡ record self.old.socket { tally = took count offered self.old.socket.tally; reads = goes_on_after count offered self.old.socket.reads } }
-        ensures lifted { Lifts S.did self.old.socket.patience.connect self.old.socket.tally.joined self.new.socket.tally.joined self.old.stream self.new.stream }
+        ensures counted { self.new.socket ≡ record self.old.socket {
+          tally = took count offered self.old.socket.tally;
+          reads = goes_on_after count offered self.old.socket.reads;
+        } }
+        ensures lifted { Lifts S.did self.old.socket.patience.connect self.old.socket.tally.joined self.new.socket.tally.joined
+            self.old.stream self.new.stream }
     {
         if count > 0 {
             self.connect();
@@ -261,8 +277,8 @@ fn stand<S: Stream>(stream: &mut S) -> io::Result<()>
     Ok(())
 }
 
-/// An error that was pending on a socket, as the answer of a call. It is always a failure of the connection. It is the
-/// system's own, with its number, unless one of its kind could mean something else.
+/// An error that was pending on a socket, as the answer of a call. It is always a failure of the connection. It is
+/// the system's own, with its number, unless one of its kind could mean something else.
 fn failure(pending: io::Error) -> io::Error
     ensures { error_kind result ≡ pending_kind (error_kind pending) }
 {
@@ -336,7 +352,8 @@ impl<S: Stream> Wire for SocketWire<S> {
 
 impl<S: Stream> Settle for SocketWire<S> {
     fn settle(&mut self)
-        ensures told { (self.new.socket.tally.faults ≡ self.old.socket.tally.faults) × (self.new.socket.tally.blocks ≡ self.old.socket.tally.blocks) }
+        ensures told { (self.new.socket.tally.faults ≡ self.old.socket.tally.faults)
+            × (self.new.socket.tally.blocks ≡ self.old.socket.tally.blocks) }
         ensures settled { self.new.socket ≡ promptly self.old.socket }
         ensures switched { Switches S.did self.old.socket.sending.at_once true self.old.stream self.new.stream }
     {

@@ -7,7 +7,8 @@ pub enum Event {
     Dropped,
     /// A connection was opened.
     Opened,
-    /// A turn left the connection open. This many bytes were written to its target and to its client since it was opened.
+    /// A turn left the connection open. This many bytes were written to its target and to its client since it was
+    /// opened.
     Moved {
         up: u64,
         down: u64,

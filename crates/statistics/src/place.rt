@@ -9,8 +9,8 @@ use std::sync::atomic::{AtomicU64, Ordering};
 
 /// Memory for the counts of a slot, which threads share.
 ///
-/// No clause can name what it holds, so the trait leaves open what a step does. What is proved of any such memory says which
-/// steps are made on it.
+/// No clause can name what it holds, so the trait leaves open what a step does. What is proved of any such memory
+/// says which steps are made on it.
 pub(crate) trait Memory {
     // What a step may do: the step with what was read or given, and the memory.
     ghost did: { Step → Self → Type 0 };

@@ -35,8 +35,8 @@ impl Statistics {
         Ok(Statistics { places })
     }
 
-    /// Counts an event at a slot. Only the thread that holds the slot, or has it in hand while it is free, may do that.
-    /// Nothing is counted of a slot that there is not.
+    /// Counts an event at a slot. Only the thread that holds the slot, or has it in hand while it is free, may do
+    /// that. Nothing is counted of a slot that there is not.
     pub fn count(&self, slot: usize, event: Event) {
         if let Some(place) = self.places.get(slot) {
             place.count(event);
@@ -45,8 +45,8 @@ impl Statistics {
 
     /// The sums of all slots.
     ///
-    /// A slot whose place changes meanwhile is read again. So the sums are those of a moment at each slot, and not of one
-    /// moment at all of them.
+    /// A slot whose place changes meanwhile is read again. So the sums are those of a moment at each slot, and not of
+    /// one moment at all of them.
     pub fn totals(&self) -> Totals
         ensures slots { result.slots ≡ self.now }
         ensures open { result.live ≤ self.now }

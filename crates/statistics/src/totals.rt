@@ -6,8 +6,8 @@ use std::fmt::{self, Display};
 
 /// The sums of what was counted at each of this many slots. A sum that has reached 2^64 - 1 stays there.
 ///
-/// It prints as the line of the statistics. There the connections that were opened are those that are open, are done and
-/// have failed, and the failed ones those that failed by a call on either side's socket or by the idle limit.
+/// It prints as the line of the statistics. There the connections that were opened are those that are open, are done
+/// and have failed, and the failed ones those that failed by a call on either side's socket or by the idle limit.
 #[derive(Clone, Copy)]
 pub struct Totals {
     pub slots: usize,

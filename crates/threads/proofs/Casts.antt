@@ -55,7 +55,8 @@ numbered_more {A = A} xs x =
     ∙ ap (λ (m : ℕ). (m, x) ∷ numbered xs) (let e : 0 + length xs ≡ length xs = omega arith in e)
 
 -- the pollers that are left, the last of them gone, and the threads made so far
-pub next_in_turn : {A : Type 0} (left some : List A) (x : A) (made all : List (ℕ × A)) → left ≡ some ++ x ∷ [] → made ++ numbered left ≡ all → (made ++ (length some, x) ∷ []) ++ numbered some ≡ all
+pub next_in_turn : {A : Type 0} (left some : List A) (x : A) (made all : List (ℕ × A)) → left ≡ some ++ x ∷ [] → made ++ numbered left ≡ all → (made ++ (length some, x) ∷ [])
+    ++ numbered some ≡ all
 next_in_turn {A = A} left some x made all is so =
     append_assoc made ((length some, x) ∷ []) (numbered some)
     ∙ sym (ap (λ (ps : List (ℕ × A)). made ++ ps) (ap (λ (xs : List A). numbered xs) is ∙ numbered_more some x)) ∙ so
@@ -70,11 +71,13 @@ range_more first (suc n) =
     ∙ ap (λ (ms : List ℕ). first ∷ ms) (range_more (first + 1) n ∙ ap (λ (m : ℕ). range_with_len (first + 1) n ++ m ∷ []) last)
 
 -- one more in order
-ends_more : (ends : List (List End)) (poller n : ℕ) (xs : List End) (x : End) → AreEndsFrom ends poller xs → length xs + poller ≡ n → IsEndOf ends n x → AreEndsFrom ends poller (xs ++ x ∷ [])
+ends_more : (ends : List (List End)) (poller n : ℕ) (xs : List End) (x : End) → AreEndsFrom ends poller xs → length xs + poller ≡ n → IsEndOf ends n x
+    → AreEndsFrom ends poller (xs ++ x ∷ [])
 ends_more ends poller n [] x are len is = (subst (λ (m : ℕ). IsEndOf ends m x) (let e : n ≡ poller = omega (arith, len) in e) is, search)
 ends_more ends poller n (y ∷ xs) x are len is = (are.0, ends_more ends (poller + 1) n xs x are.1 (omega (arith, len)) is)
 
-pub ends_pushed : (old new : List (List End)) (poller n : ℕ) (xs ys : List End) (x : End) → ys ≡ xs ++ x ∷ [] → length xs + poller ≡ n → AreLeft old new → AreEndsFrom old poller xs → IsEndOf new n x → AreEndsFrom old poller ys
+pub ends_pushed : (old new : List (List End)) (poller n : ℕ) (xs ys : List End) (x : End) → ys ≡ xs ++ x ∷ [] → length xs + poller ≡ n → AreLeft old new → AreEndsFrom old poller xs
+    → IsEndOf new n x → AreEndsFrom old poller ys
 ends_pushed old new poller n xs ys x more len left are is =
     subst (λ (zs : List End). AreEndsFrom old poller zs) (sym more) (ends_more old poller n xs x are len (end_of_all old new n x left is))
 
@@ -83,7 +86,8 @@ length_pushed {X = X} xs ys x more = ap (λ (zs : List X). length zs) more ∙ l
 
 module _ {X : Type 0} where
   -- the last end of this poller's queue is taken
-  taken_at : (f : X → List End) (xs : List X) (poller at : ℕ) (x y : X) (gone there : List End) → x ≡ slice_index_or xs poller x → f x ≡ f y ++ gone → slice_get (map f (slice_set xs poller y)) at ≡ Some there
+  taken_at : (f : X → List End) (xs : List X) (poller at : ℕ) (x y : X) (gone there : List End) → x ≡ slice_index_or xs poller x → f x ≡ f y ++ gone
+      → slice_get (map f (slice_set xs poller y)) at ≡ Some there
       → (taken : List End) × (slice_get (map f xs) at ≡ Some (there ++ taken))
   taken_at f [] poller at x y gone there is was now = absurd (cc)
   taken_at f (z ∷ zs) zero zero x y gone there is was now =
@@ -92,21 +96,24 @@ module _ {X : Type 0} where
   taken_at f (z ∷ zs) (suc n) zero x y gone there is was now = ([], now ∙ ap (λ (ys : List End). Some ys) (sym (append-nil there)))
   taken_at f (z ∷ zs) (suc n) (suc k) x y gone there is was now = taken_at f zs n k x y gone there is was now
 
-  pub taken_last : (f : X → List End) (xs : List X) (poller : ℕ) (x y : X) (gone : List End) → x ≡ slice_index_or xs poller x → f x ≡ f y ++ gone → AreLeft (map f xs) (map f (slice_set xs poller y))
+  pub taken_last : (f : X → List End) (xs : List X) (poller : ℕ) (x y : X) (gone : List End) → x ≡ slice_index_or xs poller x → f x ≡ f y ++ gone
+      → AreLeft (map f xs) (map f (slice_set xs poller y))
   taken_last f xs poller x y gone is was = record {
     pollers = length-map (slice_set xs poller y) f ∙ length-set xs poller y ∙ sym (length-map xs f);
     each = λ at there now. taken_at f xs poller at x y gone there is was now;
   }
 
   -- the last end of this poller's queue, if it has one, is one of its ends
-  pub end_of_last : (f : X → List End) (xs : List X) (poller : ℕ) (x : X) (left : List End) (last : Option End) → poller < length xs → x ≡ slice_index_or xs poller x → f x ≡ left ++ option_to_list last → IfSome last (λ end. IsEndOf (map f xs) poller end)
+  pub end_of_last : (f : X → List End) (xs : List X) (poller : ℕ) (x : X) (left : List End) (last : Option End) → poller < length xs → x ≡ slice_index_or xs poller x
+      → f x ≡ left ++ option_to_list last → IfSome last (λ end. IsEndOf (map f xs) poller end)
   end_of_last f xs poller x left None within is ends = search
   end_of_last f xs poller x left (Some end) within is ends =
       let there : slice_get xs poller ≡ Some x = slice_get-get_or xs poller x within ∙ ap (λ (y : X). Some y) (sym is) in
       record { before = left; behind = []; there = slice_get-map f xs poller ∙ ap (λ (o : Option X). option_map f o) there ∙ ap (λ (es : List End). Some es) ends }
 
   -- one of each queue, the first poller's last
-  pub one_of_each : (f : X → List End) (xs : List X) (new : List (List End)) (end : End) (others : List End) → AreEndsFrom (map f xs) 1 others → length others ≡ length xs - 1 → AreLeft (map f xs) new → IsEndOf new 0 end
+  pub one_of_each : (f : X → List End) (xs : List X) (new : List (List End)) (end : End) (others : List End) → AreEndsFrom (map f xs) 1 others → length others ≡ length xs - 1
+      → AreLeft (map f xs) new → IsEndOf new 0 end
       → HasOneOfEach (map f xs) (end ∷ others)
   one_of_each f xs new end others are len left is =
       let first : IsEndOf (map f xs) 0 end = end_of_all (map f xs) new 0 end left is in
@@ -116,20 +123,25 @@ module _ {X : Type 0} where
   pub all_pushed : (P : X → Type 0) (made now : List X) (x : X) → now ≡ made ++ x ∷ [] → All P made → P x → All P now
   all_pushed P made now x more all one = subst (λ (xs : List X). All P xs) (sym more) (All-push P made x all one)
 
-  pub each_of_all : (f : X → List End) (old new : List (List End)) (xs : List X) → AreLeft old new → All (λ (x : X). HasOneOfEach new (f x)) xs → All (λ (x : X). HasOneOfEach old (f x)) xs
+  pub each_of_all : (f : X → List End) (old new : List (List End)) (xs : List X) → AreLeft old new → All (λ (x : X). HasOneOfEach new (f x)) xs
+      → All (λ (x : X). HasOneOfEach old (f x)) xs
   each_of_all f old new xs left all = λ k d less. one_of_all old new (f (slice_index_or xs k d)) left (all k d less)
 
   -- one thread more, of the last poller that is left
-  pub threads_more : {A : Type 0} (g : X → ℕ × A) (made now : List X) (x : X) (left some : List A) (p : A) (n : ℕ) (all : List (ℕ × A)) → now ≡ made ++ x ∷ [] → left ≡ some ++ p ∷ [] → n ≡ length some → g x ≡ (n, p)
+  pub threads_more : {A : Type 0} (g : X → ℕ × A) (made now : List X) (x : X) (left some : List A) (p : A) (n : ℕ) (all : List (ℕ × A)) → now ≡ made ++ x ∷ []
+      → left ≡ some ++ p ∷ [] → n ≡ length some → g x ≡ (n, p)
       → map g made ++ numbered left ≡ all → map g now ++ numbered some ≡ all
   threads_more {A = A} g made now x left some p n all more was len is so =
-      ap (λ (ps : List (ℕ × A)). ps ++ numbered some) (ap (λ (xs : List X). map g xs) more ∙ map-append g made (x ∷ []) ∙ ap (λ (q : ℕ × A). map g made ++ q ∷ []) (is ∙ ap (λ (m : ℕ). (m, p)) len))
+      ap (λ (ps : List (ℕ × A)). ps ++ numbered some) (ap (λ (xs : List X). map g xs) more ∙ map-append g made (x ∷ [])
+      ∙ ap (λ (q : ℕ × A). map g made ++ q ∷ []) (is ∙ ap (λ (m : ℕ). (m, p)) len))
       ∙ next_in_turn left some p (map g made) all was so
 
   -- one number more
-  pub numbers_more : (g : X → ℕ) (made now : List X) (x : X) (first n : ℕ) → now ≡ made ++ x ∷ [] → g x ≡ first + n → map g made ≡ range_with_len first n → map g now ≡ range_with_len first (n + 1)
+  pub numbers_more : (g : X → ℕ) (made now : List X) (x : X) (first n : ℕ) → now ≡ made ++ x ∷ [] → g x ≡ first + n → map g made ≡ range_with_len first n
+      → map g now ≡ range_with_len first (n + 1)
   numbers_more g made now x first n more is so =
-      ap (λ (xs : List X). map g xs) more ∙ map-append g made (x ∷ []) ∙ ap (λ (m : ℕ). map g made ++ m ∷ []) is ∙ ap (λ (ms : List ℕ). ms ++ (first + n) ∷ []) so ∙ sym (range_more first n)
+      ap (λ (xs : List X). map g xs) more ∙ map-append g made (x ∷ []) ∙ ap (λ (m : ℕ). map g made ++ m ∷ []) is ∙ ap (λ (ms : List ℕ). ms ++ (first + n) ∷ []) so
+      ∙ sym (range_more first n)
 
 -- no poller is left
 pub all_made : {A : Type 0} (made all : List (ℕ × A)) (left : List A) → length left ≡ 0 → made ++ numbered left ≡ all → made ≡ all

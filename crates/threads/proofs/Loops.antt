@@ -107,11 +107,13 @@ turns_both xs ys ds es a b c one two = record {
       ∙ sym (ap due_of (acts-append xs ys) ∙ due-append (acts_of xs) (acts_of ys));
 }
 
-tickets_one : (t : Ticket) (minted : ℕ) (old new : Own) → TicketsKept t minted old new → (u : Ticket) → times_of u (tickets_out new) ≡ times_of u (tickets_out old) + times_of u (made_by minted t)
+tickets_one : (t : Ticket) (minted : ℕ) (old new : Own) → TicketsKept t minted old new → (u : Ticket) → times_of u (tickets_out new)
+    ≡ times_of u (tickets_out old) + times_of u (made_by minted t)
 tickets_one t zero old new same u = let out : times_of u (tickets_out new) ≡ times_of u (tickets_out old) = ap (λ (ts : List Ticket). times_of u ts) same in omega arith
 tickets_one t (suc n) old new put u = let more = times_inserted u t (tickets_out old) (tickets_out new) put.tickets in omega arith
 
-pub one_ran : (words : ℕ) (t : Ticket) (answer : Result Worked ServerFault) (old new : Own) → old.seat.table.words ≡ words → TurnMade words t answer old new → OneRan t answer old new
+pub one_ran : (words : ℕ) (t : Ticket) (answer : Result Worked ServerFault) (old new : Own) → old.seat.table.words ≡ words → TurnMade words t answer old new
+    → OneRan t answer old new
 one_ran words t answer old new same made = record {
   exchanges = made.exchanges;
   due = made_by (minted_by made.exchanges) t;
@@ -230,7 +232,8 @@ worker_then_ends a b c one two = record { left = two.left; few = two.few; made =
 
 -- sharing the tickets in hand loses none
 
-one_shared : (u : Ticket) (stayed : ℕ) (heavy : List ℕ) (t : Ticket) (queue : EndState Ticket) (after : ℕ) (behind : List Ticket) (next : EndState Ticket) → OneShared stayed heavy t queue after behind next
+one_shared : (u : Ticket) (stayed : ℕ) (heavy : List ℕ) (t : Ticket) (queue : EndState Ticket) (after : ℕ) (behind : List Ticket) (next : EndState Ticket)
+    → OneShared stayed heavy t queue after behind next
     → times_of u (puts next) + times_of u behind ≡ times_of u (puts queue) + times_of u (t ∷ [])
 one_shared u stayed heavy t queue after behind next (inl stays) =
     let same : times_of u behind ≡ times_of u (t ∷ []) = ap (λ (ts : List Ticket). times_of u ts) stays.2 in
@@ -248,7 +251,8 @@ one_shared u stayed heavy t queue after behind next (inr (goes, still, inr refus
     let queued : times_of u (puts next) ≡ times_of u (puts queue) = ap (λ (q : EndState Ticket). times_of u (puts q)) refused.0.same in
     omega arith
 
-all_shared : (u : Ticket) (stayed : ℕ) (heavy : List ℕ) (ts : List Ticket) (queue : EndState Ticket) (kept : List Ticket) (left : List ℕ) (end : EndState Ticket) → AreShared stayed heavy ts queue kept left end
+all_shared : (u : Ticket) (stayed : ℕ) (heavy : List ℕ) (ts : List Ticket) (queue : EndState Ticket) (kept : List Ticket) (left : List ℕ) (end : EndState Ticket)
+    → AreShared stayed heavy ts queue kept left end
     → times_of u (puts end) + times_of u kept ≡ times_of u (puts queue) + times_of u ts
 all_shared u stayed heavy [] queue kept left end none =
     let hand : times_of u kept ≡ times_of u [] = ap (λ (ts : List Ticket). times_of u ts) none.0 in
@@ -283,14 +287,16 @@ own_both n m a b c one two = record {
       let first = one.tickets u in
       let second = two.tickets u in
       let dues = times-append u one.due two.due in
-      let mapped : times_of u (tickets_of (one.ran ++ two.ran)) ≡ times_of u (tickets_of one.ran ++ tickets_of two.ran) = ap (λ (ts : List Ticket). times_of u ts) (map-append (λ (run : Run). run.ticket) one.ran two.ran) in
+      let mapped : times_of u (tickets_of (one.ran ++ two.ran)) ≡ times_of u (tickets_of one.ran ++ tickets_of two.ran) =
+      ap (λ (ts : List Ticket). times_of u ts) (map-append (λ (run : Run). run.ticket) one.ran two.ran) in
       let runs = times-append u (tickets_of one.ran) (tickets_of two.ran) in
       omega arith);
   slots = λ s. (let first = one.slots s in let second = two.slots s in let both = freed-append s one.ran two.ran in omega arith);
 }
 
 -- the oldest ticket in hand was run
-own_one : (t : Ticket) (ts : List Ticket) (answer : Result Worked ServerFault) (a b : Own) → a.hand.tickets ≡ t ∷ ts → OneRan t answer (without_first a) b → SlotsKept t answer (without_first a) b
+own_one : (t : Ticket) (ts : List Ticket) (answer : Result Worked ServerFault) (a b : Own) → a.hand.tickets ≡ t ∷ ts → OneRan t answer (without_first a) b
+    → SlotsKept t answer (without_first a) b
     → OwnTurnsRan 1 a b
 own_one t ts answer a b is ran kept = record {
   ran = record { ticket = t; answer = answer; exchanges = ran.exchanges } ∷ [];
@@ -300,7 +306,8 @@ own_one t ts answer a b is ran kept = record {
   tickets = λ u. (
       let turn = ran.tickets u in
       let had : times_of u (tickets_out a) ≡ times_of u (outgoing a.ready.history (t ∷ ts)) = ap (λ (us : List Ticket). times_of u (outgoing a.ready.history us)) is in
-      let left : times_of u (tickets_out (without_first a)) ≡ times_of u (outgoing a.ready.history ts) = ap (λ (us : List Ticket). times_of u (outgoing a.ready.history (drop 1 us))) is in
+      let left : times_of u (tickets_out (without_first a)) ≡ times_of u (outgoing a.ready.history ts) =
+      ap (λ (us : List Ticket). times_of u (outgoing a.ready.history (drop 1 us))) is in
       let first = times-append u (puts a.ready) (t ∷ ts) in
       let second = times-append u (puts a.ready) ts in
       let whole = times-append u (t ∷ []) ts in
@@ -308,10 +315,12 @@ own_one t ts answer a b is ran kept = record {
   slots = slots_one t answer (without_first a) b kept ran.exchanges;
 }
 
-turn_ran : (words : ℕ) (t : Ticket) (ts : List Ticket) (answer : Result Worked ServerFault) (a b : Own) → a.seat.table.words ≡ words → a.hand.tickets ≡ t ∷ ts → TurnMade words t answer (without_first a) b → OwnTurnsRan 1 a b
+turn_ran : (words : ℕ) (t : Ticket) (ts : List Ticket) (answer : Result Worked ServerFault) (a b : Own) → a.seat.table.words ≡ words → a.hand.tickets ≡ t ∷ ts
+    → TurnMade words t answer (without_first a) b → OwnTurnsRan 1 a b
 turn_ran words t ts answer a b same is turn = own_one t ts answer a b is (one_ran words t answer (without_first a) b same turn) turn.done.slots
 
-own_turn_of : (words : ℕ) (t : Ticket) (ts : List Ticket) (result : Result (Option Worked) ServerFault) (a b : Own) → a.seat.table.words ≡ words → a.hand.tickets ≡ t ∷ ts → OnlyAt t.slot a.seat b.seat
+own_turn_of : (words : ℕ) (t : Ticket) (ts : List Ticket) (result : Result (Option Worked) ServerFault) (a b : Own) → a.seat.table.words ≡ words → a.hand.tickets ≡ t ∷ ts
+    → OnlyAt t.slot a.seat b.seat
     → OwnTurn words t result a b → result ≢ Ok None → OwnTurnsRan 1 a b
 own_turn_of words t ts (Ok None) a b same is only turn some = absurd (some refl)
 own_turn_of words t ts (Ok (Some worked)) a b same is only turn some = turn_ran words t ts (Ok worked) a b same is turn
@@ -359,8 +368,10 @@ round_ran p q a b done = record {
   ran = [];
   tickets = λ u. (
       let due : due_of (done.reports ++ (done.sweep ++ done.tries)) ≡ due_of done.reports ++ (due_of done.sweep ++ done.opened) =
-      due-append done.reports (done.sweep ++ done.tries) ∙ ap (λ (ts : List Ticket). due_of done.reports ++ ts) (due-append done.sweep done.tries ∙ ap (λ (ts : List Ticket). due_of done.sweep ++ ts) done.tried.made) in
-      let out : times_of u (tickets_out b) ≡ times_of u (tickets_out a ++ (due_of done.reports ++ (due_of done.sweep ++ done.opened))) = ap (λ (ts : List Ticket). times_of u ts) done.tickets in
+      due-append done.reports (done.sweep ++ done.tries) ∙ ap (λ (ts : List Ticket). due_of done.reports ++ ts) (due-append done.sweep done.tries
+      ∙ ap (λ (ts : List Ticket). due_of done.sweep ++ ts) done.tried.made) in
+      let out : times_of u (tickets_out b) ≡ times_of u (tickets_out a ++ (due_of done.reports ++ (due_of done.sweep ++ done.opened))) =
+      ap (λ (ts : List Ticket). times_of u ts) done.tickets in
       let both = times-append u (tickets_out a) (due_of done.reports ++ (due_of done.sweep ++ done.opened)) in
       let same = ap (λ (ts : List Ticket). times_of u ts) due in
       omega arith);
@@ -374,7 +385,8 @@ turn_acts words (run ∷ ran) each (suc i) d lt = turn_acts words ran (λ j e l.
 turns_ran : (count : ℕ) (p q : PollerState) (a b : Own) → SharedAndRan count p q a b → PollerRan a b
 turns_ran count p q a b made = record {
   acts = acts_of made.turns.ran;
-  each = subst (λ (s : SeatState). All (IsPollerAct s.table.words) (acts_of made.turns.ran)) made.sharing.seat (turn_acts made.shared.seat.table.words made.turns.ran made.turns.turns.each);
+  each = subst (λ (s : SeatState). All (IsPollerAct s.table.words) (acts_of made.turns.ran)) made.sharing.seat
+      (turn_acts made.shared.seat.table.words made.turns.ran made.turns.turns.each);
   made = subst (λ (s : SeatState). ActsMade (acts_of made.turns.ran) s b.seat) made.sharing.seat made.turns.turns.made;
   ran = tickets_of made.turns.ran;
   tickets = λ u. (
@@ -401,7 +413,8 @@ steps_ran (suc steps) p q a b (r, c, before, last) = ran_both a c b (steps_ran s
 pub loop_ran : (steps : ℕ) (p r q : PollerState) (a c b : Own) → StepsMade steps p r a c → StepCut r q c b → PollerRan a b
 loop_ran steps p r q a c b before last = ran_both a c b (steps_ran steps p r a c before) (cut_ran r q c b last)
 
-pub step_told : (told : Result (Unit {0}) Ended) (p q : PollerState) (a b : Own) → OnOk told (StepMade p q a b) → OnErr told (told ≢ Err (record { fault = Some Worn }) → StepCut p q a b)
+pub step_told : (told : Result (Unit {0}) Ended) (p q : PollerState) (a b : Own) → OnOk told (StepMade p q a b)
+    → OnErr told (told ≢ Err (record { fault = Some Worn }) → StepCut p q a b)
     → told ≢ Err (record { fault = Some Worn }) → PollerRan a b
 step_told (Ok done) p q a b made cut well = step_ran p q a b made
 step_told (Err ended) p q a b made cut well = cut_ran p q a b (cut well)

@@ -7,7 +7,8 @@ use Rattle.ready.specs.Steps.{EndState}
 abbrev pub numbered : {A : Type 0} → List A → List (ℕ × A)
 numbered pollers = reverse (enumerate_from 0 pollers)
 
--- This is an end of the queue of free slots of the poller with this number. There are this many ends of each poller's queue
+-- This is an end of the queue of free slots of the poller with this number. There are this many ends of each poller's
+-- queue
 pub record IsEndOf (ends : List (List (EndState ℕ))) (poller : ℕ) (end : EndState ℕ) : Type 0 where
   pub before : List (EndState ℕ)
   pub behind : List (EndState ℕ)
@@ -21,7 +22,8 @@ AreEndsFrom ends poller (end ∷ more) = IsEndOf ends poller end × AreEndsFrom 
 -- some ends were taken, from the back of each list
 pub record AreLeft (old new : List (List (EndState ℕ))) : Type 0 where
   pub pollers : length new ≡ length old
-  pub each : (poller : ℕ) (some : List (EndState ℕ)) → slice_get new poller ≡ Some some → (taken : List (EndState ℕ)) × (slice_get old poller ≡ Some (some ++ taken))
+  pub each : (poller : ℕ) (some : List (EndState ℕ)) → slice_get new poller ≡ Some some → (taken : List (EndState ℕ))
+      × (slice_get old poller ≡ Some (some ++ taken))
 
 -- a worker's ends: one of each poller's queue, in order
 abbrev pub HasOneOfEach : List (List (EndState ℕ)) → List (EndState ℕ) → Type 0

@@ -48,14 +48,15 @@ abbrev pub freed : List Run → List ℕ
 freed [] = []
 freed (run ∷ ran) = freed_by run.ticket run.answer ++ freed ran
 
--- These turns were made by this seat, and nothing else was: each made the exchanges of its answer, in this order, and the tickets that
--- they made are due
+-- These turns were made by this seat, and nothing else was: each made the exchanges of its answer, in this order, and
+-- the tickets that they made are due
 pub record TurnsMade (ran : List Run) (due : List Ticket) (old new : SeatState) : Type 0 where
   pub each : All (λ run. IsTurnOf old.table.words run.ticket.slot run.answer run.exchanges) ran
   pub made : ActsMade (acts_of ran) old new
   pub due_are : due ≡ due_of (acts_of ran)
 
--- One turn with this ticket, by its answer. What was to be put before, and the ticket if it is due again, are put or in hand
+-- One turn with this ticket, by its answer. What was to be put before, and the ticket if it is due again, are put or in
+-- hand
 pub record OneRan (ticket : Ticket) (answer : Result Worked ServerFault) (old new : Own) : Type 0 where
   pub exchanges : List Exchange
   pub due : List Ticket
@@ -66,8 +67,8 @@ pub record OneRan (ticket : Ticket) (answer : Result Worked ServerFault) (old ne
 abbrev pub tickets_in : Own → List Ticket
 tickets_in own = map (λ (take : ℕ × Ticket). take.1) own.ready.history.taken
 
--- A worker's thread ran each ticket that it took, in order, but for these, which it took last. What it was to put before, the tickets
--- that are due again, and these, are put or in hand
+-- A worker's thread ran each ticket that it took, in order, but for these, which it took last. What it was to put
+-- before, the tickets that are due again, and these, are put or in hand
 pub record WorkerRan (left : List Ticket) (old new : Own) : Type 0 where
   pub ran : List Run
   pub due : List Ticket
@@ -88,8 +89,9 @@ pub record Took (ticket : Ticket) (old new : Own) : Type 0 where
   pub free : new.free ≡ old.free
   pub hand : new.hand ≡ old.hand
 
--- A poller's thread ran this many tickets in its hand. What it was to put before, and the tickets that are due again, were run or are put or in
--- hand, each once. The free slots that it was to give before, and those that the turns freed, are given or in hand, each once
+-- A poller's thread ran this many tickets in its hand. What it was to put before, and the tickets that are due again,
+-- were run or are put or in hand, each once. The free slots that it was to give before, and those that the turns freed,
+-- are given or in hand, each once
 pub record OwnTurnsRan (count : ℕ) (old new : Own) : Type 0 where
   pub ran : List Run
   pub due : List Ticket
@@ -106,8 +108,8 @@ pub record SharedAndRan (count : ℕ) (p q : PollerState) (a b : Own) : Type 0 w
   pub turns : OwnTurnsRan count shared b
   pub poller : q ≡ record p { heavy = q.heavy }
 
--- Behind a round the tickets in hand were shared, and 16 of those that stayed were run, or fewer: then none is left, or no slot more
--- fits in hand
+-- Behind a round the tickets in hand were shared, and 16 of those that stayed were run, or fewer: then none is left, or
+-- no slot more fits in hand
 pub record TurnsBehind (p q : PollerState) (a b : Own) : Type 0 where
   pub count : ℕ
   pub made : SharedAndRan count p q a b
@@ -124,7 +126,8 @@ pub record TurnsCut (p q : PollerState) (a b : Own) : Type 0 where
 abbrev pub MayStop : PollerState → PollerState → Type 0
 MayStop p q = (q ≡ p) ⊎ (q ≡ record p { most = 0 })
 
--- A poller's thread made a round. Before it, the poller may have been told to open no more; else it may open as many as before
+-- A poller's thread made a round. Before it, the poller may have been told to open no more; else it may open as many as
+-- before
 pub record RoundMade (p q : PollerState) (a b : Own) : Type 0 where
   pub begun : PollerState
   pub stopped : MayStop p begun
@@ -132,8 +135,8 @@ pub record RoundMade (p q : PollerState) (a b : Own) : Type 0 where
   pub most : q.most ≡ begun.most
   pub listens : ListenerKept begun q
 
--- A round, and what came after it. Once all connections that the poller may open were opened, its front does not listen, unless the
--- round ended early
+-- A round, and what came after it. Once all connections that the poller may open were opened, its front does not
+-- listen, unless the round ended early
 pub record RoundAnd (Behind : PollerState → PollerState → Own → Own → Type 0) (p q : PollerState) (a b : Own) : Type 0 where
   pub polled : PollerState
   pub between : Own
@@ -160,10 +163,11 @@ LoopMade p q a b = (steps : ℕ) × (r : PollerState) × (c : Own) × StepsMade 
 
 -- a note was posted, or a connection opened, or a turn made
 abbrev pub IsPollerAct : ℕ → Act → Type 0
-IsPollerAct words act = IsPost act ⊎ (IsTry act ⊎ ((answer : Result Worked ServerFault) × IsTurnOf words act.ticket.slot answer act.exchanges))
+IsPollerAct words act = IsPost act
+    ⊎ (IsTry act ⊎ ((answer : Result Worked ServerFault) × IsTurnOf words act.ticket.slot answer act.exchanges))
 
--- What a poller's seat did is these acts, in order. By ticket: what its thread was to put before, and what they made, were run by the
--- thread itself or are put or in hand, each once
+-- What a poller's seat did is these acts, in order. By ticket: what its thread was to put before, and what they made,
+-- were run by the thread itself or are put or in hand, each once
 pub record PollerRan (old new : Own) : Type 0 where
   pub acts : List Act
   pub each : All (IsPollerAct old.seat.table.words) acts
@@ -171,10 +175,12 @@ pub record PollerRan (old new : Own) : Type 0 where
   pub ran : List Ticket
   pub tickets : (t : Ticket) → times_of t (tickets_out new) + times_of t ran ≡ times_of t (tickets_out old) + times_of t (due_of acts)
 
--- Of a worker's ends of the pollers' queues of free slots, in the pollers' order, none changed but the one of the poller with this number
+-- Of a worker's ends of the pollers' queues of free slots, in the pollers' order, none changed but the one of the
+-- poller with this number
 abbrev pub OthersKept : ℕ → List (EndState ℕ) → List (EndState ℕ) → Type 0
 OthersKept poller old new = (other : ℕ) → other ≢ poller → slice_get new other ≡ slice_get old other
 
 -- none changed but the one of the poller whose slot this is
 abbrev pub GivesToOwner : Split → ℕ → List (EndState ℕ) → List (EndState ℕ) → Type 0
-GivesToOwner split slot old new = (poller : ℕ) × IsIn (part_of split.slots split.size poller) slot × (poller < length old → OthersKept poller old new)
+GivesToOwner split slot old new = (poller : ℕ) × IsIn (part_of split.slots split.size poller) slot
+    × (poller < length old → OthersKept poller old new)

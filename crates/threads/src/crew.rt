@@ -25,8 +25,8 @@ pub struct Crew<'a, G, C, R> {
 }
 
 impl<G, C, R: Wait> Crew<'_, G, C, R> {
-    /// The loop of the thread with this number has ended. A fault is recorded, and ends all others: workers that sleep are
-    /// woken, and so are the pollers.
+    /// The loop of the thread with this number has ended. A fault is recorded, and ends all others: workers that
+    /// sleep are woken, and so are the pollers.
     pub fn end<F: Front>(
         &self,
         shared: &Shared<F>,

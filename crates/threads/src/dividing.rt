@@ -29,8 +29,9 @@ pub struct Rest {
     pub free: Vec<Vec<FreeQueue>>,
 }
 
-/// The threads of these pollers, each with an end of its own queue of free slots, and this many workers, each with an end of
-/// every poller's queue, the first poller's first. A thread has the number of its poller, and the workers have those after.
+/// The threads of these pollers, each with an end of its own queue of free slots, and this many workers, each with an
+/// end of every poller's queue, the first poller's first. A thread has the number of its poller, and the workers have
+/// those after.
 ///
 /// Refuses with `NoMemory` if there is none for what they own, or if the parts are used up.
 pub fn divide<F: Front + Drop>(
@@ -44,9 +45,12 @@ where
     F::Waker: Drop,
     requires { AreFresh (arc_value shared.now).claims rest.parts.seats.items }
     ensures pollers { IfOk result (λ cast. map (λ thread. (thread.number, thread.poller)) cast.pollers.items ≡ numbered pollers.items) }
-    ensures own_slots { IfOk result (λ cast. All (λ thread. IsEndOf (map (λ ends. ends.items) rest.free.items) thread.number thread.own.free) cast.pollers.items) }
-    ensures workers { IfOk result (λ cast. map (λ worker. worker.number) cast.workers.items ≡ range_with_len (length pollers.items) workers) }
-    ensures all_slots { IfOk result (λ cast. All (λ worker. HasOneOfEach (map (λ ends. ends.items) rest.free.items) (worker.own.free ∷ worker.others.items)) cast.workers.items) }
+    ensures own_slots { IfOk result (λ cast. All (λ thread. IsEndOf (map (λ ends. ends.items) rest.free.items) thread.number
+        thread.own.free) cast.pollers.items) }
+    ensures workers { IfOk result (λ cast. map (λ worker. worker.number) cast.workers.items ≡ range_with_len (length pollers.items)
+        workers) }
+    ensures all_slots { IfOk result (λ cast. All (λ worker. HasOneOfEach (map (λ ends. ends.items) rest.free.items)
+        (worker.own.free ∷ worker.others.items)) cast.workers.items) }
 {
     let first = pollers.len();
     let pollers = pollers_of(alloc, shared, &mut rest, pollers)?;
@@ -66,7 +70,8 @@ where
     requires { AreFresh (arc_value shared.now).claims rest.old.parts.seats.items }
     ensures fresh { AreFresh (arc_value shared.now).claims rest.new.parts.seats.items }
     ensures pollers { IfOk result (λ threads. map (λ thread. (thread.number, thread.poller)) threads.items ≡ numbered pollers.items) }
-    ensures slots { IfOk result (λ threads. All (λ thread. IsEndOf (map (λ ends. ends.items) rest.old.free.items) thread.number thread.own.free) threads.items) }
+    ensures slots { IfOk result (λ threads. All (λ thread. IsEndOf (map (λ ends. ends.items) rest.old.free.items) thread.number
+        thread.own.free) threads.items) }
     ensures left { AreLeft (map (λ ends. ends.items) rest.old.free.items) (map (λ ends. ends.items) rest.new.free.items) }
 {
     let count = pollers.len();
@@ -129,7 +134,8 @@ where
     F::Waker: Drop,
     requires { AreFresh (arc_value shared.now).claims rest.old.parts.seats.items }
     ensures numbers { IfOk result (λ made. map (λ worker. worker.number) made.items ≡ range_with_len first workers) }
-    ensures slots { IfOk result (λ made. All (λ worker. HasOneOfEach (map (λ ends. ends.items) rest.old.free.items) (worker.own.free ∷ worker.others.items)) made.items) }
+    ensures slots { IfOk result (λ made. All (λ worker. HasOneOfEach (map (λ ends. ends.items) rest.old.free.items)
+        (worker.own.free ∷ worker.others.items)) made.items) }
 {
     let mut made = Vec::with_capacity(alloc, workers)?;
     for index in 0..workers {
@@ -154,7 +160,8 @@ where
     requires { AreFresh (arc_value shared.now).claims rest.old.parts.seats.items }
     ensures fresh { AreFresh (arc_value shared.now).claims rest.new.parts.seats.items }
     ensures number { IfOk result (λ worker. worker.number ≡ number) }
-    ensures slots { IfOk result (λ worker. HasOneOfEach (map (λ ends. ends.items) rest.old.free.items) (worker.own.free ∷ worker.others.items)) }
+    ensures slots { IfOk result (λ worker. HasOneOfEach (map (λ ends. ends.items) rest.old.free.items)
+        (worker.own.free ∷ worker.others.items)) }
     ensures left { AreLeft (map (λ ends. ends.items) rest.old.free.items) (map (λ ends. ends.items) rest.new.free.items) }
 {
     let others = rest.other_ends(alloc)?;

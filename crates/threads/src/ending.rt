@@ -10,8 +10,8 @@ use std::sync::atomic::Ordering::SeqCst;
 use std::sync::atomic::{AtomicBool, AtomicUsize};
 use std::sync::{Mutex, Wait};
 
-/// Whether a thread met a fault, the fault of the first of these threads in their order, and how many pollers have not
-/// ended.
+/// Whether a thread met a fault, the fault of the first of these threads in their order, and how many pollers have
+/// not ended.
 #[derive(Drop)]
 pub struct Ending {
     recorded: AtomicBool,
@@ -36,16 +36,16 @@ impl Model for Recorded {
     ghost view = { λ r. (r.number, r.fault) };
 }
 
-/// A look at the record found no fault. Nothing but [`Ending::look`] makes one, and it cannot be copied: each round and each turn
-/// asks for one of its own.
+/// A look at the record found no fault. Nothing but [`Ending::look`] makes one, and it cannot be copied: each round
+/// and each turn asks for one of its own.
 #[derive(Drop)]
 pub(crate) struct NoFault {
     recorded: bool,
     ghost none: { recorded ≡ false },
 }
 
-/// A ticket, and a look that found no fault once it was taken. Nothing but [`Ending::look_behind`] makes one: a look from before the
-/// sleep for the ticket does not do.
+/// A ticket, and a look that found no fault once it was taken. Nothing but [`Ending::look_behind`] makes one: a look
+/// from before the sleep for the ticket does not do.
 #[derive(Drop)]
 pub(crate) struct Cleared {
     pub(crate) ticket: Ticket,

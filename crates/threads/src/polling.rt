@@ -46,7 +46,8 @@ where
     /// The thread begins: sweeps are counted from now on.
     pub fn begin<G: Gate, C: Clock, R: Wait + Log>(&mut self, crew: &Crew<'_, G, C, R>)
         ensures own { self.new.own ≡ self.old.own }
-        ensures begun { (second : ℕ) × C.tells crew.now.timing.clock.now second × (self.new.poller ≡ record self.old.poller { swept = second }) }
+        ensures begun { (second : ℕ) × C.tells crew.now.timing.clock.now second
+            × (self.new.poller ≡ record self.old.poller { swept = second }) }
     {
         self.poller.begin_at(crew.timing.moment().second);
     }
@@ -84,15 +85,16 @@ where
         Ended::well()
     }
 
-    /// One step of the thread: a round, and the turns of the tickets that it leaves to the poller's own thread, 16 at most.
-    /// It is refused where the thread has come to its end: the poller is over, a fault is recorded before the round or before
-    /// one of the turns, or this step met one.
+    /// One step of the thread: a round, and the turns of the tickets that it leaves to the poller's own thread, 16 at
+    /// most. It is refused where the thread has come to its end: the poller is over, a fault is recorded before the
+    /// round or before one of the turns, or this step met one.
     pub fn step<G: Gate, C: Clock, R: Wait + Log>(
         &mut self,
         crew: &Crew<'_, G, C, R>,
     ) -> Result<(), Ended>
         ensures made { OnOk result (StepMade self.old.poller self.new.poller self.old.own self.new.own) }
-        ensures cut { OnErr result (result ≢ Err (record { fault = Some Worn }) → StepCut self.old.poller self.new.poller self.old.own self.new.own) }
+        ensures cut { OnErr result (result ≢ Err (record { fault = Some Worn })
+            → StepCut self.old.poller self.new.poller self.old.own self.new.own) }
         ensures tickets { result ≢ Err (record { fault = Some Worn }) → PollerRan self.old.own self.new.own }
     {
         let seen = crew.ending.look()?;
@@ -102,7 +104,8 @@ where
         self.round(crew, seen)
     }
 
-    /// If no more connections may be opened, this poller opens none, and all others are woken, so that they come to know it.
+    /// If no more connections may be opened, this poller opens none, and all others are woken, so that they come to
+    /// know it.
     fn stop_if_asked<G: Gate, C: Clock, R: Wait + Log>(&mut self, crew: &Crew<'_, G, C, R>)
         ensures own { self.new.own ≡ self.old.own }
         ensures stopped { MayStop self.old.poller self.new.poller }
@@ -121,7 +124,8 @@ where
         seen: NoFault,
     ) -> Result<(), Ended>
         ensures made { OnOk result (StepMade self.old.poller self.new.poller self.old.own self.new.own) }
-        ensures cut { OnErr result (result ≢ Err (record { fault = Some Worn }) → StepCut self.old.poller self.new.poller self.old.own self.new.own) }
+        ensures cut { OnErr result (result ≢ Err (record { fault = Some Worn })
+            → StepCut self.old.poller self.new.poller self.old.own self.new.own) }
     {
         match self.poll(crew, seen) {
             Ok(()) => self.run_turns(crew),
@@ -155,7 +159,8 @@ where
         crew: &Crew<'_, G, C, R>,
     ) -> Result<(), Ended>
         ensures turns { OnOk result (TurnsBehind self.old.poller self.new.poller self.old.own self.new.own) }
-        ensures cut { OnErr result (result ≢ Err (record { fault = Some Worn }) → TurnsCut self.old.poller self.new.poller self.old.own self.new.own) }
+        ensures cut { OnErr result (result ≢ Err (record { fault = Some Worn })
+            → TurnsCut self.old.poller self.new.poller self.old.own self.new.own) }
     {
         share_tickets(crew.rt, &mut self.own, &mut self.poller);
         for _turn in 0..MAX_OWN_TURNS {

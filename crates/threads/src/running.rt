@@ -28,12 +28,12 @@ pub struct Server<F: Front> {
     pub ghost seats: { AreFresh shared.claims parts.seats.items },
 }
 
-/// Runs a server: starts all threads but one that polls, which is the calling thread, and returns when the last of them has
-/// ended. Once it `is_stopped`, no more connections are opened, and it ends once all are closed.
+/// Runs a server: starts all threads but one that polls, which is the calling thread, and returns when the last of
+/// them has ended. Once it `is_stopped`, no more connections are opened, and it ends once all are closed.
 ///
-/// Refuses with `NoMemory` if there is none for what the threads own, before any has started; else with the fault that a
-/// thread met, or `Threads` for one that could not be started. Of several it is that of the first poller, or else of the
-/// first worker.
+/// Refuses with `NoMemory` if there is none for what the threads own, before any has started; else with the fault
+/// that a thread met, or `Threads` for one that could not be started. Of several it is that of the first poller, or
+/// else of the first worker.
 pub fn run_threads<F, G: Gate + Sync, C: Clock + Sync, R: Wait + Threads + Log + Sync>(
     rt: &R,
     alloc: Global,
@@ -99,8 +99,8 @@ where
     Ok(())
 }
 
-/// Starts the threads of the workers and of all pollers but one, runs that one in the calling thread, and ends with the
-/// last of them. A thread that cannot be started is a fault.
+/// Starts the threads of the workers and of all pollers but one, runs that one in the calling thread, and ends with
+/// the last of them. A thread that cannot be started is a fault.
 fn run_all<F, G: Gate + Sync, C: Clock + Sync, R: Wait + Threads + Log + Sync>(
     company: &Company<F, G, C, R>,
     workers: usize,

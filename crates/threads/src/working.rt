@@ -68,9 +68,9 @@ where
         Ended::well()
     }
 
-    /// One step of the thread: it takes a ticket, which may mean to wait for one, and runs its turn. It is refused where the
-    /// thread has come to its end: the queue of tickets is closed and empty, a fault is recorded before the ticket is taken or
-    /// after that, or this step met one. Behind a fault the ticket that was taken stays in hand.
+    /// One step of the thread: it takes a ticket, which may mean to wait for one, and runs its turn. It is refused
+    /// where the thread has come to its end: the queue of tickets is closed and empty, a fault is recorded before the
+    /// ticket is taken or after that, or this step met one. Behind a fault the ticket that was taken stays in hand.
     pub fn step<G: Gate, C: Clock, R: Wait + Log>(
         &mut self,
         crew: &Crew<'_, G, C, R>,
@@ -98,7 +98,8 @@ where
         }
     }
 
-    /// Takes a ticket, and may sleep until there is one. So it uses up a look for a fault, and a turn asks for another, after that.
+    /// Takes a ticket, and may sleep until there is one. So it uses up a look for a fault, and a turn asks for
+    /// another, after that.
     fn take(&mut self, rt: &impl Wait, _seen: NoFault) -> Option<Ticket>
         requires room { HasRoom self.old.own.hand }
         ensures room { HasRoom self.new.own.hand }
@@ -127,7 +128,9 @@ where
         ensures ran { (answer : Result Worked ServerFault) × OneRan cleared.ticket answer self.old.own self.new.own }
         ensures took { self.new.own.ready.history.taken ≡ self.old.own.ready.history.taken }
         ensures given { self.new.own.hand.slots ≡ [] }
-        ensures gives { cleared.ticket.slot < crew.now.split.slots → GivesToOwner crew.now.split cleared.ticket.slot (self.old.own.free ∷ self.old.others.items) (self.new.own.free ∷ self.new.others.items) }
+        ensures gives { cleared.ticket.slot < crew.now.split.slots
+            → GivesToOwner crew.now.split cleared.ticket.slot (self.old.own.free ∷ self.old.others.items)
+            (self.new.own.free ∷ self.new.others.items) }
     {
         let ticket = cleared.ticket;
         let poller = crew.split.poller_of(ticket.slot);
@@ -152,7 +155,8 @@ where
         ensures ready { self.new.own.ready ≡ self.old.own.ready }
         ensures shared { self.new.shared ≡ self.old.shared }
         ensures first { poller ≡ 0 → (self.new.own.free ≡ self.old.own.free) × (self.new.others.items ≡ self.old.others.items) }
-        ensures other { poller ≢ 0 → IfSome (slice_get self.old.others.items (poller - 1)) (λ other. (self.new.own.free ≡ other) × (self.new.others.items ≡ slice_set self.old.others.items (poller - 1) self.old.own.free)) }
+        ensures other { poller ≢ 0 → IfSome (slice_get self.old.others.items (poller - 1)) (λ other. (self.new.own.free ≡ other)
+            × (self.new.others.items ≡ slice_set self.old.others.items (poller - 1) self.old.own.free)) }
     {
         if poller == 0 {
             return;

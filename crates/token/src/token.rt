@@ -47,7 +47,8 @@ impl Token {
     /// Refuses with `SlotRange` if the slot is over 32,767, which is checked first, and with `GenRange` if the
     /// generation is 0 or over 140,737,488,355,327, which is 2^47 - 1.
     pub fn pack(slot: usize, side: Side, generation: u64) -> Result<Token, TokenFault>
-        ensures packed { IsSlot slot → IsGeneration generation → result ≡ Ok (record { slot = slot; side = side; generation = generation }) }
+        ensures packed { IsSlot slot → IsGeneration generation
+            → result ≡ Ok (record { slot = slot; side = side; generation = generation }) }
         ensures slot_range { IsErrOf result TokenFault.SlotRange ↔ (32767 < slot) }
         ensures gen_range { IsErrOf result TokenFault.GenRange ↔ (IsSlot slot × ¬ IsGeneration generation) }
     {

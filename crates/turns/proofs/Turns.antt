@@ -1,5 +1,5 @@
--- The end of a turn, after the steps that took the notes and ran the connection; a turn of a poller's own; and the tickets in hand of
--- which some were looked at: each of those is put, or after the others in hand.
+-- The end of a turn, after the steps that took the notes and ran the connection; a turn of a poller's own; and the
+-- tickets in hand of which some were looked at: each of those is put, or after the others in hand.
 use Rattle.std.proofs.Common.{◌≡◌, ◌⊎◌, ◌+◌, ◌↔◌, ◌<◌, ◌≤◌, ℕ, List, [], ◌∷◌, length, drop, slice_get, Bool, true, false, IsTrue, Option, Some, None, Result, Ok, Err, IfOk, IfErr, IfSome, IsErrAnd, inl, inr, refl, sym, ap, subst, ◌∙◌, arith, suc, ◌++◌, append_assoc, zero, nat_lt}
 use Rattle.std.proofs.lemmas.Option.{none-some, same_Some}
 use denote.Enum.Bare.{sameb}
@@ -49,7 +49,8 @@ slots_after t (Ok worked.Quiet) a b c same kept = kept ∙ same
 slots_after t (Err fault) a b c same kept = kept ∙ same
 
 -- some exchanges that made no ticket came before
-pub done_after : (t : Ticket) (es fs : List Exchange) (r : Result Worked ServerFault) (a b c : Own) → Adds t.slot es a.seat b.seat → minted_by es ≡ 0 → tickets_out b ≡ tickets_out a → slots_out b ≡ slots_out a
+pub done_after : (t : Ticket) (es fs : List Exchange) (r : Result Worked ServerFault) (a b c : Own) → Adds t.slot es a.seat b.seat → minted_by es ≡ 0
+    → tickets_out b ≡ tickets_out a → slots_out b ≡ slots_out a
     → TookNothing a b → TurnDone t fs r b c → TurnDone t (es ++ fs) r a c
 done_after t es fs r a b c adds none tickets slots took done = record {
   seat = adds_both t.slot es fs a.seat b.seat c.seat adds done.seat;
@@ -75,7 +76,8 @@ claim_first (Ok worked.Quiet) found notes woke held = refl
 claim_first (Err fault) found notes woke held = refl
 
 -- the notes were taken, and then the turn came to its end
-pub taken_then : (t : Ticket) (r : Result Worked ServerFault) (notes : ℕ) (a b c : Own) → Adds t.slot (Take notes ∷ []) a.seat b.seat → tickets_out b ≡ tickets_out a → slots_out b ≡ slots_out a
+pub taken_then : (t : Ticket) (r : Result Worked ServerFault) (notes : ℕ) (a b c : Own) → Adds t.slot (Take notes ∷ []) a.seat b.seat → tickets_out b ≡ tickets_out a
+    → slots_out b ≡ slots_out a
     → TookNothing a b → TurnEnd t r b c → ClaimedTurn t r a c
 taken_then t r notes a b c adds tickets slots took end = record {
   noted = notes;
@@ -85,13 +87,15 @@ taken_then t r notes a b c adds tickets slots took end = record {
       (done_after t (Take notes ∷ []) (drop 2 (program r 0 0 end.woke)) r a b c adds refl tickets slots took end.done);
 }
 
-pub played_then : {a b c : Own} {s t : Ticket} {r : Result Worked ServerFault} {notes : ℕ} → TurnEnd s r b c → s ≡ t → Adds t.slot (Take notes ∷ []) a.seat b.seat → tickets_out b ≡ tickets_out a → slots_out b ≡ slots_out a
+pub played_then : {a b c : Own} {s t : Ticket} {r : Result Worked ServerFault} {notes : ℕ} → TurnEnd s r b c → s ≡ t → Adds t.slot (Take notes ∷ []) a.seat b.seat
+    → tickets_out b ≡ tickets_out a → slots_out b ≡ slots_out a
     → TookNothing a b → ClaimedTurn t r a c
 played_then {a} {b} {c} {s} {t} {r} {notes} end same adds tickets slots took =
     taken_then t r notes a b c adds tickets slots took (subst (λ (u : Ticket). TurnEnd u r b c) same end)
 
 -- the slot was claimed, and then the turn went on
-pub claimed_then : (words : ℕ) (t : Ticket) (r : Result Worked ServerFault) (found : ℕ) (a b c : Own) → t.slot < words → Adds t.slot (Held found ∷ []) a.seat b.seat → tickets_out b ≡ tickets_out a → slots_out b ≡ slots_out a
+pub claimed_then : (words : ℕ) (t : Ticket) (r : Result Worked ServerFault) (found : ℕ) (a b c : Own) → t.slot < words → Adds t.slot (Held found ∷ []) a.seat b.seat
+    → tickets_out b ≡ tickets_out a → slots_out b ≡ slots_out a
     → TookNothing a b → ClaimedTurn t r b c → TurnMade words t r a c
 claimed_then words t r found a b c within adds tickets slots took claimed = record {
   exchanges = Held found ∷ drop 1 (program r 0 claimed.noted claimed.woke);
@@ -107,7 +111,8 @@ claimed_then words t r found a b c within adds tickets slots took claimed = reco
 }
 
 -- the slot was held by another
-pub busy_made : (words : ℕ) (t : Ticket) (a b : Own) → t.slot < words → Adds t.slot (Busy ∷ []) a.seat b.seat → tickets_out b ≡ tickets_out a → slots_out b ≡ slots_out a → TookNothing a b → TurnMade words t (Ok worked.Busy) a b
+pub busy_made : (words : ℕ) (t : Ticket) (a b : Own) → t.slot < words → Adds t.slot (Busy ∷ []) a.seat b.seat → tickets_out b ≡ tickets_out a → slots_out b ≡ slots_out a
+    → TookNothing a b → TurnMade words t (Ok worked.Busy) a b
 busy_made words t a b within adds tickets slots took = record {
   exchanges = Busy ∷ [];
   are = record { found = 0; noted = 0; woke = false; inside = λ lt. refl; outside = λ past. absurd (omega arith) };
@@ -125,7 +130,8 @@ none_made words t a past = record {
 }
 
 -- nothing but what is in hand was put before the turn
-pub made_after : (words : ℕ) (t : Ticket) (r : Result Worked ServerFault) (a b c : Own) → b.seat ≡ a.seat → tickets_out b ≡ tickets_out a → slots_out b ≡ slots_out a → TookNothing a b → TurnMade words t r b c → TurnMade words t r a c
+pub made_after : (words : ℕ) (t : Ticket) (r : Result Worked ServerFault) (a b c : Own) → b.seat ≡ a.seat → tickets_out b ≡ tickets_out a → slots_out b ≡ slots_out a
+    → TookNothing a b → TurnMade words t r b c → TurnMade words t r a c
 made_after words t r a b c same tickets slots took made = record {
   exchanges = made.exchanges;
   are = made.are;
@@ -201,7 +207,8 @@ pub no_room : (room : Bool) (slots capacity : ℕ) → (IsTrue room ↔ (slots <
 no_room room slots capacity is not = grind arith
 
 -- the turn was made, so there were a ticket and room
-pub ran : (own : Own) (t : Ticket) (room : Bool) → slice_get own.hand.tickets 0 ≡ Some t → (IsTrue room ↔ (length own.hand.slots < own.hand.capacity)) → room ≡ true → NoOwnTurn own → ⊥
+pub ran : (own : Own) (t : Ticket) (room : Bool) → slice_get own.hand.tickets 0 ≡ Some t → (IsTrue room ↔ (length own.hand.slots < own.hand.capacity)) → room ≡ true → NoOwnTurn own
+    → ⊥
 ran own t room first is fits (inl empty) = none-some t (subst (λ (ts : List Ticket). slice_get ts 0 ≡ Some t) empty first)
 ran own t room first is fits (inr full) = let below = is.0 fits in omega arith
 
@@ -213,7 +220,8 @@ marks_none None heavy = refl
 pub marks_fault : (o : Option Ticket) (t : Ticket) (r : Result (Option Worked) ServerFault) (fault : ServerFault) (heavy : List ℕ)
     → o ≡ Some t → r ≡ Err fault → heavy ≡ marks_after o r heavy
 marks_fault o t r fault heavy first is =
-    subst (λ (p : Option Ticket). heavy ≡ marks_after p r heavy) (sym first) (subst (λ (q : Result (Option Worked) ServerFault). heavy ≡ marks_after (Some t) q heavy) (sym is) refl)
+    subst (λ (p : Option Ticket). heavy ≡ marks_after p r heavy) (sym first) (subst (λ (q : Result (Option Worked) ServerFault). heavy ≡ marks_after (Some t) q heavy) (sym is)
+    refl)
 
 pub own_made : (words : ℕ) (t : Ticket) (r : Result Worked ServerFault) (old new : Own) (hand : HandState) → hand ≡ record old.hand { tickets = drop 1 old.hand.tickets }
     → TurnMade words t r (record old { hand = hand }) new → TurnMade words t r (without_first old) new
@@ -235,7 +243,8 @@ not_ended w b test is same =
     cc
 
 -- the slot stays held, and is worked on still
-pub still_working : (claims : TableId) (slot : ℕ) (es : List Exchange) (a b : Own) → AtWork claims slot a → Adds slot es a.seat b.seat → (after_all es (account_at a.seat slot)).holds ≡ (account_at a.seat slot).holds → b.hand ≡ a.hand → AtWork claims slot b
+pub still_working : (claims : TableId) (slot : ℕ) (es : List Exchange) (a b : Own) → AtWork claims slot a → Adds slot es a.seat b.seat
+    → (after_all es (account_at a.seat slot)).holds ≡ (account_at a.seat slot).holds → b.hand ≡ a.hand → AtWork claims slot b
 still_working claims slot es a b work adds same hand = record {
   same = adds.only.table ∙ work.same;
   inside = work.inside;
@@ -244,7 +253,8 @@ still_working claims slot es a b work adds same hand = record {
 }
 
 -- the slot of a seat that held nothing was claimed
-pub work_begins : (claims : TableId) (slot found : ℕ) (a b : Own) → a.seat.table ≡ claims → HoldsNothing a.seat → HasRoom a.hand → slot < claims.words → Adds slot (Held found ∷ []) a.seat b.seat → b.hand ≡ a.hand → AtWork claims slot b
+pub work_begins : (claims : TableId) (slot found : ℕ) (a b : Own) → a.seat.table ≡ claims → HoldsNothing a.seat → HasRoom a.hand → slot < claims.words
+    → Adds slot (Held found ∷ []) a.seat b.seat → b.hand ≡ a.hand → AtWork claims slot b
 work_begins claims slot found a b same nothing room inside adds hand = record {
   same = adds.only.table ∙ same;
   inside = inside;
@@ -253,7 +263,8 @@ work_begins claims slot found a b same nothing room inside adds hand = record {
 }
 
 -- the slot was retired, and given back
-pub end_of : (t : Ticket) (a b : Own) → Adds t.slot (Retire ∷ []) a.seat b.seat → SlotGiven t a b → b.free.history.taken ≡ a.free.history.taken → b.ready ≡ a.ready → b.hand.tickets ≡ a.hand.tickets → TurnEnd t (Ok worked.Ended) a b
+pub end_of : (t : Ticket) (a b : Own) → Adds t.slot (Retire ∷ []) a.seat b.seat → SlotGiven t a b → b.free.history.taken ≡ a.free.history.taken → b.ready ≡ a.ready
+    → b.hand.tickets ≡ a.hand.tickets → TurnEnd t (Ok worked.Ended) a b
 end_of t a b adds given took ready tickets = record {
   woke = false;
   held = tt;
@@ -275,14 +286,16 @@ still_posting claims slot r a b work change hand = record {
 }
 
 -- the release of who has just posted makes the ticket
-pub due_again : (t : Ticket) (a b c : Own) → Adds t.slot (Post false ∷ []) a.seat b.seat → Holds a.seat t.slot → tickets_out b ≡ tickets_out a → slots_out b ≡ slots_out a → TookNothing a b → LeftSlot t b c → TurnEnd t (Ok worked.Again) a c
+pub due_again : (t : Ticket) (a b c : Own) → Adds t.slot (Post false ∷ []) a.seat b.seat → Holds a.seat t.slot → tickets_out b ≡ tickets_out a → slots_out b ≡ slots_out a
+    → TookNothing a b → LeftSlot t b c → TurnEnd t (Ok worked.Again) a c
 due_again t a b c adds holds tickets slots took left =
     let due = woke_behind_post t.slot a.seat b.seat left.woke adds holds left.quiet in
     let done = done_after t (Post false ∷ []) (Release left.woke ∷ []) (Ok worked.Quiet) a b c adds refl tickets slots took left.done in
     let woken : TurnDone t (Post false ∷ Release true ∷ []) (Ok worked.Quiet) a c = subst (λ (w : Bool). TurnDone t (Post false ∷ Release w ∷ []) (Ok worked.Quiet) a c) due done in
     record { woke = true; held = tt; done = record { seat = woken.seat; tickets = woken.tickets; slots = woken.slots; took = woken.took } }
 
-pub posted_again : (t : Ticket) (r : Posted) (a b c : Own) → (r ≡ posted.Wake) ⊎ (r ≡ posted.Quiet) → PostChange t.slot a.seat r b.seat → Holds a.seat t.slot → tickets_out b ≡ tickets_out a → slots_out b ≡ slots_out a → TookNothing a b
+pub posted_again : (t : Ticket) (r : Posted) (a b c : Own) → (r ≡ posted.Wake) ⊎ (r ≡ posted.Quiet) → PostChange t.slot a.seat r b.seat → Holds a.seat t.slot
+    → tickets_out b ≡ tickets_out a → slots_out b ≡ slots_out a → TookNothing a b
     → LeftSlot t b c → TurnEnd t (Ok worked.Again) a c
 posted_again t posted.Wake a b c is change holds tickets slots took left = absurd (false≢true (sym change.1 ∙ holds))
 posted_again t posted.Quiet a b c is change holds tickets slots took left = due_again t a b c change holds tickets slots took left
@@ -290,7 +303,8 @@ posted_again t posted.Worn a b c (inl is) change holds tickets slots took left =
 posted_again t posted.Worn a b c (inr is) change holds tickets slots took left = cc
 
 -- the seat was worn, and the slot was only released
-pub left_worn : (t : Ticket) (fault : ServerFault) (a b c : Own) → b.seat ≡ a.seat → tickets_out b ≡ tickets_out a → slots_out b ≡ slots_out a → TookNothing a b → LeftSlot t b c → TurnEnd t (Err fault) a c
+pub left_worn : (t : Ticket) (fault : ServerFault) (a b c : Own) → b.seat ≡ a.seat → tickets_out b ≡ tickets_out a → slots_out b ≡ slots_out a → TookNothing a b → LeftSlot t b c
+    → TurnEnd t (Err fault) a c
 left_worn t fault a b c same tickets slots took left = record {
   woke = left.woke;
   held = tt;
@@ -303,7 +317,8 @@ left_worn t fault a b c same tickets slots took left = record {
 }
 
 -- while its connection is played the slot stays held
-pub still_at_work : (claims : TableId) (s t : Ticket) (a b : Own) → s ≡ t → AtWork claims t.slot a → HoldsOnly t.slot b.seat → OnlyAt t.slot a.seat b.seat → b.hand ≡ a.hand → AtWork claims s.slot b
+pub still_at_work : (claims : TableId) (s t : Ticket) (a b : Own) → s ≡ t → AtWork claims t.slot a → HoldsOnly t.slot b.seat → OnlyAt t.slot a.seat b.seat → b.hand ≡ a.hand
+    → AtWork claims s.slot b
 still_at_work claims s t a b same work holder only hand = subst (λ (u : Ticket). AtWork claims u.slot b) (sym same) (record {
   same = only.table ∙ work.same;
   inside = work.inside;
@@ -395,7 +410,8 @@ module _ (all : List Ticket) (marks : List ℕ) (queue : EndState Ticket) (done 
   one_of (x ∷ rest) kept hand left is first taken count more whole =
       let same : x ≡ t = same_Some x t (ap (λ (ts : List Ticket). slice_get ts 0) (sym is) ∙ first) in
       one_more rest kept left (taken ∙ ap (λ (ts : List Ticket). drop 1 ts) is) count
-      (subst (λ (y : Ticket). (last : List Ticket) (left : List ℕ) (end : EndState Ticket) → AreShared stayed heavy (y ∷ rest) now last left end → AreShared 0 marks all queue (kept ++ last) left end) same whole)
+      (subst (λ (y : Ticket). (last : List Ticket) (left : List ℕ) (end : EndState Ticket) → AreShared stayed heavy (y ∷ rest) now last left end
+      → AreShared 0 marks all queue (kept ++ last) left end) same whole)
 
 pub shared_more : (all : List Ticket) (marks : List ℕ) (queue : EndState Ticket) (done stayed : ℕ) (heavy less : List ℕ) (t : Ticket) (old new : Own) (left : HandState) (then : ℕ)
     → SharedSoFar all marks queue done stayed old.hand.tickets heavy old.ready → done < length all
@@ -409,7 +425,8 @@ shared_more all marks queue done stayed heavy less t old new left then so_far mo
     so_far.rest so_far.kept old.hand.tickets left.tickets so_far.is first taken so_far.left more so_far.whole))
 
 -- nothing was taken out of the queue
-pub took_none : (stayed : ℕ) (heavy : List ℕ) (t : Ticket) (old : EndState Ticket) (then : ℕ) (behind : List Ticket) (new : EndState Ticket) → OneShared stayed heavy t old then behind new → new.history.taken ≡ old.history.taken
+pub took_none : (stayed : ℕ) (heavy : List ℕ) (t : Ticket) (old : EndState Ticket) (then : ℕ) (behind : List Ticket) (new : EndState Ticket)
+    → OneShared stayed heavy t old then behind new → new.history.taken ≡ old.history.taken
 took_none stayed heavy t old then behind new (inl stays) = ap (λ (q : EndState Ticket). q.history.taken) stays.3
 took_none stayed heavy t old then behind new (inr (goes, still, inl put)) = ap (λ (h : History Ticket). h.taken) put.0.put.put
 took_none stayed heavy t old then behind new (inr (goes, still, inr refused)) = ap (λ (q : EndState Ticket). q.history.taken) refused.0.same

@@ -1,4 +1,5 @@
--- Which of the tickets in hand a poller's thread keeps for turns of its own, and which it puts for the workers. Part of the promises.
+-- Which of the tickets in hand a poller's thread keeps for turns of its own, and which it puts for the workers. Part of
+-- the promises.
 use Rattle.std.specs.Prelude.{◌≡◌, ◌⊎◌, ℕ, suc, ◌<◌, List, [], ◌∷◌, ◌++◌, slice_index}
 use Rattle.ready.specs.declared.ticket.Ticket.{Ticket}
 use Rattle.ready.specs.Steps.{EndState, PutOne, HeldOnce}
@@ -24,17 +25,17 @@ pub record Stays (stayed : ℕ) (heavy : List ℕ) (ticket : Ticket) : Type 0 wh
   pub light : IsLight heavy ticket
   pub few : stayed < 16
 
--- What becomes of one ticket in hand, where this many have stayed: a light one stays while fewer than 16 have, and later ones may. Any
--- other is put, or is in hand where the queue was full at one moment. Then this many have stayed, this is in hand after the others, and
--- the queue's end has come to this
+-- What becomes of one ticket in hand, where this many have stayed: a light one stays while fewer than 16 have, and
+-- later ones may. Any other is put, or is in hand where the queue was full at one moment. Then this many have stayed,
+-- this is in hand after the others, and the queue's end has come to this
 abbrev pub OneShared : ℕ → List ℕ → Ticket → EndState Ticket → ℕ → List Ticket → EndState Ticket → Type 0
 OneShared stayed heavy ticket queue then behind next =
     (IsLight heavy ticket × (then ≡ suc stayed) × (behind ≡ ticket ∷ []) × (next ≡ queue))
     ⊎ ((Stays stayed heavy ticket → ⊥) × (then ≡ stayed)
     × ((Puts ticket queue next × (behind ≡ [])) ⊎ (Refuses queue next × (behind ≡ ticket ∷ []))))
 
--- What becomes of these tickets in hand, in order, where this many have stayed. Each that was looked at takes one of its slot's marks
--- away. Then these are in hand, in order, these marks are left, and the queue's end has come to this
+-- What becomes of these tickets in hand, in order, where this many have stayed. Each that was looked at takes one of
+-- its slot's marks away. Then these are in hand, in order, these marks are left, and the queue's end has come to this
 abbrev pub AreShared : ℕ → List ℕ → List Ticket → EndState Ticket → List Ticket → List ℕ → EndState Ticket → Type 0
 AreShared stayed heavy [] queue kept left end = (kept ≡ []) × (left ≡ heavy) × (end ≡ queue)
 AreShared stayed heavy (t ∷ ts) queue kept left end =

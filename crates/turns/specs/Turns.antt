@@ -23,8 +23,8 @@ WasHeld (Ok worked.Again) = Unit {0}
 WasHeld (Ok worked.Quiet) = Unit {0}
 WasHeld (Err fault) = Unit {0}
 
--- The exchanges of a turn at its ticket's slot, by its answer, where its claim found this many notes, its take this many, and its release
--- answered Wake or not. A post that finds the seat worn makes none
+-- The exchanges of a turn at its ticket's slot, by its answer, where its claim found this many notes, its take this
+-- many, and its release answered Wake or not. A post that finds the seat worn makes none
 abbrev pub program : Result Worked ServerFault → ℕ → ℕ → Bool → List Exchange
 program (Ok worked.Busy) found noted woke = Busy ∷ []
 program (Ok worked.Gone) found noted woke = Held found ∷ Take noted ∷ Release woke ∷ []
@@ -65,8 +65,8 @@ SlotsKept ticket (Ok worked.Again) old new = slots_out new ≡ slots_out old
 SlotsKept ticket (Ok worked.Quiet) old new = slots_out new ≡ slots_out old
 SlotsKept ticket (Err fault) old new = slots_out new ≡ slots_out old
 
--- What the exchanges of a turn do, with all that its thread owns: they are all that the seat made, for each that answered Wake the
--- ticket was put, and the slot is given where the connection ended
+-- What the exchanges of a turn do, with all that its thread owns: they are all that the seat made, for each that
+-- answered Wake the ticket was put, and the slot is given where the connection ended
 pub record TurnDone (ticket : Ticket) (exchanges : List Exchange) (result : Result Worked ServerFault) (old new : Own) : Type 0 where
   pub seat : Adds ticket.slot exchanges old.seat new.seat
   pub tickets : TicketsKept ticket (minted_by exchanges) old new
@@ -92,7 +92,8 @@ pub record LeftSlot (ticket : Ticket) (old new : Own) : Type 0 where
   pub quiet : woke ≡ false → (account_at old.seat ticket.slot).known ≡ 0
   pub done : TurnDone ticket (Release woke ∷ []) (Ok worked.Quiet) old new
 
--- the exchanges of a turn with a ticket of this slot. Claim words that lack the slot are not touched, and the answer is Gone then
+-- the exchanges of a turn with a ticket of this slot. Claim words that lack the slot are not touched, and the answer is
+-- Gone then
 pub record IsTurnOf (words slot : ℕ) (result : Result Worked ServerFault) (exchanges : List Exchange) : Type 0 where
   pub found : ℕ
   pub noted : ℕ
@@ -107,8 +108,8 @@ pub record TurnMade (words : ℕ) (ticket : Ticket) (result : Result Worked Serv
   pub done : TurnDone ticket exchanges result old new
   pub outside : words ≤ ticket.slot → new.seat ≡ old.seat
 
--- A poller's own turn with the oldest ticket in hand, by its answer: where it answers None nothing changes, and else it is a turn with
--- that ticket, which is no longer in hand
+-- A poller's own turn with the oldest ticket in hand, by its answer: where it answers None nothing changes, and else it
+-- is a turn with that ticket, which is no longer in hand
 abbrev pub OwnTurn : ℕ → Ticket → Result (Option Worked) ServerFault → Own → Own → Type 0
 OwnTurn words ticket (Ok None) old new = new ≡ old
 OwnTurn words ticket (Ok (Some worked)) old new = TurnMade words ticket (Ok worked) (without_first old) new

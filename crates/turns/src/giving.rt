@@ -11,8 +11,8 @@ use ready::{Full, Ticket};
 use std::sync::Wait;
 use token::MAX_GENERATION;
 
-/// Puts the ticket of a slot that was released. If the queue is full, it stays in hand. A ticket that is put before the
-/// release could be taken at once, find its slot held, and be lost.
+/// Puts the ticket of a slot that was released. If the queue is full, it stays in hand. A ticket that is put before
+/// the release could be taken at once, find its slot held, and be lost.
 pub(crate) fn put_ticket<R: Wait>(rt: &R, own: &mut Own, ticket: Ticket)
     requires released { HoldsNot own.old.seat ticket.slot }
     requires room { length own.old.hand.tickets < own.old.hand.capacity }
@@ -29,8 +29,8 @@ pub(crate) fn put_ticket<R: Wait>(rt: &R, own: &mut Own, ticket: Ticket)
     }
 }
 
-/// Gives back the slot of a ticket whose connection has ended, unless its generation is the last: no connection can be
-/// opened there any more.
+/// Gives back the slot of a ticket whose connection has ended, unless its generation is the last: no connection can
+/// be opened there any more.
 pub(crate) fn give_back<R: Wait>(rt: &R, own: &mut Own, ticket: Ticket, closed: Closed)
     requires retired { HoldsNot own.old.seat ticket.slot }
     requires closed { closed ≡ ticket.slot }

@@ -25,10 +25,10 @@ enum Stay {
     Busy(AllBusy),
 }
 
-/// Puts the tickets in hand that the poller's thread does not run by itself, so that the workers begin with them: those
-/// of connections that spent all of its budget a short while ago, and those after the first 16 that are left from the one on at
-/// which an end of the ready queue is found asleep. The others stay in hand, in order, and so do those that the queue refuses:
-/// where no worker sleeps, all of them may be at work on much larger turns.
+/// Puts the tickets in hand that the poller's thread does not run by itself, so that the workers begin with them:
+/// those of connections that spent all of its budget a short while ago, and those after the first 16 that are left
+/// from the one on at which an end of the ready queue is found asleep. The others stay in hand, in order, and so do
+/// those that the queue refuses: where no worker sleeps, all of them may be at work on much larger turns.
 pub fn share_tickets<F: Front, R: Wait>(rt: &R, own: &mut Own, poller: &mut Poller<F>)
     requires idle { HoldsNothing own.old.seat }
     ensures poller { poller.new ≡ record poller.old { heavy = poller.new.heavy } }
@@ -49,8 +49,9 @@ pub fn share_tickets<F: Front, R: Wait>(rt: &R, own: &mut Own, poller: &mut Poll
     }
 }
 
-/// Why a ticket stays in hand, where this many have stayed, and an end of the queue may have been found asleep before. None: it does
-/// not. An end that is woken for one ticket runs the next ones, too: one wake for each would cost more than their turns.
+/// Why a ticket stays in hand, where this many have stayed, and an end of the queue may have been found asleep
+/// before. None: it does not. An end that is woken for one ticket runs the next ones, too: one wake for each would
+/// cost more than their turns.
 fn stays<F: Front>(
     ready: &ReadyQueue,
     poller: &mut Poller<F>,
@@ -86,13 +87,13 @@ fn keep(hand: &mut Hand, ticket: Ticket, _kept: usize, _stay: Stay)
     hand.keep_ticket(ticket);
 }
 
-/// Runs the turn of the oldest ticket in hand, with at most 8 calls. A connection that spends them is the workers' for a
-/// while. None if there is no ticket, or no room in hand for a slot: then nothing changes. The only refusal is `Worn`, as of
-/// a worker's turn.
+/// Runs the turn of the oldest ticket in hand, with at most 8 calls. A connection that spends them is the workers'
+/// for a while. None if there is no ticket, or no room in hand for a slot: then nothing changes. The only refusal is
+/// `Worn`, as of a worker's turn.
 ///
 /// Nothing else that is in hand is put. Where a connection ends, the round that follows looks for its slot before it
-/// waits, if a client may be waiting. If no more connections may be opened, it does not wait, so that the poller's end
-/// is found at once.
+/// waits, if a client may be waiting. If no more connections may be opened, it does not wait, so that the poller's
+/// end is found at once.
 pub fn own_turn<F: Front, G: Gate, C: Clock, R: Wait + Log>(
     rt: &R,
     shared: &Shared<F>,
@@ -112,7 +113,8 @@ pub fn own_turn<F: Front, G: Gate, C: Clock, R: Wait + Log>(
     ensures unchanged { result ≡ Ok None → own.new ≡ own.old }
     ensures took { TookNothing own.old own.new }
     ensures worn { IfErr result (λ fault. OnlyWorn fault own.new.seat) }
-    ensures woken { result ≡ Ok (Some Worked.Ended) → HasOpenedAll poller.old → IfSome (slice_get own.old.hand.tickets 0) (λ ticket. F.woke shared.now.waker ticket.slot) }
+    ensures woken { result ≡ Ok (Some Worked.Ended) → HasOpenedAll poller.old
+        → IfSome (slice_get own.old.hand.tickets 0) (λ ticket. F.woke shared.now.waker ticket.slot) }
 {
     if !own.hand.has_slot_room() {
         return Ok(None);
@@ -126,8 +128,8 @@ pub fn own_turn<F: Front, G: Gate, C: Clock, R: Wait + Log>(
     Ok(Some(worked))
 }
 
-/// What the answer of an own turn means to the poller: a connection that spent the budget is heavy from then on, and once no more
-/// may be opened, the next wait ends at once where one has ended.
+/// What the answer of an own turn means to the poller: a connection that spent the budget is heavy from then on, and
+/// once no more may be opened, the next wait ends at once where one has ended.
 fn follow_up<F: Front>(shared: &Shared<F>, poller: &mut Poller<F>, ticket: Ticket, worked: Worked)
     ensures marks { poller.new ≡ record poller.old { heavy = marks_after (Some ticket) (Ok (Some worked)) poller.old.heavy } }
     ensures woken { worked ≡ Worked.Ended → HasOpenedAll poller.old → F.woke shared.now.waker ticket.slot }

@@ -12,7 +12,8 @@ pub(crate) struct Terms {
 }
 
 impl Terms {
-    /// What a turn of a poller's own is held to: 8 calls at most, so that the reports of other connections wait no longer.
+    /// What a turn of a poller's own is held to: 8 calls at most, so that the reports of other connections wait no
+    /// longer.
     pub(crate) fn own(budget: usize, moment: Moment) -> Terms
         ensures { result ≡ record { budget = min budget 8; moment = moment } }
     {

@@ -15,8 +15,8 @@ use std::net::SocketAddr;
 use std::sync::Wait;
 use token::Side;
 
-/// A connection that its thread has taken out of the place of a slot which it holds. Nothing else makes one, and it ends
-/// only by [`put_in`] or [`Visit::close`], since it cannot be dropped: what is put back is what was taken out.
+/// A connection that its thread has taken out of the place of a slot which it holds. Nothing else makes one, and it
+/// ends only by [`put_in`] or [`Visit::close`], since it cannot be dropped: what is put back is what was taken out.
 pub(crate) struct Visit<F: Front> {
     ticket: Ticket,
     berth: Berth<F::Client, F::Target>,
@@ -31,8 +31,8 @@ pub(crate) struct Back {
     slot: usize,
 }
 
-/// The connection of this slot is closed. It cannot be dropped, so each closing is followed by one look whether the slot
-/// is to be given back.
+/// The connection of this slot is closed. It cannot be dropped, so each closing is followed by one look whether the
+/// slot is to be given back.
 ///
 /// In a clause it is the slot.
 pub(crate) struct Closed {
@@ -55,8 +55,8 @@ impl Model for Closed {
     ghost view = { λ c. c.slot };
 }
 
-/// Takes the connection out of the place of a ticket's slot, which is held, unless the place is empty. It may be another
-/// connection than the ticket's.
+/// Takes the connection out of the place of a ticket's slot, which is held, unless the place is empty. It may be
+/// another connection than the ticket's.
 pub(crate) fn take_out<F: Front, R: Wait>(
     rt: &R,
     shared: &Shared<F>,
@@ -84,8 +84,8 @@ fn tell_notes(pair: &mut Pair, notes: u64)
     }
 }
 
-/// Puts the connection back into its place. A place that is not empty, which happens in no run, keeps what it has, and
-/// the connection is closed.
+/// Puts the connection back into its place. A place that is not empty, which happens in no run, keeps what it has,
+/// and the connection is closed.
 pub(crate) fn put_in<F: Front, R: Wait>(
     rt: &R,
     shared: &Shared<F>,
@@ -118,14 +118,17 @@ impl<F: Front> Visit<F> {
         &self.berth.pair
     }
 
-    /// Gives the connection a report if notes waited, and makes its calls on its two wires, which read into the buffer:
-    /// at most as many as the budget, and all at the moment. It allocates no memory and waits for no lock.
+    /// Gives the connection a report if notes waited, and makes its calls on its two wires, which read into the
+    /// buffer: at most as many as the budget, and all at the moment. It allocates no memory and waits for no lock.
     pub(crate) fn play(&mut self, notes: u64, terms: Terms, buffer: &mut [u8; MAX_READ]) -> Turn
         requires least { 1 ≤ terms.budget }
         requires most { terms.budget ≤ 1024 }
         ensures ticket { self.new.ticket ≡ self.old.ticket }
         ensures outcome { result ≡ outcome_of self.new.berth.pair }
-        ensures run { IsTurn terms.budget terms.moment.second terms.moment.limit (noted_by notes self.old.berth.pair) self.new.berth.pair (IsServed F.Client.told F.Client.does terms.moment.second self.old.berth.client self.new.berth.client) (IsServed F.Target.told F.Target.does terms.moment.second self.old.berth.target self.new.berth.target) }
+        ensures run { IsTurn terms.budget terms.moment.second terms.moment.limit (noted_by notes self.old.berth.pair)
+            self.new.berth.pair (IsServed F.Client.told F.Client.does terms.moment.second self.old.berth.client
+            self.new.berth.client) (IsServed F.Target.told F.Target.does terms.moment.second self.old.berth.target
+            self.new.berth.target) }
     {
         tell_notes(&mut self.berth.pair, notes);
         turn_with(

@@ -1,5 +1,5 @@
-//! One turn of a worker: it claims a ticket's slot, takes its connection out, gives it the notes, runs it, and puts it
-//! back.
+//! One turn of a worker: it claims a ticket's slot, takes its connection out, gives it the notes, runs it, and puts
+//! it back.
 ghost use Rattle.std.specs.Prelude.{◌≡◌, ◌≢◌, ◌⊎◌, ℕ, ◌<◌, ◌≤◌, [], ◌∷◌, length, Ok, IfOk, IfErr};
 ghost use Rattle.claims.specs.declared.view.Exchange.TheVariants as exchange;
 ghost use Rattle.claims.specs.Seats.{Adds, HoldsNothing, OnlyAt};
@@ -48,8 +48,8 @@ pub enum Worked {
 ///
 /// Beside that ticket and that slot, all that was to be put is put or in hand, in order.
 ///
-/// The turn is made at one second of the clock, and a connection that is left without a call then, and has moved nothing
-/// for the idle limit, fails.
+/// The turn is made at one second of the clock, and a connection that is left without a call then, and has moved
+/// nothing for the idle limit, fails.
 ///
 /// The only refusal is `Worn`: the seat has posted 2^56 times. The slot is released then, too.
 pub fn worker_turn<F: Front, G: Gate, C: Clock, R: Wait + Log>(
@@ -204,7 +204,11 @@ fn play<F: Front, G: Gate>(
     ensures holder { HoldsOnly visit.old.ticket.slot seat.new }
     ensures ticket { visit.new.ticket ≡ visit.old.ticket }
     ensures outcome { result ≡ outcome_of visit.new.berth.pair }
-    ensures played { (notes : ℕ) × Adds visit.old.ticket.slot (exchange.Take notes ∷ []) seat.old seat.new × IsTurn terms.budget terms.moment.second terms.moment.limit (noted_by notes visit.old.berth.pair) visit.new.berth.pair (IsServed F.Client.told F.Client.does terms.moment.second visit.old.berth.client visit.new.berth.client) (IsServed F.Target.told F.Target.does terms.moment.second visit.old.berth.target visit.new.berth.target) }
+    ensures played { (notes : ℕ) × Adds visit.old.ticket.slot (exchange.Take notes ∷ []) seat.old seat.new
+        × IsTurn terms.budget terms.moment.second terms.moment.limit (noted_by notes visit.old.berth.pair)
+        visit.new.berth.pair (IsServed F.Client.told F.Client.does terms.moment.second visit.old.berth.client
+        visit.new.berth.client) (IsServed F.Target.told F.Target.does terms.moment.second visit.old.berth.target
+        visit.new.berth.target) }
 {
     let slot = visit.ticket().slot;
     let notes = shared.claims.take(seat, slot);

@@ -182,8 +182,10 @@ unready true h = absurd (cc)
 unready false h = refl
 
 -- the three facts that an answer owes: the flags of its end are covered, and both directions are in order
-at_client : (h : Side → List ℕ) (r : Side → Bool) (p q : PairState) (ends : Sockets) (e : EndState) → q.generation ≡ p.generation → q.up.capacity ≡ p.up.capacity → q.down.capacity ≡ p.down.capacity → q.target ≡ p.target
-    → EndCovered q.client e (r Client) → DirectionOk (h Client) q.up e ends.target → DirectionOk (h Target) q.down ends.target e → PairOk h r p ends → AnswerOk h r p q (record ends { client = e })
+at_client : (h : Side → List ℕ) (r : Side → Bool) (p q : PairState) (ends : Sockets) (e : EndState) → q.generation ≡ p.generation → q.up.capacity ≡ p.up.capacity
+    → q.down.capacity ≡ p.down.capacity → q.target ≡ p.target
+    → EndCovered q.client e (r Client) → DirectionOk (h Client) q.up e ends.target → DirectionOk (h Target) q.down ends.target e → PairOk h r p ends
+    → AnswerOk h r p q (record ends { client = e })
 at_client h r p q ends e generation up down same covered upward downward ok = record {
   pair = record { covered = by_side _ covered (rw same (ok.covered Target)); directions = by_direction _ upward downward };
   generation = generation;
@@ -191,8 +193,10 @@ at_client h r p q ends e generation up down same covered upward downward ok = re
   down = down;
 }
 
-at_target : (h : Side → List ℕ) (r : Side → Bool) (p q : PairState) (ends : Sockets) (e : EndState) → q.generation ≡ p.generation → q.up.capacity ≡ p.up.capacity → q.down.capacity ≡ p.down.capacity → q.client ≡ p.client
-    → EndCovered q.target e (r Target) → DirectionOk (h Client) q.up ends.client e → DirectionOk (h Target) q.down e ends.client → PairOk h r p ends → AnswerOk h r p q (record ends { target = e })
+at_target : (h : Side → List ℕ) (r : Side → Bool) (p q : PairState) (ends : Sockets) (e : EndState) → q.generation ≡ p.generation → q.up.capacity ≡ p.up.capacity
+    → q.down.capacity ≡ p.down.capacity → q.client ≡ p.client
+    → EndCovered q.target e (r Target) → DirectionOk (h Client) q.up ends.client e → DirectionOk (h Target) q.down e ends.client → PairOk h r p ends
+    → AnswerOk h r p q (record ends { target = e })
 at_target h r p q ends e generation up down same covered upward downward ok = record {
   pair = record { covered = by_side _ (rw same (ok.covered Client)) covered; directions = by_direction _ upward downward };
   generation = generation;
@@ -201,24 +205,29 @@ at_target h r p q ends e generation up down same covered upward downward ok = re
 }
 
 -- an answer by which nothing moves
-unmoved : (h : Side → List ℕ) (r : Side → Bool) (p q : PairState) (ends : Sockets) (side : Side) → q.generation ≡ p.generation → q.up ≡ p.up → q.down ≡ p.down → q.client ≡ p.client → q.target ≡ p.target → PairOk h r p ends
+unmoved : (h : Side → List ℕ) (r : Side → Bool) (p q : PairState) (ends : Sockets) (side : Side) → q.generation ≡ p.generation → q.up ≡ p.up → q.down ≡ p.down → q.client ≡ p.client
+    → q.target ≡ p.target → PairOk h r p ends
     → AnswerOk h r p q (with_socket ends side (socket_of ends side))
 unmoved h r p q ends Client generation up down client target ok =
-    at_client h r p q ends ends.client generation (ap (λ (s : Stream). s.capacity) up) (ap (λ (s : Stream). s.capacity) down) target (rw client (ok.covered Client)) (rw up (ok.directions Up)) (rw down (ok.directions Down)) ok
+    at_client h r p q ends ends.client generation (ap (λ (s : Stream). s.capacity) up) (ap (λ (s : Stream). s.capacity) down) target (rw client (ok.covered Client))
+    (rw up (ok.directions Up)) (rw down (ok.directions Down)) ok
 unmoved h r p q ends Target generation up down client target ok =
-    at_target h r p q ends ends.target generation (ap (λ (s : Stream). s.capacity) up) (ap (λ (s : Stream). s.capacity) down) client (rw target (ok.covered Target)) (rw up (ok.directions Up)) (rw down (ok.directions Down)) ok
+    at_target h r p q ends ends.target generation (ap (λ (s : Stream). s.capacity) up) (ap (λ (s : Stream). s.capacity) down) client (rw target (ok.covered Target))
+    (rw up (ok.directions Up)) (rw down (ok.directions Down)) ok
 
 interrupted_keeps : (now : ℕ) (h : Side → List ℕ) (r : Side → Bool) (p : PairState) (ends : Sockets) (call : Call) (side : Side) (t : answer.AnswerValue) (e : EndState)
     → Some answer.Interrupted ≡ Some t → Some (socket_of ends side) ≡ Some e → PairOk h r p ends → Answered now h r p ends call side t e
 interrupted_keeps now h r p ends call side t e told made ok =
     by_some (λ (z : EndState). Answered now h r p ends call side t z) (socket_of ends side) e made
-    (by_some (λ (u : answer.AnswerValue). Answered now h r p ends call side u (socket_of ends side)) answer.Interrupted t told (unmoved h r p (after now p call answer.Interrupted) ends side refl refl refl refl refl ok))
+    (by_some (λ (u : answer.AnswerValue). Answered now h r p ends call side u (socket_of ends side)) answer.Interrupted t told
+    (unmoved h r p (after now p call answer.Interrupted) ends side refl refl refl refl refl ok))
 
 failed_keeps : (now : ℕ) (h : Side → List ℕ) (r : Side → Bool) (p : PairState) (ends : Sockets) (call : Call) (side : Side) (kind : Kind) (t : answer.AnswerValue) (e : EndState)
     → Some (answer.Failed kind) ≡ Some t → Some (socket_of ends side) ≡ Some e → PairOk h r p ends → Answered now h r p ends call side t e
 failed_keeps now h r p ends call side kind t e told made ok =
     by_some (λ (z : EndState). Answered now h r p ends call side t z) (socket_of ends side) e made
-    (by_some (λ (u : answer.AnswerValue). Answered now h r p ends call side u (socket_of ends side)) (answer.Failed kind) t told (unmoved h r p (after now p call (answer.Failed kind)) ends side refl refl refl refl refl ok))
+    (by_some (λ (u : answer.AnswerValue). Answered now h r p ends call side u (socket_of ends side)) (answer.Failed kind) t told
+    (unmoved h r p (after now p call (answer.Failed kind)) ends side refl refl refl refl refl ok))
 
 -- What the pair is given, and the end after the call
 
@@ -227,45 +236,100 @@ told_read x most (reply.Bytes n) = option_map (λ (bytes : List ℕ). answer.Byt
 told_read x most r = plain r
 
 pub read_keeps : (now : ℕ) (h : Side → List ℕ) (r : Side → Bool) (p : PairState) (ends : Sockets) (side : Side) (most : ℕ) (said : Reply) (t : answer.AnswerValue) (e : EndState)
-    → (flags_of p side).read ≡ true → told_read (socket_of ends side) most said ≡ Some t → after_read (socket_of ends side) most said ≡ Some e → PairOk h r p ends → Answered now h r p ends (Read side most) side t e
-read_keeps now h r p ends Client most (reply.Bytes n) t e up told made ok = guarded (λ (z : EndState). Answered now h r p ends (Read Client most) Client t z) (is_count n most && nat_le n (length ends.client.unread)) (record ends.client { unread = drop n ends.client.unread }) e made (λ may.
-    guard_map (λ (u : answer.AnswerValue). Answered now h r p ends (Read Client most) Client u (record ends.client { unread = drop n ends.client.unread })) (λ (bytes : List ℕ). answer.Bytes bytes) (is_count n most && nat_le n (length ends.client.unread)) (take n ends.client.unread) t told (λ may_too.
-    at_client h r p (after now p (Read Client most) (answer.Bytes (take n ends.client.unread))) ends (record ends.client { unread = drop n ends.client.unread }) refl refl refl refl (record { read = cover_flag p.client.read ends.client.read_armed (is_readable (record ends.client { unread = drop n ends.client.unread })) (r Client) up; write = (ok.covered Client).write }) (bytes_in (h Client) p.up ends.client ends.target n most may (ok.directions Up)) (again (h Target) p.down ends.target ends.client ends.target (record ends.client { unread = drop n ends.client.unread }) refl refl refl (ok.directions Down)) ok))
-read_keeps now h r p ends Client most reply.End t e up told made ok = guarded (λ (z : EndState). Answered now h r p ends (Read Client most) Client t z) (not (is_nonempty ends.client.unread) && ends.client.fin) ends.client e made (λ may.
+    → (flags_of p side).read ≡ true → told_read (socket_of ends side) most said ≡ Some t → after_read (socket_of ends side) most said ≡ Some e → PairOk h r p ends
+    → Answered now h r p ends (Read side most) side t e
+read_keeps now h r p ends Client most (reply.Bytes n) t e up told made ok = guarded (λ (z : EndState). Answered now h r p ends (Read Client most) Client t z)
+    (is_count n most && nat_le n (length ends.client.unread)) (record ends.client { unread = drop n ends.client.unread }) e made (λ may.
+    guard_map (λ (u : answer.AnswerValue). Answered now h r p ends (Read Client most) Client u (record ends.client { unread = drop n ends.client.unread }))
+    (λ (bytes : List ℕ). answer.Bytes bytes) (is_count n most && nat_le n (length ends.client.unread)) (take n ends.client.unread) t told (λ may_too.
+    at_client h r p (after now p (Read Client most) (answer.Bytes (take n ends.client.unread))) ends (record ends.client { unread = drop n ends.client.unread }) refl refl refl refl
+    (record {
+      read = cover_flag p.client.read ends.client.read_armed (is_readable (record ends.client { unread = drop n ends.client.unread })) (r Client) up;
+      write = (ok.covered Client).write;
+    }) (bytes_in (h Client) p.up ends.client ends.target n most may (ok.directions Up))
+    (again (h Target) p.down ends.target ends.client ends.target (record ends.client { unread = drop n ends.client.unread }) refl refl refl (ok.directions Down)) ok))
+read_keeps now h r p ends Client most reply.End t e up told made ok = guarded (λ (z : EndState). Answered now h r p ends (Read Client most) Client t z)
+    (not (is_nonempty ends.client.unread) && ends.client.fin) ends.client e made (λ may.
     by_some (λ (u : answer.AnswerValue). Answered now h r p ends (Read Client most) Client u ends.client) answer.End t told (
-    at_client h r p (after now p (Read Client most) answer.End) ends ends.client refl refl refl refl (ok.covered Client) (end_met (h Client) p.up ends.client ends.target may (ok.directions Up)) (ok.directions Down) ok))
-read_keeps now h r p ends Client most reply.Blocked t e up told made ok = guarded (λ (z : EndState). Answered now h r p ends (Read Client most) Client t z) (not (is_readable ends.client)) (record ends.client { read_armed = true }) e made (λ may.
+    at_client h r p (after now p (Read Client most) answer.End) ends ends.client refl refl refl refl (ok.covered Client)
+    (end_met (h Client) p.up ends.client ends.target may (ok.directions Up)) (ok.directions Down) ok))
+read_keeps now h r p ends Client most reply.Blocked t e up told made ok = guarded (λ (z : EndState). Answered now h r p ends (Read Client most) Client t z)
+    (not (is_readable ends.client)) (record ends.client { read_armed = true }) e made (λ may.
     by_some (λ (u : answer.AnswerValue). Answered now h r p ends (Read Client most) Client u (record ends.client { read_armed = true })) answer.Blocked t told (
-    at_client h r p (after now p (Read Client most) answer.Blocked) ends (record ends.client { read_armed = true }) refl refl refl refl (record { read = cover_armed false (is_readable ends.client) (r Client) (unready (is_readable ends.client) may); write = (ok.covered Client).write }) (again (h Client) p.up ends.client ends.target (record ends.client { read_armed = true }) ends.target refl refl refl (ok.directions Up)) (again (h Target) p.down ends.target ends.client ends.target (record ends.client { read_armed = true }) refl refl refl (ok.directions Down)) ok))
-read_keeps now h r p ends Target most (reply.Bytes n) t e up told made ok = guarded (λ (z : EndState). Answered now h r p ends (Read Target most) Target t z) (is_count n most && nat_le n (length ends.target.unread)) (record ends.target { unread = drop n ends.target.unread }) e made (λ may.
-    guard_map (λ (u : answer.AnswerValue). Answered now h r p ends (Read Target most) Target u (record ends.target { unread = drop n ends.target.unread })) (λ (bytes : List ℕ). answer.Bytes bytes) (is_count n most && nat_le n (length ends.target.unread)) (take n ends.target.unread) t told (λ may_too.
-    at_target h r p (after now p (Read Target most) (answer.Bytes (take n ends.target.unread))) ends (record ends.target { unread = drop n ends.target.unread }) refl refl refl refl (record { read = cover_flag p.target.read ends.target.read_armed (is_readable (record ends.target { unread = drop n ends.target.unread })) (r Target) up; write = (ok.covered Target).write }) (again (h Client) p.up ends.client ends.target ends.client (record ends.target { unread = drop n ends.target.unread }) refl refl refl (ok.directions Up)) (bytes_in (h Target) p.down ends.target ends.client n most may (ok.directions Down)) ok))
-read_keeps now h r p ends Target most reply.End t e up told made ok = guarded (λ (z : EndState). Answered now h r p ends (Read Target most) Target t z) (not (is_nonempty ends.target.unread) && ends.target.fin) ends.target e made (λ may.
+    at_client h r p (after now p (Read Client most) answer.Blocked) ends (record ends.client { read_armed = true }) refl refl refl refl
+    (record { read = cover_armed false (is_readable ends.client) (r Client) (unready (is_readable ends.client) may); write = (ok.covered Client).write })
+    (again (h Client) p.up ends.client ends.target (record ends.client { read_armed = true }) ends.target refl refl refl (ok.directions Up))
+    (again (h Target) p.down ends.target ends.client ends.target (record ends.client { read_armed = true }) refl refl refl (ok.directions Down)) ok))
+read_keeps now h r p ends Target most (reply.Bytes n) t e up told made ok = guarded (λ (z : EndState). Answered now h r p ends (Read Target most) Target t z)
+    (is_count n most && nat_le n (length ends.target.unread)) (record ends.target { unread = drop n ends.target.unread }) e made (λ may.
+    guard_map (λ (u : answer.AnswerValue). Answered now h r p ends (Read Target most) Target u (record ends.target { unread = drop n ends.target.unread }))
+    (λ (bytes : List ℕ). answer.Bytes bytes) (is_count n most && nat_le n (length ends.target.unread)) (take n ends.target.unread) t told (λ may_too.
+    at_target h r p (after now p (Read Target most) (answer.Bytes (take n ends.target.unread))) ends (record ends.target { unread = drop n ends.target.unread }) refl refl refl refl
+    (record {
+      read = cover_flag p.target.read ends.target.read_armed (is_readable (record ends.target { unread = drop n ends.target.unread })) (r Target) up;
+      write = (ok.covered Target).write;
+    }) (again (h Client) p.up ends.client ends.target ends.client (record ends.target { unread = drop n ends.target.unread }) refl refl refl
+    (ok.directions Up)) (bytes_in (h Target) p.down ends.target ends.client n most may (ok.directions Down)) ok))
+read_keeps now h r p ends Target most reply.End t e up told made ok = guarded (λ (z : EndState). Answered now h r p ends (Read Target most) Target t z)
+    (not (is_nonempty ends.target.unread) && ends.target.fin) ends.target e made (λ may.
     by_some (λ (u : answer.AnswerValue). Answered now h r p ends (Read Target most) Target u ends.target) answer.End t told (
-    at_target h r p (after now p (Read Target most) answer.End) ends ends.target refl refl refl refl (ok.covered Target) (ok.directions Up) (end_met (h Target) p.down ends.target ends.client may (ok.directions Down)) ok))
-read_keeps now h r p ends Target most reply.Blocked t e up told made ok = guarded (λ (z : EndState). Answered now h r p ends (Read Target most) Target t z) (not (is_readable ends.target)) (record ends.target { read_armed = true }) e made (λ may.
+    at_target h r p (after now p (Read Target most) answer.End) ends ends.target refl refl refl refl (ok.covered Target) (ok.directions Up)
+    (end_met (h Target) p.down ends.target ends.client may (ok.directions Down)) ok))
+read_keeps now h r p ends Target most reply.Blocked t e up told made ok = guarded (λ (z : EndState). Answered now h r p ends (Read Target most) Target t z)
+    (not (is_readable ends.target)) (record ends.target { read_armed = true }) e made (λ may.
     by_some (λ (u : answer.AnswerValue). Answered now h r p ends (Read Target most) Target u (record ends.target { read_armed = true })) answer.Blocked t told (
-    at_target h r p (after now p (Read Target most) answer.Blocked) ends (record ends.target { read_armed = true }) refl refl refl refl (record { read = cover_armed false (is_readable ends.target) (r Target) (unready (is_readable ends.target) may); write = (ok.covered Target).write }) (again (h Client) p.up ends.client ends.target ends.client (record ends.target { read_armed = true }) refl refl refl (ok.directions Up)) (again (h Target) p.down ends.target ends.client (record ends.target { read_armed = true }) ends.client refl refl refl (ok.directions Down)) ok))
+    at_target h r p (after now p (Read Target most) answer.Blocked) ends (record ends.target { read_armed = true }) refl refl refl refl
+    (record { read = cover_armed false (is_readable ends.target) (r Target) (unready (is_readable ends.target) may); write = (ok.covered Target).write })
+    (again (h Client) p.up ends.client ends.target ends.client (record ends.target { read_armed = true }) refl refl refl (ok.directions Up))
+    (again (h Target) p.down ends.target ends.client (record ends.target { read_armed = true }) ends.client refl refl refl (ok.directions Down)) ok))
 read_keeps now h r p ends side most reply.Interrupted t e up told made ok = interrupted_keeps now h r p ends (Read side most) side t e told made ok
-read_keeps now h r p ends side most (reply.Failed kind) t e up told made ok = guarded (λ (z : EndState). Answered now h r p ends (Read side most) side t z) (not (is_zero kind)) (socket_of ends side) e made (λ may. failed_keeps now h r p ends (Read side most) side kind t (socket_of ends side) told refl ok)
+read_keeps now h r p ends side most (reply.Failed kind) t e up told made ok = guarded (λ (z : EndState). Answered now h r p ends (Read side most) side t z) (not (is_zero kind))
+    (socket_of ends side) e made (λ may. failed_keeps now h r p ends (Read side most) side kind t (socket_of ends side) told refl ok)
 read_keeps now h r p ends side most (reply.Wrote n full) t e up told made ok = absurd (cc)
 read_keeps now h r p ends side most reply.Joined t e up told made ok = absurd (cc)
 read_keeps now h r p ends side most reply.Shut t e up told made ok = absurd (cc)
 
 pub write_keeps : (now : ℕ) (h : Side → List ℕ) (r : Side → Bool) (p : PairState) (ends : Sockets) (side : Side) (said : Reply) (t : answer.AnswerValue) (e : EndState)
-    → (flags_of p side).write ≡ true → plain said ≡ Some t → after_write (socket_of ends side) (offer p side) said ≡ Some e → PairOk h r p ends → Answered now h r p ends (Write side) side t e
-write_keeps now h r p ends Client (reply.Wrote n full) t e up told made ok = guarded (λ (z : EndState). Answered now h r p ends (Write Client) Client t z) (ends.client.room && is_count n (length (front p.down))) (record ends.client { taken = ends.client.taken ++ take n (front p.down); room = not full }) e made (λ may.
-    by_some (λ (u : answer.AnswerValue). Answered now h r p ends (Write Client) Client u (record ends.client { taken = ends.client.taken ++ take n (front p.down); room = not full })) (answer.Wrote n) t told (
-    at_client h r p (after now p (Write Client) (answer.Wrote n)) ends (record ends.client { taken = ends.client.taken ++ take n (front p.down); room = not full }) refl refl refl refl (record { read = (ok.covered Client).read; write = cover_flag p.client.write ends.client.write_armed (is_writable (record ends.client { taken = ends.client.taken ++ take n (front p.down); room = not full })) (r Client) up }) (again (h Client) p.up ends.client ends.target (record ends.client { taken = ends.client.taken ++ take n (front p.down); room = not full }) ends.target refl refl refl (ok.directions Up)) (wrote_out (h Target) p.down ends.target ends.client n (not full) (offered n (length (front p.down)) ends.client.room may) (ok.directions Down)) ok))
-write_keeps now h r p ends Client reply.Blocked t e up told made ok = guarded (λ (z : EndState). Answered now h r p ends (Write Client) Client t z) (not (is_writable ends.client)) (record ends.client { write_armed = true }) e made (λ may.
+    → (flags_of p side).write ≡ true → plain said ≡ Some t → after_write (socket_of ends side) (offer p side) said ≡ Some e → PairOk h r p ends
+    → Answered now h r p ends (Write side) side t e
+write_keeps now h r p ends Client (reply.Wrote n full) t e up told made ok = guarded (λ (z : EndState). Answered now h r p ends (Write Client) Client t z)
+    (ends.client.room && is_count n (length (front p.down))) (record ends.client { taken = ends.client.taken ++ take n (front p.down); room = not full }) e made (λ may.
+    by_some (λ (u : answer.AnswerValue). Answered now h r p ends (Write Client) Client u
+    (record ends.client { taken = ends.client.taken ++ take n (front p.down); room = not full })) (answer.Wrote n) t told (
+    at_client h r p (after now p (Write Client) (answer.Wrote n)) ends (record ends.client { taken = ends.client.taken ++ take n (front p.down); room = not full }) refl refl refl
+    refl (record {
+      read = (ok.covered Client).read;
+      write = cover_flag p.client.write ends.client.write_armed (is_writable (record ends.client { taken = ends.client.taken ++ take n (front p.down); room = not full }))
+          (r Client) up;
+    }) (again (h Client) p.up ends.client ends.target (record ends.client { taken = ends.client.taken ++ take n (front p.down); room = not full }) ends.target refl
+    refl refl (ok.directions Up)) (wrote_out (h Target) p.down ends.target ends.client n (not full) (offered n (length (front p.down)) ends.client.room may) (ok.directions Down))
+    ok))
+write_keeps now h r p ends Client reply.Blocked t e up told made ok = guarded (λ (z : EndState). Answered now h r p ends (Write Client) Client t z) (not (is_writable ends.client))
+    (record ends.client { write_armed = true }) e made (λ may.
     by_some (λ (u : answer.AnswerValue). Answered now h r p ends (Write Client) Client u (record ends.client { write_armed = true })) answer.Blocked t told (
-    at_client h r p (after now p (Write Client) answer.Blocked) ends (record ends.client { write_armed = true }) refl refl refl refl (record { read = (ok.covered Client).read; write = cover_armed false (is_writable ends.client) (r Client) (unready (is_writable ends.client) may) }) (again (h Client) p.up ends.client ends.target (record ends.client { write_armed = true }) ends.target refl refl refl (ok.directions Up)) (again (h Target) p.down ends.target ends.client ends.target (record ends.client { write_armed = true }) refl refl refl (ok.directions Down)) ok))
-write_keeps now h r p ends Target (reply.Wrote n full) t e up told made ok = guarded (λ (z : EndState). Answered now h r p ends (Write Target) Target t z) (ends.target.room && is_count n (length (front p.up))) (record ends.target { taken = ends.target.taken ++ take n (front p.up); room = not full }) e made (λ may.
-    by_some (λ (u : answer.AnswerValue). Answered now h r p ends (Write Target) Target u (record ends.target { taken = ends.target.taken ++ take n (front p.up); room = not full })) (answer.Wrote n) t told (
-    at_target h r p (after now p (Write Target) (answer.Wrote n)) ends (record ends.target { taken = ends.target.taken ++ take n (front p.up); room = not full }) refl refl refl refl (record { read = (ok.covered Target).read; write = cover_flag p.target.write ends.target.write_armed (is_writable (record ends.target { taken = ends.target.taken ++ take n (front p.up); room = not full })) (r Target) up }) (wrote_out (h Client) p.up ends.client ends.target n (not full) (offered n (length (front p.up)) ends.target.room may) (ok.directions Up)) (again (h Target) p.down ends.target ends.client (record ends.target { taken = ends.target.taken ++ take n (front p.up); room = not full }) ends.client refl refl refl (ok.directions Down)) ok))
-write_keeps now h r p ends Target reply.Blocked t e up told made ok = guarded (λ (z : EndState). Answered now h r p ends (Write Target) Target t z) (not (is_writable ends.target)) (record ends.target { write_armed = true }) e made (λ may.
+    at_client h r p (after now p (Write Client) answer.Blocked) ends (record ends.client { write_armed = true }) refl refl refl refl
+    (record { read = (ok.covered Client).read; write = cover_armed false (is_writable ends.client) (r Client) (unready (is_writable ends.client) may) })
+    (again (h Client) p.up ends.client ends.target (record ends.client { write_armed = true }) ends.target refl refl refl (ok.directions Up))
+    (again (h Target) p.down ends.target ends.client ends.target (record ends.client { write_armed = true }) refl refl refl (ok.directions Down)) ok))
+write_keeps now h r p ends Target (reply.Wrote n full) t e up told made ok = guarded (λ (z : EndState). Answered now h r p ends (Write Target) Target t z)
+    (ends.target.room && is_count n (length (front p.up))) (record ends.target { taken = ends.target.taken ++ take n (front p.up); room = not full }) e made (λ may.
+    by_some (λ (u : answer.AnswerValue). Answered now h r p ends (Write Target) Target u (record ends.target { taken = ends.target.taken ++ take n (front p.up); room = not full }))
+    (answer.Wrote n) t told (
+    at_target h r p (after now p (Write Target) (answer.Wrote n)) ends (record ends.target { taken = ends.target.taken ++ take n (front p.up); room = not full }) refl refl refl
+    refl (record {
+      read = (ok.covered Target).read;
+      write = cover_flag p.target.write ends.target.write_armed (is_writable (record ends.target { taken = ends.target.taken ++ take n (front p.up); room = not full })) (r Target)
+          up;
+    }) (wrote_out (h Client) p.up ends.client ends.target n (not full) (offered n (length (front p.up)) ends.target.room may) (ok.directions Up))
+    (again (h Target) p.down ends.target ends.client (record ends.target { taken = ends.target.taken ++ take n (front p.up); room = not full }) ends.client refl refl refl
+    (ok.directions Down)) ok))
+write_keeps now h r p ends Target reply.Blocked t e up told made ok = guarded (λ (z : EndState). Answered now h r p ends (Write Target) Target t z) (not (is_writable ends.target))
+    (record ends.target { write_armed = true }) e made (λ may.
     by_some (λ (u : answer.AnswerValue). Answered now h r p ends (Write Target) Target u (record ends.target { write_armed = true })) answer.Blocked t told (
-    at_target h r p (after now p (Write Target) answer.Blocked) ends (record ends.target { write_armed = true }) refl refl refl refl (record { read = (ok.covered Target).read; write = cover_armed false (is_writable ends.target) (r Target) (unready (is_writable ends.target) may) }) (again (h Client) p.up ends.client ends.target ends.client (record ends.target { write_armed = true }) refl refl refl (ok.directions Up)) (again (h Target) p.down ends.target ends.client (record ends.target { write_armed = true }) ends.client refl refl refl (ok.directions Down)) ok))
+    at_target h r p (after now p (Write Target) answer.Blocked) ends (record ends.target { write_armed = true }) refl refl refl refl
+    (record { read = (ok.covered Target).read; write = cover_armed false (is_writable ends.target) (r Target) (unready (is_writable ends.target) may) })
+    (again (h Client) p.up ends.client ends.target ends.client (record ends.target { write_armed = true }) refl refl refl (ok.directions Up))
+    (again (h Target) p.down ends.target ends.client (record ends.target { write_armed = true }) ends.client refl refl refl (ok.directions Down)) ok))
 write_keeps now h r p ends side reply.Interrupted t e up told made ok = interrupted_keeps now h r p ends (Write side) side t e told made ok
 write_keeps now h r p ends side (reply.Failed kind) t e up told made ok = failed_keeps now h r p ends (Write side) side kind t e told made ok
 write_keeps now h r p ends side (reply.Bytes n) t e up told made ok = absurd (cc)
@@ -275,35 +339,55 @@ write_keeps now h r p ends side reply.Shut t e up told made ok = absurd (cc)
 
 pub join_keeps : (now : ℕ) (h : Side → List ℕ) (r : Side → Bool) (p : PairState) (ends : Sockets) (side : Side) (said : Reply) (t : answer.AnswerValue) (e : EndState)
     → plain said ≡ Some t → after_join (socket_of ends side) said ≡ Some e → PairOk h r p ends → Answered now h r p ends (Join side) side t e
-join_keeps now h r p ends Client reply.Joined t e told made ok = guarded (λ (z : EndState). Answered now h r p ends (Join Client) Client t z) ends.client.room ends.client e made (λ may.
+join_keeps now h r p ends Client reply.Joined t e told made ok = guarded (λ (z : EndState). Answered now h r p ends (Join Client) Client t z) ends.client.room ends.client e made
+    (λ may.
     by_some (λ (u : answer.AnswerValue). Answered now h r p ends (Join Client) Client u ends.client) answer.Joined t told (
     at_client h r p (after now p (Join Client) answer.Joined) ends ends.client refl refl refl refl (ok.covered Client) (ok.directions Up) (ok.directions Down) ok))
-join_keeps now h r p ends Client reply.Blocked t e told made ok = guarded (λ (z : EndState). Answered now h r p ends (Join Client) Client t z) (not (is_writable ends.client)) (record ends.client { write_armed = true }) e made (λ may.
+join_keeps now h r p ends Client reply.Blocked t e told made ok = guarded (λ (z : EndState). Answered now h r p ends (Join Client) Client t z) (not (is_writable ends.client))
+    (record ends.client { write_armed = true }) e made (λ may.
     by_some (λ (u : answer.AnswerValue). Answered now h r p ends (Join Client) Client u (record ends.client { write_armed = true })) answer.Blocked t told (
-    at_client h r p (after now p (Join Client) answer.Blocked) ends (record ends.client { write_armed = true }) refl refl refl refl (record { read = (ok.covered Client).read; write = cover_armed false (is_writable ends.client) (r Client) (unready (is_writable ends.client) may) }) (again (h Client) p.up ends.client ends.target (record ends.client { write_armed = true }) ends.target refl refl refl (ok.directions Up)) (again (h Target) p.down ends.target ends.client ends.target (record ends.client { write_armed = true }) refl refl refl (ok.directions Down)) ok))
-join_keeps now h r p ends Target reply.Joined t e told made ok = guarded (λ (z : EndState). Answered now h r p ends (Join Target) Target t z) ends.target.room ends.target e made (λ may.
+    at_client h r p (after now p (Join Client) answer.Blocked) ends (record ends.client { write_armed = true }) refl refl refl refl
+    (record { read = (ok.covered Client).read; write = cover_armed false (is_writable ends.client) (r Client) (unready (is_writable ends.client) may) })
+    (again (h Client) p.up ends.client ends.target (record ends.client { write_armed = true }) ends.target refl refl refl (ok.directions Up))
+    (again (h Target) p.down ends.target ends.client ends.target (record ends.client { write_armed = true }) refl refl refl (ok.directions Down)) ok))
+join_keeps now h r p ends Target reply.Joined t e told made ok = guarded (λ (z : EndState). Answered now h r p ends (Join Target) Target t z) ends.target.room ends.target e made
+    (λ may.
     by_some (λ (u : answer.AnswerValue). Answered now h r p ends (Join Target) Target u ends.target) answer.Joined t told (
     at_target h r p (after now p (Join Target) answer.Joined) ends ends.target refl refl refl refl (ok.covered Target) (ok.directions Up) (ok.directions Down) ok))
-join_keeps now h r p ends Target reply.Blocked t e told made ok = guarded (λ (z : EndState). Answered now h r p ends (Join Target) Target t z) (not (is_writable ends.target)) (record ends.target { write_armed = true }) e made (λ may.
+join_keeps now h r p ends Target reply.Blocked t e told made ok = guarded (λ (z : EndState). Answered now h r p ends (Join Target) Target t z) (not (is_writable ends.target))
+    (record ends.target { write_armed = true }) e made (λ may.
     by_some (λ (u : answer.AnswerValue). Answered now h r p ends (Join Target) Target u (record ends.target { write_armed = true })) answer.Blocked t told (
-    at_target h r p (after now p (Join Target) answer.Blocked) ends (record ends.target { write_armed = true }) refl refl refl refl (record { read = (ok.covered Target).read; write = cover_armed false (is_writable ends.target) (r Target) (unready (is_writable ends.target) may) }) (again (h Client) p.up ends.client ends.target ends.client (record ends.target { write_armed = true }) refl refl refl (ok.directions Up)) (again (h Target) p.down ends.target ends.client (record ends.target { write_armed = true }) ends.client refl refl refl (ok.directions Down)) ok))
+    at_target h r p (after now p (Join Target) answer.Blocked) ends (record ends.target { write_armed = true }) refl refl refl refl
+    (record { read = (ok.covered Target).read; write = cover_armed false (is_writable ends.target) (r Target) (unready (is_writable ends.target) may) })
+    (again (h Client) p.up ends.client ends.target ends.client (record ends.target { write_armed = true }) refl refl refl (ok.directions Up))
+    (again (h Target) p.down ends.target ends.client (record ends.target { write_armed = true }) ends.client refl refl refl (ok.directions Down)) ok))
 join_keeps now h r p ends side reply.Interrupted t e told made ok = interrupted_keeps now h r p ends (Join side) side t e told made ok
-join_keeps now h r p ends side (reply.Failed kind) t e told made ok = guarded (λ (z : EndState). Answered now h r p ends (Join side) side t z) (not (is_zero kind)) (socket_of ends side) e made (λ may. failed_keeps now h r p ends (Join side) side kind t (socket_of ends side) told refl ok)
+join_keeps now h r p ends side (reply.Failed kind) t e told made ok = guarded (λ (z : EndState). Answered now h r p ends (Join side) side t z) (not (is_zero kind))
+    (socket_of ends side) e made (λ may. failed_keeps now h r p ends (Join side) side kind t (socket_of ends side) told refl ok)
 join_keeps now h r p ends side (reply.Bytes n) t e told made ok = absurd (cc)
 join_keeps now h r p ends side reply.End t e told made ok = absurd (cc)
 join_keeps now h r p ends side (reply.Wrote n full) t e told made ok = absurd (cc)
 join_keeps now h r p ends side reply.Shut t e told made ok = absurd (cc)
 
 pub shut_keeps : (now : ℕ) (h : Side → List ℕ) (r : Side → Bool) (p : PairState) (ends : Sockets) (side : Side) (said : Reply) (t : answer.AnswerValue) (e : EndState)
-    → is_drained (stream_of p (inward side)) ≡ true → plain said ≡ Some t → after_shut (socket_of ends side) said ≡ Some e → PairOk h r p ends → Answered now h r p ends (Shut side) side t e
-shut_keeps now h r p ends Client reply.Shut t e drained told made ok = by_some (λ (z : EndState). Answered now h r p ends (Shut Client) Client t z) (record ends.client { shut = true }) e made (
+    → is_drained (stream_of p (inward side)) ≡ true → plain said ≡ Some t → after_shut (socket_of ends side) said ≡ Some e → PairOk h r p ends
+    → Answered now h r p ends (Shut side) side t e
+shut_keeps now h r p ends Client reply.Shut t e drained told made ok = by_some (λ (z : EndState). Answered now h r p ends (Shut Client) Client t z)
+    (record ends.client { shut = true }) e made (
     by_some (λ (u : answer.AnswerValue). Answered now h r p ends (Shut Client) Client u (record ends.client { shut = true })) answer.Shut t told (
-    at_client h r p (after now p (Shut Client) answer.Shut) ends (record ends.client { shut = true }) refl refl refl refl (record { read = (ok.covered Client).read; write = (ok.covered Client).write }) (again (h Client) p.up ends.client ends.target (record ends.client { shut = true }) ends.target refl refl refl (ok.directions Up)) (passed_on (h Target) p.down ends.target ends.client (record ends.client { shut = true }) refl drained (ok.directions Down)) ok))
-shut_keeps now h r p ends Target reply.Shut t e drained told made ok = by_some (λ (z : EndState). Answered now h r p ends (Shut Target) Target t z) (record ends.target { shut = true }) e made (
+    at_client h r p (after now p (Shut Client) answer.Shut) ends (record ends.client { shut = true }) refl refl refl refl
+    (record { read = (ok.covered Client).read; write = (ok.covered Client).write })
+    (again (h Client) p.up ends.client ends.target (record ends.client { shut = true }) ends.target refl refl refl (ok.directions Up))
+    (passed_on (h Target) p.down ends.target ends.client (record ends.client { shut = true }) refl drained (ok.directions Down)) ok))
+shut_keeps now h r p ends Target reply.Shut t e drained told made ok = by_some (λ (z : EndState). Answered now h r p ends (Shut Target) Target t z)
+    (record ends.target { shut = true }) e made (
     by_some (λ (u : answer.AnswerValue). Answered now h r p ends (Shut Target) Target u (record ends.target { shut = true })) answer.Shut t told (
-    at_target h r p (after now p (Shut Target) answer.Shut) ends (record ends.target { shut = true }) refl refl refl refl (record { read = (ok.covered Target).read; write = (ok.covered Target).write }) (passed_on (h Client) p.up ends.client ends.target (record ends.target { shut = true }) refl drained (ok.directions Up)) (again (h Target) p.down ends.target ends.client (record ends.target { shut = true }) ends.client refl refl refl (ok.directions Down)) ok))
+    at_target h r p (after now p (Shut Target) answer.Shut) ends (record ends.target { shut = true }) refl refl refl refl
+    (record { read = (ok.covered Target).read; write = (ok.covered Target).write }) (passed_on (h Client) p.up ends.client ends.target (record ends.target { shut = true }) refl
+    drained (ok.directions Up)) (again (h Target) p.down ends.target ends.client (record ends.target { shut = true }) ends.client refl refl refl (ok.directions Down)) ok))
 shut_keeps now h r p ends side reply.Interrupted t e drained told made ok = interrupted_keeps now h r p ends (Shut side) side t e told made ok
-shut_keeps now h r p ends side (reply.Failed kind) t e drained told made ok = guarded (λ (z : EndState). Answered now h r p ends (Shut side) side t z) (not (is_zero kind)) (socket_of ends side) e made (λ may. failed_keeps now h r p ends (Shut side) side kind t (socket_of ends side) told refl ok)
+shut_keeps now h r p ends side (reply.Failed kind) t e drained told made ok = guarded (λ (z : EndState). Answered now h r p ends (Shut side) side t z) (not (is_zero kind))
+    (socket_of ends side) e made (λ may. failed_keeps now h r p ends (Shut side) side kind t (socket_of ends side) told refl ok)
 shut_keeps now h r p ends side (reply.Bytes n) t e drained told made ok = absurd (cc)
 shut_keeps now h r p ends side reply.End t e drained told made ok = absurd (cc)
 shut_keeps now h r p ends side (reply.Wrote n full) t e drained told made ok = absurd (cc)

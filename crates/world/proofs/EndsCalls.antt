@@ -46,7 +46,8 @@ pub record LineOk (h : Side → List ℕ) (r : Side → Bool) (k : KernelState) 
 abbrev pub EndsThere : KernelState → ℕ → ℕ → Connection → Sockets → Type 0
 EndsThere k s g c ends = (side : Side) → end_at k.ends (descriptor c.ends side) ≡ Some (registered s g side (socket_of ends side))
 
-line_ok : (now : ℕ) (h : Side → List ℕ) (r : Side → Bool) (k : KernelState) (s g : ℕ) (c : Connection) (ends : Sockets) (call : Call) (side : Side) (t : answer.AnswerValue) (replies : Option EndState)
+line_ok : (now : ℕ) (h : Side → List ℕ) (r : Side → Bool) (k : KernelState) (s g : ℕ) (c : Connection) (ends : Sockets) (call : Call) (side : Side) (t : answer.AnswerValue)
+    (replies : Option EndState)
     → ((e : EndState) → replies ≡ Some e → Answered now h r c.pair ends call side t e)
     → Kept (LineOk h r k s g c ends) (option_map (λ (q : KernelState). record { kernel = q; connection = record c { pair = after now c.pair call t } })
     (option_map (λ (e : EndState). with_answer k s g c side e) replies))
@@ -94,9 +95,11 @@ called_keeps now h r k s g c ends said there ok = kept_bind _ (next_call c.pair)
     replied_keeps now h r k s g c ends call said there (kept_at (next_call c.pair) call next (asked c.pair)) ok)
 
 -- the state after it: all but the kernel and the slot is as it was, for these facts
-call_lands : (past next : History) (st q : State) (s : ℕ) (p place : SlotState) (c : Connection) (line : OpenConnection) → Quiet past next → slice_get st.slots s ≡ Some p → (ok : ConnectionOk past st s p.generation p.notes c)
+call_lands : (past next : History) (st q : State) (s : ℕ) (p place : SlotState) (c : Connection) (line : OpenConnection) → Quiet past next → slice_get st.slots s ≡ Some p
+    → (ok : ConnectionOk past st s p.generation p.notes c)
     → LineOk (past s p.generation) (λ side. is_pending st (token_at s side p.generation) || is_nonempty p.notes) st.kernel s p.generation c ok.ends line
-    → q.table ≡ st.table → q.limits ≡ st.limits → q.batch ≡ st.batch → q.kernel ≡ line.kernel → q.slots ≡ slice_set st.slots s place → place ≡ record p { connection = Some line.connection }
+    → q.table ≡ st.table → q.limits ≡ st.limits → q.batch ≡ st.batch → q.kernel ≡ line.kernel → q.slots ≡ slice_set st.slots s place
+    → place ≡ record p { connection = Some line.connection }
     → AllOk past st → AllOk next q
 call_lands past next st q s p place c line quiet here ok l table limits batch kernel slots lands all =
     let queue : q.kernel.queue ≡ st.kernel.queue = rw (kernel, l.kernel) refl in
@@ -108,7 +111,8 @@ call_lands past next st q s p place c line quiet here ok l table limits batch ke
       history = λ g side. quiet i g side;
       table = rw table refl;
       limits = limits;
-      ends = λ d b there of_i. rw ends (end_kept st.kernel.ends (descriptor c.ends l.side) d (registered s p.generation l.side (socket_of ok.ends l.side)) b _ (ok.there l.side) there
+      ends = λ d b there of_i. rw ends (end_kept st.kernel.ends (descriptor c.ends l.side) d (registered s p.generation l.side (socket_of ok.ends l.side)) b _ (ok.there l.side)
+          there
           (λ same. differ (let slots_of : b.token.slot ≡ s = ap (λ (n : EndName). n.slot) same in cc)));
       pending = λ side g entry h. pending (token_at i side g) h;
     })
@@ -137,16 +141,19 @@ pub record LodgingOk (past : History) (st : State) (s : ℕ) (p : SlotState) (l 
   pub place : l.place ≡ record p { connection = Some line.connection }
   pub goes : LineOk (past s p.generation) (λ side. is_pending st (token_at s side p.generation) || is_nonempty p.notes) st.kernel s p.generation connection ok.ends line
 
-lodged_keeps : (past : History) (st : State) (s : ℕ) (p : SlotState) (said : Reply) → SlotOk past st s p → Kept (LodgingOk past st s p) (slot_call st.second (record { kernel = st.kernel; place = p }) said)
+lodged_keeps : (past : History) (st : State) (s : ℕ) (p : SlotState) (said : Reply) → SlotOk past st s p
+    → Kept (LodgingOk past st s p) (slot_call st.second (record { kernel = st.kernel; place = p }) said)
 unfolding slot_call
 lodged_keeps past st s p said slot = kept_bind _ p.connection (λ c lying.
     (let ok : ConnectionOk past st s p.generation p.notes c = slot.connection c lying in
-    kept_then _ _ (λ line l. record { connection = c; lying = lying; ok = ok; line = line; kernel = refl; place = refl; goes = l }) (called_keeps st.second (past s p.generation) _ st.kernel s p.generation c ok.ends said ok.there ok.pair)))
+    kept_then _ _ (λ line l. record { connection = c; lying = lying; ok = ok; line = line; kernel = refl; place = refl; goes = l })
+    (called_keeps st.second (past s p.generation) _ st.kernel s p.generation c ok.ends said ok.there ok.pair)))
 
 pub call_keeps : (past next : History) (st : State) (w : ℕ) (k : WorkerState) (d : Doing) (said : Reply) → Quiet past next → AllOk past st → Kept (AllOk next) (call st w k d said)
 call_keeps past next st w k (Holds s left) said quiet all = kept_when (nat_lt 0 left) _ (λ some.
     kept_bind _ (slice_get st.slots s) (λ p here.
-    kept_then _ _ (λ l lodging. call_lands past next st (doing (with_place (record st { kernel = l.kernel }) s l.place) w k (Holds s (left - 1))) s p l.place lodging.connection lodging.line quiet here lodging.ok lodging.goes refl refl refl lodging.kernel refl lodging.place all) (lodged_keeps past st s p said (all.each s p here))))
+    kept_then _ _ (λ l lodging. call_lands past next st (doing (with_place (record st { kernel = l.kernel }) s l.place) w k (Holds s (left - 1))) s p l.place lodging.connection
+    lodging.line quiet here lodging.ok lodging.goes refl refl refl lodging.kernel refl lodging.place all) (lodged_keeps past st s p said (all.each s p here))))
 call_keeps past next st w k Idle said quiet all = record { kept = tt }
 call_keeps past next st w k (Tries t) said quiet all = record { kept = tt }
 call_keeps past next st w k (Closed s) said quiet all = record { kept = tt }

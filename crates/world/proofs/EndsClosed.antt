@@ -1,6 +1,5 @@
--- Of each closed connection: what was sent is a beginning of the preamble and what was given, and all of it where it was
--- done.
--- Nothing more is given for its generation, since its slot has none of that generation any more.
+-- Of each closed connection: what was sent is a beginning of the preamble and what was given, and all of it where it
+-- was done. Nothing more is given for its generation, since its slot has none of that generation any more.
 use Rattle.std.proofs.Common.{◌≡◌, ℕ, ◌<◌, ◌≤◌, Bool, true, false, ◌&&◌, ◌⊎◌, inl, inr, List, [], ◌∷◌, ◌++◌, Option, Some, None, refl, sym, ap, ◌∙◌, subst, append-nil, append_assoc, option_map, option_and_then, unwrap_or, eqb-true, eq-eqb, ne_eqb, arith, le_refl, ⊎_elim}
 use Rattle.std.specs.Prelude.{slice_get, slice_set, if◌then◌else◌, ◌==◌}
 use Rattle.std.specs.Cmp.{first_so, second_so}
@@ -58,11 +57,13 @@ aged : (past next : History) (st q : State) (e : Past) → ((side : Side) → ne
 aged past next st q e same older over ok = record {
   older = older;
   over = over;
-  beginning = λ d. (let first : (rest : List ℕ) × (past e.slot e.generation (source d) ≡ (socket_of e.ends (destination d)).taken ++ rest) = ok.beginning d in (first.0, same (source d) ∙ first.1));
+  beginning = λ d. (let first : (rest : List ℕ) × (past e.slot e.generation (source d) ≡ (socket_of e.ends (destination d)).taken ++ rest) = ok.beginning d in
+      (first.0, same (source d) ∙ first.1));
   all = λ done d. same (source d) ∙ ok.all done d;
 }
 
-still_closed : (past next : History) (st : State) (e : Past) → ((side : Side) → next e.slot e.generation side ≡ past e.slot e.generation side) → ClosedOk past st e → ClosedOk next st e
+still_closed : (past next : History) (st : State) (e : Past) → ((side : Side) → next e.slot e.generation side ≡ past e.slot e.generation side) → ClosedOk past st e
+    → ClosedOk next st e
 still_closed past next st e same ok = aged past next st st e same ok.older ok.over ok
 
 -- one slot changed, and is no younger
@@ -73,12 +74,15 @@ slot_aged : (past next : History) (st q : State) (e : Past) (s : ℕ) (old new :
 slot_aged past next st q e s old new same was set grows comes ok = elim (tell (e.slot == s)) [
   | Yes h ↦ (let here : e.slot ≡ s = eqb-true e.slot s h in
       let there : slice_get st.slots e.slot ≡ Some old = rw here was in
-      let new_there : (p : SlotState) → slice_get q.slots e.slot ≡ Some p → p ≡ new = (λ p stands. (let is : slice_get (slice_set st.slots s new) s ≡ Some new = get-set_same st.slots s old new was in
+      let new_there : (p : SlotState) → slice_get q.slots e.slot ≡ Some p
+      → p ≡ new = (λ p stands. (let is : slice_get (slice_set st.slots s new) s ≡ Some new = get-set_same st.slots s old new was in
       let at_s : slice_get (slice_set st.slots s new) s ≡ Some p = rw (here, set) at stands in cc)) in
       let before : e.generation ≤ old.generation = ok.older old there in
       aged past next st q e same
       (λ p stands. (let is : p ≡ new = new_there p stands in rw is (omega arith)))
-      (λ p c stands lying. (let is : p ≡ new = new_there p stands in rw is (⊎_elim (λ b. (let less : e.generation < old.generation = ok.over old b.0 there b.1 in omega arith)) (λ less. omega arith) (comes c (ap (λ (r : SlotState). r.connection) (sym is) ∙ lying)))))
+      (λ p c stands lying. (let is : p ≡ new = new_there p stands in
+      rw is (⊎_elim (λ b. (let less : e.generation < old.generation = ok.over old b.0 there b.1 in omega arith)) (λ less. omega arith)
+      (comes c (ap (λ (r : SlotState). r.connection) (sym is) ∙ lying)))))
       ok)
   | No h ↦ (let differ : e.slot ≡ s → ⊥ = λ same. (let is : (s == s) ≡ false = rw same at h in let is_not : (s == s) ≡ true = eq-eqb s s refl in absurd (cc)) in
       aged past next st q e same
@@ -125,7 +129,8 @@ none_given past st q (event.Listen l) e side goes ok = refl
 none_given past st q (event.Poll p) e side goes ok = refl
 none_given past st q (event.Work w a) e side goes ok = refl
 
-same_bytes : (past : History) (st q : State) (ev : Event) (e : Past) → step st ev ≡ Some q → ClosedOk past st e → (side : Side) → after_event past st ev e.slot e.generation side ≡ past e.slot e.generation side
+same_bytes : (past : History) (st q : State) (ev : Event) (e : Past) → step st ev ≡ Some q → ClosedOk past st e → (side : Side) → after_event past st ev e.slot e.generation side
+    ≡ past e.slot e.generation side
 same_bytes past st q ev e goes ok side =
     ap (λ (bytes : List ℕ). past e.slot e.generation side ++ bytes) (none_given past st q ev e side goes ok) ∙ append-nil (past e.slot e.generation side)
 
@@ -147,7 +152,8 @@ wholly_sent gave s x y ok shut =
 same_value : (x y : Told KernelState Sockets) → Some x ≡ Some y → x ≡ y
 same_value x y e = cc
 
-ended_ok : (past : History) (st q : State) (s : ℕ) (old : SlotState) (c : Connection) (ends : Sockets) (k : KernelState) → slice_get st.slots s ≡ Some old → old.connection ≡ Some c → q.slots ≡ slice_set st.slots s (record old { connection = None })
+ended_ok : (past : History) (st q : State) (s : ℕ) (old : SlotState) (c : Connection) (ends : Sockets) (k : KernelState) → slice_get st.slots s ≡ Some old → old.connection ≡ Some c
+    → q.slots ≡ slice_set st.slots s (record old { connection = None })
     → kernel.close_both st.kernel c.ends ≡ Some (record { value = k; told = ends }) → SlotOk past st s old
     → ClosedOk past q (record { slot = s; generation = c.pair.generation; verdict = verdict c.pair; ends = ends })
 ended_ok past st q s old c ends k was lying set closing slot =
@@ -156,13 +162,17 @@ ended_ok past st q s old c ends k was lying set closing slot =
     let there : Told KernelState Sockets = record { value = without_both st.kernel s old.generation c; told = ok.ends } in
     let both : ◌≡◌ {A = Option (Told KernelState Sockets)} (Some there) (Some here) = sym (closes past st s old.generation old.notes c ok) ∙ closing in
     let are : ok.ends ≡ ends = ap (λ (t : Told KernelState Sockets). t.told) (same_value there here both) in
-    let stands : (p : SlotState) → slice_get q.slots s ≡ Some p → p ≡ record old { connection = None } = (λ p here. (let is : slice_get (slice_set st.slots s (record old { connection = None })) s ≡ Some (record old { connection = None }) = get-set_same st.slots s old (record old { connection = None }) was in
+    let stands : (p : SlotState) → slice_get q.slots s ≡ Some p → p ≡ record old { connection = None } =
+    (λ p here. (let is : slice_get (slice_set st.slots s (record old { connection = None })) s ≡ Some (record old { connection = None }) =
+    get-set_same st.slots s old (record old { connection = None }) was in
     let at_s : slice_get (slice_set st.slots s (record old { connection = None })) s ≡ Some p = rw set at here in cc)) in
     rw (ok.generation, ← are) (record {
       older = λ p here. (let is : p ≡ record old { connection = None } = stands p here in rw is (omega arith));
-      over = λ p b here lies_there. (let is : p ≡ record old { connection = None } = stands p here in let none : p.connection ≡ None = ap (λ (r : SlotState). r.connection) is in absurd (cc));
+      over = λ p b here lies_there. (let is : p ≡ record old { connection = None } = stands p here in let none : p.connection ≡ None = ap (λ (r : SlotState). r.connection) is in
+          absurd (cc));
       beginning = λ d. (waiting (stream_of c.pair d) ++ (socket_of ok.ends (source d)).unread, (ok.pair.directions d).bytes);
-      all = λ done d. wholly_sent (past s old.generation (source d)) (stream_of c.pair d) (socket_of ok.ends (source d)) (socket_of ok.ends (destination d)) (ok.pair.directions d) (both_shut c.pair done d);
+      all = λ done d. wholly_sent (past s old.generation (source d)) (stream_of c.pair d) (socket_of ok.ends (source d)) (socket_of ok.ends (destination d)) (ok.pair.directions d)
+          (both_shut c.pair done d);
     })
 
 -- One event, and lists of them
@@ -170,11 +180,13 @@ ended_ok past st q s old c ends k was lying set closing slot =
 shape_closes : (past : History) (st q : State) (ev : Event) → step st ev ≡ Some q → AllOk past st → AllClosed past st → Shape st ev q → AllClosed (after_event past st ev) q
 shape_closes past st q ev goes all closed (Same slots over on) = record {
   each = λ i e here. (let ok : ClosedOk past st e = closed.each i e (rw over at here) in
-      aged past (after_event past st ev) st q e (same_bytes past st q ev e goes ok) (λ p stands. ok.older p (rw slots at stands)) (λ p c stands lying. ok.over p c (rw slots at stands) lying) ok);
+      aged past (after_event past st ev) st q e (same_bytes past st q ev e goes ok) (λ p stands. ok.older p (rw slots at stands))
+      (λ p c stands lying. ok.over p c (rw slots at stands) lying) ok);
 }
 shape_closes past st q ev goes all closed (Changed s old new was set over on stays) = record {
   each = λ i e here. (let ok : ClosedOk past st e = closed.each i e (rw over at here) in
-      slot_aged past (after_event past st ev) st q e s old new (same_bytes past st q ev e goes ok) was set (let is : new.generation ≡ old.generation = stays.generation in omega arith)
+      slot_aged past (after_event past st ev) st q e s old new (same_bytes past st q ev e goes ok) was set (let is : new.generation ≡ old.generation = stays.generation in
+      omega arith)
       (λ c is. inl ((stays.connection c is).0, (stays.connection c is).1)) ok);
 }
 shape_closes past st q ev goes all closed (Opened s g old new was entry set over on generation fresh) = record {
@@ -187,7 +199,8 @@ shape_closes past st q ev goes all closed (Ended s old c ends k was lying set ov
   each = λ i e here.
       elim (last_of st.past i (record { slot = s; generation = c.pair.generation; verdict = verdict c.pair; ends = ends }) e (rw over at here)) [
         | Before h ↦ (let ok : ClosedOk past st e = closed.each i e h in
-            slot_aged past (after_event past st ev) st q e s old (record old { connection = None }) (same_bytes past st q ev e goes ok) was set (le_refl old.generation) (λ b is. absurd (cc)) ok)
+            slot_aged past (after_event past st ev) st q e s old (record old { connection = None }) (same_bytes past st q ev e goes ok) was set (le_refl old.generation)
+            (λ b is. absurd (cc)) ok)
         | ThisOne h ↦ subst (λ (r : Past). ClosedOk (after_event past st ev) q r) h
             (still_closed past (after_event past st ev) q (record { slot = s; generation = c.pair.generation; verdict = verdict c.pair; ends = ends })
             (λ side. ap (λ (bytes : List ℕ). past s c.pair.generation side ++ bytes) (brings s c.pair.generation side) ∙ append-nil (past s c.pair.generation side))
@@ -207,9 +220,13 @@ further_closes past st q e events (Some m) now rest all closed shape kept ran = 
     (λ s g side. sym (append_assoc (past s g side) (given_by st s g side e) (given m events s g side)))
     (rest m kept.kept (shape_closes past st m e now all closed shape.kept) ran)
 
-run_closes : (laws : CoreLaws) (past : History) (st q : State) (events : List Event) → AllOk past st → AllClosed past st → run st events ≡ Some q → AllClosed (after_run past st events) q
-run_closes laws past st q [] all closed ran = let same : st ≡ q = cc in subst (λ (m : State). AllClosed (after_run past st []) m) same (renamed_closed past _ st (λ s g side. append-nil (past s g side)) closed)
-run_closes laws past st q (e ∷ events) all closed ran = further_closes past st q e events (step st e) refl (λ m ok later rest. run_closes laws (after_event past st e) m q events ok later rest) all closed (step_shape laws st e) (step_keeps past st e all) ran
+run_closes : (laws : CoreLaws) (past : History) (st q : State) (events : List Event) → AllOk past st → AllClosed past st → run st events ≡ Some q
+    → AllClosed (after_run past st events) q
+run_closes laws past st q [] all closed ran = let same : st ≡ q = cc in
+    subst (λ (m : State). AllClosed (after_run past st []) m) same (renamed_closed past _ st (λ s g side. append-nil (past s g side)) closed)
+run_closes laws past st q (e ∷ events) all closed ran =
+    further_closes past st q e events (step st e) refl (λ m ok later rest. run_closes laws (after_event past st e) m q events ok later rest) all closed (step_shape laws st e)
+    (step_keeps past st e all) ran
 
 opening_closed : (l : Limits) → AllClosed (first_history l) (opening l)
 opening_closed l = record { each = λ i e here. absurd (cc) }

@@ -59,16 +59,19 @@ step_shape laws st (event.Work w a) = kept_bind _ (slice_get st.workers w) (λ k
 
 -- every failure so far, live and closed, is one that this names
 pub record FailuresOk (failed : Failure → Type 0) (st : State) : Type 0 where
-  pub lying : (s : ℕ) (p : SlotState) (c : Connection) (fault : Fault) → slice_get st.slots s ≡ Some p → p.connection ≡ Some c → verdict c.pair ≡ Failed fault → failed (failure s c.pair.generation fault)
+  pub lying : (s : ℕ) (p : SlotState) (c : Connection) (fault : Fault) → slice_get st.slots s ≡ Some p → p.connection ≡ Some c → verdict c.pair ≡ Failed fault
+      → failed (failure s c.pair.generation fault)
   pub closed : (i : ℕ) (p : Past) (fault : Fault) → slice_get st.past i ≡ Some p → p.verdict ≡ Failed fault → failed (failure p.slot p.generation fault)
 
 abbrev pub or_by : (Failure → Type 0) → State → Event → Failure → Type 0
 or_by failed st e f = failed f ⊎ (cause_by st e ≡ Some f)
 
 -- a slot changed, and what lies in it has a known failure
-one_changed : (failed : Failure → Type 0) (st q : State) (e : Event) (s : ℕ) (old new : SlotState) → FailuresOk failed st → slice_get st.slots s ≡ Some old → q.slots ≡ slice_set st.slots s new
+one_changed : (failed : Failure → Type 0) (st q : State) (e : Event) (s : ℕ) (old new : SlotState) → FailuresOk failed st → slice_get st.slots s ≡ Some old
+    → q.slots ≡ slice_set st.slots s new
     → ((c : Connection) (fault : Fault) → new.connection ≡ Some c → verdict c.pair ≡ Failed fault → or_by failed st e (failure s c.pair.generation fault))
-    → (i : ℕ) (p : SlotState) (c : Connection) (fault : Fault) → slice_get q.slots i ≡ Some p → p.connection ≡ Some c → verdict c.pair ≡ Failed fault → or_by failed st e (failure i c.pair.generation fault)
+    → (i : ℕ) (p : SlotState) (c : Connection) (fault : Fault) → slice_get q.slots i ≡ Some p → p.connection ≡ Some c → verdict c.pair ≡ Failed fault
+    → or_by failed st e (failure i c.pair.generation fault)
 one_changed failed st q e s old new ok was set f i p c fault here lying failing = elim (tell (i == s)) [
   | Yes h ↦ (let same : i ≡ s = eqb-true i s h in
       let is : slice_get (slice_set st.slots s new) s ≡ Some new = get-set_same st.slots s old new was in
@@ -79,7 +82,8 @@ one_changed failed st q e s old new ok was set f i p c fault here lying failing 
       inl (ok.lying i p c fault (sym (get-set_other st.slots s i new (λ same. differ (sym same))) ∙ (rw set at here)) lying failing))
 ]
 
-continued : (failed : Failure → Type 0) (st : State) (e : Event) (s : ℕ) (old : SlotState) (b c : Connection) (fault : Fault) → FailuresOk failed st → slice_get st.slots s ≡ Some old → old.connection ≡ Some b → Continues st e s b c
+continued : (failed : Failure → Type 0) (st : State) (e : Event) (s : ℕ) (old : SlotState) (b c : Connection) (fault : Fault) → FailuresOk failed st
+    → slice_get st.slots s ≡ Some old → old.connection ≡ Some b → Continues st e s b c
     → (verdict b.pair ≡ Failed fault) ⊎ (cause_by st e ≡ Some (failure s b.pair.generation fault)) → or_by failed st e (failure s c.pair.generation fault)
 continued failed st e s old b c fault ok was lying goes (inl before) = rw (goes.generation) (inl (ok.lying s old b fault was lying before))
 continued failed st e s old b c fault ok was lying goes (inr by_this) = rw (goes.generation) (inr by_this)
@@ -149,7 +153,8 @@ known_call : (first : State) (events : List Event) (s g : ℕ) (fault : Fault) �
 known_call first events s g (Broken side call kind) is h = h
 known_call first events s g Idle is h = absurd is
 
-broken_next : (kind : Kind) (s : ℕ) (c : Connection) (f : Failure) (o : Option Call) → option_map (λ (call : Call). failure s c.pair.generation (fault_of kind call)) o ≡ Some f → is_broken f.fault
+broken_next : (kind : Kind) (s : ℕ) (c : Connection) (f : Failure) (o : Option Call) → option_map (λ (call : Call). failure s c.pair.generation (fault_of kind call)) o ≡ Some f
+    → is_broken f.fault
 broken_next kind s c f None h = absurd (cc)
 broken_next kind s c f (Some call) h = let same : failure s c.pair.generation (fault_of kind call) ≡ f = cc in subst (λ (x : Failure). is_broken x.fault) same tt
 
@@ -157,7 +162,8 @@ broken_at : (kind : Kind) (s : ℕ) (f : Failure) (o : Option Connection) → op
 broken_at kind s f None h = absurd (cc)
 broken_at kind s f (Some c) h = broken_next kind s c f (next_call c.pair) h
 
-broken_by : (st : State) (kind : Kind) (f : Failure) (o : Option ℕ) → option_and_then (λ (s : ℕ). option_and_then (λ (c : Connection). next_fails kind s c) (connection_at st s)) o ≡ Some f → is_broken f.fault
+broken_by : (st : State) (kind : Kind) (f : Failure) (o : Option ℕ) → option_and_then (λ (s : ℕ). option_and_then (λ (c : Connection). next_fails kind s c) (connection_at st s)) o
+    ≡ Some f → is_broken f.fault
 broken_by st kind f None h = absurd (cc)
 broken_by st kind f (Some s) h = broken_at kind s f (connection_at st s) h
 
@@ -178,7 +184,8 @@ expired_now first st done w f (Some x) ran holds idle h =
       idle = idle x holds;
     })
 
-called_now : (first st : State) (done : List Event) (w : ℕ) (r : Reply) (f : Failure) → run first done ≡ Some st → failure_by st (event.Work w (act.Call r)) ≡ Some f → known first (done ++ event.Work w (act.Call r) ∷ []) f
+called_now : (first st : State) (done : List Event) (w : ℕ) (r : Reply) (f : Failure) → run first done ≡ Some st → failure_by st (event.Work w (act.Call r)) ≡ Some f
+    → known first (done ++ event.Work w (act.Call r) ∷ []) f
 called_now first st done w (reply.Failed kind) f ran now = known_call first (done ++ event.Work w (act.Call (reply.Failed kind)) ∷ []) f.slot f.generation f.fault
     (broken_by st kind f (held_by st w) now) (failed_now first st done (event.Work w (act.Call (reply.Failed kind))) f ran now)
 called_now first st done w (reply.Bytes n) f ran now = absurd (cc)
@@ -189,8 +196,10 @@ called_now first st done w reply.Shut f ran now = absurd (cc)
 called_now first st done w reply.Blocked f ran now = absurd (cc)
 called_now first st done w reply.Interrupted f ran now = absurd (cc)
 
-known_now : (laws : CoreLaws) (first st q : State) (done : List Event) (e : Event) (f : Failure) → run first done ≡ Some st → TimesOk first done st → step st e ≡ Some q → cause_by st e ≡ Some f → known first (done ++ e ∷ []) f
-known_now laws first st q done (event.Work w act.Expire) f ran times made now = expired_now first st done w f (held_connection st w) ran refl (expires_idle laws first st q done w times made) now
+known_now : (laws : CoreLaws) (first st q : State) (done : List Event) (e : Event) (f : Failure) → run first done ≡ Some st → TimesOk first done st → step st e ≡ Some q
+    → cause_by st e ≡ Some f → known first (done ++ e ∷ []) f
+known_now laws first st q done (event.Work w act.Expire) f ran times made now = expired_now first st done w f (held_connection st w) ran refl
+    (expires_idle laws first st q done w times made) now
 known_now laws first st q done (event.Work w (act.Call r)) f ran times made now = called_now first st done w r f ran now
 known_now laws first st q done (event.Work w act.Put) f ran times made now = absurd (cc)
 known_now laws first st q done (event.Work w act.Pop) f ran times made now = absurd (cc)
@@ -219,7 +228,8 @@ pub record AllKnown (first : State) (done : List Event) (st : State) : Type 0 wh
   pub times : TimesOk first done st
   pub failures : FailuresOk (known first done) st
 
-step_known : (laws : CoreLaws) (first st q : State) (done : List Event) (e : Event) → run first done ≡ Some st → step st e ≡ Some q → AllKnown first done st → AllKnown first (done ++ e ∷ []) q
+step_known : (laws : CoreLaws) (first st q : State) (done : List Event) (e : Event) → run first done ≡ Some st → step st e ≡ Some q → AllKnown first done st
+    → AllKnown first (done ++ e ∷ []) q
 step_known laws first st q done e ran made all =
     let shape : Shape st e q = kept_at (step st e) q made (step_shape laws st e) in record {
       times = times_after first st q done e ran shape (kept_at (step st e) q made (step_moves st e)) all.times;
@@ -228,7 +238,8 @@ step_known laws first st q done e ran made all =
           (shape_fails (known first done) st q e all.failures shape);
     }
 
-run_known : (laws : CoreLaws) (first st q : State) (done events : List Event) → run first done ≡ Some st → AllKnown first done st → run st events ≡ Some q → AllKnown first (done ++ events) q
+run_known : (laws : CoreLaws) (first st q : State) (done events : List Event) → run first done ≡ Some st → AllKnown first done st → run st events ≡ Some q
+    → AllKnown first (done ++ events) q
 run_known laws first st q done [] ran all rest = let same : st ≡ q = cc in rw (append-nil done) (subst (λ (m : State). AllKnown first done m) same all)
 run_known laws first st q done (e ∷ events) ran all rest =
     let m : (m : State) × (step st e ≡ Some m) × (run m events ≡ Some q) = goes_on (step st e) q events refl rest in
@@ -244,7 +255,8 @@ opening_fails l = record {
 
 pub failures_hold : (laws : CoreLaws) (l : Limits) (events : List Event) (st : State) → run (opening l) events ≡ Some st → FailuresHold (opening l) st events
 failures_hold laws l events st ran =
-    let all : AllKnown (opening l) events st = run_known laws (opening l) (opening l) st [] events refl (record { times = opening_times l; failures = opening_fails l }) ran in record {
+    let all : AllKnown (opening l) events st = run_known laws (opening l) (opening l) st [] events refl (record { times = opening_times l; failures = opening_fails l }) ran in
+    record {
       lying = λ s c fault at_s failing. (let here : Lies (slice_get st.slots s) c = lies (slice_get st.slots s) c at_s in
           all.failures.lying s here.place c fault here.there here.connection failing);
       closed = λ i p fault here failing. all.failures.closed i p fault here failing;

@@ -71,15 +71,19 @@ later_or_same : (b : Bool) (m n : ℕ) → m ≤ n → (m ≤ (if b then n else 
 later_or_same true m n h = (h, le_refl n)
 later_or_same false m n h = (le_refl m, h)
 
-blames : (laws : CoreLaws) (st : State) (w s left : ℕ) (k : WorkerState) (kernel : KernelState) (c : Connection) (call : Call) (said : Reply) (t : answer.AnswerValue) → Caller st w s left k c → AnswersNext c.pair call t
-    → told_of (record { kernel = kernel; connection = c }) call said ≡ Some t → (fault : Fault) → verdict (after st.second c.pair call t) ≡ Failed fault → failure_by st (event.Work w (act.Call said)) ≡ Some (failure s c.pair.generation fault)
+blames : (laws : CoreLaws) (st : State) (w s left : ℕ) (k : WorkerState) (kernel : KernelState) (c : Connection) (call : Call) (said : Reply) (t : answer.AnswerValue)
+    → Caller st w s left k c → AnswersNext c.pair call t
+    → told_of (record { kernel = kernel; connection = c }) call said ≡ Some t → (fault : Fault) → verdict (after st.second c.pair call t) ≡ Failed fault
+    → failure_by st (event.Work w (act.Call said)) ≡ Some (failure s c.pair.generation fault)
 blames laws st w s left k kernel c call said t caller answers told fault failed =
     let tells : TellsOf call t fault = (laws.failures st.second c.pair call t fault answers).0 failed in
-    let said_is : said ≡ reply.Failed tells.kind = failed_told (record { kernel = kernel; connection = c }) call said tells.kind (told ∙ ap (λ (u : answer.AnswerValue). Some u) tells.failed) in
+    let said_is : said ≡ reply.Failed tells.kind = failed_told (record { kernel = kernel; connection = c }) call said tells.kind (told
+    ∙ ap (λ (u : answer.AnswerValue). Some u) tells.failed) in
     let fault_is : fault_of tells.kind call ≡ fault = sym tells.told in
     rw (said_is, caller.there, caller.holds, caller.lies, answers.next) (ap (λ (f : Fault). Some (failure s c.pair.generation f)) fault_is)
 
-replied_continues : (laws : CoreLaws) (st : State) (w s left : ℕ) (k : WorkerState) (kernel : KernelState) (c : Connection) (call : Call) (said : Reply) → Caller st w s left k c → next_call c.pair ≡ Some call
+replied_continues : (laws : CoreLaws) (st : State) (w s left : ℕ) (k : WorkerState) (kernel : KernelState) (c : Connection) (call : Call) (said : Reply) → Caller st w s left k c
+    → next_call c.pair ≡ Some call
     → Kept (λ (line : OpenConnection). Continues st (event.Work w (act.Call said)) s c line.connection) (replied st.second (record { kernel = kernel; connection = c }) call said)
 replied_continues laws st w s left k kernel c call said caller next =
     kept_bind _ (told_of (record { kernel = kernel; connection = c }) call said) (λ t told.
@@ -95,19 +99,23 @@ called_continues : (laws : CoreLaws) (st : State) (w s left : ℕ) (k : WorkerSt
 unfolding called
 called_continues laws st w s left k kernel c said caller = kept_bind _ (next_call c.pair) (λ call next. replied_continues laws st w s left k kernel c call said caller next)
 
-continuing : (st : State) (e : Event) (s : ℕ) (p : SlotState) (c : Connection) (line : OpenConnection) → p.connection ≡ Some c → Continues st e s c line.connection → Stays st e s p (record p { connection = Some line.connection })
+continuing : (st : State) (e : Event) (s : ℕ) (p : SlotState) (c : Connection) (line : OpenConnection) → p.connection ≡ Some c → Continues st e s c line.connection
+    → Stays st e s p (record p { connection = Some line.connection })
 continuing st e s p c line lying goes = record {
   generation = refl;
   connection = λ b here. (let is : line.connection ≡ b = cc in (c, lying, subst (λ (d : Connection). Continues st e s c d) is goes));
 }
 
-lodged_stays : (laws : CoreLaws) (st : State) (w s left : ℕ) (k : WorkerState) (p : SlotState) (said : Reply) → slice_get st.workers w ≡ Some k → k.doing ≡ Holds s left → slice_get st.slots s ≡ Some p
+lodged_stays : (laws : CoreLaws) (st : State) (w s left : ℕ) (k : WorkerState) (p : SlotState) (said : Reply) → slice_get st.workers w ≡ Some k → k.doing ≡ Holds s left
+    → slice_get st.slots s ≡ Some p
     → Kept (λ (l : OpenSlot). Stays st (event.Work w (act.Call said)) s p l.place) (slot_call st.second (record { kernel = st.kernel; place = p }) said)
 unfolding slot_call
 lodged_stays laws st w s left k p said there holds here = kept_bind _ p.connection (λ c lying.
-    kept_then _ _ (λ line goes. continuing st (event.Work w (act.Call said)) s p c line lying goes) (called_continues laws st w s left k st.kernel c said (record { there = there; holds = holds; lies = rw here lying })))
+    kept_then _ _ (λ line goes. continuing st (event.Work w (act.Call said)) s p c line lying goes)
+    (called_continues laws st w s left k st.kernel c said (record { there = there; holds = holds; lies = rw here lying })))
 
-pub call_shape : (laws : CoreLaws) (st : State) (w : ℕ) (k : WorkerState) (d : Doing) (said : Reply) → slice_get st.workers w ≡ Some k → k.doing ≡ d → Kept (Shape st (event.Work w (act.Call said))) (Steps.call st w k d said)
+pub call_shape : (laws : CoreLaws) (st : State) (w : ℕ) (k : WorkerState) (d : Doing) (said : Reply) → slice_get st.workers w ≡ Some k → k.doing ≡ d
+    → Kept (Shape st (event.Work w (act.Call said))) (Steps.call st w k d said)
 call_shape laws st w k (Holds s left) said there holds = kept_when (nat_lt 0 left) _ (λ some.
     kept_bind _ (slice_get st.slots s) (λ p here.
     kept_then _ _ (λ l stays. Changed s p l.place here refl refl (record { limits = refl; second = le_refl _ }) stays) (lodged_stays laws st w s left k p said there holds here)))

@@ -96,7 +96,8 @@ lodged_moves now l r is = kept_bind _ l.place.connection (λ c was.
     kept_then _ (called now (record { kernel = l.kernel; connection = c }) r) (λ line moved. record { connection = line.connection; is = refl; moved = moved })
     (called_moves now (record { kernel = l.kernel; connection = c }) r is))
 
-held_is : (st : State) (w s left : ℕ) (k : WorkerState) (p : SlotState) (c : Connection) → slice_get st.workers w ≡ Some k → k.doing ≡ Holds s left → slice_get st.slots s ≡ Some p → p.connection ≡ Some c
+held_is : (st : State) (w s left : ℕ) (k : WorkerState) (p : SlotState) (c : Connection) → slice_get st.workers w ≡ Some k → k.doing ≡ Holds s left → slice_get st.slots s ≡ Some p
+    → p.connection ≡ Some c
     → held_connection st w ≡ Some (named s c.pair.generation)
 held_is st w s left k p c there does here lying = rw (there, does, here, lying) refl
 
@@ -107,7 +108,8 @@ here_now st q s old new was set moved i p c here lying same =
     let is : slice_get (slice_set st.slots s new) s ≡ Some new = get-set_same st.slots s old new was in
     let stands : slice_get (slice_set st.slots s new) s ≡ Some p = rw (← same, set) at here in
     let one : new ≡ p = cc in
-    let both : moved.connection ≡ c = (let lies : new.connection ≡ Some c = ap (λ (r : SlotState). r.connection) one ∙ lying in let is_there : new.connection ≡ Some moved.connection = moved.is in cc) in
+    let both : moved.connection ≡ c = (let lies : new.connection ≡ Some c = ap (λ (r : SlotState). r.connection) one ∙ lying in let is_there : new.connection
+    ≡ Some moved.connection = moved.is in cc) in
     rw (← both, moved.moved) (le_refl st.second)
 
 names_slot : (o : Option Named) (s g i h : ℕ) → o ≡ Some (named s g) → o ≡ Some (named i h) → s ≡ i
@@ -119,18 +121,23 @@ pub record CallMoves (st : State) (w s : ℕ) (new : SlotState) : Type 0 where
   pub held : held_connection st w ≡ Some (named s generation)
   pub moved : MovedPlace st.second new
 
-there_before : (st : State) (w s left : ℕ) (k : WorkerState) (p : SlotState) (r : Reply) (o : Option Connection) → p.connection ≡ o → slice_get st.workers w ≡ Some k → k.doing ≡ Holds s left → slice_get st.slots s ≡ Some p
-    → Kept (λ (m : OpenSlot). MovedPlace st.second m.place) (slot_call st.second (record { kernel = st.kernel; place = p }) r) → Kept (λ (m : OpenSlot). CallMoves st w s m.place) (slot_call st.second (record { kernel = st.kernel; place = p }) r)
+there_before : (st : State) (w s left : ℕ) (k : WorkerState) (p : SlotState) (r : Reply) (o : Option Connection) → p.connection ≡ o → slice_get st.workers w ≡ Some k
+    → k.doing ≡ Holds s left → slice_get st.slots s ≡ Some p
+    → Kept (λ (m : OpenSlot). MovedPlace st.second m.place) (slot_call st.second (record { kernel = st.kernel; place = p }) r)
+    → Kept (λ (m : OpenSlot). CallMoves st w s m.place) (slot_call st.second (record { kernel = st.kernel; place = p }) r)
 unfolding slot_call
 there_before st w s left k p r None lying there does here moved = rw lying (record { kept = tt })
-there_before st w s left k p r (Some c) lying there does here moved = kept_more (λ m h. record { generation = c.pair.generation; held = held_is st w s left k p c there does here lying; moved = h }) _ moved
+there_before st w s left k p r (Some c) lying there does here moved =
+    kept_more (λ m h. record { generation = c.pair.generation; held = held_is st w s left k p c there does here lying; moved = h }) _ moved
 
 call_moves : (st : State) (w : ℕ) (k : WorkerState) (d : Doing) (r : Reply) → slice_get st.workers w ≡ Some k → k.doing ≡ d → is_movement r ≡ true
-    → Kept (λ (q : State). (i : ℕ) (p : SlotState) (c : Connection) → slice_get q.slots i ≡ Some p → p.connection ≡ Some c → held_connection st w ≡ Some (named i c.pair.generation) → st.second ≤ c.pair.moved) (Steps.call st w k d r)
+    → Kept (λ (q : State). (i : ℕ) (p : SlotState) (c : Connection) → slice_get q.slots i ≡ Some p → p.connection ≡ Some c → held_connection st w ≡ Some (named i c.pair.generation)
+    → st.second ≤ c.pair.moved) (Steps.call st w k d r)
 call_moves st w k (Holds s left) r there does is = kept_when (nat_lt 0 left) _ (λ some.
     kept_bind _ (slice_get st.slots s) (λ old was.
     kept_then _ (slot_call st.second (record { kernel = st.kernel; place = old }) r)
-    (λ l by i p c here lying holds. here_now st (Steps.doing (with_place (record st { kernel = l.kernel }) s l.place) w k (Holds s (left - 1))) s old l.place was refl by.moved i p c here lying
+    (λ l by i p c here lying holds. here_now st (Steps.doing (with_place (record st { kernel = l.kernel }) s l.place) w k (Holds s (left - 1))) s old l.place was refl by.moved i p
+    c here lying
     (names_slot (held_connection st w) s by.generation i c.pair.generation by.held holds))
     (there_before st w s left k old r old.connection refl there does was (lodged_moves st.second (record { kernel = st.kernel; place = old }) r is))))
 call_moves st w k Idle r there does is = kept_none
@@ -142,7 +149,8 @@ not_moved : (b : Bool) (o : Option Named) (x : Named) → (if b then o else None
 not_moved true o x h = (refl, h)
 not_moved false o x h = absurd (cc)
 
-worker_moves : (st : State) (w : ℕ) (k : WorkerState) (r : Reply) (b : Bool) → is_movement r ≡ b → slice_get st.workers w ≡ Some k → Kept (MovesNow st (event.Work w (act.Call r))) (Steps.call st w k k.doing r)
+worker_moves : (st : State) (w : ℕ) (k : WorkerState) (r : Reply) (b : Bool) → is_movement r ≡ b → slice_get st.workers w ≡ Some k
+    → Kept (MovesNow st (event.Work w (act.Call r))) (Steps.call st w k k.doing r)
 worker_moves st w k r true is there = kept_more
     (λ q moved i p c here lying moves_it. moved i p c here lying (not_moved (is_movement r) (held_connection st w) (named i c.pair.generation) moves_it).1)
     _ (call_moves st w k k.doing r there refl is)
@@ -187,7 +195,8 @@ step_moves st (event.Work w act.Free) = still st (event.Work w act.Free) refl
 abbrev pub IdleSo : State → State → List Event → ℕ → Type 0
 IdleSo first st done w = (x : Named) → held_connection st w ≡ Some x → Throughout (LiesBack st.second first.limits.idle x) first done
 
-idle_at : (laws : CoreLaws) (first st : State) (done : List Event) (w s left : ℕ) (k : WorkerState) (p q : SlotState) → TimesOk first done st → slice_get st.workers w ≡ Some k → k.doing ≡ Holds s left → slice_get st.slots s ≡ Some p
+idle_at : (laws : CoreLaws) (first st : State) (done : List Event) (w s left : ℕ) (k : WorkerState) (p q : SlotState) → TimesOk first done st → slice_get st.workers w ≡ Some k
+    → k.doing ≡ Holds s left → slice_get st.slots s ≡ Some p
     → Expired st.second st.limits.idle p q → IdleSo first st done w
 idle_at laws first st done w s left k p q times there does here x y holds =
     let c : Connection = x.connection in
@@ -196,10 +205,12 @@ idle_at laws first st done w s left k p q times there does here x y holds =
     let before : c.pair.moved ≤ st.second = late.before in
     let long : st.limits.idle ≤ st.second - c.pair.moved = late.long in
     let same : st.limits.idle ≡ first.limits.idle = ap (λ (l : Limits). l.idle) times.limits in
-    subst (λ (n : Named). Throughout (LiesBack st.second first.limits.idle n) first done) is (throughout_more (MovesBy c.pair.moved (named s c.pair.generation)) (LiesBack st.second first.limits.idle (named s c.pair.generation))
+    subst (λ (n : Named). Throughout (LiesBack st.second first.limits.idle n) first done) is
+    (throughout_more (MovesBy c.pair.moved (named s c.pair.generation)) (LiesBack st.second first.limits.idle (named s c.pair.generation))
     (λ m e by moved. (let early : m.second ≤ c.pair.moved = by moved in omega arith)) first done (times.moved s p c here x.was).each)
 
-doing_idle : (laws : CoreLaws) (first st : State) (done : List Event) (w : ℕ) (k : WorkerState) (d : Doing) → TimesOk first done st → slice_get st.workers w ≡ Some k → k.doing ≡ d → Kept (λ (q : State). IdleSo first st done w) (Steps.expire st d)
+doing_idle : (laws : CoreLaws) (first st : State) (done : List Event) (w : ℕ) (k : WorkerState) (d : Doing) → TimesOk first done st → slice_get st.workers w ≡ Some k → k.doing ≡ d
+    → Kept (λ (q : State). IdleSo first st done w) (Steps.expire st d)
 doing_idle laws first st done w k (Holds s left) times there does = kept_bind _ (slice_get st.slots s) (λ p here.
     kept_then (λ (q : SlotState). with_place st s q) (expired_place st.second st.limits.idle p) (λ q x. idle_at laws first st done w s left k p q times there does here x)
     (expired_so st.second st.limits.idle p))

@@ -82,9 +82,11 @@ pub ends_there : (st : State) (s g : ℕ) (c : Connection) (ends : Sockets) (sid
     → (other : Side) → end_at (slice_set st.kernel.ends (descriptor c.ends side) (Some (registered s g side t.value))) (descriptor c.ends other)
     ≡ Some (registered s g other (socket_of (with_socket ends side t.value) other))
 ends_there st s g c ends Client t there Client = end_same st.kernel.ends c.ends.client (registered s g Client ends.client) _ (there Client)
-ends_there st s g c ends Client t there Target = end_kept st.kernel.ends c.ends.client c.ends.target (registered s g Client ends.client) (registered s g Target ends.target) _ (there Client) (there Target)
+ends_there st s g c ends Client t there Target = end_kept st.kernel.ends c.ends.client c.ends.target (registered s g Client ends.client) (registered s g Target ends.target) _
+    (there Client) (there Target)
     (λ same. let sides : Target ≡ Client = ap (λ (n : EndName). n.side) same in absurd (cc))
-ends_there st s g c ends Target t there Client = end_kept st.kernel.ends c.ends.target c.ends.client (registered s g Target ends.target) (registered s g Client ends.client) _ (there Target) (there Client)
+ends_there st s g c ends Target t there Client = end_kept st.kernel.ends c.ends.target c.ends.client (registered s g Target ends.target) (registered s g Client ends.client) _
+    (there Target) (there Client)
     (λ same. let sides : Client ≡ Target = ap (λ (n : EndName). n.side) same in absurd (cc))
 ends_there st s g c ends Target t there Target = end_same st.kernel.ends c.ends.target (registered s g Target ends.target) _ (there Target)
 
@@ -107,7 +109,8 @@ third_false : (a b : Bool) → b ≡ false → (a && b) ≡ false
 third_false true b h = h
 third_false false b h = refl
 
-this_place : (past next : History) (st : State) (s : ℕ) (side : Side) (bytes : List ℕ) (p : SlotState) (c : Connection) (t : Told EndState Bool) (ok : ConnectionOk past st s p.generation p.notes c)
+this_place : (past next : History) (st : State) (s : ℕ) (side : Side) (bytes : List ℕ) (p : SlotState) (c : Connection) (t : Told EndState Bool)
+    (ok : ConnectionOk past st s p.generation p.notes c)
     → BringsTo st s side bytes past next → slice_get st.slots s ≡ Some p → p.connection ≡ Some c → IsChange bytes (socket_of ok.ends side) t
     → SlotOk past st s p → SlotOk next (after_change st (descriptor c.ends side) (registered s p.generation side (socket_of ok.ends side)) t) s p
 this_place past next st s side bytes p c t ok brings here lying change slot = record {
@@ -123,10 +126,14 @@ this_place past next st s side bytes p c t ok brings here lying change slot = re
     ends = with_socket ok.ends side t.value;
     there = ends_there st s p.generation c ok.ends side t ok.there;
     pair = pair_changed (past s p.generation) (next s p.generation) _ _ c.pair ok.ends side bytes t change
-        (brings s p.generation side ∙ all_if _ (past s p.generation side) bytes (three (s == s) (side_number side == side_number side) _ (eq-eqb s s refl) (same_side side) (rw here (eq-eqb p.generation p.generation refl))))
+        (brings s p.generation side
+        ∙ all_if _ (past s p.generation side) bytes (three (s == s) (side_number side == side_number side) _ (eq-eqb s s refl) (same_side side)
+        (rw here (eq-eqb p.generation p.generation refl))))
         (brings s p.generation (other_side side) ∙ none_if _ (past s p.generation (other_side side)) bytes (second_false (s == s) _ _ (other_differs side)))
         (λ other h. or_then _ (is_nonempty p.notes) _
-        (λ k. or_left _ (is_nonempty p.notes) (or_then _ _ _ (λ a. or_left _ _ (has_reported (name.End (token_at s other p.generation)) (name.End (token_at s side p.generation)) t.told st.kernel.queue a)) (λ a. or_right _ _ a) k))
+        (λ k. or_left _ (is_nonempty p.notes)
+        (or_then _ _ _ (λ a. or_left _ _ (has_reported (name.End (token_at s other p.generation)) (name.End (token_at s side p.generation)) t.told st.kernel.queue a))
+        (λ a. or_right _ _ a) k))
         (λ k. or_right _ (is_nonempty p.notes) k) h)
         (λ told. or_left _ _ (or_left _ _ (is_reported (name.End (token_at s side p.generation)) t.told st.kernel.queue told)))
         ok.pair;

@@ -42,7 +42,8 @@ others_open k s g d b here =
 
 client_opens : (k : KernelState) (s g : ℕ) → end_at (with_both k s g) (lowest_free k.ends) ≡ Some (registered s g Client (opened Client))
 client_opens k s g =
-    opened_other (with_client k s g) (lowest_free (with_client k s g)) (lowest_free k.ends) (registered s g Target (opened Target)) (registered s g Client (opened Client)) (lowest_is_free (with_client k s g))
+    opened_other (with_client k s g) (lowest_free (with_client k s g)) (lowest_free k.ends) (registered s g Target (opened Target)) (registered s g Client (opened Client))
+    (lowest_is_free (with_client k s g))
     (opened_here k.ends (lowest_free k.ends) (registered s g Client (opened Client)) (lowest_is_free k.ends))
 
 target_opens : (k : KernelState) (s g : ℕ) → end_at (with_both k s g) (lowest_free (with_client k s g)) ≡ Some (registered s g Target (opened Target))
@@ -56,7 +57,8 @@ fresh_direction gave ring lead x y same = record {
   last = record { ended = λ h. absurd (cc); empty = λ h. absurd (cc) };
 }
 
-fresh_pair : (h : Side → List ℕ) (r : Side → Bool) (s g : ℕ) (l : Limits) (now : ℕ) → ((side : Side) → h side ≡ before l side) → PairOk h r (fresh s g l.ring now l.lead) both_opened
+fresh_pair : (h : Side → List ℕ) (r : Side → Bool) (s g : ℕ) (l : Limits) (now : ℕ) → ((side : Side) → h side ≡ before l side)
+    → PairOk h r (fresh s g l.ring now l.lead) both_opened
 fresh_pair h r s g l now same = record {
   covered = by_side _ (record { read = refl; write = refl }) (record { read = refl; write = refl });
   directions = by_direction _ (fresh_direction (h Client) l.ring l.lead Client Target (same Client)) (fresh_direction (h Target) l.ring [] Target Client (same Target));
@@ -71,12 +73,17 @@ abbrev pub fresh_world : State → ℕ → ℕ → State
 fresh_world st s g = opened_world st s g (open_both st.kernel (token_at s Client g) (token_at s Target g))
 
 fresh_slot : (past next : History) (st : State) (s g : ℕ) (p : SlotState) → Quiet past next → slice_get st.table s ≡ Some g → SlotOk past st s p
-    → SlotOk next (fresh_world st s (g + 1)) s (opened_place s (g + 1) st.limits st.second (record { client = lowest_free st.kernel.ends; target = lowest_free (with_client st.kernel s (g + 1)) }))
+    → SlotOk next (fresh_world st s (g + 1)) s
+    (opened_place s (g + 1) st.limits st.second (record { client = lowest_free st.kernel.ends; target = lowest_free (with_client st.kernel s (g + 1)) }))
 fresh_slot past next st s g p quiet entry ok =
     let same : p.generation ≡ g = (let is : slice_get st.table s ≡ Some p.generation = ok.entry in cc) in record {
       entry = get-set_same st.table s g (g + 1) entry;
       later = λ h side younger. quiet s h side ∙ ok.later h side (omega arith);
-      connection = λ c here. (let is : record { pair = fresh s (g + 1) st.limits.ring st.second st.limits.lead; ends = record { client = lowest_free st.kernel.ends; target = lowest_free (with_client st.kernel s (g + 1)) } } ≡ c = cc in
+      connection = λ c here.
+          (let is : record {
+            pair = fresh s (g + 1) st.limits.ring st.second st.limits.lead;
+            ends = record { client = lowest_free st.kernel.ends; target = lowest_free (with_client st.kernel s (g + 1)) };
+          } ≡ c = cc in
           subst (λ (b : Connection). ConnectionOk next (fresh_world st s (g + 1)) s (g + 1) ((g + 1) ∷ []) b) is (record {
             generation = refl;
             up = refl;

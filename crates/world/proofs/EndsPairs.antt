@@ -72,7 +72,8 @@ pub pair_changed : (h i : Side → List ℕ) (r q : Side → Bool) (p : PairStat
     → PairOk h r p ends → PairOk i q p (with_socket ends side t.value)
 pair_changed h i r q p ends Client bytes t change came kept more tells ok = record {
   covered = by_side _
-      (end_more p.client t.value (r Client || t.told) (q Client) (or_then (r Client) t.told (q Client) (more Client) tells) (change.covered p.client (r Client) (ok.covered Client)))
+      (end_more p.client t.value (r Client || t.told) (q Client) (or_then (r Client) t.told (q Client) (more Client) tells)
+      (change.covered p.client (r Client) (ok.covered Client)))
       (end_more p.target ends.target (r Target) (q Target) (more Target) (ok.covered Target));
   directions = by_direction _
       (same_gave (h Client ++ bytes) (i Client) p.up t.value ends.target came (source_changed (h Client) bytes p.up ends.client ends.target t change (ok.directions Up)))
@@ -81,7 +82,8 @@ pair_changed h i r q p ends Client bytes t change came kept more tells ok = reco
 pair_changed h i r q p ends Target bytes t change came kept more tells ok = record {
   covered = by_side _
       (end_more p.client ends.client (r Client) (q Client) (more Client) (ok.covered Client))
-      (end_more p.target t.value (r Target || t.told) (q Target) (or_then (r Target) t.told (q Target) (more Target) tells) (change.covered p.target (r Target) (ok.covered Target)));
+      (end_more p.target t.value (r Target || t.told) (q Target) (or_then (r Target) t.told (q Target) (more Target) tells)
+      (change.covered p.target (r Target) (ok.covered Target)));
   directions = by_direction _
       (same_gave (h Client) (i Client) p.up ends.client t.value kept (destination_changed (h Client) bytes p.up ends.client ends.target t change (ok.directions Up)))
       (same_gave (h Target ++ bytes) (i Target) p.down t.value ends.client came (source_changed (h Target) bytes p.down ends.target ends.client t change (ok.directions Down)));

@@ -57,7 +57,8 @@ rests_keep past next st q quiet r all = keep_all past next st q r.slots (λ i. r
   pending = λ side g entry h. r.pending i side g entry h;
 }) all
 
-pub over_map : {X : Type 0} (P : State → Type 0) (st : State) (f : X → KernelState) (o : Option X) → ((x : X) → o ≡ Some x → P (record st { kernel = f x })) → Kept P (over_kernel st (option_map f o))
+pub over_map : {X : Type 0} (P : State → Type 0) (st : State) (f : X → KernelState) (o : Option X) → ((x : X) → o ≡ Some x → P (record st { kernel = f x }))
+    → Kept P (over_kernel st (option_map f o))
 over_map P st f None h = record { kept = tt }
 over_map P st f (Some x) h = record { kept = h x refl }
 
@@ -90,14 +91,20 @@ pair_unready : (h i : Side → List ℕ) (r q : Side → Bool) (p : PairState) (
     → PairOk h r p ends → PairOk i q p ends
 pair_unready h i r q p ends Client unread unwritten same more ok = record {
   covered = by_side _
-      (record { read = cover_unready p.client.read ends.client.read_armed _ _ _ unread (ok.covered Client).read; write = cover_unready p.client.write ends.client.write_armed _ _ _ unwritten (ok.covered Client).write })
+      (record {
+        read = cover_unready p.client.read ends.client.read_armed _ _ _ unread (ok.covered Client).read;
+        write = cover_unready p.client.write ends.client.write_armed _ _ _ unwritten (ok.covered Client).write;
+      })
       (end_more p.target ends.target (r Target) (q Target) more (ok.covered Target));
   directions = λ d. same_gave _ _ _ _ _ (same _) (ok.directions d);
 }
 pair_unready h i r q p ends Target unread unwritten same more ok = record {
   covered = by_side _
       (end_more p.client ends.client (r Client) (q Client) more (ok.covered Client))
-      (record { read = cover_unready p.target.read ends.target.read_armed _ _ _ unread (ok.covered Target).read; write = cover_unready p.target.write ends.target.write_armed _ _ _ unwritten (ok.covered Target).write });
+      (record {
+        read = cover_unready p.target.read ends.target.read_armed _ _ _ unread (ok.covered Target).read;
+        write = cover_unready p.target.write ends.target.write_armed _ _ _ unwritten (ok.covered Target).write;
+      });
   directions = λ d. same_gave _ _ _ _ _ (same _) (ok.directions d);
 }
 
@@ -129,7 +136,8 @@ vanish_end past next st s side c quiet at_s all =
     let slot : SlotOk past st s l.place = all.each s l.place l.there in
     let ok : ConnectionOk past st s l.place.generation l.place.notes c = slot.connection c l.connection in
     let n : EndName = token_at s side l.place.generation in
-    rw (ok.there side) (over_guard (AllOk next) st (has (name.End n) st.kernel.queue && is_quiet_end (Some (registered s l.place.generation side (socket_of ok.ends side)))) _ (λ may. keep_but past next st (unreported st n) s
+    rw (ok.there side) (over_guard (AllOk next) st (has (name.End n) st.kernel.queue && is_quiet_end (Some (registered s l.place.generation side (socket_of ok.ends side)))) _
+    (λ may. keep_but past next st (unreported st n) s
     (λ i p differ here. here)
     (λ i differ. record {
       history = λ g t. quiet i g t;
@@ -180,12 +188,15 @@ listen_keeps past next st listening.Connect quiet all = over_guard (AllOk next) 
   table = refl;
   limits = refl;
   ends = refl;
-  pending = λ i side g entry h. or_then _ _ _ (λ k. or_left _ _ (has_reported (name.End (token_at i side g)) name.Listener st.kernel.armed st.kernel.queue k)) (λ k. or_right _ _ k) h;
+  pending = λ i side g entry h. or_then _ _ _ (λ k. or_left _ _ (has_reported (name.End (token_at i side g)) name.Listener st.kernel.armed st.kernel.queue k)) (λ k. or_right _ _ k)
+      h;
 }) all)
 listen_keeps past next st (listening.Accept Accepted) quiet all = kept_when (may_accept st) _ (λ may.
-    over_guard (AllOk next) (record st { accepted = true }) _ _ (λ some. rests_keep past next st _ quiet (record { slots = refl; table = refl; limits = refl; ends = refl; pending = λ i side g entry h. h }) all))
+    over_guard (AllOk next) (record st { accepted = true }) _ _
+    (λ some. rests_keep past next st _ quiet (record { slots = refl; table = refl; limits = refl; ends = refl; pending = λ i side g entry h. h }) all))
 listen_keeps past next st (listening.Accept Blocked) quiet all = kept_when (may_accept st) _ (λ may.
-    over_guard (AllOk next) (record st { flag = false }) _ _ (λ none. rests_keep past next st _ quiet (record { slots = refl; table = refl; limits = refl; ends = refl; pending = λ i side g entry h. h }) all))
+    over_guard (AllOk next) (record st { flag = false }) _ _
+    (λ none. rests_keep past next st _ quiet (record { slots = refl; table = refl; limits = refl; ends = refl; pending = λ i side g entry h. h }) all))
 listen_keeps past next st (listening.Accept Again) quiet all = kept_when (may_accept st) _ (λ may.
     record { kept = rests_keep past next st _ quiet (record { slots = refl; table = refl; limits = refl; ends = refl; pending = λ i side g entry h. h }) all })
 listen_keeps past next st (listening.Accept Starved) quiet all = kept_when (may_accept st) _ (λ may.

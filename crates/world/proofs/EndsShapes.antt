@@ -66,10 +66,12 @@ pub record Clock (st q : State) : Type 0 where
 
 pub data Shape (st : State) (e : Event) (q : State) : Type 0 where
   Same : q.slots ≡ st.slots → q.past ≡ st.past → Clock st q → Shape st e q
-  Changed : (s : ℕ) (old new : SlotState) → slice_get st.slots s ≡ Some old → q.slots ≡ slice_set st.slots s new → q.past ≡ st.past → Clock st q → Stays st e s old new → Shape st e q
+  Changed : (s : ℕ) (old new : SlotState) → slice_get st.slots s ≡ Some old → q.slots ≡ slice_set st.slots s new → q.past ≡ st.past → Clock st q → Stays st e s old new
+      → Shape st e q
   Opened : (s g : ℕ) (old new : SlotState) → slice_get st.slots s ≡ Some old → slice_get st.table s ≡ Some g → q.slots ≡ slice_set st.slots s new → q.past ≡ st.past → Clock st q
       → new.generation ≡ g + 1 → ((c : Connection) → new.connection ≡ Some c → IsFresh st c) → Shape st e q
-  Ended : (s : ℕ) (old : SlotState) (c : Connection) (ends : Sockets) (k : KernelState) → slice_get st.slots s ≡ Some old → old.connection ≡ Some c → q.slots ≡ slice_set st.slots s (record old { connection = None })
+  Ended : (s : ℕ) (old : SlotState) (c : Connection) (ends : Sockets) (k : KernelState) → slice_get st.slots s ≡ Some old → old.connection ≡ Some c
+      → q.slots ≡ slice_set st.slots s (record old { connection = None })
       → q.past ≡ st.past ++ record { slot = s; generation = c.pair.generation; verdict = verdict c.pair; ends = ends } ∷ [] → Clock st q
       → kernel.close_both st.kernel c.ends ≡ Some (record { value = k; told = ends }) → ((i g : ℕ) (side : Side) → given_by st i g side e ≡ []) → Shape st e q
 
@@ -85,10 +87,14 @@ over_same st m e (Some k) slots past on = record { kept = Same slots past (recor
 
 pub listen_shape : (st : State) (e : Event) (l : Listening) → Kept (Shape st e) (Steps.listen st l)
 listen_shape st e listening.Connect = over_same st st e _ refl refl (record { limits = refl; second = le_refl _ })
-listen_shape st e (listening.Accept Accepted) = kept_when (may_accept st) _ (λ may. over_same st (after_accept st Accepted) e _ refl refl (record { limits = refl; second = le_refl _ }))
-listen_shape st e (listening.Accept Blocked) = kept_when (may_accept st) _ (λ may. over_same st (after_accept st Blocked) e _ refl refl (record { limits = refl; second = le_refl _ }))
-listen_shape st e (listening.Accept Again) = kept_when (may_accept st) _ (λ may. over_same st (after_accept st Again) e (kernel.accept st.kernel Again) refl refl (record { limits = refl; second = le_refl _ }))
-listen_shape st e (listening.Accept Starved) = kept_when (may_accept st) _ (λ may. over_same st (after_accept st Starved) e (kernel.accept st.kernel Starved) refl refl (record { limits = refl; second = le_refl _ }))
+listen_shape st e (listening.Accept Accepted) =
+    kept_when (may_accept st) _ (λ may. over_same st (after_accept st Accepted) e _ refl refl (record { limits = refl; second = le_refl _ }))
+listen_shape st e (listening.Accept Blocked) =
+    kept_when (may_accept st) _ (λ may. over_same st (after_accept st Blocked) e _ refl refl (record { limits = refl; second = le_refl _ }))
+listen_shape st e (listening.Accept Again) =
+    kept_when (may_accept st) _ (λ may. over_same st (after_accept st Again) e (kernel.accept st.kernel Again) refl refl (record { limits = refl; second = le_refl _ }))
+listen_shape st e (listening.Accept Starved) =
+    kept_when (may_accept st) _ (λ may. over_same st (after_accept st Starved) e (kernel.accept st.kernel Starved) refl refl (record { limits = refl; second = le_refl _ }))
 listen_shape st e listening.Drop = kept_guard st.accepted _ (λ some. Same refl refl (record { limits = refl; second = le_refl _ }))
 
 delivered_shape : (st : State) (e : Event) (m : Name) → Kept (Shape st e) (option_map (behind st) (delivered st m))
@@ -106,8 +112,10 @@ put_by_poller_shape : (st : State) (e : Event) (hand : List Ticket) → Kept (Sh
 put_by_poller_shape st e [] = record { kept = tt }
 put_by_poller_shape st e (t ∷ rest) = record { kept = Same refl refl (record { limits = refl; second = le_refl _ }) }
 
-fresh_is_live : (st : State) (s g : ℕ) (ends : Descriptors) (c : Connection) → Some (record { pair = fresh s g st.limits.ring st.second st.limits.lead; ends = ends }) ≡ Some c → IsFresh st c
-fresh_is_live st s g ends c is = let same : record { pair = fresh s g st.limits.ring st.second st.limits.lead; ends = ends } ≡ c = cc in subst (λ (b : Connection). IsFresh st b) same (record { live = refl; moved = refl })
+fresh_is_live : (st : State) (s g : ℕ) (ends : Descriptors) (c : Connection) → Some (record { pair = fresh s g st.limits.ring st.second st.limits.lead; ends = ends }) ≡ Some c
+    → IsFresh st c
+fresh_is_live st s g ends c is = let same : record { pair = fresh s g st.limits.ring st.second st.limits.lead; ends = ends } ≡ c = cc in
+    subst (λ (b : Connection). IsFresh st b) same (record { live = refl; moved = refl })
 
 open_shape : (st : State) (e : Event) (s : ℕ) → Kept (Shape st e) (Steps.opening_of st s)
 open_shape st e s =
@@ -119,10 +127,12 @@ open_shape st e s =
 
 pub polled_shape : (st : State) (e : Event) (p : Polling) → Kept (Shape st e) (Steps.polled st p)
 polled_shape st e polling.Open = kept_when st.accepted _ (λ some. kept_bind _ (slice_get st.free 0) (λ s first. open_shape st e s))
-polled_shape st e (polling.Poll names) = kept_when (length st.batch == 0) _ (λ none. over_same st (record st { batch = names.items }) e _ refl refl (record { limits = refl; second = le_refl _ }))
+polled_shape st e (polling.Poll names) =
+    kept_when (length st.batch == 0) _ (λ none. over_same st (record st { batch = names.items }) e _ refl refl (record { limits = refl; second = le_refl _ }))
 polled_shape st e polling.Deliver = kept_bind _ (slice_get st.batch 0) (λ m first. delivered_shape st e m)
 polled_shape st e (polling.Sweep s) = kept_when (is_limited st) _ (λ limited. kept_bind _ (slice_get st.table s) (λ g entry. kept_when (nat_lt 0 g) (post_at st s g) (λ over.
-    kept_map _ (slice_get st.slots s) (λ p here. Changed s p (with_note p g) here refl refl (record { limits = refl; second = le_refl _ }) (same_connection st e s p (with_note p g) refl refl)))))
+    kept_map _ (slice_get st.slots s) (λ p here. Changed s p (with_note p g) here refl refl (record { limits = refl; second = le_refl _ })
+    (same_connection st e s p (with_note p g) refl refl)))))
 polled_shape st e polling.Put = put_by_poller_shape st e st.hand
 
 -- The workers
@@ -148,7 +158,8 @@ either_way P false q r this that = that
 
 pub claim_shape : (st : State) (e : Event) (w : ℕ) (k : WorkerState) (d : Doing) → Kept (Shape st e) (Steps.claim st w k d)
 claim_shape st e w k (Tries t) = kept_map _ (slice_get st.slots t.slot) (λ p here.
-    either_way (Shape st e) (is_held p.holder) _ _ (Same refl refl (record { limits = refl; second = le_refl _ })) (Changed t.slot p _ here refl refl (record { limits = refl; second = le_refl _ }) (same_connection st e t.slot p _ refl refl)))
+    either_way (Shape st e) (is_held p.holder) _ _ (Same refl refl (record { limits = refl; second = le_refl _ }))
+    (Changed t.slot p _ here refl refl (record { limits = refl; second = le_refl _ }) (same_connection st e t.slot p _ refl refl)))
 claim_shape st e w k Idle = record { kept = tt }
 claim_shape st e w k (Holds s left) = record { kept = tt }
 claim_shape st e w k (Closed s) = record { kept = tt }
@@ -166,7 +177,8 @@ heard_verdict : (c : Connection) (b : Bool) → verdict (if b then record c { pa
 heard_verdict c true = refl
 heard_verdict c false = refl
 
-noted_stays : (st : State) (e : Event) (s : ℕ) (p : SlotState) (o : Option Connection) → p.connection ≡ o → Kept (Stays st e s p) (option_map (λ (c : Connection). record p { notes = []; connection = Some (heard c p.notes) }) o)
+noted_stays : (st : State) (e : Event) (s : ℕ) (p : SlotState) (o : Option Connection) → p.connection ≡ o
+    → Kept (Stays st e s p) (option_map (λ (c : Connection). record p { notes = []; connection = Some (heard c p.notes) }) o)
 noted_stays st e s p None lying = record { kept = tt }
 noted_stays st e s p (Some c) lying = record {
   kept = record {
@@ -185,7 +197,8 @@ noted_stays st e s p (Some c) lying = record {
 
 pub take_shape : (st : State) (e : Event) (d : Doing) → Kept (Shape st e) (Steps.take st d)
 take_shape st e (Holds s left) = kept_bind _ (slice_get st.slots s) (λ p here.
-    kept_then (λ (q : SlotState). with_place st s q) (noted_slot p) (λ q stays. Changed s p q here refl refl (record { limits = refl; second = le_refl _ }) stays) (noted_stays st e s p p.connection refl))
+    kept_then (λ (q : SlotState). with_place st s q) (noted_slot p) (λ q stays. Changed s p q here refl refl (record { limits = refl; second = le_refl _ }) stays)
+    (noted_stays st e s p p.connection refl))
 take_shape st e Idle = record { kept = tt }
 take_shape st e (Tries t) = record { kept = tt }
 take_shape st e (Closed s) = record { kept = tt }
@@ -196,7 +209,8 @@ take_shape st e (Retired s) = record { kept = tt }
 the_fault : (fault : Fault) → Failed reason.Idle ≡ Failed fault → reason.Idle ≡ fault
 the_fault fault h = cc
 
-expired_stays : (st : State) (w s left : ℕ) (k : WorkerState) (p q : SlotState) → slice_get st.workers w ≡ Some k → k.doing ≡ Holds s left → slice_get st.slots s ≡ Some p → Expired st.second st.limits.idle p q
+expired_stays : (st : State) (w s left : ℕ) (k : WorkerState) (p q : SlotState) → slice_get st.workers w ≡ Some k → k.doing ≡ Holds s left → slice_get st.slots s ≡ Some p
+    → Expired st.second st.limits.idle p q
     → Stays st (event.Work w act.Expire) s p q
 expired_stays st w s left k p q there holds here x = record {
   generation = ap (λ (r : SlotState). r.generation) x.is;
@@ -212,9 +226,11 @@ expired_stays st w s left k p q there holds here x = record {
       ));
 }
 
-pub expire_shape : (st : State) (w : ℕ) (k : WorkerState) (d : Doing) → slice_get st.workers w ≡ Some k → k.doing ≡ d → Kept (Shape st (event.Work w act.Expire)) (Steps.expire st d)
+pub expire_shape : (st : State) (w : ℕ) (k : WorkerState) (d : Doing) → slice_get st.workers w ≡ Some k → k.doing ≡ d
+    → Kept (Shape st (event.Work w act.Expire)) (Steps.expire st d)
 expire_shape st w k (Holds s left) there holds = kept_bind _ (slice_get st.slots s) (λ p here.
-    kept_then (λ (q : SlotState). with_place st s q) (expired_place st.second st.limits.idle p) (λ q x. Changed s p q here refl refl (record { limits = refl; second = le_refl _ }) (expired_stays st w s left k p q there holds here x))
+    kept_then (λ (q : SlotState). with_place st s q) (expired_place st.second st.limits.idle p)
+    (λ q x. Changed s p q here refl refl (record { limits = refl; second = le_refl _ }) (expired_stays st w s left k p q there holds here x))
     (expired_so st.second st.limits.idle p))
 expire_shape st w k Idle there holds = record { kept = tt }
 expire_shape st w k (Tries t) there holds = record { kept = tt }
@@ -224,7 +240,8 @@ expire_shape st w k (Retired s) there holds = record { kept = tt }
 pub post_shape : (st : State) (e : Event) (d : Doing) → Kept (Shape st e) (Steps.post st d)
 post_shape st e (Holds s left) = kept_bind _ (slice_get st.slots s) (λ p here.
     kept_bind _ p.connection (λ c lying.
-    kept_guard (is_live (verdict c.pair)) _ (λ live. Changed s p (with_note p c.pair.generation) here refl refl (record { limits = refl; second = le_refl _ }) (same_connection st e s p _ refl refl))))
+    kept_guard (is_live (verdict c.pair)) _ (λ live. Changed s p (with_note p c.pair.generation) here refl refl (record { limits = refl; second = le_refl _ })
+    (same_connection st e s p _ refl refl))))
 post_shape st e Idle = record { kept = tt }
 post_shape st e (Tries t) = record { kept = tt }
 post_shape st e (Closed s) = record { kept = tt }
@@ -240,7 +257,8 @@ release_shape st e w k (Closed s) = record { kept = tt }
 release_shape st e w k (Retired s) = record { kept = tt }
 
 pub retire_shape : (st : State) (e : Event) (w : ℕ) (k : WorkerState) (d : Doing) → Kept (Shape st e) (Steps.retire st w k d)
-retire_shape st e w k (Closed s) = kept_map _ (slice_get st.slots s) (λ p here. Changed s p _ here refl refl (record { limits = refl; second = le_refl _ }) (same_connection st e s p _ refl refl))
+retire_shape st e w k (Closed s) =
+    kept_map _ (slice_get st.slots s) (λ p here. Changed s p _ here refl refl (record { limits = refl; second = le_refl _ }) (same_connection st e s p _ refl refl))
 retire_shape st e w k Idle = record { kept = tt }
 retire_shape st e w k (Tries t) = record { kept = tt }
 retire_shape st e w k (Holds s left) = record { kept = tt }
@@ -253,7 +271,8 @@ free_shape st e w k (Tries t) = record { kept = tt }
 free_shape st e w k (Holds s left) = record { kept = tt }
 free_shape st e w k (Closed s) = record { kept = tt }
 
-pub close_shape : (st : State) (e : Event) (w : ℕ) (k : WorkerState) (d : Doing) → ((i g : ℕ) (side : Side) → given_by st i g side e ≡ []) → Kept (Shape st e) (Steps.close st w k d)
+pub close_shape : (st : State) (e : Event) (w : ℕ) (k : WorkerState) (d : Doing) → ((i g : ℕ) (side : Side) → given_by st i g side e ≡ [])
+    → Kept (Shape st e) (Steps.close st w k d)
 close_shape st e w k (Holds s left) brings = kept_bind _ (slice_get st.slots s) (λ p here.
     kept_bind _ p.connection (λ c lying.
     kept_when (not (is_live (verdict c.pair))) _ (λ over.

@@ -49,7 +49,8 @@ place_keeps past next st q s old p quiet was set steady f all = keep_place past 
 some_notes : (notes : List ℕ) (g : ℕ) → is_nonempty (notes ++ g ∷ []) ≡ true
 some_notes notes g = nonempty_more notes (g ∷ []) refl
 
-pub note_keeps : (past next : History) (st q : State) (s : ℕ) (p : SlotState) (g : ℕ) → Quiet past next → slice_get q.table s ≡ slice_get st.table s → q.limits ≡ st.limits → q.kernel.ends ≡ st.kernel.ends
+pub note_keeps : (past next : History) (st q : State) (s : ℕ) (p : SlotState) (g : ℕ) → Quiet past next → slice_get q.table s ≡ slice_get st.table s → q.limits ≡ st.limits
+    → q.kernel.ends ≡ st.kernel.ends
     → SlotOk past st s p → SlotOk next q s (with_note p g)
 note_keeps past next st q s p g quiet table limits ends ok = record {
   entry = table ∙ ok.entry;
@@ -60,7 +61,8 @@ note_keeps past next st q s p g quiet table limits ends ok = record {
     down = k.down ∙ ap (λ (l : Limits). l.ring) (sym limits);
     ends = k.ends;
     there = λ side. rw ends (k.there side);
-    pair = pair_more (past s p.generation) (next s p.generation) _ _ c.pair k.ends (λ side. quiet s p.generation side) (λ side h. or_right (is_pending q (token_at s side p.generation)) (is_nonempty (p.notes ++ g ∷ [])) (some_notes p.notes g)) k.pair;
+    pair = pair_more (past s p.generation) (next s p.generation) _ _ c.pair k.ends (λ side. quiet s p.generation side)
+        (λ side h. or_right (is_pending q (token_at s side p.generation)) (is_nonempty (p.notes ++ g ∷ [])) (some_notes p.notes g)) k.pair;
   });
 }
 
@@ -97,11 +99,13 @@ left_behind past next st q m quiet first apart slots table limits kernel batch a
       (λ k. rw batch (batch_left (name.End (token_at i side g)) m st.batch first (apart i side g entry) k)) h;
 }) all
 
-pub kept_map_if : (P : State → Type 0) (f : State → State) (b : Bool) (o u : Option State) → (b ≡ true → Kept P (option_map f o)) → (b ≡ false → Kept P (option_map f u)) → Kept P (option_map f (if b then o else u))
+pub kept_map_if : (P : State → Type 0) (f : State → State) (b : Bool) (o u : Option State) → (b ≡ true → Kept P (option_map f o)) → (b ≡ false → Kept P (option_map f u))
+    → Kept P (option_map f (if b then o else u))
 kept_map_if P f true o u this that = this refl
 kept_map_if P f false o u this that = that refl
 
-posted_keeps : (past next : History) (st : State) (n : EndName) (p : SlotState) → Quiet past next → slice_get st.batch 0 ≡ Some (name.End n) → slice_get st.slots n.slot ≡ Some p → AllOk past st
+posted_keeps : (past next : History) (st : State) (n : EndName) (p : SlotState) → Quiet past next → slice_get st.batch 0 ≡ Some (name.End n) → slice_get st.slots n.slot ≡ Some p
+    → AllOk past st
     → AllOk next (behind st (posted st n.slot n.generation p))
 posted_keeps past next st n p quiet first here all =
     let q : State = behind st (posted st n.slot n.generation p) in
@@ -119,18 +123,27 @@ posted_keeps past next st n p quiet first here all =
     }))
     (note_keeps past next st q n.slot p n.generation quiet refl refl refl (all.each n.slot p here)) all
 
-delivered_keeps : (past next : History) (st : State) (m : Name) → Quiet past next → slice_get st.batch 0 ≡ Some m → AllOk past st → Kept (AllOk next) (option_map (behind st) (delivered st m))
-delivered_keeps past next st name.Listener quiet first all = record { kept = left_behind past next st _ name.Listener quiet first (λ i side g entry. refl) refl refl refl refl refl all }
+delivered_keeps : (past next : History) (st : State) (m : Name) → Quiet past next → slice_get st.batch 0 ≡ Some m → AllOk past st
+    → Kept (AllOk next) (option_map (behind st) (delivered st m))
+delivered_keeps past next st name.Listener quiet first all =
+    record { kept = left_behind past next st _ name.Listener quiet first (λ i side g entry. refl) refl refl refl refl refl all }
 delivered_keeps past next st name.Waker quiet first all = record { kept = left_behind past next st _ name.Waker quiet first (λ i side g entry. refl) refl refl refl refl refl all }
-delivered_keeps past next st (name.End n) quiet first all = elim (slice_get st.table n.slot) as (λ o. slice_get st.table n.slot ≡ o → Kept (AllOk next) (option_map (behind st) (delivered_at st n o))) [
-  | None ↦ λ is. record { kept = left_behind past next st (behind st st) (name.End n) quiet first (λ i side g entry. not_this st n i side g (λ h. absurd (cc)) entry) refl refl refl refl refl all }
-  | Some g ↦ λ is. kept_map_if (AllOk next) (behind st) (g == n.generation) (post_at st n.slot g) (Some st)
-      (λ same. let e : g ≡ n.generation = eqb-true g n.generation same in rw e (kept_map_map (behind st) (λ (p : SlotState). posted st n.slot n.generation p) (slice_get st.slots n.slot) (λ p here. posted_keeps past next st n p quiet first here all)))
-      (λ other. record {
-        kept = left_behind past next st (behind st st) (name.End n) quiet first
-            (λ i side h entry. not_this st n i side h (λ now. (let e : g ≡ n.generation = cc in let stale : (n.generation == n.generation) ≡ false = rw e at other in let is_not : (n.generation == n.generation) ≡ true = eq-eqb n.generation n.generation refl in absurd (cc))) entry) refl refl refl refl refl all;
-      })
-] refl
+delivered_keeps past next st (name.End n) quiet first all = elim (slice_get st.table n.slot) as (λ o. slice_get st.table n.slot ≡ o
+    → Kept (AllOk next) (option_map (behind st) (delivered_at st n o))) [
+      | None ↦ λ is. record {
+        kept = left_behind past next st (behind st st) (name.End n) quiet first (λ i side g entry. not_this st n i side g (λ h. absurd (cc)) entry) refl refl refl
+            refl refl all;
+      }
+      | Some g ↦ λ is. kept_map_if (AllOk next) (behind st) (g == n.generation) (post_at st n.slot g) (Some st)
+          (λ same. let e : g ≡ n.generation = eqb-true g n.generation same in
+          rw e (kept_map_map (behind st) (λ (p : SlotState). posted st n.slot n.generation p) (slice_get st.slots n.slot)
+          (λ p here. posted_keeps past next st n p quiet first here all)))
+          (λ other. record {
+            kept = left_behind past next st (behind st st) (name.End n) quiet first
+                (λ i side h entry. not_this st n i side h (λ now. (let e : g ≡ n.generation = cc in let stale : (n.generation == n.generation) ≡ false = rw e at other in
+                let is_not : (n.generation == n.generation) ≡ true = eq-eqb n.generation n.generation refl in absurd (cc))) entry) refl refl refl refl refl all;
+          })
+    ] refl
 
 pub deliver_keeps : (past next : History) (st : State) → Quiet past next → AllOk past st → Kept (AllOk next) (deliver st)
 deliver_keeps past next st quiet all = kept_bind _ (slice_get st.batch 0) (λ m first. delivered_keeps past next st m quiet first all)
@@ -156,16 +169,19 @@ heard_ok past st s g notes c false none ok = record {
   down = ok.down;
   ends = ok.ends;
   there = ok.there;
-  pair = pair_more (past s g) (past s g) _ _ c.pair ok.ends (λ side. refl) (λ side h. or_left (is_pending st (token_at s side g)) false (or_then (is_pending st (token_at s side g)) (is_nonempty notes) (is_pending st (token_at s side g)) (λ k. k) (λ k. absurd (cc)) h)) ok.pair;
+  pair = pair_more (past s g) (past s g) _ _ c.pair ok.ends (λ side. refl)
+      (λ side h. or_left (is_pending st (token_at s side g)) false (or_then (is_pending st (token_at s side g)) (is_nonempty notes) (is_pending st (token_at s side g)) (λ k. k)
+      (λ k. absurd (cc)) h)) ok.pair;
 }
 
 pub take_ok : (past : History) (st : State) (s : ℕ) (p q : SlotState) → noted_slot p ≡ Some q → SlotOk past st s p → SlotOk past st s q
-take_ok past st s p q is ok = elim (p.connection) as (λ o. p.connection ≡ o → option_map (λ (c : Connection). record p { notes = []; connection = Some (heard c p.notes) }) o ≡ Some q → SlotOk past st s q) [
-  | None ↦ λ lying e. absurd (cc)
-  | Some c ↦ λ lying e. (let same : record p { notes = []; connection = Some (heard c p.notes) } ≡ q = cc in subst (λ (r : SlotState). SlotOk past st s r) same (record {
-    entry = ok.entry;
-    later = ok.later;
-    connection = λ b here. (let this : heard c p.notes ≡ b = cc in subst (λ (r : Connection). ConnectionOk past st s p.generation [] r) this
-        (heard_ok past st s p.generation p.notes c (is_nonempty p.notes) refl (ok.connection c lying)));
-  }))
-] refl is
+take_ok past st s p q is ok = elim (p.connection) as (λ o. p.connection ≡ o → option_map (λ (c : Connection). record p { notes = []; connection = Some (heard c p.notes) }) o
+    ≡ Some q → SlotOk past st s q) [
+      | None ↦ λ lying e. absurd (cc)
+      | Some c ↦ λ lying e. (let same : record p { notes = []; connection = Some (heard c p.notes) } ≡ q = cc in subst (λ (r : SlotState). SlotOk past st s r) same (record {
+        entry = ok.entry;
+        later = ok.later;
+        connection = λ b here. (let this : heard c p.notes ≡ b = cc in subst (λ (r : Connection). ConnectionOk past st s p.generation [] r) this
+            (heard_ok past st s p.generation p.notes c (is_nonempty p.notes) refl (ok.connection c lying)));
+      }))
+    ] refl is

@@ -51,12 +51,15 @@ nothing true = refl
 nothing false = refl
 
 brings_none : (past : History) (st : State) (s : ℕ) (side : Side) → BringsTo st s side [] past (same_history past)
-brings_none past st s side i g t = ap (λ (bytes : List ℕ). past i g t ++ bytes) (sym (nothing ((s == i && side_number side == side_number t) && has_generation (slice_get st.slots i) g)))
+brings_none past st s side i g t =
+    ap (λ (bytes : List ℕ). past i g t ++ bytes) (sym (nothing ((s == i && side_number side == side_number t) && has_generation (slice_get st.slots i) g)))
 
-change_keeps : (past : History) (st : State) (s : ℕ) (side : Side) (change : Change) → AllOk past st → Kept (AllOk (after_event past st (event.Network s side change))) (network st s side change)
+change_keeps : (past : History) (st : State) (s : ℕ) (side : Side) (change : Change) → AllOk past st
+    → Kept (AllOk (after_event past st (event.Network s side change))) (network st s side change)
 change_keeps past st s side (Arrive bytes) all = kept_bind _ (connection_at st s) (λ c at_s.
     over_when _ st (nat_le (length bytes.items) 1024) _
-    (network_keeps past (after_event past st (event.Network s side (Arrive bytes))) st s side bytes.items (λ e. arrival e bytes.items) c (arrival_changes bytes.items) (λ i g t. refl) at_s all))
+    (network_keeps past (after_event past st (event.Network s side (Arrive bytes))) st s side bytes.items (λ e. arrival e bytes.items) c (arrival_changes bytes.items)
+    (λ i g t. refl) at_s all))
 change_keeps past st s side Fin all = kept_bind _ (connection_at st s) (λ c at_s.
     network_keeps past (same_history past) st s side [] finish c finish_changes (brings_none past st s side) at_s all)
 change_keeps past st s side Reset all = kept_bind _ (connection_at st s) (λ c at_s.
@@ -65,7 +68,8 @@ change_keeps past st s side Room all = kept_bind _ (connection_at st s) (λ c at
     network_keeps past (same_history past) st s side [] new_room c room_changes (brings_none past st s side) at_s all)
 
 polled_keeps : (past next : History) (st : State) (p : Polling) → Quiet past next → AllOk past st → Kept (AllOk next) (polled st p)
-polled_keeps past next st polling.Open quiet all = kept_when st.accepted _ (λ some. kept_bind (λ (s : ℕ). opening_of st s) (slice_get st.free 0) (λ s first. open_keeps past next st s quiet all))
+polled_keeps past next st polling.Open quiet all =
+    kept_when st.accepted _ (λ some. kept_bind (λ (s : ℕ). opening_of st s) (slice_get st.free 0) (λ s first. open_keeps past next st s quiet all))
 polled_keeps past next st (polling.Poll names) quiet all = batched_keeps past next st names.items quiet all
 polled_keeps past next st polling.Deliver quiet all = deliver_keeps past next st quiet all
 polled_keeps past next st (polling.Sweep s) quiet all = sweep_keeps past next st s quiet all

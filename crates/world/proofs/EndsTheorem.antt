@@ -50,13 +50,19 @@ own_preamble l events s g d = ap (λ (first : List ℕ). first ++ given (opening
 socket_is : (o : Option Registered) (a b : Registered) → o ≡ Some a → o ≡ Some b → a.socket ≡ b.socket
 socket_is o a b one two = let same : a ≡ b = cc in ap (λ (r : Registered). r.socket) same
 
-connection_holds : (l : Limits) (st : State) (events : List Event) (s g : ℕ) (notes : List ℕ) (c : Connection) → ConnectionOk (history l events) st s g notes c → ConnectionHolds (opening l) st events s c
+connection_holds : (l : Limits) (st : State) (events : List Event) (s g : ℕ) (notes : List ℕ) (c : Connection) → ConnectionOk (history l events) st s g notes c
+    → ConnectionHolds (opening l) st events s c
 connection_holds l st events s g notes c ok = record {
   open_ends = λ side. rw (ok.there side) refl;
   directions = λ d x y at_x at_y.
-      rw (ok.generation, socket_is (end_of st c (source d)) x (registered s g (source d) (socket_of ok.ends (source d))) at_x (ok.there (source d)), socket_is (end_of st c (destination d)) y (registered s g (destination d) (socket_of ok.ends (destination d))) at_y (ok.there (destination d)))
+      rw (
+        ok.generation,
+        socket_is (end_of st c (source d)) x (registered s g (source d) (socket_of ok.ends (source d))) at_x (ok.there (source d)),
+        socket_is (end_of st c (destination d)) y (registered s g (destination d) (socket_of ok.ends (destination d))) at_y (ok.there (destination d)),
+      )
       (direction_holds (preamble l d) (given (opening l) events s g (source d)) (stream_of c.pair d) (socket_of ok.ends (source d)) (socket_of ok.ends (destination d))
-      (same_gave (history l events s g (source d)) (preamble l d ++ given (opening l) events s g (source d)) (stream_of c.pair d) (socket_of ok.ends (source d)) (socket_of ok.ends (destination d)) (sym (own_preamble l events s g d)) (ok.pair.directions d)));
+      (same_gave (history l events s g (source d)) (preamble l d ++ given (opening l) events s g (source d)) (stream_of c.pair d) (socket_of ok.ends (source d))
+      (socket_of ok.ends (destination d)) (sym (own_preamble l events s g d)) (ok.pair.directions d)));
 }
 
 pub bytes_hold : (l : Limits) (events : List Event) (st : State) → run (opening l) events ≡ Some st → BytesAndEndsHold (opening l) st events

@@ -17,7 +17,8 @@ use Rattle.world.proofs.EndsShapes.{Continues, IsFresh, Clock, Shape, Same, Chan
 -- Lists of events
 
 -- the first event happened, and then the others
-pub goes_on : (o : Option State) (q : State) (events : List Event) {p : Option State} → p ≡ o → option_and_then (λ (m : State). run m events) o ≡ Some q → (m : State) × (p ≡ Some m) × (run m events ≡ Some q)
+pub goes_on : (o : Option State) (q : State) (events : List Event) {p : Option State} → p ≡ o → option_and_then (λ (m : State). run m events) o ≡ Some q → (m : State)
+    × (p ≡ Some m) × (run m events ≡ Some q)
 goes_on None q events is ran = absurd (cc)
 goes_on (Some m) q events is ran = (m, is, ran)
 
@@ -27,13 +28,16 @@ run_further first st q (d ∷ done) e ran made =
     let m : (m : State) × (step first d ≡ Some m) × (run m done ≡ Some st) = goes_on (step first d) st done refl ran in
     rw (m.1) (run_further m.0 st q done e m.2 made)
 
-pub throughout_more : (Each Other : State → Event → Type 0) → ((st : State) (e : Event) → Each st e → Other st e) → (st : State) (events : List Event) → Throughout Each st events → Throughout Other st events
+pub throughout_more : (Each Other : State → Event → Type 0) → ((st : State) (e : Event) → Each st e → Other st e) → (st : State) (events : List Event) → Throughout Each st events
+    → Throughout Other st events
 throughout_more Each Other more st [] all = tt
 throughout_more Each Other more st (e ∷ events) all = (more st e all.0, λ q is. throughout_more Each Other more q events (all.1 q is))
 
-throughout_further : (Each : State → Event → Type 0) (first st : State) (done : List Event) (e : Event) → run first done ≡ Some st → Each st e → Throughout Each first done → Throughout Each first (done ++ e ∷ [])
+throughout_further : (Each : State → Event → Type 0) (first st : State) (done : List Event) (e : Event) → run first done ≡ Some st → Each st e → Throughout Each first done
+    → Throughout Each first (done ++ e ∷ [])
 throughout_further Each first st [] e ran now all = (let same : first ≡ st = cc in subst (λ (m : State). Each m e) (sym same) now, λ q is. tt)
-throughout_further Each first st (d ∷ done) e ran now all = (all.0, λ q is. (let rest : run q done ≡ Some st = rw is at ran in throughout_further Each q st done e rest now (all.1 q is)))
+throughout_further Each first st (d ∷ done) e ran now all =
+    (all.0, λ q is. (let rest : run q done ≡ Some st = rw is at ran in throughout_further Each q st done e rest now (all.1 q is)))
 
 -- Times
 
@@ -55,7 +59,8 @@ pub record TimesOk (first : State) (done : List Event) (st : State) : Type 0 whe
   pub moved : (s : ℕ) (p : SlotState) (c : Connection) → slice_get st.slots s ≡ Some p → p.connection ≡ Some c → LastMoved first done st s c
 
 -- what lies in a slot after one slot changed
-at_one : (st q : State) (s i : ℕ) (old new p : SlotState) → slice_get st.slots s ≡ Some old → q.slots ≡ slice_set st.slots s new → slice_get q.slots i ≡ Some p → ((i ≡ s) × (p ≡ new)) ⊎ (slice_get st.slots i ≡ Some p)
+at_one : (st q : State) (s i : ℕ) (old new p : SlotState) → slice_get st.slots s ≡ Some old → q.slots ≡ slice_set st.slots s new → slice_get q.slots i ≡ Some p
+    → ((i ≡ s) × (p ≡ new)) ⊎ (slice_get st.slots i ≡ Some p)
 at_one st q s i old new p was set here = elim (tell (i == s)) [
   | Yes h ↦ (let same : i ≡ s = eqb-true i s h in
       let is : slice_get (slice_set st.slots s new) s ≡ Some new = get-set_same st.slots s old new was in
@@ -81,7 +86,8 @@ fresh_now first st done s c fresh times = record {
 }
 
 -- before this event, what lies in a slot after it had moved so
-lasts : (first st q : State) (done : List Event) (e : Event) → Shape st e q → TimesOk first done st → (i : ℕ) (p : SlotState) (c : Connection) → slice_get q.slots i ≡ Some p → p.connection ≡ Some c → LastMoved first done st i c
+lasts : (first st q : State) (done : List Event) (e : Event) → Shape st e q → TimesOk first done st → (i : ℕ) (p : SlotState) (c : Connection) → slice_get q.slots i ≡ Some p
+    → p.connection ≡ Some c → LastMoved first done st i c
 lasts first st q done e (Same slots past on) times i p c here lying = times.moved i p c (rw slots at here) lying
 lasts first st q done e (Changed s old new was set past on stays) times i p c here lying = elim (at_one st q s i old new p was set here) [
   | inl h ↦ (let at_new : new.connection ≡ Some c = ap (λ (r : SlotState). r.connection) (sym h.1) ∙ lying in
@@ -94,10 +100,11 @@ lasts first st q done e (Opened s g old new was entry set past on generation fre
       fresh_now first st done i c (fresh c at_new) times)
   | inr h ↦ times.moved i p c h lying
 ]
-lasts first st q done e (Ended s old b ends k was at_s set past on closes brings) times i p c here lying = elim (at_one st q s i old (record old { connection = None }) p was set here) [
-  | inl h ↦ (let none : p.connection ≡ None = ap (λ (r : SlotState). r.connection) h.1 in absurd (cc))
-  | inr h ↦ times.moved i p c h lying
-]
+lasts first st q done e (Ended s old b ends k was at_s set past on closes brings) times i p c here lying =
+    elim (at_one st q s i old (record old { connection = None }) p was set here) [
+      | inl h ↦ (let none : p.connection ≡ None = ap (λ (r : SlotState). r.connection) h.1 in absurd (cc))
+      | inr h ↦ times.moved i p c h lying
+    ]
 
 clock : (st q : State) (e : Event) → Shape st e q → Clock st q
 clock st q e (Same slots past on) = on
@@ -107,14 +114,17 @@ clock st q e (Ended s old b ends k was at_s set past on closes brings) = on
 
 -- the connection that an event opened or moved has moved now
 abbrev pub MovesNow : State → Event → State → Type 0
-MovesNow st e q = (i : ℕ) (p : SlotState) (c : Connection) → slice_get q.slots i ≡ Some p → p.connection ≡ Some c → moved_by st e ≡ Some (named i c.pair.generation) → st.second ≤ c.pair.moved
+MovesNow st e q = (i : ℕ) (p : SlotState) (c : Connection) → slice_get q.slots i ≡ Some p → p.connection ≡ Some c → moved_by st e ≡ Some (named i c.pair.generation)
+    → st.second ≤ c.pair.moved
 
-pub times_after : (first st q : State) (done : List Event) (e : Event) → run first done ≡ Some st → Shape st e q → MovesNow st e q → TimesOk first done st → TimesOk first (done ++ e ∷ []) q
+pub times_after : (first st q : State) (done : List Event) (e : Event) → run first done ≡ Some st → Shape st e q → MovesNow st e q → TimesOk first done st
+    → TimesOk first (done ++ e ∷ []) q
 times_after first st q done e ran shape moves times =
     let on : Clock st q = clock st q e shape in
     let later : st.second ≤ q.second = on.second in record {
       limits = on.limits ∙ times.limits;
-      past = throughout_further (ComesBy q.second) first st done e ran later (throughout_more (ComesBy st.second) (ComesBy q.second) (λ m d by. (let before : m.second ≤ st.second = by in omega arith)) first done times.past);
+      past = throughout_further (ComesBy q.second) first st done e ran later
+          (throughout_more (ComesBy st.second) (ComesBy q.second) (λ m d by. (let before : m.second ≤ st.second = by in omega arith)) first done times.past);
       moved = λ i p c here lying.
           let last : LastMoved first done st i c = lasts first st q done e shape times i p c here lying in
           let now : c.pair.moved ≤ st.second = last.now in record {

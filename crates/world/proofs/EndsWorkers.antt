@@ -35,15 +35,19 @@ use Rattle.world.proofs.EndsSlots.{Steady, place_keeps, note_keeps, take_ok}
 
 pub put_by_poller_keeps : (past next : History) (st : State) (hand : List Ticket) → Quiet past next → AllOk past st → Kept (AllOk next) (put_by_poller st hand)
 put_by_poller_keeps past next st [] quiet all = record { kept = tt }
-put_by_poller_keeps past next st (t ∷ rest) quiet all = record { kept = rests_keep past next st _ quiet (record { slots = refl; table = refl; limits = refl; ends = refl; pending = λ i side g entry h. h }) all }
+put_by_poller_keeps past next st (t ∷ rest) quiet all =
+    record { kept = rests_keep past next st _ quiet (record { slots = refl; table = refl; limits = refl; ends = refl; pending = λ i side g entry h. h }) all }
 
-pub put_by_worker_keeps : (past next : History) (st : State) (w : ℕ) (k : WorkerState) (hand : List Ticket) → Quiet past next → AllOk past st → Kept (AllOk next) (put_by_worker st w k hand)
+pub put_by_worker_keeps : (past next : History) (st : State) (w : ℕ) (k : WorkerState) (hand : List Ticket) → Quiet past next → AllOk past st
+    → Kept (AllOk next) (put_by_worker st w k hand)
 put_by_worker_keeps past next st w k [] quiet all = record { kept = tt }
-put_by_worker_keeps past next st w k (t ∷ rest) quiet all = record { kept = rests_keep past next st _ quiet (record { slots = refl; table = refl; limits = refl; ends = refl; pending = λ i side g entry h. h }) all }
+put_by_worker_keeps past next st w k (t ∷ rest) quiet all =
+    record { kept = rests_keep past next st _ quiet (record { slots = refl; table = refl; limits = refl; ends = refl; pending = λ i side g entry h. h }) all }
 
 popped_keeps : (past next : History) (st : State) (w : ℕ) (k : WorkerState) (ready : List Ticket) → Quiet past next → AllOk past st → Kept (AllOk next) (popped st w k ready)
 popped_keeps past next st w k [] quiet all = record { kept = tt }
-popped_keeps past next st w k (t ∷ rest) quiet all = record { kept = rests_keep past next st _ quiet (record { slots = refl; table = refl; limits = refl; ends = refl; pending = λ i side g entry h. h }) all }
+popped_keeps past next st w k (t ∷ rest) quiet all =
+    record { kept = rests_keep past next st _ quiet (record { slots = refl; table = refl; limits = refl; ends = refl; pending = λ i side g entry h. h }) all }
 
 pub pop_keeps : (past next : History) (st : State) (w : ℕ) (k : WorkerState) (d : Doing) → Quiet past next → AllOk past st → Kept (AllOk next) (pop st w k d)
 pop_keeps past next st w k Idle quiet all = kept_when (length k.hand == 0) _ (λ none. popped_keeps past next st w k st.ready quiet all)
@@ -89,7 +93,8 @@ take_keeps past next st (Closed s) quiet all = record { kept = tt }
 take_keeps past next st (Retired s) quiet all = record { kept = tt }
 
 -- an overdue connection fails, and keeps all else
-timed_out_ok : (past : History) (st : State) (s g : ℕ) (notes : List ℕ) (c : Connection) → ConnectionOk past st s g notes c → ConnectionOk past st s g notes (record c { pair = timed_out c.pair })
+timed_out_ok : (past : History) (st : State) (s g : ℕ) (notes : List ℕ) (c : Connection) → ConnectionOk past st s g notes c
+    → ConnectionOk past st s g notes (record c { pair = timed_out c.pair })
 timed_out_ok past st s g notes c ok = record {
   generation = ok.generation;
   up = ok.up;
@@ -113,7 +118,8 @@ expired_ok past st s now limit p q x ok = subst (λ (r : SlotState). SlotOk past
 pub expire_keeps : (past next : History) (st : State) (d : Doing) → Quiet past next → AllOk past st → Kept (AllOk next) (expire st d)
 expire_keeps past next st (Holds s left) quiet all = kept_bind _ (slice_get st.slots s) (λ p here.
     kept_then (λ (q : SlotState). with_place st s q) (expired_place st.second st.limits.idle p) (λ q x.
-    place_keeps past next st (with_place st s q) s p q quiet here refl (steady st (with_place st s q) refl refl refl refl) (expired_ok next (with_place st s q) s st.second st.limits.idle p q x) all)
+    place_keeps past next st (with_place st s q) s p q quiet here refl (steady st (with_place st s q) refl refl refl refl)
+    (expired_ok next (with_place st s q) s st.second st.limits.idle p q x) all)
     (expired_so st.second st.limits.idle p))
 expire_keeps past next st Idle quiet all = record { kept = tt }
 expire_keeps past next st (Tries t) quiet all = record { kept = tt }
@@ -129,14 +135,17 @@ sweep_keeps past next st s quiet all = kept_when (is_limited st) _ (λ limited. 
 
 -- time passes
 pub tick_keeps : (past next : History) (st : State) (n : ℕ) → Quiet past next → AllOk past st → Kept (AllOk next) (tick st n)
-tick_keeps past next st n quiet all = kept_guard _ (record st { second = st.second + n }) (λ may. rests_keep past next st _ quiet (record { slots = refl; table = refl; limits = refl; ends = refl; pending = λ i side g entry h. h }) all)
+tick_keeps past next st n quiet all =
+    kept_guard _ (record st { second = st.second + n })
+    (λ may. rests_keep past next st _ quiet (record { slots = refl; table = refl; limits = refl; ends = refl; pending = λ i side g entry h. h }) all)
 
 pub post_keeps : (past next : History) (st : State) (d : Doing) → Quiet past next → AllOk past st → Kept (AllOk next) (post st d)
 post_keeps past next st (Holds s left) quiet all = kept_bind _ (slice_get st.slots s) (λ p here.
     kept_bind _ p.connection (λ c lying.
     kept_guard (is_live (verdict c.pair)) (with_place st s (with_note p c.pair.generation)) (λ live.
     place_keeps past next st (with_place st s (with_note p c.pair.generation)) s p (with_note p c.pair.generation) quiet here refl (steady st _ refl refl refl refl)
-    (λ ok. note_keeps next next (with_place st s (with_note p c.pair.generation)) (with_place st s (with_note p c.pair.generation)) s p c.pair.generation (λ i g side. refl) refl refl refl ok) all)))
+    (λ ok. note_keeps next next (with_place st s (with_note p c.pair.generation)) (with_place st s (with_note p c.pair.generation)) s p c.pair.generation (λ i g side. refl) refl
+    refl refl ok) all)))
 post_keeps past next st Idle quiet all = record { kept = tt }
 post_keeps past next st (Tries t) quiet all = record { kept = tt }
 post_keeps past next st (Closed s) quiet all = record { kept = tt }
@@ -193,26 +202,31 @@ others_closed past next st q s g notes c quiet ok table limits batch kernel i di
   limits = limits;
   ends = λ d b here of_i. rw kernel (
       let apart : (side : Side) → b.token ≡ token_at s side g → ⊥ = λ side same. differ (let slots : b.token.slot ≡ s = ap (λ (n : EndName). n.slot) same in cc) in
-      let first : end_at (slice_set st.kernel.ends c.ends.client None) d ≡ Some b = end_kept st.kernel.ends c.ends.client d (registered s g Client ok.ends.client) b None (ok.there Client) here (apart Client) in
+      let first : end_at (slice_set st.kernel.ends c.ends.client None) d ≡ Some b = end_kept st.kernel.ends c.ends.client d (registered s g Client ok.ends.client) b None
+      (ok.there Client) here (apart Client) in
       let left : end_at (slice_set st.kernel.ends c.ends.client None) c.ends.target ≡ Some (registered s g Target ok.ends.target) =
       end_kept st.kernel.ends c.ends.client c.ends.target (registered s g Client ok.ends.client) (registered s g Target ok.ends.target) None (ok.there Client) (ok.there Target)
       (λ same. let sides : Target ≡ Client = ap (λ (n : EndName). n.side) same in absurd (cc)) in
       end_kept (slice_set st.kernel.ends c.ends.client None) c.ends.target d (registered s g Target ok.ends.target) b None left first (apart Target));
   pending = λ side h entry k. pending_more st q (token_at i side h)
       (λ queued. rw kernel (
-      has_without (name.End (token_at i side h)) (name.End (token_at s Target g)) (without_name (name.End (token_at s Client g)) st.kernel.queue) (other_slot (token_at s Target g) (token_at i side h) (λ same. differ (sym same)))
-      (has_without (name.End (token_at i side h)) (name.End (token_at s Client g)) st.kernel.queue (other_slot (token_at s Client g) (token_at i side h) (λ same. differ (sym same))) queued)))
+      has_without (name.End (token_at i side h)) (name.End (token_at s Target g)) (without_name (name.End (token_at s Client g)) st.kernel.queue)
+      (other_slot (token_at s Target g) (token_at i side h) (λ same. differ (sym same)))
+      (has_without (name.End (token_at i side h)) (name.End (token_at s Client g)) st.kernel.queue
+      (other_slot (token_at s Client g) (token_at i side h) (λ same. differ (sym same))) queued)))
       (λ taken. rw batch taken) k;
 }
 
-vacated : (past next : History) (st q : State) (s : ℕ) (p : SlotState) → Quiet past next → q.table ≡ st.table → q.limits ≡ st.limits → SlotOk past st s p → SlotOk next q s (record p { connection = None })
+vacated : (past next : History) (st q : State) (s : ℕ) (p : SlotState) → Quiet past next → q.table ≡ st.table → q.limits ≡ st.limits → SlotOk past st s p
+    → SlotOk next q s (record p { connection = None })
 vacated past next st q s p quiet table limits ok = record {
   entry = rw table (ok.entry);
   later = λ g side younger. quiet s g side ∙ (ok.later g side younger ∙ same_before st.limits q.limits side limits);
   connection = λ c here. absurd (cc);
 }
 
-closed_keeps : (past next : History) (st : State) (w : ℕ) (k : WorkerState) (s : ℕ) (p : SlotState) (c : Connection) → Quiet past next → slice_get st.slots s ≡ Some p → (ok : ConnectionOk past st s p.generation p.notes c) → AllOk past st
+closed_keeps : (past next : History) (st : State) (w : ℕ) (k : WorkerState) (s : ℕ) (p : SlotState) (c : Connection) → Quiet past next → slice_get st.slots s ≡ Some p
+    → (ok : ConnectionOk past st s p.generation p.notes c) → AllOk past st
     → AllOk next (closed_world st w k s p c (record { value = without_both st.kernel s p.generation c; told = ok.ends }))
 closed_keeps past next st w k s p c quiet here ok all =
     let q : State = closed_world st w k s p c (record { value = without_both st.kernel s p.generation c; told = ok.ends }) in

@@ -17,7 +17,11 @@ abbrev StandsAs : Connection → OpenConnection → Type 0
 StandsAs c line = place_of line.connection.pair ≡ place_of c.pair
 
 replied_stands : (laws : CoreLaws) (now : ℕ) (l : OpenConnection) (call : Call) (r : Reply) → Kept (StandsAs l.connection) (replied now l call r)
-replied_stands laws now l call r = kept_bind _ (told_of l call r) (λ t is. kept_when (fits l.connection.pair call t) (option_map (λ (k : KernelState). record { kernel = k; connection = record l.connection { pair = after now l.connection.pair call t } }) (made l call r)) (λ fit. kept_map _ (made l call r) (λ k done. laws.place now l.connection.pair call t)))
+replied_stands laws now l call r =
+    kept_bind _ (told_of l call r)
+    (λ t is. kept_when (fits l.connection.pair call t)
+    (option_map (λ (k : KernelState). record { kernel = k; connection = record l.connection { pair = after now l.connection.pair call t } }) (made l call r))
+    (λ fit. kept_map _ (made l call r) (λ k done. laws.place now l.connection.pair call t)))
 
 called_stands : (laws : CoreLaws) (now : ℕ) (l : OpenConnection) (r : Reply) → Kept (StandsAs l.connection) (called now l r)
 unfolding called

@@ -34,7 +34,8 @@ use Rattle.world.proofs.TurnsHeld.{Held, held_by, closed_by, stays_held, by_is_s
 pub own_generation : (f : Facts) (p : SlotState) (c : Connection) → place_of c.pair ≡ standing f p.generation → c.pair.generation ≡ p.generation
 own_generation f p c stands = ap (λ (x : Standing). x.generation) stands
 
-posted_turns : (st : State) (w : ℕ) (k : WorkerState) (s left : ℕ) (p : SlotState) (c : Connection) → slice_get st.workers w ≡ Some k → k.doing ≡ Holds s left → slice_get st.slots s ≡ Some p → p.connection ≡ Some c → Turns st
+posted_turns : (st : State) (w : ℕ) (k : WorkerState) (s left : ℕ) (p : SlotState) (c : Connection) → slice_get st.workers w ≡ Some k → k.doing ≡ Holds s left
+    → slice_get st.slots s ≡ Some p → p.connection ≡ Some c → Turns st
     → Turns (with_place st s (with_note p c.pair.generation))
 posted_turns st w k s left p c there does lies is turns =
     let sv : SlotOk (facts st s p.generation) p = turns.each s p lies in
@@ -48,7 +49,10 @@ posted_turns st w k s left p c there does lies is turns =
     turns
 
 post_turns : (st : State) (w : ℕ) (k : WorkerState) (d : Doing) → slice_get st.workers w ≡ Some k → k.doing ≡ d → Turns st → Kept Turns (post st d)
-post_turns st w k (Holds s left) there does turns = kept_bind _ (slice_get st.slots s) (λ p lies. kept_bind _ p.connection (λ c is. kept_guard (is_live (verdict c.pair)) (with_place st s (with_note p c.pair.generation)) (λ live. posted_turns st w k s left p c there does lies is turns)))
+post_turns st w k (Holds s left) there does turns =
+    kept_bind _ (slice_get st.slots s)
+    (λ p lies. kept_bind _ p.connection (λ c is. kept_guard (is_live (verdict c.pair)) (with_place st s (with_note p c.pair.generation))
+    (λ live. posted_turns st w k s left p c there does lies is turns)))
 post_turns st w k Idle there does turns = kept_none
 post_turns st w k (Tries t) there does turns = kept_none
 post_turns st w k (Closed s) there does turns = kept_none
@@ -70,31 +74,39 @@ lets_go c some may =
     let parts : (is_live (verdict c.pair) ≡ true) × ((is_none (next_call c.pair) || some) ≡ true) = and_parts (is_live (verdict c.pair)) (is_none (next_call c.pair) || some) may in
     (parts.0, λ none. none_there (next_call c.pair) (let left : (is_none (next_call c.pair) || false) ≡ true = rw none at parts.1 in or_none (is_none (next_call c.pair)) left))
 
-released_turns : (st : State) (w : ℕ) (k : WorkerState) (s left : ℕ) (p : SlotState) (c : Connection) → slice_get st.workers w ≡ Some k → k.doing ≡ Holds s left → slice_get st.slots s ≡ Some p → p.connection ≡ Some c → may_release c (is_nonempty p.notes) ≡ true → Turns st
+released_turns : (st : State) (w : ℕ) (k : WorkerState) (s left : ℕ) (p : SlotState) (c : Connection) → slice_get st.workers w ≡ Some k → k.doing ≡ Holds s left
+    → slice_get st.slots s ≡ Some p → p.connection ≡ Some c → may_release c (is_nonempty p.notes) ≡ true → Turns st
     → Turns (with_worker (with_place st s (record p { holder = Nobody })) w (record { doing = Idle; hand = with_ticket (is_nonempty p.notes) s p.generation k.hand }))
 released_turns st w k s left p c there does lies is may turns =
     let sv : SlotOk (facts st s p.generation) p = turns.each s p lies in
     let h : Held (facts st s p.generation) p true = held_by st w k s left p there does lies turns in
     let free : (is_live (verdict c.pair) ≡ true) × (is_nonempty p.notes ≡ false → next_call c.pair ≡ None) = lets_go c (is_nonempty p.notes) may in
-    let r : Replaced st w k (record { doing = Idle; hand = with_ticket (is_nonempty p.notes) s p.generation k.hand }) s p.generation = replaced st w k (record { doing = Idle; hand = with_ticket (is_nonempty p.notes) s p.generation k.hand }) s p.generation there in
+    let r : Replaced st w k (record { doing = Idle; hand = with_ticket (is_nonempty p.notes) s p.generation k.hand }) s p.generation =
+    replaced st w k (record { doing = Idle; hand = with_ticket (is_nonempty p.notes) s p.generation k.hand }) s p.generation there in
     let did_tickets : tried s k.doing ≡ 0 = ap (tried s) does in
     let did_right : tried_right s p.generation k.doing ≡ 0 = ap (tried_right s p.generation) does in
     let did_hold : holds s k.doing ≡ one (s == s) = ap (holds s) does in
     let did_close : closes s k.doing ≡ 0 = ap (closes s) does in
     let did_retire : retires s k.doing ≡ 0 = ap (retires s) does in
     let this : one (s == s) ≡ 1 = one_same s in
-    let more : total (of_slot s) (with_ticket (is_nonempty p.notes) s p.generation k.hand) ≡ total (of_slot s) k.hand + one (is_nonempty p.notes) = hand_own (of_slot s) (is_nonempty p.notes) s p.generation k.hand (one_same s) in
-    let more_right : total (names s p.generation) (with_ticket (is_nonempty p.notes) s p.generation k.hand) ≡ total (names s p.generation) k.hand + one (is_nonempty p.notes) = hand_own (names s p.generation) (is_nonempty p.notes) s p.generation k.hand (names_own s p.generation) in
-    keep_others st (with_worker (with_place st s (record p { holder = Nobody })) w (record { doing = Idle; hand = with_ticket (is_nonempty p.notes) s p.generation k.hand })) s p (record p { holder = Nobody }) lies refl (λ j q apart other.
-    let m : Replaced st w k (record { doing = Idle; hand = with_ticket (is_nonempty p.notes) s p.generation k.hand }) j q.generation = replaced st w k (record { doing = Idle; hand = with_ticket (is_nonempty p.notes) s p.generation k.hand }) j q.generation there in
+    let more : total (of_slot s) (with_ticket (is_nonempty p.notes) s p.generation k.hand) ≡ total (of_slot s) k.hand + one (is_nonempty p.notes) =
+    hand_own (of_slot s) (is_nonempty p.notes) s p.generation k.hand (one_same s) in
+    let more_right : total (names s p.generation) (with_ticket (is_nonempty p.notes) s p.generation k.hand) ≡ total (names s p.generation) k.hand + one (is_nonempty p.notes) =
+    hand_own (names s p.generation) (is_nonempty p.notes) s p.generation k.hand (names_own s p.generation) in
+    keep_others st (with_worker (with_place st s (record p { holder = Nobody })) w (record { doing = Idle; hand = with_ticket (is_nonempty p.notes) s p.generation k.hand })) s p
+    (record p { holder = Nobody }) lies refl (λ j q apart other.
+    let m : Replaced st w k (record { doing = Idle; hand = with_ticket (is_nonempty p.notes) s p.generation k.hand }) j q.generation =
+    replaced st w k (record { doing = Idle; hand = with_ticket (is_nonempty p.notes) s p.generation k.hand }) j q.generation there in
     let away : one (s == j) ≡ 0 = one_other s j apart in
     let a : tried j k.doing ≡ 0 = ap (tried j) does in
     let b : tried_right j q.generation k.doing ≡ 0 = ap (tried_right j q.generation) does in
     let d : holds j k.doing ≡ one (s == j) = ap (holds j) does in
     let e : closes j k.doing ≡ 0 = ap (closes j) does in
     let f : retires j k.doing ≡ 0 = ap (retires j) does in
-    let x : total (of_slot j) (with_ticket (is_nonempty p.notes) s p.generation k.hand) ≡ total (of_slot j) k.hand = hand_other (of_slot j) (is_nonempty p.notes) s p.generation k.hand away in
-    let y : total (names j q.generation) (with_ticket (is_nonempty p.notes) s p.generation k.hand) ≡ total (names j q.generation) k.hand = hand_other (names j q.generation) (is_nonempty p.notes) s p.generation k.hand (names_other j q.generation _ apart) in
+    let x : total (of_slot j) (with_ticket (is_nonempty p.notes) s p.generation k.hand) ≡ total (of_slot j) k.hand = hand_other (of_slot j) (is_nonempty p.notes) s p.generation
+    k.hand away in
+    let y : total (names j q.generation) (with_ticket (is_nonempty p.notes) s p.generation k.hand) ≡ total (names j q.generation) k.hand =
+    hand_other (names j q.generation) (is_nonempty p.notes) s p.generation k.hand (names_other j q.generation _ apart) in
     record {
       ring = refl;
       slot = refl;
@@ -123,7 +135,8 @@ released_turns st w k s left p c there does lies is may turns =
     }) turns
 
 release_turns : (st : State) (w : ℕ) (k : WorkerState) (d : Doing) → slice_get st.workers w ≡ Some k → k.doing ≡ d → Turns st → Kept Turns (release st w k d)
-release_turns st w k (Holds s left) there does turns = kept_bind _ (slice_get st.slots s) (λ p lies. kept_bind _ p.connection (λ c is. kept_guard (may_release c (is_nonempty p.notes))
+release_turns st w k (Holds s left) there does turns =
+    kept_bind _ (slice_get st.slots s) (λ p lies. kept_bind _ p.connection (λ c is. kept_guard (may_release c (is_nonempty p.notes))
     (with_worker (with_place st s (record p { holder = Nobody })) w (record { doing = Idle; hand = with_ticket (is_nonempty p.notes) s p.generation k.hand }))
     (λ may. released_turns st w k s left p c there does lies is may turns)))
 release_turns st w k Idle there does turns = kept_none
@@ -133,7 +146,8 @@ release_turns st w k (Retired s) there does turns = kept_none
 
 -- it closes the connection
 
-closed_turns : (st : State) (w : ℕ) (k : WorkerState) (s left : ℕ) (p : SlotState) (c : Connection) (t : Told KernelState Sockets) → slice_get st.workers w ≡ Some k → k.doing ≡ Holds s left → slice_get st.slots s ≡ Some p → Turns st
+closed_turns : (st : State) (w : ℕ) (k : WorkerState) (s left : ℕ) (p : SlotState) (c : Connection) (t : Told KernelState Sockets) → slice_get st.workers w ≡ Some k
+    → k.doing ≡ Holds s left → slice_get st.slots s ≡ Some p → Turns st
     → Turns (closed_world st w k s p c t)
 closed_turns st w k s left p c t there does lies turns =
     let sv : SlotOk (facts st s p.generation) p = turns.each s p lies in
@@ -194,7 +208,8 @@ retire_turns st w k (Holds s left) there does turns = kept_none
 retire_turns st w k (Retired s) there does turns = kept_none
 
 freed_most : (i : ℕ) (slots : List ℕ) (s : ℕ) (p : SlotState) → total (is_number i) (freed slots s p) ≤ total (is_number i) slots + one (s == i)
-freed_most i slots s p = elim (is_worn p.generation) as (λ b. total (is_number i) (if b then slots else slots ++ s ∷ []) ≤ total (is_number i) slots + one (s == i)) [ true ↦ omega arith | false ↦ (let more : total (is_number i) (slots ++ s ∷ []) ≡ total (is_number i) slots + one (s == i) = total_push (is_number i) slots s in omega arith) ]
+freed_most i slots s p = elim (is_worn p.generation) as (λ b. total (is_number i) (if b then slots else slots ++ s ∷ []) ≤ total (is_number i) slots + one (s == i))
+    [ true ↦ omega arith | false ↦ (let more : total (is_number i) (slots ++ s ∷ []) ≡ total (is_number i) slots + one (s == i) = total_push (is_number i) slots s in omega arith) ]
 
 free_turns : (st : State) (w : ℕ) (k : WorkerState) (d : Doing) → slice_get st.workers w ≡ Some k → k.doing ≡ d → Turns st → Kept Turns (free st w k d)
 free_turns st w k (Retired s) there does turns = kept_map _ (slice_get st.slots s) (λ p lies. keep_slots st (doing (record st { free = freed st.free s p }) w k Idle) refl (λ i g.

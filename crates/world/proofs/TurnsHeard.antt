@@ -51,10 +51,14 @@ over_hears : (st : State) (o : Option KernelState) → Kept (HearsOn st.kernel) 
 over_hears st o k l = kept_then (λ (q : KernelState). record st { kernel = q }) o (λ q on. goes_on st (record st { kernel = q }) refl refl on l) k
 
 network_listens : (st : State) (s : ℕ) (side : Side) (change : Change) → Listens st → Kept Listens (network st s side change)
-network_listens st s side change l = kept_bind _ (connection_at st s) (λ c is. over_hears st (change_at st.kernel (descriptor c.ends side) change) (change_hears st.kernel (descriptor c.ends side) change) l)
+network_listens st s side change l =
+    kept_bind _ (connection_at st s) (λ c is. over_hears st (change_at st.kernel (descriptor c.ends side) change) (change_hears st.kernel (descriptor c.ends side) change) l)
 
 spurious_listens : (st : State) (who : Reported) → Listens st → Kept Listens (spurious st who)
-spurious_listens st who l = kept_bind _ (watched_of st who) (λ w is. over_hears st (kernel.spurious st.kernel w) (kept_map _ (kernel.name_of st.kernel w) (λ n named. record { armed = refl; backlog = refl; queue = hears_with n st.kernel.queue })) l)
+spurious_listens st who l =
+    kept_bind _ (watched_of st who)
+    (λ w is. over_hears st (kernel.spurious st.kernel w)
+    (kept_map _ (kernel.name_of st.kernel w) (λ n named. record { armed = refl; backlog = refl; queue = hears_with n st.kernel.queue })) l)
 
 -- nobody waits, so that the listener's report may vanish
 record NobodyWaits (k q : KernelState) : Type 0 where
@@ -76,9 +80,13 @@ vanished_listens st watched.Listener l = kept_then (λ (q : KernelState). record
     let none : st.kernel.backlog ≡ 0 = eqb-true st.kernel.backlog 0 parts.1 in
     record { armed = refl; backlog = none; none = none }))
 vanished_listens st watched.Waker l = over_hears st (kernel.vanish st.kernel watched.Waker)
-    (kept_guard (has Waker st.kernel.queue && true) (record st.kernel { queue = without_name Waker st.kernel.queue }) (λ may. record { armed = refl; backlog = refl; queue = hears_without_waker st.kernel.queue })) l
+    (kept_guard (has Waker st.kernel.queue && true) (record st.kernel { queue = without_name Waker st.kernel.queue })
+    (λ may. record { armed = refl; backlog = refl; queue = hears_without_waker st.kernel.queue })) l
 vanished_listens st (watched.End d) l = over_hears st (kernel.vanish st.kernel (watched.End d))
-    (kept_bind_map _ (λ (r : Registered). End r.token) (end_at st.kernel.ends d) (λ r there. kept_guard (has (End r.token) st.kernel.queue && kernel.is_quiet st.kernel (watched.End d)) (record st.kernel { queue = without_name (End r.token) st.kernel.queue }) (λ may. record { armed = refl; backlog = refl; queue = hears_without_end r.token st.kernel.queue }))) l
+    (kept_bind_map _ (λ (r : Registered). End r.token) (end_at st.kernel.ends d)
+    (λ r there. kept_guard (has (End r.token) st.kernel.queue && kernel.is_quiet st.kernel (watched.End d))
+    (record st.kernel { queue = without_name (End r.token) st.kernel.queue })
+    (λ may. record { armed = refl; backlog = refl; queue = hears_without_end r.token st.kernel.queue }))) l
 
 vanish_listens : (st : State) (who : Reported) → Listens st → Kept Listens (vanish st who)
 vanish_listens st who l = kept_bind _ (watched_of st who) (λ w is. vanished_listens st w l)
@@ -88,7 +96,8 @@ vanish_listens st who l = kept_bind _ (watched_of st who) (λ w is. vanished_lis
 with_flag : (st : State) → st.flag ≡ true → Listens st
 with_flag st up = record { covered = rw up refl }
 
-connected : (flag armed ready : Bool) (queue : List Name) (r : Bool) → is_covered flag armed ready (hears queue || r) ≡ true → is_covered flag false true (hears (kernel.reported queue Listener armed) || r) ≡ true
+connected : (flag armed ready : Bool) (queue : List Name) (r : Bool) → is_covered flag armed ready (hears queue || r) ≡ true
+    → is_covered flag false true (hears (kernel.reported queue Listener armed) || r) ≡ true
 connected true armed ready queue r h = refl
 connected false true ready queue r h = rw (hears_it queue (hears queue) refl) refl
 connected false false true queue r h = h
@@ -96,7 +105,11 @@ connected false false false queue r h = absurd (cc)
 
 connect_listens : (st : State) → Listens st → Kept Listens (listen st listening.Connect)
 connect_listens st l = kept_then (λ (q : KernelState). record st { kernel = q }) (kernel.connect_in st.kernel) (λ q h. h)
-    (kept_guard (nat_lt st.kernel.backlog 4096) (record st.kernel { backlog = st.kernel.backlog + 1; queue = kernel.reported st.kernel.queue Listener st.kernel.armed; armed = false }) (λ room. record {
+    (kept_guard (nat_lt st.kernel.backlog 4096) (record st.kernel {
+      backlog = st.kernel.backlog + 1;
+      queue = kernel.reported st.kernel.queue Listener st.kernel.armed;
+      armed = false;
+    }) (λ room. record {
       covered =
           let some : nat_lt 0 (st.kernel.backlog + 1) ≡ true = lt-ltb 0 (st.kernel.backlog + 1) (omega arith) in
           rw some (connected st.flag st.kernel.armed (nat_lt 0 st.kernel.backlog) st.kernel.queue (hears st.batch) l.covered);
@@ -105,19 +118,25 @@ connect_listens st l = kept_then (λ (q : KernelState). record st { kernel = q }
 accepted_listens : (st : State) (reply : Accepting) → st.flag ≡ true → Kept Listens (over_kernel (after_accept st reply) (kernel.accept st.kernel reply))
 accepted_listens st Accepted up = kept_map _ (kernel.accept st.kernel Accepted) (λ q is. with_flag (record st { accepted = true; kernel = q }) up)
 accepted_listens st Blocked up = kept_then (λ (q : KernelState). record (after_accept st Blocked) { kernel = q }) (kernel.accept st.kernel Blocked) (λ q h. h)
-    (kept_guard (st.kernel.backlog == 0) (record st.kernel { armed = true }) (λ may. record { covered = let none : st.kernel.backlog ≡ 0 = eqb-true st.kernel.backlog 0 may in rw none refl }))
+    (kept_guard (st.kernel.backlog == 0) (record st.kernel { armed = true }) (λ may. record {
+      covered = let none : st.kernel.backlog ≡ 0 = eqb-true st.kernel.backlog 0 may in
+          rw none refl;
+    }))
 accepted_listens st Again up = kept_map _ (kernel.accept st.kernel Again) (λ q is. with_flag (record st { kernel = q }) up)
 accepted_listens st Starved up = kept_map _ (kernel.accept st.kernel Starved) (λ q is. with_flag (record st { kernel = q }) up)
 
 listen_listens : (st : State) (e : Listening) → Listens st → Kept Listens (listen st e)
 listen_listens st listening.Connect l = connect_listens st l
-listen_listens st (listening.Accept reply) l = kept_when (may_accept st) (over_kernel (after_accept st reply) (kernel.accept st.kernel reply)) (λ may. accepted_listens st reply (and_parts st.flag _ may).0)
+listen_listens st (listening.Accept reply) l = kept_when (may_accept st) (over_kernel (after_accept st reply) (kernel.accept st.kernel reply))
+    (λ may. accepted_listens st reply (and_parts st.flag _ may).0)
 listen_listens st listening.Drop l = kept_guard st.accepted (record st { accepted = false }) (λ had. goes_on st (record st { accepted = false }) refl refl (hears_self st.kernel) l)
 
 -- what the poller does
 
 opening_listens : (st : State) (s : ℕ) → Listens st → Kept Listens (opening_of st s)
-opening_listens st s l = kept_bind _ (slice_get st.slots s) (λ p there. kept_bind _ (slice_get st.table s) (λ g entry. kept_bind _ (token_of s Client (g + 1)) (λ client may. kept_map _ (token_of s Target (g + 1)) (λ target so.
+opening_listens st s l =
+    kept_bind _ (slice_get st.slots s)
+    (λ p there. kept_bind _ (slice_get st.table s) (λ g entry. kept_bind _ (token_of s Client (g + 1)) (λ client may. kept_map _ (token_of s Target (g + 1)) (λ target so.
     goes_on st (opened_world st s (g + 1) (kernel.open_both st.kernel client target)) refl refl (record { armed = refl; backlog = refl; queue = λ h. h }) l))))
 
 unheard : (xs : List Name) → (length xs == 0) ≡ true → hears xs ≡ false
@@ -132,7 +151,8 @@ batched_listens : (st : State) (names : List Name) → Listens st → Kept Liste
 batched_listens st names l = kept_when (length st.batch == 0) (over_kernel (record st { batch = names }) (kernel.poll st.kernel names)) (λ none.
     kept_then (λ (q : KernelState). record st { batch = names; kernel = q }) (kernel.poll st.kernel names) (λ q h. h)
     (kept_guard _ (record st.kernel { queue = without_names names st.kernel.queue }) (λ may. record {
-      covered = more_reported st.flag st.kernel.armed (nat_lt 0 st.kernel.backlog) (hears st.kernel.queue || hears st.batch) (hears (without_names names st.kernel.queue) || hears names)
+      covered = more_reported st.flag st.kernel.armed (nat_lt 0 st.kernel.backlog) (hears st.kernel.queue || hears st.batch)
+          (hears (without_names names st.kernel.queue) || hears names)
           (λ h. hears_taken names st.kernel.queue (hears names) refl (or_none (hears st.kernel.queue) (hears st.batch) (unheard st.batch none) h)) l.covered;
     })))
 
@@ -158,21 +178,25 @@ delivered_at_beside st n (Some g) = kept_if (g == n.generation) (post_at st n.sl
 
 left_batch : (st q : State) (n : Name) → slice_get st.batch 0 ≡ Some n → same Listener n ≡ false → Beside st q → Listens st → Listens (record q { batch = drop 1 st.batch })
 left_batch st q n first other b l = record {
-  covered = rw (b.flag, b.kernel) (more_reported st.flag st.kernel.armed (nat_lt 0 st.kernel.backlog) (hears st.kernel.queue || hears st.batch) (hears st.kernel.queue || hears (drop 1 st.batch))
+  covered = rw (b.flag, b.kernel) (more_reported st.flag st.kernel.armed (nat_lt 0 st.kernel.backlog) (hears st.kernel.queue || hears st.batch)
+      (hears st.kernel.queue || hears (drop 1 st.batch))
       (or_rest (hears st.kernel.queue) (hears st.batch) (hears (drop 1 st.batch)) (hears_rest st.batch n first other)) l.covered);
 }
 
-delivered_listens : (st : State) (n : Name) → slice_get st.batch 0 ≡ Some n → Listens st → Kept Listens (option_map (λ (q : State). record q { batch = drop 1 st.batch }) (delivered st n))
+delivered_listens : (st : State) (n : Name) → slice_get st.batch 0 ≡ Some n → Listens st
+    → Kept Listens (option_map (λ (q : State). record q { batch = drop 1 st.batch }) (delivered st n))
 delivered_listens st Listener first l = kept_some (with_flag _ refl)
 delivered_listens st Waker first l = kept_some (left_batch st st Waker first refl (record { flag = refl; kernel = refl }) l)
-delivered_listens st (End m) first l = kept_then (λ (q : State). record q { batch = drop 1 st.batch }) (delivered_at st m (slice_get st.table m.slot)) (λ q b. left_batch st q (End m) first refl b l) (delivered_at_beside st m (slice_get st.table m.slot))
+delivered_listens st (End m) first l = kept_then (λ (q : State). record q { batch = drop 1 st.batch }) (delivered_at st m (slice_get st.table m.slot))
+    (λ q b. left_batch st q (End m) first refl b l) (delivered_at_beside st m (slice_get st.table m.slot))
 
 put_listens : (st : State) (hand : List Ticket) → Listens st → Kept Listens (put_by_poller st hand)
 put_listens st [] l = kept_none
 put_listens st (t ∷ rest) l = kept_some (goes_on st (record st { hand = rest; ready = st.ready ++ t ∷ [] }) refl refl (hears_self st.kernel) l)
 
 polled_listens : (st : State) (p : Polling) → Listens st → Kept Listens (polled st p)
-polled_listens st polling.Open l = kept_when st.accepted (option_and_then (λ (s : ℕ). opening_of st s) (slice_get st.free 0)) (λ had. kept_bind _ (slice_get st.free 0) (λ s first. opening_listens st s l))
+polled_listens st polling.Open l = kept_when st.accepted (option_and_then (λ (s : ℕ). opening_of st s) (slice_get st.free 0))
+    (λ had. kept_bind _ (slice_get st.free 0) (λ s first. opening_listens st s l))
 polled_listens st (polling.Poll names) l = batched_listens st names.items l
 polled_listens st polling.Deliver l = kept_bind _ (slice_get st.batch 0) (λ n first. delivered_listens st n first l)
 polled_listens st (polling.Sweep s) l = kept_when (is_limited st) _ (λ limited. kept_bind _ (slice_get st.table s) (λ g entry. kept_when (nat_lt 0 g) (post_at st s g) (λ over.
@@ -183,11 +207,19 @@ polled_listens st polling.Put l = put_listens st st.hand l
 
 called_line_hears : (now : ℕ) (l : OpenConnection) (r : Reply) → Kept (λ (m : OpenConnection). HearsOn l.kernel m.kernel) (called now l r)
 unfolding called
-called_line_hears now l r = kept_bind _ (next_call l.connection.pair) (λ c next. kept_bind _ (told_of l c r) (λ t is. kept_when (fits l.connection.pair c t) (option_map (λ (k : KernelState). record { kernel = k; connection = record l.connection { pair = after now l.connection.pair c t } }) (made l c r)) (λ fit. kept_then (λ (k : KernelState). record { kernel = k; connection = record l.connection { pair = after now l.connection.pair c t } }) (made l c r) (λ k on. on) (made_hears l c r))))
+called_line_hears now l r =
+    kept_bind _ (next_call l.connection.pair)
+    (λ c next. kept_bind _ (told_of l c r)
+    (λ t is. kept_when (fits l.connection.pair c t)
+    (option_map (λ (k : KernelState). record { kernel = k; connection = record l.connection { pair = after now l.connection.pair c t } }) (made l c r))
+    (λ fit. kept_then (λ (k : KernelState). record { kernel = k; connection = record l.connection { pair = after now l.connection.pair c t } }) (made l c r) (λ k on. on)
+    (made_hears l c r))))
 
 lodged_hears : (now : ℕ) (l : OpenSlot) (r : Reply) → Kept (λ (m : OpenSlot). HearsOn l.kernel m.kernel) (slot_call now l r)
 unfolding slot_call
-lodged_hears now l r = kept_bind _ l.place.connection (λ c is. kept_then (λ (line : OpenConnection). record { kernel = line.kernel; place = record l.place { connection = Some line.connection } }) (called now (record { kernel = l.kernel; connection = c }) r) (λ line on. on) (called_line_hears now (record { kernel = l.kernel; connection = c }) r))
+lodged_hears now l r =
+    kept_bind _ l.place.connection (λ c is. kept_then (λ (line : OpenConnection). record { kernel = line.kernel; place = record l.place { connection = Some line.connection } })
+    (called now (record { kernel = l.kernel; connection = c }) r) (λ line on. on) (called_line_hears now (record { kernel = l.kernel; connection = c }) r))
 
 worker_put_listens : (st : State) (w : ℕ) (k : WorkerState) (hand : List Ticket) → Listens st → Kept Listens (put_by_worker st w k hand)
 worker_put_listens st w k [] l = kept_none
@@ -205,14 +237,18 @@ pop_listens st w k (Closed s) l = kept_none
 pop_listens st w k (Retired s) l = kept_none
 
 claim_listens : (st : State) (w : ℕ) (k : WorkerState) (d : Doing) → Listens st → Kept Listens (claim st w k d)
-claim_listens st w k (Tries t) l = kept_map _ (slice_get st.slots t.slot) (λ p lies. either_of Listens (is_held p.holder) (doing st w k Idle) (doing (with_place st t.slot (record p { holder = By w })) w k (Holds t.slot st.limits.budget)) (record { covered = l.covered }) (record { covered = l.covered }))
+claim_listens st w k (Tries t) l =
+    kept_map _ (slice_get st.slots t.slot)
+    (λ p lies. either_of Listens (is_held p.holder) (doing st w k Idle) (doing (with_place st t.slot (record p { holder = By w })) w k (Holds t.slot st.limits.budget))
+    (record { covered = l.covered }) (record { covered = l.covered }))
 claim_listens st w k Idle l = kept_none
 claim_listens st w k (Holds s left) l = kept_none
 claim_listens st w k (Closed s) l = kept_none
 claim_listens st w k (Retired s) l = kept_none
 
 take_listens : (st : State) (d : Doing) → Listens st → Kept Listens (take st d)
-take_listens st (Holds s left) l = kept_bind _ (slice_get st.slots s) (λ p lies. kept_map (λ (q : SlotState). with_place st s q) (noted_slot p) (λ q is. record { covered = l.covered }))
+take_listens st (Holds s left) l =
+    kept_bind _ (slice_get st.slots s) (λ p lies. kept_map (λ (q : SlotState). with_place st s q) (noted_slot p) (λ q is. record { covered = l.covered }))
 take_listens st Idle l = kept_none
 take_listens st (Tries t) l = kept_none
 take_listens st (Closed s) l = kept_none
@@ -223,29 +259,37 @@ call_listens st w k (Holds s left) r l = kept_when (nat_lt 0 left) (option_and_t
     (λ (p : SlotState). option_map
     (λ (m : OpenSlot). doing (with_place (record st { kernel = m.kernel }) s m.place) w k (Holds s (left - 1)))
     (slot_call st.second (record { kernel = st.kernel; place = p }) r))
-    (slice_get st.slots s)) (λ some. kept_bind _ (slice_get st.slots s) (λ p lies. kept_then (λ (m : OpenSlot). doing (with_place (record st { kernel = m.kernel }) s m.place) w k (Holds s (left - 1))) (slot_call st.second (record { kernel = st.kernel; place = p }) r)
-    (λ m on. goes_on st (doing (with_place (record st { kernel = m.kernel }) s m.place) w k (Holds s (left - 1))) refl refl on l) (lodged_hears st.second (record { kernel = st.kernel; place = p }) r)))
+    (slice_get st.slots s))
+    (λ some. kept_bind _ (slice_get st.slots s) (λ p lies. kept_then (λ (m : OpenSlot). doing (with_place (record st { kernel = m.kernel }) s m.place) w k (Holds s (left - 1)))
+    (slot_call st.second (record { kernel = st.kernel; place = p }) r)
+    (λ m on. goes_on st (doing (with_place (record st { kernel = m.kernel }) s m.place) w k (Holds s (left - 1))) refl refl on l)
+    (lodged_hears st.second (record { kernel = st.kernel; place = p }) r)))
 call_listens st w k Idle r l = kept_none
 call_listens st w k (Tries t) r l = kept_none
 call_listens st w k (Closed s) r l = kept_none
 call_listens st w k (Retired s) r l = kept_none
 
 post_listens : (st : State) (d : Doing) → Listens st → Kept Listens (post st d)
-post_listens st (Holds s left) l = kept_bind _ (slice_get st.slots s) (λ p lies. kept_bind _ p.connection (λ c is. kept_guard (is_live (verdict c.pair)) (with_place st s (with_note p c.pair.generation)) (λ live. record { covered = l.covered })))
+post_listens st (Holds s left) l =
+    kept_bind _ (slice_get st.slots s)
+    (λ p lies. kept_bind _ p.connection (λ c is. kept_guard (is_live (verdict c.pair)) (with_place st s (with_note p c.pair.generation)) (λ live. record { covered = l.covered })))
 post_listens st Idle l = kept_none
 post_listens st (Tries t) l = kept_none
 post_listens st (Closed s) l = kept_none
 post_listens st (Retired s) l = kept_none
 
 release_listens : (st : State) (w : ℕ) (k : WorkerState) (d : Doing) → Listens st → Kept Listens (release st w k d)
-release_listens st w k (Holds s left) l = kept_bind _ (slice_get st.slots s) (λ p lies. kept_bind _ p.connection (λ c is. kept_guard (may_release c (is_nonempty p.notes)) _ (λ may. record { covered = l.covered })))
+release_listens st w k (Holds s left) l =
+    kept_bind _ (slice_get st.slots s) (λ p lies. kept_bind _ p.connection (λ c is. kept_guard (may_release c (is_nonempty p.notes)) _ (λ may. record { covered = l.covered })))
 release_listens st w k Idle l = kept_none
 release_listens st w k (Tries t) l = kept_none
 release_listens st w k (Closed s) l = kept_none
 release_listens st w k (Retired s) l = kept_none
 
 expire_listens : (st : State) (d : Doing) → Listens st → Kept Listens (expire st d)
-expire_listens st (Holds s left) l = kept_bind _ (slice_get st.slots s) (λ p lies. kept_map (λ (q : SlotState). with_place st s q) (expired_place st.second st.limits.idle p) (λ q is. record { covered = l.covered }))
+expire_listens st (Holds s left) l =
+    kept_bind _ (slice_get st.slots s) (λ p lies. kept_map (λ (q : SlotState). with_place st s q) (expired_place st.second st.limits.idle p)
+    (λ q is. record { covered = l.covered }))
 expire_listens st Idle l = kept_none
 expire_listens st (Tries t) l = kept_none
 expire_listens st (Closed s) l = kept_none
@@ -254,7 +298,8 @@ expire_listens st (Retired s) l = kept_none
 close_listens : (st : State) (w : ℕ) (k : WorkerState) (d : Doing) → Listens st → Kept Listens (close st w k d)
 close_listens st w k (Holds s left) l = kept_bind _ (slice_get st.slots s) (λ p lies. kept_bind _ p.connection (λ c is. kept_when (not (is_live (verdict c.pair)))
     (option_map (λ (t : Told KernelState Sockets). closed_world st w k s p c t) (kernel.close_both st.kernel c.ends))
-    (λ dead. kept_then (λ (t : Told KernelState Sockets). closed_world st w k s p c t) (kernel.close_both st.kernel c.ends) (λ t on. goes_on st (closed_world st w k s p c t) refl refl on l) (both_hear st.kernel c.ends))))
+    (λ dead. kept_then (λ (t : Told KernelState Sockets). closed_world st w k s p c t) (kernel.close_both st.kernel c.ends)
+    (λ t on. goes_on st (closed_world st w k s p c t) refl refl on l) (both_hear st.kernel c.ends))))
 close_listens st w k Idle l = kept_none
 close_listens st w k (Tries t) l = kept_none
 close_listens st w k (Closed s) l = kept_none

@@ -76,7 +76,8 @@ held_so f p has sv by some =
       gone = rw free at sv.gone;
     }
 
-pub held_by : (st : State) (w : ℕ) (k : WorkerState) (s left : ℕ) (p : SlotState) → slice_get st.workers w ≡ Some k → k.doing ≡ Holds s left → slice_get st.slots s ≡ Some p → Turns st → Held (facts st s p.generation) p true
+pub held_by : (st : State) (w : ℕ) (k : WorkerState) (s left : ℕ) (p : SlotState) → slice_get st.workers w ≡ Some k → k.doing ≡ Holds s left → slice_get st.slots s ≡ Some p
+    → Turns st → Held (facts st s p.generation) p true
 held_by st w k s left p there does lies turns =
     let sv : SlotOk (facts st s p.generation) p = turns.each s p lies in
     let least : worker_holds s k ≤ total (worker_holds s) st.workers = total_at (worker_holds s) st.workers w k there in
@@ -86,7 +87,8 @@ held_by st w k s left p there does lies turns =
     let parts : (is_by_worker p.holder ≡ true) × (is_some p.connection ≡ true) = both_true (is_by_worker p.holder) (is_some p.connection) (omega arith) in
     held_so (facts st s p.generation) p true sv parts.0 parts.1
 
-pub closed_by : (st : State) (w : ℕ) (k : WorkerState) (s : ℕ) (p : SlotState) → slice_get st.workers w ≡ Some k → k.doing ≡ Closed s → slice_get st.slots s ≡ Some p → Turns st → Held (facts st s p.generation) p false
+pub closed_by : (st : State) (w : ℕ) (k : WorkerState) (s : ℕ) (p : SlotState) → slice_get st.workers w ≡ Some k → k.doing ≡ Closed s → slice_get st.slots s ≡ Some p → Turns st
+    → Held (facts st s p.generation) p false
 closed_by st w k s p there does lies turns =
     let sv : SlotOk (facts st s p.generation) p = turns.each s p lies in
     let least : worker_closes s k ≤ total (worker_closes s) st.workers = total_at (worker_closes s) st.workers w k there in
@@ -97,7 +99,8 @@ closed_by st w k s p there does lies turns =
     held_so (facts st s p.generation) p false sv parts.0 parts.1
 
 -- the same worker still holds the slot: its numbers stay, and the notes and the connection may change
-pub stays_held : (f g : Facts) (p q : SlotState) (has : Bool) → Same f g → SlotOk f p → Held f p has → q.generation ≡ p.generation → q.holder ≡ p.holder → is_some q.connection ≡ is_some p.connection
+pub stays_held : (f g : Facts) (p q : SlotState) (has : Bool) → Same f g → SlotOk f p → Held f p has → q.generation ≡ p.generation → q.holder ≡ p.holder
+    → is_some q.connection ≡ is_some p.connection
     → are_own p.generation q.notes ≡ true → ((c : Connection) → q.connection ≡ Some c → place_of c.pair ≡ standing g p.generation) → SlotOk g q
 stays_held f g p q has m sv h generation holder some own stands = record {
   entry = rw (generation, ← m.entry) sv.entry;
@@ -121,21 +124,26 @@ heard_stands : (c : Connection) (some : Bool) → place_of (if some then record 
 heard_stands c true = refl
 heard_stands c false = refl
 
-taken_turns : (st : State) (w : ℕ) (k : WorkerState) (s left : ℕ) (p : SlotState) (c : Connection) → slice_get st.workers w ≡ Some k → k.doing ≡ Holds s left → slice_get st.slots s ≡ Some p → p.connection ≡ Some c → Turns st
+taken_turns : (st : State) (w : ℕ) (k : WorkerState) (s left : ℕ) (p : SlotState) (c : Connection) → slice_get st.workers w ≡ Some k → k.doing ≡ Holds s left
+    → slice_get st.slots s ≡ Some p → p.connection ≡ Some c → Turns st
     → Turns (with_place st s (record p { notes = []; connection = Some (heard c p.notes) }))
 taken_turns st w k s left p c there does lies is turns =
     let sv : SlotOk (facts st s p.generation) p = turns.each s p lies in
     let h : Held (facts st s p.generation) p true = held_by st w k s left p there does lies turns in
     keep_others st (with_place st s (record p { notes = []; connection = Some (heard c p.notes) })) s p (record p { notes = []; connection = Some (heard c p.notes) }) lies refl
     (λ j q apart other. same_self (facts st j q.generation))
-    (stays_held (facts st s p.generation) (facts st s p.generation) p (record p { notes = []; connection = Some (heard c p.notes) }) true (same_self (facts st s p.generation)) sv h refl refl (sym h.some) refl
+    (stays_held (facts st s p.generation) (facts st s p.generation) p (record p { notes = []; connection = Some (heard c p.notes) }) true (same_self (facts st s p.generation)) sv h
+    refl refl (sym h.some) refl
     (λ d at.
     let same : heard c p.notes ≡ d = (cc) in
     rw (← same) (heard_stands c (is_nonempty p.notes) ∙ (sv.connection c is).stands)))
     turns
 
 pub take_turns : (st : State) (w : ℕ) (k : WorkerState) (d : Doing) → slice_get st.workers w ≡ Some k → k.doing ≡ d → Turns st → Kept Turns (take st d)
-take_turns st w k (Holds s left) there does turns = kept_bind _ (slice_get st.slots s) (λ p lies. kept_map_map (λ (q : SlotState). with_place st s q) (λ (c : Connection). record p { notes = []; connection = Some (heard c p.notes) }) p.connection (λ c is. taken_turns st w k s left p c there does lies is turns))
+take_turns st w k (Holds s left) there does turns =
+    kept_bind _ (slice_get st.slots s)
+    (λ p lies. kept_map_map (λ (q : SlotState). with_place st s q) (λ (c : Connection). record p { notes = []; connection = Some (heard c p.notes) }) p.connection
+    (λ c is. taken_turns st w k s left p c there does lies is turns))
 take_turns st w k Idle there does turns = kept_none
 take_turns st w k (Tries t) there does turns = kept_none
 take_turns st w k (Closed s) there does turns = kept_none
@@ -147,7 +155,8 @@ some_is : (o : Option Connection) (c : Connection) → o ≡ Some c → is_some 
 some_is o c is = rw is refl
 
 -- the worker's calls left do not count
-less_left : (st next : State) (w : ℕ) (k : WorkerState) (s left i g : ℕ) → slice_get st.workers w ≡ Some k → k.doing ≡ Holds s left → next.limits ≡ st.limits → next.table ≡ st.table → next.ready ≡ st.ready → next.hand ≡ st.hand → next.free ≡ st.free → next.workers ≡ slice_set st.workers w (record k { doing = Holds s (left - 1) })
+less_left : (st next : State) (w : ℕ) (k : WorkerState) (s left i g : ℕ) → slice_get st.workers w ≡ Some k → k.doing ≡ Holds s left → next.limits ≡ st.limits
+    → next.table ≡ st.table → next.ready ≡ st.ready → next.hand ≡ st.hand → next.free ≡ st.free → next.workers ≡ slice_set st.workers w (record k { doing = Holds s (left - 1) })
     → Same (facts st i g) (facts next i g)
 less_left st next w k s left i g there does limits table ready hand free workers =
     let r : Turned st w k (Holds s left) (Holds s (left - 1)) i g = turned st w k (Holds s left) (Holds s (left - 1)) i g there does in
@@ -165,14 +174,17 @@ less_left st next w k s left i g there does limits table ready hand free workers
 at_generation : (st : State) (s : ℕ) (p q : SlotState) → q.generation ≡ p.generation → SlotOk (facts st s p.generation) q → SlotOk (facts st s q.generation) q
 at_generation st s p q same ok = subst (λ (g : ℕ). SlotOk (facts st s g) q) (sym same) ok
 
-called_turns : (st : State) (w : ℕ) (k : WorkerState) (s left : ℕ) (p : SlotState) (l : OpenSlot) → slice_get st.workers w ≡ Some k → k.doing ≡ Holds s left → slice_get st.slots s ≡ Some p → StaysIn p l.place → Turns st
+called_turns : (st : State) (w : ℕ) (k : WorkerState) (s left : ℕ) (p : SlotState) (l : OpenSlot) → slice_get st.workers w ≡ Some k → k.doing ≡ Holds s left
+    → slice_get st.slots s ≡ Some p → StaysIn p l.place → Turns st
     → Turns (doing (with_place (record st { kernel = l.kernel }) s l.place) w k (Holds s (left - 1)))
 called_turns st w k s left p l there does lies stays turns =
     let sv : SlotOk (facts st s p.generation) p = turns.each s p lies in
     let h : Held (facts st s p.generation) p true = held_by st w k s left p there does lies turns in
     keep_others st (doing (with_place (record st { kernel = l.kernel }) s l.place) w k (Holds s (left - 1))) s p l.place lies refl
-    (λ j q apart other. less_left st (doing (with_place (record st { kernel = l.kernel }) s l.place) w k (Holds s (left - 1))) w k s left j q.generation there does refl refl refl refl refl refl)
-    (at_generation (doing (with_place (record st { kernel = l.kernel }) s l.place) w k (Holds s (left - 1))) s p l.place stays.generation (stays_held (facts st s p.generation) (facts (doing (with_place (record st { kernel = l.kernel }) s l.place) w k (Holds s (left - 1))) s p.generation) p l.place true
+    (λ j q apart other. less_left st (doing (with_place (record st { kernel = l.kernel }) s l.place) w k (Holds s (left - 1))) w k s left j q.generation there does refl refl refl
+    refl refl refl)
+    (at_generation (doing (with_place (record st { kernel = l.kernel }) s l.place) w k (Holds s (left - 1))) s p l.place stays.generation
+    (stays_held (facts st s p.generation) (facts (doing (with_place (record st { kernel = l.kernel }) s l.place) w k (Holds s (left - 1))) s p.generation) p l.place true
     (less_left st (doing (with_place (record st { kernel = l.kernel }) s l.place) w k (Holds s (left - 1))) w k s left s p.generation there does refl refl refl refl refl refl)
     sv h stays.generation stays.holder
     (some_is l.place.connection stays.new stays.is ∙ sym (some_is p.connection stays.old stays.was))
@@ -182,12 +194,15 @@ called_turns st w k s left p l there does lies stays turns =
     rw (← same) (stays.stands ∙ (sv.connection stays.old stays.was).stands))))
     turns
 
-pub call_turns : (laws : CoreLaws) (st : State) (w : ℕ) (k : WorkerState) (d : Doing) (r : Reply) → slice_get st.workers w ≡ Some k → k.doing ≡ d → Turns st → Kept Turns (call st w k d r)
+pub call_turns : (laws : CoreLaws) (st : State) (w : ℕ) (k : WorkerState) (d : Doing) (r : Reply) → slice_get st.workers w ≡ Some k → k.doing ≡ d → Turns st
+    → Kept Turns (call st w k d r)
 call_turns laws st w k (Holds s left) r there does turns = kept_when (nat_lt 0 left) (option_and_then
     (λ (p : SlotState). option_map
     (λ (l : OpenSlot). doing (with_place (record st { kernel = l.kernel }) s l.place) w k (Holds s (left - 1)))
     (slot_call st.second (record { kernel = st.kernel; place = p }) r))
-    (slice_get st.slots s)) (λ some. kept_bind _ (slice_get st.slots s) (λ p lies. kept_map _ (slot_call st.second (record { kernel = st.kernel; place = p }) r) (λ l is. called_turns st w k s left p l there does lies
+    (slice_get st.slots s))
+    (λ some. kept_bind _ (slice_get st.slots s) (λ p lies. kept_map _ (slot_call st.second (record { kernel = st.kernel; place = p }) r)
+    (λ l is. called_turns st w k s left p l there does lies
     (kept_at (slot_call st.second (record { kernel = st.kernel; place = p }) r) l is (lodged_stays laws st.second (record { kernel = st.kernel; place = p }) r)) turns)))
 call_turns laws st w k Idle r there does turns = kept_none
 call_turns laws st w k (Tries t) r there does turns = kept_none

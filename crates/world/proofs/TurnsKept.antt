@@ -56,7 +56,8 @@ kept_next f None next k = record { kept = tt }
 kept_next f (Some x) next k = next x k.kept
 
 -- a step that may refuse, of what another made
-pub kept_bind_map : {X Y Z : Type 0} {P : Z → Type 0} (f : Y → Option Z) (g : X → Y) (o : Option X) → ((x : X) → o ≡ Some x → Kept P (f (g x))) → Kept P (option_and_then f (option_map g o))
+pub kept_bind_map : {X Y Z : Type 0} {P : Z → Type 0} (f : Y → Option Z) (g : X → Y) (o : Option X) → ((x : X) → o ≡ Some x → Kept P (f (g x)))
+    → Kept P (option_and_then f (option_map g o))
 kept_bind_map f g None next = record { kept = tt }
 kept_bind_map f g (Some x) next = next x refl
 

@@ -54,7 +54,8 @@ pub hears_without_end : (a : EndName) (xs : List Name) → hears xs ≡ true →
 hears_without_end a [] h = absurd (cc)
 hears_without_end a (Listener ∷ xs) h = refl
 hears_without_end a (Waker ∷ xs) h = hears_without_end a xs h
-hears_without_end a (End b ∷ xs) h = elim (same (End a) (End b)) as (λ t. hears (if not t then End b ∷ without_name (End a) xs else without_name (End a) xs) ≡ true) [ true ↦ hears_without_end a xs h | false ↦ hears_without_end a xs h ]
+hears_without_end a (End b ∷ xs) h = elim (same (End a) (End b)) as (λ t. hears (if not t then End b ∷ without_name (End a) xs else without_name (End a) xs) ≡ true)
+    [ true ↦ hears_without_end a xs h | false ↦ hears_without_end a xs h ]
 
 pub hears_without_waker : (xs : List Name) → hears xs ≡ true → hears (without_name Waker xs) ≡ true
 hears_without_waker [] h = absurd (cc)
@@ -71,8 +72,10 @@ pub hears_taken : (taken xs : List Name) (b : Bool) → hears taken ≡ b → he
 hears_taken taken xs true is h = or_true (hears (without_names taken xs))
 hears_taken taken [] false is h = absurd (cc)
 hears_taken taken (Listener ∷ xs) false is h = rw is refl
-hears_taken taken (Waker ∷ xs) false is h = elim (has Waker taken) as (λ t. (hears (if not t then Waker ∷ without_names taken xs else without_names taken xs) || false) ≡ true) [ true ↦ hears_taken taken xs false is h | false ↦ hears_taken taken xs false is h ]
-hears_taken taken (End a ∷ xs) false is h = elim (has (End a) taken) as (λ t. (hears (if not t then End a ∷ without_names taken xs else without_names taken xs) || false) ≡ true) [ true ↦ hears_taken taken xs false is h | false ↦ hears_taken taken xs false is h ]
+hears_taken taken (Waker ∷ xs) false is h = elim (has Waker taken) as (λ t. (hears (if not t then Waker ∷ without_names taken xs else without_names taken xs) || false) ≡ true)
+    [ true ↦ hears_taken taken xs false is h | false ↦ hears_taken taken xs false is h ]
+hears_taken taken (End a ∷ xs) false is h = elim (has (End a) taken) as (λ t. (hears (if not t then End a ∷ without_names taken xs else without_names taken xs) || false) ≡ true)
+    [ true ↦ hears_taken taken xs false is h | false ↦ hears_taken taken xs false is h ]
 
 -- the flag is covered
 
@@ -117,14 +120,16 @@ hears_through k q r a b = record { armed = b.armed ∙ a.armed; backlog = b.back
 -- a state over such a kernel, with the flag and the batch as they were
 pub goes_on : (st next : State) → next.flag ≡ st.flag → next.batch ≡ st.batch → HearsOn st.kernel next.kernel → Listens st → Listens next
 goes_on st next flag batch on l = record {
-  covered = rw (flag, batch, on.armed, on.backlog) (more_reported st.flag st.kernel.armed (nat_lt 0 st.kernel.backlog) (hears st.kernel.queue || hears st.batch) (hears next.kernel.queue || hears st.batch)
+  covered = rw (flag, batch, on.armed, on.backlog) (more_reported st.flag st.kernel.armed (nat_lt 0 st.kernel.backlog) (hears st.kernel.queue || hears st.batch)
+      (hears next.kernel.queue || hears st.batch)
       (either (hears st.kernel.queue) (hears st.batch) (hears next.kernel.queue) on.queue) l.covered);
 }
 
 -- calls on the kernel
 
 pub changed_hears : (k : KernelState) (d : ℕ) (f : EndState → Option (Told EndState Bool)) → Kept (HearsOn k) (kernel.changed k d f)
-changed_hears k d f = kept_bind _ (end_at k.ends d) (λ r there. kept_map _ (f r.socket) (λ t now. record { armed = refl; backlog = refl; queue = hears_reported k.queue (End r.token) t.told }))
+changed_hears k d f =
+    kept_bind _ (end_at k.ends d) (λ r there. kept_map _ (f r.socket) (λ t now. record { armed = refl; backlog = refl; queue = hears_reported k.queue (End r.token) t.told }))
 
 pub change_hears : (k : KernelState) (d : ℕ) (c : Change) → Kept (HearsOn k) (change_at k d c)
 change_hears k d (Arrive bytes) = kept_when _ (kernel.arrive k d bytes.items) (λ few. changed_hears k d _)
@@ -145,4 +150,5 @@ pub closed_hears : (k : KernelState) (d : ℕ) → Kept (λ (t : Told KernelStat
 closed_hears k d = kept_map _ (end_at k.ends d) (λ r there. record { armed = refl; backlog = refl; queue = hears_without_end r.token k.queue })
 
 pub both_hear : (k : KernelState) (ends : Descriptors) → Kept (λ (t : Told KernelState Sockets). HearsOn k t.value) (kernel.close_both k ends)
-both_hear k ends = kept_next _ (kernel.close k ends.client) (λ one a. kept_then _ (kernel.close one.value ends.target) (λ two b. hears_through k one.value two.value a b) (closed_hears one.value ends.target)) (closed_hears k ends.client)
+both_hear k ends = kept_next _ (kernel.close k ends.client) (λ one a. kept_then _ (kernel.close one.value ends.target) (λ two b. hears_through k one.value two.value a b)
+    (closed_hears one.value ends.target)) (closed_hears k ends.client)

@@ -61,11 +61,13 @@ accepted_turns st Starved turns = turns
 
 pub listen_turns : (st : State) (l : Listening) → Turns st → Kept Turns (listen st l)
 listen_turns st listening.Connect turns = over_kept st _ turns
-listen_turns st (listening.Accept reply) turns = kept_when (may_accept st) (over_kernel (after_accept st reply) (kernel.accept st.kernel reply)) (λ may. over_kept (after_accept st reply) (kernel.accept st.kernel reply) (accepted_turns st reply turns))
+listen_turns st (listening.Accept reply) turns = kept_when (may_accept st) (over_kernel (after_accept st reply) (kernel.accept st.kernel reply))
+    (λ may. over_kept (after_accept st reply) (kernel.accept st.kernel reply) (accepted_turns st reply turns))
 listen_turns st listening.Drop turns = kept_guard st.accepted (record st { accepted = false }) (λ had. record { each = turns.each })
 
 batched_turns : (st : State) (names : List Name) → Turns st → Kept Turns (batched st names)
-batched_turns st names turns = kept_when (length st.batch == 0) (over_kernel (record st { batch = names }) (kernel.poll st.kernel names)) (λ none. over_kept (record st { batch = names }) (kernel.poll st.kernel names) (record { each = turns.each }))
+batched_turns st names turns = kept_when (length st.batch == 0) (over_kernel (record st { batch = names }) (kernel.poll st.kernel names))
+    (λ none. over_kept (record st { batch = names }) (kernel.poll st.kernel names) (record { each = turns.each }))
 
 -- a ticket goes from the poller to the ready queue
 put_turns : (st : State) (hand : List Ticket) → st.hand ≡ hand → Turns st → Kept Turns (put_by_poller st hand)
@@ -74,8 +76,10 @@ put_turns st (t ∷ rest) is turns = kept_some (keep_slots st (record st { hand 
   ring = refl;
   slot = refl;
   entry = refl;
-  tickets = let same : total (of_slot s) (st.ready ++ t ∷ []) + total (of_slot s) rest ≡ total (of_slot s) st.ready + total (of_slot s) st.hand = total_moved (of_slot s) st.ready st.hand rest t is in omega arith;
-  right = let same : total (names s g) (st.ready ++ t ∷ []) + total (names s g) rest ≡ total (names s g) st.ready + total (names s g) st.hand = total_moved (names s g) st.ready st.hand rest t is in omega arith;
+  tickets = let same : total (of_slot s) (st.ready ++ t ∷ []) + total (of_slot s) rest ≡ total (of_slot s) st.ready + total (of_slot s) st.hand =
+      total_moved (of_slot s) st.ready st.hand rest t is in omega arith;
+  right = let same : total (names s g) (st.ready ++ t ∷ []) + total (names s g) rest ≡ total (names s g) st.ready + total (names s g) st.hand =
+      total_moved (names s g) st.ready st.hand rest t is in omega arith;
   holding = refl;
   closing = refl;
   gone = omega arith;
@@ -104,33 +108,40 @@ noted_tickets false false n m was more = omega arith
 
 -- a hand that may get one more ticket
 pub hand_other : (f : Ticket → ℕ) (b : Bool) (s g : ℕ) (hand : List Ticket) → f (record { slot = s; generation = g }) ≡ 0 → total f (with_ticket b s g hand) ≡ total f hand
-hand_other f true s g hand none = let more : total f (hand ++ record { slot = s; generation = g } ∷ []) ≡ total f hand + f (record { slot = s; generation = g }) = total_push f hand _ in omega arith
+hand_other f true s g hand none = let more : total f (hand ++ record { slot = s; generation = g } ∷ []) ≡ total f hand + f (record { slot = s; generation = g }) =
+    total_push f hand _ in omega arith
 hand_other f false s g hand none = refl
 
 pub hand_own : (f : Ticket → ℕ) (b : Bool) (s g : ℕ) (hand : List Ticket) → f (record { slot = s; generation = g }) ≡ 1 → total f (with_ticket b s g hand) ≡ total f hand + one b
-hand_own f true s g hand this = let more : total f (hand ++ record { slot = s; generation = g } ∷ []) ≡ total f hand + f (record { slot = s; generation = g }) = total_push f hand _ in omega arith
+hand_own f true s g hand this = let more : total f (hand ++ record { slot = s; generation = g } ∷ []) ≡ total f hand + f (record { slot = s; generation = g }) =
+    total_push f hand _ in omega arith
 hand_own f false s g hand this = omega arith
 
 -- the poller posts to a slot of its own generation
 posted_turns : (st : State) (s : ℕ) (p : SlotState) → slice_get st.slots s ≡ Some p → Turns st → Turns (posted st s p.generation p)
 posted_turns st s p there turns =
     let sv : SlotOk (facts st s p.generation) p = turns.each s p there in
-    let more : total (of_slot s) (with_ticket (brings_ticket p) s p.generation st.hand) ≡ total (of_slot s) st.hand + one (brings_ticket p) = hand_own (of_slot s) (brings_ticket p) s p.generation st.hand (one_same s) in
-    let more_right : total (names s p.generation) (with_ticket (brings_ticket p) s p.generation st.hand) ≡ total (names s p.generation) st.hand + one (brings_ticket p) = hand_own (names s p.generation) (brings_ticket p) s p.generation st.hand (names_own s p.generation) in
+    let more : total (of_slot s) (with_ticket (brings_ticket p) s p.generation st.hand) ≡ total (of_slot s) st.hand + one (brings_ticket p) =
+    hand_own (of_slot s) (brings_ticket p) s p.generation st.hand (one_same s) in
+    let more_right : total (names s p.generation) (with_ticket (brings_ticket p) s p.generation st.hand) ≡ total (names s p.generation) st.hand + one (brings_ticket p) =
+    hand_own (names s p.generation) (brings_ticket p) s p.generation st.hand (names_own s p.generation) in
     let made : tickets (posted st s p.generation p) s ≡ tickets st s + one (brings_ticket p) = omega arith in
     keep_others st (posted st s p.generation p) s p (with_note p p.generation) there refl (λ j q apart other. record {
       ring = refl;
       slot = refl;
       entry = refl;
-      tickets = let same : total (of_slot j) (with_ticket (brings_ticket p) s p.generation st.hand) ≡ total (of_slot j) st.hand = hand_other (of_slot j) (brings_ticket p) s p.generation st.hand (one_other s j apart) in omega arith;
-      right = let same : total (names j q.generation) (with_ticket (brings_ticket p) s p.generation st.hand) ≡ total (names j q.generation) st.hand = hand_other (names j q.generation) (brings_ticket p) s p.generation st.hand (names_other j q.generation _ apart) in omega arith;
+      tickets = let same : total (of_slot j) (with_ticket (brings_ticket p) s p.generation st.hand) ≡ total (of_slot j) st.hand =
+          hand_other (of_slot j) (brings_ticket p) s p.generation st.hand (one_other s j apart) in omega arith;
+      right = let same : total (names j q.generation) (with_ticket (brings_ticket p) s p.generation st.hand) ≡ total (names j q.generation) st.hand =
+          hand_other (names j q.generation) (brings_ticket p) s p.generation st.hand (names_other j q.generation _ apart) in omega arith;
       holding = refl;
       closing = refl;
       gone = omega arith;
     }) (record {
       entry = sv.entry;
       notes = are_own_more p.generation p.notes sv.notes;
-      tickets = rw (some_more p.notes p.generation) (noted_tickets (is_held p.holder) (is_nonempty p.notes) (tickets st s) (tickets (posted st s p.generation p) s) sv.tickets made);
+      tickets = rw (some_more p.notes p.generation) (noted_tickets (is_held p.holder) (is_nonempty p.notes) (tickets st s) (tickets (posted st s p.generation p) s) sv.tickets
+          made);
       right = let was : right_tickets st s p.generation ≡ tickets st s = sv.right in omega arith;
       holding = sv.holding;
       closing = sv.closing;
@@ -161,7 +172,9 @@ delivered_turns st name.Waker turns = kept_some turns
 delivered_turns st (name.End n) turns = delivered_at_turns st n (slice_get st.table n.slot) refl turns
 
 deliver_turns : (st : State) → Turns st → Kept Turns (deliver st)
-deliver_turns st turns = kept_bind _ (slice_get st.batch 0) (λ n is. kept_then (λ (q : State). record q { batch = drop 1 st.batch }) (delivered st n) (λ q all. record { each = all.each }) (delivered_turns st n turns))
+deliver_turns st turns =
+    kept_bind _ (slice_get st.batch 0) (λ n is. kept_then (λ (q : State). record q { batch = drop 1 st.batch }) (delivered st n) (λ q all. record { each = all.each })
+    (delivered_turns st n turns))
 
 -- a slot is swept
 sweep_turns : (st : State) (s : ℕ) → Turns st → Kept Turns (sweep st s)
@@ -189,7 +202,8 @@ free_by_none (By w) free = absurd (cc)
 free_by_none Free free = refl
 
 pub right_is_less : (s g : ℕ) (k : WorkerState) → worker_right s g k ≤ worker_tickets s k
-right_is_less s g k = let hand : total (names s g) k.hand ≤ total (of_slot s) k.hand = total_le (names s g) (of_slot s) k.hand (names_of_slot s g) in let own : tried_right s g k.doing ≤ tried s k.doing = tried_less s g k.doing in omega arith
+right_is_less s g k = let hand : total (names s g) k.hand ≤ total (of_slot s) k.hand = total_le (names s g) (of_slot s) k.hand (names_of_slot s g) in
+    let own : tried_right s g k.doing ≤ tried s k.doing = tried_less s g k.doing in omega arith
 
 pub right_within : (st : State) (s g : ℕ) → right_tickets st s g ≤ tickets st s
 right_within st s g =
@@ -226,7 +240,8 @@ first_free st s p there first turns =
       gone = omega arith;
     }
 
-opened_connection : (st : State) (s g : ℕ) (ends : Descriptors) (f : Facts) (c : Connection) → f.slot ≡ s → f.ring ≡ st.limits.ring → (opened_place s g st.limits st.second ends).connection ≡ Some c → ConnectionOk f (opened_place s g st.limits st.second ends) c
+opened_connection : (st : State) (s g : ℕ) (ends : Descriptors) (f : Facts) (c : Connection) → f.slot ≡ s → f.ring ≡ st.limits.ring
+    → (opened_place s g st.limits st.second ends).connection ≡ Some c → ConnectionOk f (opened_place s g st.limits st.second ends) c
 opened_connection st s g ends f c slot ring is =
     let same : record { pair = fresh s g st.limits.ring st.second st.limits.lead; ends = ends } ≡ c = (cc) in
     rw (← same) (record {
@@ -235,13 +250,15 @@ opened_connection st s g ends f c slot ring is =
       rest = λ nobody none. absurd (cc);
     })
 
-opened_turns : (st : State) (s g : ℕ) (p : SlotState) (t : Told KernelState Descriptors) → slice_get st.slots s ≡ Some p → slice_get st.free 0 ≡ Some s → Turns st → Turns (opened_world st s g t)
+opened_turns : (st : State) (s g : ℕ) (p : SlotState) (t : Told KernelState Descriptors) → slice_get st.slots s ≡ Some p → slice_get st.free 0 ≡ Some s → Turns st
+    → Turns (opened_world st s g t)
 opened_turns st s g p t there first turns =
     let sv : SlotOk (facts st s p.generation) p = turns.each s p there in
     let free : FirstFree st s p = first_free st s p there first turns in
     let within : right_tickets st s g ≤ tickets st s = right_within st s g in
     let more : total (of_slot s) (st.hand ++ record { slot = s; generation = g } ∷ []) ≡ total (of_slot s) st.hand + one (s == s) = total_push (of_slot s) st.hand _ in
-    let more_right : total (names s g) (st.hand ++ record { slot = s; generation = g } ∷ []) ≡ total (names s g) st.hand + names s g (record { slot = s; generation = g }) = total_push (names s g) st.hand _ in
+    let more_right : total (names s g) (st.hand ++ record { slot = s; generation = g } ∷ []) ≡ total (names s g) st.hand + names s g (record { slot = s; generation = g }) =
+    total_push (names s g) st.hand _ in
     let this : one (s == s) ≡ 1 = one_same s in
     let this_right : names s g (record { slot = s; generation = g }) ≡ 1 = names_own s g in
     let none : tickets st s ≡ 0 = free.tickets in
@@ -255,7 +272,8 @@ opened_turns st s g p t there first turns =
           omega arith;
       right =
           let other : names j q.generation (record { slot = s; generation = g }) ≡ 0 = names_other j q.generation _ apart in
-          let same : total (names j q.generation) (st.hand ++ record { slot = s; generation = g } ∷ []) ≡ total (names j q.generation) st.hand + names j q.generation (record { slot = s; generation = g }) = total_push (names j q.generation) st.hand _ in
+          let same : total (names j q.generation) (st.hand ++ record { slot = s; generation = g } ∷ []) ≡ total (names j q.generation) st.hand + names j q.generation
+          (record { slot = s; generation = g }) = total_push (names j q.generation) st.hand _ in
           omega arith;
       holding = refl;
       closing = refl;
@@ -275,10 +293,15 @@ opened_turns st s g p t there first turns =
     }) turns
 
 opening_turns : (st : State) (s : ℕ) → slice_get st.free 0 ≡ Some s → Turns st → Kept Turns (opening_of st s)
-opening_turns st s first turns = kept_bind _ (slice_get st.slots s) (λ p there. kept_bind _ (slice_get st.table s) (λ g entry. kept_bind _ (token_of s Client (g + 1)) (λ client may. kept_map _ (token_of s Target (g + 1)) (λ target so. opened_turns st s (g + 1) p (kernel.open_both st.kernel client target) there first turns))))
+opening_turns st s first turns =
+    kept_bind _ (slice_get st.slots s)
+    (λ p there. kept_bind _ (slice_get st.table s)
+    (λ g entry. kept_bind _ (token_of s Client (g + 1))
+    (λ client may. kept_map _ (token_of s Target (g + 1)) (λ target so. opened_turns st s (g + 1) p (kernel.open_both st.kernel client target) there first turns))))
 
 pub polled_turns : (st : State) (p : Polling) → Turns st → Kept Turns (polled st p)
-polled_turns st polling.Open turns = kept_when st.accepted (option_and_then (λ (s : ℕ). opening_of st s) (slice_get st.free 0)) (λ had. kept_bind _ (slice_get st.free 0) (λ s first. opening_turns st s first turns))
+polled_turns st polling.Open turns = kept_when st.accepted (option_and_then (λ (s : ℕ). opening_of st s) (slice_get st.free 0))
+    (λ had. kept_bind _ (slice_get st.free 0) (λ s first. opening_turns st s first turns))
 polled_turns st (polling.Poll names) turns = batched_turns st names.items turns
 polled_turns st polling.Deliver turns = deliver_turns st turns
 polled_turns st (polling.Sweep s) turns = sweep_turns st s turns

@@ -122,14 +122,17 @@ right_at st w k s g there =
     let a : total (names s g) st.ready ≤ total (of_slot s) st.ready = total_le (names s g) (of_slot s) st.ready (names_of_slot s g) in
     let b : total (names s g) st.hand ≤ total (of_slot s) st.hand = total_le (names s g) (of_slot s) st.hand (names_of_slot s g) in
     let c : total (names s g) k.hand ≤ total (of_slot s) k.hand = total_le (names s g) (of_slot s) k.hand (names_of_slot s g) in
-    let d : total (worker_right s g) st.workers + worker_tickets s k ≤ total (worker_tickets s) st.workers + worker_right s g k = total_le_at (worker_right s g) (worker_tickets s) st.workers w k (right_is_less s g) there in
+    let d : total (worker_right s g) st.workers + worker_tickets s k ≤ total (worker_tickets s) st.workers + worker_right s g k =
+    total_le_at (worker_right s g) (worker_tickets s) st.workers w k (right_is_less s g) there in
     omega arith
 
-names_it : (st : State) (w : ℕ) (k : WorkerState) (t : Ticket) (p : SlotState) → slice_get st.workers w ≡ Some k → k.doing ≡ Tries t → slice_get st.slots t.slot ≡ Some p → Turns st → t.generation ≡ p.generation
+names_it : (st : State) (w : ℕ) (k : WorkerState) (t : Ticket) (p : SlotState) → slice_get st.workers w ≡ Some k → k.doing ≡ Tries t → slice_get st.slots t.slot ≡ Some p → Turns st
+    → t.generation ≡ p.generation
 names_it st w k t p there does lies turns =
     let sv : SlotOk (facts st t.slot p.generation) p = turns.each t.slot p lies in
     let same : right_tickets st t.slot p.generation ≡ tickets st t.slot = sv.right in
-    let most : right_tickets st t.slot p.generation + tried t.slot k.doing ≤ tickets st t.slot + tried_right t.slot p.generation k.doing = right_at st w k t.slot p.generation there in
+    let most : right_tickets st t.slot p.generation + tried t.slot k.doing ≤ tickets st t.slot + tried_right t.slot p.generation k.doing =
+    right_at st w k t.slot p.generation there in
     let is : tried t.slot k.doing ≡ one (t.slot == t.slot) = ap (tried t.slot) does in
     let is_right : tried_right t.slot p.generation k.doing ≡ one ((t.slot == t.slot) && (t.generation == p.generation)) = ap (tried_right t.slot p.generation) does in
     let this : one (t.slot == t.slot) ≡ 1 = one_same t.slot in
@@ -147,7 +150,8 @@ mapped f (Some x) y h = (x, refl)
 lies_at : (st : State) (s : ℕ) (p : SlotState) (c : Connection) → slice_get st.slots s ≡ Some p → p.connection ≡ Some c → connection_at st s ≡ Some c
 lies_at st s p c lies is = rw lies is
 
-claims_own : (st : State) (w : ℕ) (k : WorkerState) (d : Doing) (q : State) → slice_get st.workers w ≡ Some k → k.doing ≡ d → claim st w k d ≡ Some q → Turns st → ClaimsByOwnTicket st d
+claims_own : (st : State) (w : ℕ) (k : WorkerState) (d : Doing) (q : State) → slice_get st.workers w ≡ Some k → k.doing ≡ d → claim st w k d ≡ Some q → Turns st
+    → ClaimsByOwnTicket st d
 claims_own st w k (Tries t) q there does made turns =
     let found : (p : SlotState) × (slice_get st.slots t.slot ≡ Some p) = mapped (λ (p : SlotState). claimed st w k t.slot p) (slice_get st.slots t.slot) q made in
     let sv : SlotOk (facts st t.slot found.0.generation) found.0 = turns.each t.slot found.0 found.1 in
@@ -191,8 +195,11 @@ rest_ran f o q w is ran = rw is at ran
 tried_throughout : (laws : CoreLaws) (st : State) (events : List Event) (w : State) → run st events ≡ Some w → Turns st → Throughout TriedOnOwn st events
 tried_throughout laws st [] w ran turns = tt
 tried_throughout laws st (e ∷ events) w ran turns =
-    let first : (q : State) × (step st e ≡ Some q) = first_ran (λ (q : State). run q events) (step st e) w ran in
-    (tried_own st e first.0 first.1 turns, λ q is. tried_throughout laws q events w (rest_ran (λ (x : State). run x events) (step st e) q w is ran) (kept_at (step st e) q is (step_turns laws st e turns)))
+    let first : (q : State) × (step st e ≡ Some q) = first_ran (λ (q : State). run q events) (step st e) w ran in (
+      tried_own st e first.0 first.1 turns,
+      λ q is. tried_throughout laws q events w (rest_ran (λ (x : State). run x events) (step st e) q w is ran)
+          (kept_at (step st e) q is (step_turns laws st e turns)),
+    )
 
 -- so it all holds after every run from the opening world
 

@@ -9,7 +9,8 @@ total_push f (y ∷ ys) x = let more : total f (ys ++ x ∷ []) ≡ total f ys +
 
 -- the first element of a list goes to the end of another
 pub total_moved : {X : Type 0} (f : X → ℕ) (xs ys rest : List X) (x : X) → ys ≡ x ∷ rest → total f (xs ++ x ∷ []) + total f rest ≡ total f xs + total f ys
-total_moved f xs ys rest x is = let more : total f (xs ++ x ∷ []) ≡ total f xs + f x = total_push f xs x in let had : total f ys ≡ f x + total f rest = ap (total f) is in omega arith
+total_moved f xs ys rest x is = let more : total f (xs ++ x ∷ []) ≡ total f xs + f x = total_push f xs x in let had : total f ys ≡ f x + total f rest = ap (total f) is in
+    omega arith
 
 -- an element that is replaced gives up its part for the new one's
 pub total-set : {X : Type 0} (f : X → ℕ) (xs : List X) (w : ℕ) (old new : X) → slice_get xs w ≡ Some old → total f (slice_set xs w new) + f old ≡ total f xs + f new

@@ -23,15 +23,18 @@ put_turns st w k (t ∷ rest) there is turns = kept_some (keep_slots st (with_wo
       ring = refl;
       slot = refl;
       entry = refl;
-      tickets = let same : total (of_slot s) (st.ready ++ t ∷ []) + total (of_slot s) rest ≡ total (of_slot s) st.ready + total (of_slot s) k.hand = total_moved (of_slot s) st.ready k.hand rest t is in omega arith;
-      right = let same : total (names s g) (st.ready ++ t ∷ []) + total (names s g) rest ≡ total (names s g) st.ready + total (names s g) k.hand = total_moved (names s g) st.ready k.hand rest t is in omega arith;
+      tickets = let same : total (of_slot s) (st.ready ++ t ∷ []) + total (of_slot s) rest ≡ total (of_slot s) st.ready + total (of_slot s) k.hand =
+          total_moved (of_slot s) st.ready k.hand rest t is in omega arith;
+      right = let same : total (names s g) (st.ready ++ t ∷ []) + total (names s g) rest ≡ total (names s g) st.ready + total (names s g) k.hand =
+          total_moved (names s g) st.ready k.hand rest t is in omega arith;
       holding = omega arith;
       closing = omega arith;
       gone = omega arith;
     }) turns)
 
 -- a ticket goes from the ready queue to a worker
-popped_turns : (st : State) (w : ℕ) (k : WorkerState) (ready : List Ticket) → slice_get st.workers w ≡ Some k → k.doing ≡ Idle → st.ready ≡ ready → Turns st → Kept Turns (popped st w k ready)
+popped_turns : (st : State) (w : ℕ) (k : WorkerState) (ready : List Ticket) → slice_get st.workers w ≡ Some k → k.doing ≡ Idle → st.ready ≡ ready → Turns st
+    → Kept Turns (popped st w k ready)
 popped_turns st w k [] there idle is turns = kept_none
 popped_turns st w k (t ∷ rest) there idle is turns = kept_some (keep_slots st (doing (record st { ready = rest }) w k (Tries t)) refl (λ s g.
     let r : Turned st w k Idle (Tries t) s g = turned st w k Idle (Tries t) s g there idle in record {
@@ -81,7 +84,8 @@ waiting_for f p sv some =
       lies = rw none at sv.shape;
     }
 
-pub waiting : (st : State) (w : ℕ) (k : WorkerState) (t : Ticket) (p : SlotState) → slice_get st.workers w ≡ Some k → k.doing ≡ Tries t → slice_get st.slots t.slot ≡ Some p → Turns st → Waiting p
+pub waiting : (st : State) (w : ℕ) (k : WorkerState) (t : Ticket) (p : SlotState) → slice_get st.workers w ≡ Some k → k.doing ≡ Tries t → slice_get st.slots t.slot ≡ Some p
+    → Turns st → Waiting p
 waiting st w k t p there does lies turns =
     let sv : SlotOk (facts st t.slot p.generation) p = turns.each t.slot p lies in
     let least : worker_tickets t.slot k ≤ total (worker_tickets t.slot) st.workers = total_at (worker_tickets t.slot) st.workers w k there in
@@ -89,7 +93,8 @@ waiting st w k t p there does lies turns =
     let this : one (t.slot == t.slot) ≡ 1 = one_same t.slot in
     waiting_for (facts st t.slot p.generation) p sv (omega arith)
 
-claimed_turns : (st : State) (w : ℕ) (k : WorkerState) (t : Ticket) (p : SlotState) → slice_get st.workers w ≡ Some k → k.doing ≡ Tries t → slice_get st.slots t.slot ≡ Some p → Turns st → Turns (doing (with_place st t.slot (record p { holder = By w })) w k (Holds t.slot st.limits.budget))
+claimed_turns : (st : State) (w : ℕ) (k : WorkerState) (t : Ticket) (p : SlotState) → slice_get st.workers w ≡ Some k → k.doing ≡ Tries t → slice_get st.slots t.slot ≡ Some p
+    → Turns st → Turns (doing (with_place st t.slot (record p { holder = By w })) w k (Holds t.slot st.limits.budget))
 claimed_turns st w k t p there does lies turns =
     let sv : SlotOk (facts st t.slot p.generation) p = turns.each t.slot p lies in
     let wait : Waiting p = waiting st w k t p there does lies turns in
@@ -97,11 +102,14 @@ claimed_turns st w k t p there does lies turns =
     let this : one (t.slot == t.slot) ≡ 1 = one_same t.slot in
     let had : tickets st t.slot ≡ 1 = rw (wait.holder, wait.some) at sv.tickets in
     let none : tickets (doing (with_place st t.slot (record p { holder = By w })) w k (Holds t.slot st.limits.budget)) t.slot ≡ 0 = omega arith in
-    let within : right_tickets (doing (with_place st t.slot (record p { holder = By w })) w k (Holds t.slot st.limits.budget)) t.slot p.generation ≤ tickets (doing (with_place st t.slot (record p { holder = By w })) w k (Holds t.slot st.limits.budget)) t.slot = right_within (doing (with_place st t.slot (record p { holder = By w })) w k (Holds t.slot st.limits.budget)) t.slot p.generation in
+    let within : right_tickets (doing (with_place st t.slot (record p { holder = By w })) w k (Holds t.slot st.limits.budget)) t.slot p.generation
+    ≤ tickets (doing (with_place st t.slot (record p { holder = By w })) w k (Holds t.slot st.limits.budget)) t.slot =
+    right_within (doing (with_place st t.slot (record p { holder = By w })) w k (Holds t.slot st.limits.budget)) t.slot p.generation in
     let holding : total (worker_holds t.slot) st.workers ≡ 0 = rw wait.holder at sv.holding in
     let closing : total (worker_closes t.slot) st.workers ≡ 0 = rw wait.holder at sv.closing in
     let gone : total (worker_retires t.slot) st.workers + total (is_number t.slot) st.free ≤ 0 = rw wait.holder at sv.gone in
-    keep_others st (doing (with_place st t.slot (record p { holder = By w })) w k (Holds t.slot st.limits.budget)) t.slot p (record p { holder = By w }) lies refl (λ j q apart other.
+    keep_others st (doing (with_place st t.slot (record p { holder = By w })) w k (Holds t.slot st.limits.budget)) t.slot p (record p { holder = By w }) lies refl
+    (λ j q apart other.
     let away : one (t.slot == j) ≡ 0 = one_other t.slot j apart in
     turned_elsewhere st w k (Tries t) (Holds t.slot st.limits.budget) j q.generation there does (omega arith) (omega arith)) (record {
       entry = sv.entry;

@@ -1,5 +1,5 @@
--- The headline: what holds after every run of events, clause by clause. Part of the promises. No definition here depends
--- on how the relay achieves it; what the clause about due connections depends on is in `Support`.
+-- The headline: what holds after every run of events, clause by clause. Part of the promises. No definition here
+-- depends on how the relay achieves it; what the clause about due connections depends on is in `Support`.
 use Rattle.std.specs.Prelude.{◌≡◌, ℕ, ◌+◌, ◌≤◌, ◌==◌, Bool, true, false, ◌||◌, if◌then◌else◌, ◌⊎◌, List, [], ◌∷◌, ◌++◌, Option, Some, None, IsSome, slice_get, option_map, option_and_then}
 use Rattle.std.specs.List.{list_all}
 use Rattle.token.specs.declared.kind.Kind.{Kind}
@@ -88,9 +88,11 @@ socket_of ends Target = ends.target
 abbrev pub all_to_send : State → List Event → ℕ → ℕ → Direction → List ℕ
 all_to_send first events s g d = preamble first.limits d ++ given first events s g (source d)
 
--- of a closed connection: what was sent is a beginning of the preamble and what was given, and all of it where it was done
+-- of a closed connection: what was sent is a beginning of the preamble and what was given, and all of it where it was
+-- done
 pub record ClosedHolds (first : State) (events : List Event) (p : Past) : Type 0 where
-  pub beginning : (d : Direction) → (rest : List ℕ) × (all_to_send first events p.slot p.generation d ≡ (socket_of p.ends (destination d)).taken ++ rest)
+  pub beginning : (d : Direction) → (rest : List ℕ)
+      × (all_to_send first events p.slot p.generation d ≡ (socket_of p.ends (destination d)).taken ++ rest)
   pub all : p.verdict ≡ Done → (d : Direction) → all_to_send first events p.slot p.generation d ≡ (socket_of p.ends (destination d)).taken
 
 abbrev pub ClosedHold : State → State → List Event → Type 0
@@ -105,7 +107,8 @@ Throughout Each st (e ∷ es) = Each st e × ((q : State) → step st e ≡ Some
 -- a worker that holds a slot takes notes of its connection's generation alone
 abbrev pub TakesOwnNotes : State → Doing → Type 0
 TakesOwnNotes st (Holds s left) =
-    (p : SlotState) (c : Connection) → slice_get st.slots s ≡ Some p → p.connection ≡ Some c → list_all (λ g. g == c.pair.generation) p.notes ≡ true
+    (p : SlotState) (c : Connection) → slice_get st.slots s ≡ Some p → p.connection ≡ Some c
+    → list_all (λ g. g == c.pair.generation) p.notes ≡ true
 TakesOwnNotes st d = Unit {0}
 
 -- a ticket names the generation of its slot's connection
@@ -213,8 +216,10 @@ FailedAfter first events s g Idle = ExpiredBy first events (named s g)
 
 -- a connection failed only after a failed call, or after moving nothing for the idle limit: live ones, and closed ones
 pub record FailuresHold (first st : State) (events : List Event) : Type 0 where
-  pub lying : (s : ℕ) (c : Connection) (fault : Fault) → connection_at st s ≡ Some c → verdict c.pair ≡ Failed fault → FailedAfter first events s c.pair.generation fault
-  pub closed : (i : ℕ) (p : Past) (fault : Fault) → slice_get st.past i ≡ Some p → p.verdict ≡ Failed fault → FailedAfter first events p.slot p.generation fault
+  pub lying : (s : ℕ) (c : Connection) (fault : Fault) → connection_at st s ≡ Some c → verdict c.pair ≡ Failed fault
+      → FailedAfter first events s c.pair.generation fault
+  pub closed : (i : ℕ) (p : Past) (fault : Fault) → slice_get st.past i ≡ Some p → p.verdict ≡ Failed fault
+      → FailedAfter first events p.slot p.generation fault
 
 -- No lost edge
 

@@ -19,8 +19,10 @@ given_back len bytes p =
 -- bytes with zeros after them are a lead's
 pub is_padded : (bytes : List ℕ) → length bytes ≤ 107 → IsPadded (length bytes) (padded bytes)
 is_padded bytes within = record {
-  whole = (let all : length (padded bytes) ≡ length bytes + length (replicate {A = ℕ} (107 - length bytes) 0) = length-append bytes (replicate (107 - length bytes) 0) in
-      let rest : length (replicate {A = ℕ} (107 - length bytes) 0) ≡ 107 - length bytes = length-replicate {A = ℕ} (107 - length bytes) 0 in omega arith);
+  whole = (let all : length (padded bytes) ≡ length bytes + length (replicate {A = ℕ} (107 - length bytes) 0) =
+      length-append bytes (replicate (107 - length bytes) 0) in
+      let rest : length (replicate {A = ℕ} (107 - length bytes) 0) ≡ 107 - length bytes = length-replicate {A = ℕ} (107 - length bytes) 0 in
+      omega arith);
   within = within;
   zeros = ap padded (sym (take-append_seam bytes (replicate (107 - length bytes) 0)));
 }

@@ -9,10 +9,10 @@ use Rattle.world.specs.declared.actors.Doing.TheVariants.{Idle}
 use Rattle.world.specs.declared.past.Past.{Past}
 use Rattle.world.specs.Slots.{SlotState, WorkerState}
 
--- `second` is the second that it is; nothing but the clock changes it. `kernel` has the ends, the readiness queue and the listener's backlog. The poller has `flag`, which says
--- that an accept is worth a try, perhaps an `accepted` connection, its `table` of the slots' generations,
--- the rest of its `batch`, and the tickets in its `hand`. `ready` and `free` are the two queues between the
--- poller and the workers, and `past` are the closed connections, in order
+-- `second` is the second that it is; nothing but the clock changes it. `kernel` has the ends, the readiness queue and
+-- the listener's backlog. The poller has `flag`, which says that an accept is worth a try, perhaps an `accepted`
+-- connection, its `table` of the slots' generations, the rest of its `batch`, and the tickets in its `hand`. `ready`
+-- and `free` are the two queues between the poller and the workers, and `past` are the closed connections, in order
 pub record State : Type 0 where
   pub limits : Limits
   pub second : ℕ

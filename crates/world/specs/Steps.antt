@@ -59,7 +59,8 @@ is_limited st = nat_lt 0 st.limits.idle
 
 -- some seconds pass: 1 to 2^32 - 1 at once, up to second 2^64 - 1
 abbrev pub tick : State → ℕ → Option State
-tick st n = guard (is_limited st && (nat_le 1 n && (nat_le n 4294967295 && nat_le (st.second + n) 18446744073709551615))) (record st { second = st.second + n })
+tick st n = guard (is_limited st && (nat_le 1 n && (nat_le n 4294967295 && nat_le (st.second + n) 18446744073709551615)))
+    (record st { second = st.second + n })
 
 -- The network
 
@@ -113,7 +114,12 @@ token_of s side g = guard (nat_le s 32767 && (nat_le 1 g && nat_le g 14073748835
 
 -- a slot with the fresh connection of this second, made as the limits say, and the note of its opening
 abbrev pub opened_place : ℕ → ℕ → Limits → ℕ → Descriptors → SlotState
-opened_place s g l now ends = record { generation = g; connection = Some (record { pair = fresh s g l.ring now l.lead; ends = ends }); holder = Nobody; notes = g ∷ [] }
+opened_place s g l now ends = record {
+  generation = g;
+  connection = Some (record { pair = fresh s g l.ring now l.lead; ends = ends });
+  holder = Nobody;
+  notes = g ∷ [];
+}
 
 -- the world once both ends are open
 abbrev pub opened_world : State → ℕ → ℕ → Told KernelState Descriptors → State
@@ -300,7 +306,9 @@ abbrev pub expired : ℕ → ℕ → Connection → Option Connection
 expired now limit c = guard (is_overdue now limit c.pair) (record c { pair = timed_out c.pair })
 
 abbrev pub expired_place : ℕ → ℕ → SlotState → Option SlotState
-expired_place now limit p = option_and_then (λ (c : Connection). option_map (λ (d : Connection). record p { connection = Some d }) (expired now limit c)) p.connection
+expired_place now limit p =
+    option_and_then (λ (c : Connection). option_map (λ (d : Connection). record p { connection = Some d }) (expired now limit c))
+    p.connection
 
 -- the connection of its slot fails, since it moved nothing for the idle limit and has no call to make
 abbrev pub expire : State → Doing → Option State

@@ -1,5 +1,5 @@
--- What "whatever could move is due" depends on: where the tickets are, that a connection at rest has no call to make, the
--- poller's table, and what covers each flag that is down. Promised too, but the headline can be read without it.
+-- What "whatever could move is due" depends on: where the tickets are, that a connection at rest has no call to make,
+-- the poller's table, and what covers each flag that is down. Promised too, but the headline can be read without it.
 use Rattle.std.specs.Prelude.{◌≡◌, ℕ, ◌+◌, ◌==◌, Bool, true, false, not, ◌&&◌, ◌||◌, List, [], ◌∷◌, Some, None, slice_get}
 use Rattle.token.specs.declared.side.Side.{Side}
 use Rattle.token.specs.declared.name.Name.TheVariants as name
@@ -45,7 +45,8 @@ tickets st s = total (of_slot s) st.ready + (total (of_slot s) st.hand + total (
 
 -- a slot with notes that is neither held nor free has one ticket, and every other none
 abbrev pub TicketsHold : State → Type 0
-TicketsHold st = (s : ℕ) (p : SlotState) → slice_get st.slots s ≡ Some p → tickets st s ≡ one (not (is_held p.holder) && is_nonempty p.notes)
+TicketsHold st = (s : ℕ) (p : SlotState) → slice_get st.slots s ≡ Some p
+    → tickets st s ≡ one (not (is_held p.holder) && is_nonempty p.notes)
 
 -- a live connection that nobody holds and that has no notes has no call to make
 abbrev pub RestHolds : State → Type 0

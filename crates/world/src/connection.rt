@@ -72,7 +72,9 @@ impl Connection {
     /// there is no memory for the bytes that a write takes. A refusal changes nothing.
     #[tactic(auto, unfolding(crate::specs::Calls::called))]
     pub fn call(&mut self, kernel: &mut Kernel, reply: Reply, now: u64) -> Result<(), Refusal>
-        ensures outcome { Meets (called now (record { kernel = kernel.old; connection = self.old }) reply) (record { kernel = kernel.old; connection = self.old }) (record { kernel = kernel.new; connection = self.new }) result }
+        ensures outcome { Meets (called now (record { kernel = kernel.old; connection = self.old }) reply)
+            (record { kernel = kernel.old; connection = self.old })
+            (record { kernel = kernel.new; connection = self.new }) result }
         ensures memory { IsErrOf result Refusal.NoMemory → IsTrue (needs_memory reply) }
     {
         match self.pair.next() {
@@ -96,7 +98,9 @@ impl Connection {
         now: u64,
     ) -> Result<(), Refusal>
         requires { next_call self.old.pair ≡ Some (Call.Read side most) }
-        ensures { MeetsAlways (replied now (record { kernel = kernel.old; connection = self.old }) (Call.Read side most) (Reply.Bytes count)) (record { kernel = kernel.old; connection = self.old }) (record { kernel = kernel.new; connection = self.new }) result }
+        ensures { MeetsAlways (replied now (record { kernel = kernel.old; connection = self.old }) (Call.Read side most)
+            (Reply.Bytes count)) (record { kernel = kernel.old; connection = self.old })
+            (record { kernel = kernel.new; connection = self.new }) result }
     {
         let call = Call::Read(side, most);
         let descriptor = self.descriptor(side);
@@ -123,7 +127,9 @@ impl Connection {
     ) -> Result<(), Refusal>
         requires next { next_call self.old.pair ≡ Some call }
         requires no_bytes { told_of (record { kernel = kernel.old; connection = self.old }) call reply ≡ plain reply }
-        ensures outcome { Meets (replied now (record { kernel = kernel.old; connection = self.old }) call reply) (record { kernel = kernel.old; connection = self.old }) (record { kernel = kernel.new; connection = self.new }) result }
+        ensures outcome { Meets (replied now (record { kernel = kernel.old; connection = self.old }) call reply)
+            (record { kernel = kernel.old; connection = self.old })
+            (record { kernel = kernel.new; connection = self.new }) result }
         ensures memory { IsErrOf result Refusal.NoMemory → IsTrue (needs_memory reply) }
     {
         let Some(answer) = plain(reply) else {

@@ -17,9 +17,9 @@ use token::{Direction, Name};
 
 #[tactic(auto, using(std::proofs::lemmas::Option::gets, std::proofs::lemmas::Grind::common_steps))]
 impl World {
-    /// Whether the connection in a slot could move: it is done or failed and not closed yet; or it is live, and in some
-    /// direction bytes or an end of input could come in, bytes could go out, or the end could be passed on. `false` if
-    /// there is no connection.
+    /// Whether the connection in a slot could move: it is done or failed and not closed yet; or it is live, and in
+    /// some direction bytes or an end of input could come in, bytes could go out, or the end could be passed on.
+    /// `false` if there is no connection.
     pub fn movable(&self, slot: usize) -> bool
         ensures { result ≡ movable self.now slot }
     {

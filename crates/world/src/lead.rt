@@ -8,8 +8,8 @@ use std::marker::Model;
 /// The most bytes that a lead has.
 const MAX: usize = Flow::MAX_LEAD;
 
-/// The bytes that the target of each connection is sent before the client's own: 0 to 107. Contracts see a lead as the
-/// list of its bytes.
+/// The bytes that the target of each connection is sent before the client's own: 0 to 107. Contracts see a lead as
+/// the list of its bytes.
 #[derive(Clone, Copy)]
 pub struct Lead {
     bytes: [u8; MAX],

@@ -142,7 +142,8 @@ impl World {
 /// The network changes something at the end of a descriptor.
 fn change_at(kernel: &mut Kernel, descriptor: usize, change: &Change) -> Result<(), Refusal>
     ensures event { Meets (change_at kernel.old descriptor change.now) kernel.old kernel.new result }
-    ensures memory { IsErrOf result Refusal.NoMemory → IsTrue (brings_bytes change.now || queues_more kernel.old (change_at kernel.old descriptor change.now)) }
+    ensures memory { IsErrOf result Refusal.NoMemory
+        → IsTrue (brings_bytes change.now || queues_more kernel.old (change_at kernel.old descriptor change.now)) }
 {
     match change {
         Change::Arrive(bytes) => {

@@ -14,26 +14,26 @@ use std::alloc::Global;
 
 /// The world after these events, starting with the opening world.
 ///
-/// If not all of them can happen, the answer is the index of the first that fails, and why: `NotAllowed` if the events
-/// before it can happen and it cannot happen after them; `NoMemory` if it can happen too, but a list could not grow for
-/// it. Where there is no memory for the world itself, the answer is `NoMemory` at index 0.
+/// If not all of them can happen, the answer is the index of the first that fails, and why: `NotAllowed` if the
+/// events before it can happen and it cannot happen after them; `NoMemory` if it can happen too, but a list could not
+/// grow for it. Where there is no memory for the world itself, the answer is `NoMemory` at index 0.
 ///
 /// About the world after every list of events:
 ///
 /// - In each direction of a connection in a slot, the preamble and then the bytes that arrived are those that were sent,
-///   then the rest of the preamble, then those in the ring, then those that are unread; and if its end was passed on, that
-///   was after every byte (`bytes`). The preamble is the lead of the limits on the way to the target, and empty on the way
-///   back. What a closed connection sent is a prefix of the preamble and what arrived for it, and all of it if the
-///   connection was done (`closed`).
+/// then the rest of the preamble, then those in the ring, then those that are unread; and if its end was passed on,
+/// that was after every byte (`bytes`). The preamble is the lead of the limits on the way to the target, and empty on
+/// the way back. What a closed connection sent is a prefix of the preamble and what arrived for it, and all of it if
+/// the connection was done (`closed`).
 /// - No connection was tried on a note or a ticket of another generation (`own`).
 /// - A connection failed only after a failed call, or after moving nothing for the idle limit (`failures`).
 /// - A connection that could move is due to be tried (`due`). While the accept flag is down, nobody waits at the
 ///   listener, or its name is queued or in the batch (`listener`).
 ///
-/// And what this depends on: a slot with notes that is neither held nor free has one ticket, and every other slot none
-/// (`tickets`); a connection that nobody holds and that has no notes has no call to make (`rest`); the poller's table
-/// has each slot's generation (`table`); and if a pair's flag says that a call is not worth trying, its end is armed
-/// for it and not ready, or it is ready and a report of it is queued, in the batch or noted (`edges`).
+/// And what this depends on: a slot with notes that is neither held nor free has one ticket, and every other slot
+/// none (`tickets`); a connection that nobody holds and that has no notes has no call to make (`rest`); the poller's
+/// table has each slot's generation (`table`); and if a pair's flag says that a call is not worth trying, its end is
+/// armed for it and not ready, or it is ready and a report of it is queued, in the batch or noted (`edges`).
 #[tactic(auto, using(std::proofs::lemmas::Grind::common_steps))]
 pub fn replay(alloc: Global, limits: Limits, events: &[Event]) -> Result<World, (usize, Refusal)>
     requires { IsWithinLimits limits }

@@ -142,7 +142,8 @@ impl Slot {
         Ok(())
     }
 
-    /// Fails its connection, which has no call to make, if that moved nothing for `limit` seconds at the second `now`.
+    /// Fails its connection, which has no call to make, if that moved nothing for `limit` seconds at the second
+    /// `now`.
     ///
     /// Refuses with `NotAllowed` otherwise, or if there is no connection, and changes nothing.
     pub fn expire(&mut self, now: u64, limit: u64) -> Result<(), Refusal>
@@ -159,7 +160,9 @@ impl Slot {
     /// Also refuses with `NotAllowed`, and changes nothing, if there is no connection.
     #[tactic(auto, unfolding(crate::specs::Steps::slot_call))]
     pub fn call(&mut self, kernel: &mut Kernel, reply: Reply, now: u64) -> Result<(), Refusal>
-        ensures outcome { Meets (slot_call now (record { kernel = kernel.old; place = self.old }) reply) (record { kernel = kernel.old; place = self.old }) (record { kernel = kernel.new; place = self.new }) result }
+        ensures outcome { Meets (slot_call now (record { kernel = kernel.old; place = self.old }) reply)
+            (record { kernel = kernel.old; place = self.old }) (record { kernel = kernel.new; place = self.new })
+            result }
         ensures memory { IsErrOf result Refusal.NoMemory → IsTrue (needs_memory reply) }
     {
         match &mut self.connection {

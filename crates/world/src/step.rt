@@ -14,11 +14,11 @@ impl World {
 
     /// One event happens.
     ///
-    /// Refuses with `NotAllowed` if it cannot happen now, and with `NoMemory` if it can, but a list cannot grow for it.
-    /// A refusal changes nothing. Only events that may make a list longer are refused with `NoMemory` (`memory`).
+    /// Refuses with `NotAllowed` if it cannot happen now, and with `NoMemory` if it can, but a list cannot grow for
+    /// it. A refusal changes nothing. Only events that may make a list longer are refused with `NoMemory` (`memory`).
     ///
-    /// In a world that a run reaches, the event changes the claim word of its slot by the steps of the event's kinds in
-    /// order, and no other slot's, and a ticket is made exactly when a step says so (`words`).
+    /// In a world that a run reaches, the event changes the claim word of its slot by the steps of the event's kinds
+    /// in order, and no other slot's, and a ticket is made exactly when a step says so (`words`).
     pub fn step(&mut self, event: &Event) -> Result<(), Refusal>
         ensures event { Meets (step self.old event.now) self.old self.new result }
         ensures memory { IsErrOf result Refusal.NoMemory → IsTrue (may_allocate self.old event.now) }

@@ -6,8 +6,8 @@ use kernel_model::Refusal;
 use std::alloc::{AllocError, Global};
 use std::marker::Model;
 
-/// A world from its opening on, with each event that has happened in it. Nothing else makes one or changes it, so its world
-/// is the one after its events.
+/// A world from its opening on, with each event that has happened in it. Nothing else makes one or changes it, so its
+/// world is the one after its events.
 #[derive(Drop)]
 pub struct Tape {
     limits: Limits,

@@ -171,7 +171,8 @@ impl World {
     /// It makes the connection's next call, and gets this reply.
     fn call(&mut self, worker: usize, slot: usize, left: usize, reply: Reply) -> Result<(), Refusal>
         requires { slice_get self.old.workers worker ≡ Some (busy (Doing.Holds slot left)) }
-        ensures { MeetsIn (needs_memory reply) (call self.old worker (busy (Doing.Holds slot left)) (Doing.Holds slot left) reply) self.old self.new result }
+        ensures { MeetsIn (needs_memory reply) (call self.old worker (busy (Doing.Holds slot left)) (Doing.Holds slot left)
+            reply) self.old self.new result }
     {
         if left == 0 || slot >= self.slots.len() {
             return Err(Refusal::NotAllowed);
@@ -275,7 +276,9 @@ impl World {
     fn free(&mut self, worker: usize, slot: usize) -> Result<(), Refusal>
         requires { slice_get self.old.workers worker ≡ Some (busy (Doing.Retired slot)) }
         ensures event { Meets (free self.old worker (busy (Doing.Retired slot)) (Doing.Retired slot)) self.old self.new result }
-        ensures memory { IsErrOf result Refusal.NoMemory → IsTrue (grows free_length self.old (free self.old worker (busy (Doing.Retired slot)) (Doing.Retired slot))) }
+        ensures memory { IsErrOf result Refusal.NoMemory
+            → IsTrue (grows free_length self.old
+            (free self.old worker (busy (Doing.Retired slot)) (Doing.Retired slot))) }
     {
         if slot >= self.slots.len() {
             return Err(Refusal::NotAllowed);

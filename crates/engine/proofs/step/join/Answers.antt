@@ -13,5 +13,6 @@ returns-in-Ok g c =
 
 pub returns-in-Err : goal.returns-in-Err
 returns-in-Err g c =
-    erred _ _ _ (call.Join c.args.side) _ _ _ _ _ _ _ _ refl c.answer-in-Err.ensures.value c.in-Err.ensures.left c.in-Err.ensures.kept c.faults-faults.ensures c.blocks-blocks.ensures
+    erred _ _ _ (call.Join c.args.side) _ _ _ _ _ _ _ _ refl c.answer-in-Err.ensures.value c.in-Err.ensures.left c.in-Err.ensures.kept c.faults-faults.ensures
+    c.blocks-blocks.ensures
     c.error_answer.ensures c.in-Err.ensures.did

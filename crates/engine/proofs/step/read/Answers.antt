@@ -14,7 +14,8 @@ returns-in-Ok-eq0 g c =
       faults = c.in-Ok-eq0.ensures.counts.0;
       blocks = c.in-Ok-eq0.ensures.counts.1;
     })
-    (end_met _ c.args.pair.now c.args.side _ _ _ _ _ _ c.in-Ok-eq0.field-0-test (length-take-le c.args.most c.args.buffer.now (omega (arith, c.requires.possible.limited))) c.in-Ok-eq0.ensures.did)
+    (end_met _ c.args.pair.now c.args.side _ _ _ _ _ _ c.in-Ok-eq0.field-0-test (length-take-le c.args.most c.args.buffer.now (omega (arith, c.requires.possible.limited)))
+    c.in-Ok-eq0.ensures.did)
 
 pub returns-in-Ok : goal.returns-in-Ok
 returns-in-Ok g c =
@@ -26,5 +27,8 @@ returns-in-Ok g c =
 
 pub returns-in-Err : goal.returns-in-Err
 returns-in-Err g c =
-    erred _ _ _ (call.Read c.args.side c.args.most) _ _ _ _ _ _ _ _ refl c.answer-in-Err.ensures.value c.in-Err.ensures.bytes c.in-Err.ensures.kept c.faults-faults.ensures c.blocks-blocks.ensures
-    c.error_answer.ensures (read_of g.W.Wire.does c.args.most _ _ c.args.wire.now c.read.new.self (length-take-le c.args.most c.args.buffer.now (omega (arith, c.requires.possible.limited))) c.in-Err.ensures.did)
+    erred _ _ _ (call.Read c.args.side c.args.most) _ _ _ _ _ _ _ _ refl c.answer-in-Err.ensures.value c.in-Err.ensures.bytes c.in-Err.ensures.kept c.faults-faults.ensures
+    c.blocks-blocks.ensures
+    c.error_answer.ensures
+    (read_of g.W.Wire.does c.args.most _ _ c.args.wire.now c.read.new.self (length-take-le c.args.most c.args.buffer.now (omega (arith, c.requires.possible.limited)))
+    c.in-Err.ensures.did)

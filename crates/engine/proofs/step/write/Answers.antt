@@ -5,7 +5,8 @@ use Rattle.engine.proofs.step.write.Goals as goal
 
 pub returns-in-Ok-eq0 : goal.returns-in-Ok-eq0
 returns-in-Ok-eq0 g c =
-    failed _ _ _ _ _ _ _ _ _ refl (rw c.offer_all.ensures.same at c.answer.ensures.value) c.in-Ok-eq0.ensures.kept (none_written _ _ _ _ c.in-Ok-eq0.field-0-test c.in-Ok-eq0.ensures.bytes)
+    failed _ _ _ _ _ _ _ _ _ refl (rw c.offer_all.ensures.same at c.answer.ensures.value) c.in-Ok-eq0.ensures.kept
+    (none_written _ _ _ _ c.in-Ok-eq0.field-0-test c.in-Ok-eq0.ensures.bytes)
     (c.in-Ok-eq0.ensures.counts.none c.in-Ok-eq0.field-0-test c.requires.possible) c.in-Ok-eq0.ensures.counts.same_blocks
     (none_taken _ c.args.pair.now c.args.side _ _ _ _ c.in-Ok-eq0.field-0-test refl c.in-Ok-eq0.ensures.did)
 
@@ -17,5 +18,6 @@ returns-in-Ok g c =
 
 pub returns-in-Err : goal.returns-in-Err
 returns-in-Err g c =
-    erred _ _ _ (call.Write c.args.side) _ _ _ _ _ _ _ _ refl (rw c.offer_all.ensures.same at c.answer-in-Err.ensures.value) c.in-Err.ensures.kept c.in-Err.ensures.bytes c.faults-faults.ensures c.blocks-blocks.ensures
+    erred _ _ _ (call.Write c.args.side) _ _ _ _ _ _ _ _ refl (rw c.offer_all.ensures.same at c.answer-in-Err.ensures.value) c.in-Err.ensures.kept c.in-Err.ensures.bytes
+    c.faults-faults.ensures c.blocks-blocks.ensures
     c.error_answer.ensures c.in-Err.ensures.did

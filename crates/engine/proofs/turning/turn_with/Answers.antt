@@ -12,7 +12,18 @@ loop-calls-preserved g c = goes_on _ _ _ _ _ _ _ _ _ _ _ _ _ _ _ c.loop-calls.in
 pub returns-in_default-clause-run : goal.returns-in_default-clause-run
 returns-in_default-clause-run g c =
     let none : next_call c.loop-calls.pair ≡ None = cc in
-    stopped (record { answers = c.rests_on_laws.ensures.answers; calls = c.rests_on_laws.ensures.calls; failures = c.rests_on_laws.ensures.failures; expiries = c.rests_on_laws.ensures.expiries }) _ _ _ _ _ _ _ _ _ (omega arith) none c.finish.ensures.held c.loop-calls.invariant
+    stopped (record {
+      answers = c.rests_on_laws.ensures.answers;
+      calls = c.rests_on_laws.ensures.calls;
+      failures = c.rests_on_laws.ensures.failures;
+      expiries = c.rests_on_laws.ensures.expiries;
+    }) _ _ _ _ _ _ _ _ _ (omega arith) none c.finish.ensures.held c.loop-calls.invariant
 
 pub returns-clause-run : goal.returns-clause-run
-returns-clause-run g c = spent (record { answers = c.rests_on_laws.ensures.answers; calls = c.rests_on_laws.ensures.calls; failures = c.rests_on_laws.ensures.failures; expiries = c.rests_on_laws.ensures.expiries }) _ _ _ _ _ _ _ _ _ (omega arith) c.finish-2.ensures.held c.loop-calls.invariant
+returns-clause-run g c =
+    spent (record {
+      answers = c.rests_on_laws.ensures.answers;
+      calls = c.rests_on_laws.ensures.calls;
+      failures = c.rests_on_laws.ensures.failures;
+      expiries = c.rests_on_laws.ensures.expiries;
+    }) _ _ _ _ _ _ _ _ _ (omega arith) c.finish-2.ensures.held c.loop-calls.invariant

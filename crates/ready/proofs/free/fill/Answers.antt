@@ -14,4 +14,5 @@ unreachable-requires g c =
 pub loop-index-preserved : goal.loop-index-preserved
 loop-index-preserved g c =
     let now = c.in-Ok.ensures.same in
-    let before = c.loop-index.invariant.0 in ((now.0 ∙ before.0, now.1 ∙ before.1, now.2 ∙ before.2), next_slot _ c.loop-index.index _ _ c.loop-index.invariant.1 c.in-Ok.ensures.put)
+    let before = c.loop-index.invariant.0 in
+    ((now.0 ∙ before.0, now.1 ∙ before.1, now.2 ∙ before.2), next_slot _ c.loop-index.index _ _ c.loop-index.invariant.1 c.in-Ok.ensures.put)

@@ -17,7 +17,8 @@ pub loop-number-preserved : goal.loop-number-preserved
 loop-number-preserved c =
     subst (λ (ns : List ℕ). Delivered c.args.table.now ns c.args.seat.now c.report.new.seat c.args.hand.now c.report.new.hand)
     (sym (take_more c.args.batch.now c.loop-number.number-index 0 c.loop-number-test.true))
-    (delivered_both c.args.table.now (take c.loop-number.number-index c.args.batch.now) (get_or c.args.batch.now c.loop-number.number-index 0 ∷ []) c.loop-number.invariant c.in_ok-report.ensures.delivered)
+    (delivered_both c.args.table.now (take c.loop-number.number-index c.args.batch.now) (get_or c.args.batch.now c.loop-number.number-index 0 ∷ []) c.loop-number.invariant
+    c.in_ok-report.ensures.delivered)
 
 pub report-requires-clause-idle : goal.report-requires-clause-idle
 report-requires-clause-idle c = holds_nothing_still c.loop-number.invariant c.requires.idle

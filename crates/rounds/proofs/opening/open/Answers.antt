@@ -14,13 +14,15 @@ returns-in_default g c =
 
 pub returns-then-not-has-clause-done : goal.returns-then-not-has-clause-done
 returns-then-not-has-clause-done g c =
-    opened_never c.args.poller.now c.count_lost-then-not-has.new.self c.args.own.now c.take_slot.new.self c.take_slot.ensures.left c.in-Some.slot (sym c.take_slot.ensures.value ∙ c.in-Some.is) c.count_lost-then-not-has.ensures
+    opened_never c.args.poller.now c.count_lost-then-not-has.new.self c.args.own.now c.take_slot.new.self c.take_slot.ensures.left c.in-Some.slot (sym c.take_slot.ensures.value
+    ∙ c.in-Some.is) c.count_lost-then-not-has.ensures
 
 pub returns-in_default-next_names : goal.returns-in_default-next_names
 returns-in_default-next_names g c =
     let first = sym c.take_slot.ensures.value ∙ c.in-Some.is in
     let spent = no_names c.args.poller.now.table c.in-Some.slot
-    (subst (λ (table : List ℕ). c.in-Some.slot ≤ 32767 → c.in-Some.slot < length table → slice_index table c.in-Some.slot ≡ 140737488355327) c.table.ensures.table (c.in_default-next_names.ensures.none refl)) in
+    (subst (λ (table : List ℕ). c.in-Some.slot ≤ 32767 → c.in-Some.slot < length table → slice_index table c.in-Some.slot ≡ 140737488355327) c.table.ensures.table
+    (c.in_default-next_names.ensures.none refl)) in
     record {
       between = record {
         same = c.requires.between.same;
@@ -28,8 +30,10 @@ returns-in_default-next_names g c =
         sized = ap (λ (s : PollerState). length s.table) c.count_lost-in_default-next_names.ensures ∙ c.requires.between.sized;
       };
       worn = tt;
-      counted = lost_counts c.args.poller.now c.count_lost-in_default-next_names.new.self c.args.own.now.seat c.args.own.now.seat c.args.own.now.hand.slots c.in-Some.slot first c.count_lost-in_default-next_names.ensures (inr spent);
-      done = opened_never c.args.poller.now c.count_lost-in_default-next_names.new.self c.args.own.now c.take_slot.new.self c.take_slot.ensures.left c.in-Some.slot first c.count_lost-in_default-next_names.ensures;
+      counted = lost_counts c.args.poller.now c.count_lost-in_default-next_names.new.self c.args.own.now.seat c.args.own.now.seat c.args.own.now.hand.slots c.in-Some.slot first
+          c.count_lost-in_default-next_names.ensures (inr spent);
+      done = opened_never c.args.poller.now c.count_lost-in_default-next_names.new.self c.args.own.now c.take_slot.new.self c.take_slot.ensures.left c.in-Some.slot first
+          c.count_lost-in_default-next_names.ensures;
       ready = refl;
       poller = opens_lost c.args.poller.now c.count_lost-in_default-next_names.new.self _ c.count_lost-in_default-next_names.ensures;
       room = room_still c.args.own.now.hand c.take_slot.new.self _ c.take_slot.ensures.left;
@@ -66,8 +70,10 @@ returns-in-Ok g c =
       between = c.place.ensures.between;
       worn = c.place.ensures.worn;
       counted = placed_counts c.place.result c.args.poller.now c.place.new.poller c.args.own.now.seat c.place.new.own.seat c.args.own.now.hand.slots c.in-Some.slot first
-          (subst (λ (p : PollerState). OnOk c.place.result (IsOpened p c.place.new.poller ⊎ (IsLost p c.place.new.poller × Adds c.in-Some.slot (exchange.NotFree ∷ []) c.args.own.now.seat c.place.new.own.seat))) c.in-Ok.ensures.same
-          (subst (λ (slot : ℕ). OnOk c.place.result (IsOpened c.prepare.new.poller c.place.new.poller ⊎ (IsLost c.prepare.new.poller c.place.new.poller × Adds slot (exchange.NotFree ∷ []) c.args.own.now.seat c.place.new.own.seat))) here c.place.ensures.counted));
+          (subst (λ (p : PollerState). OnOk c.place.result (IsOpened p c.place.new.poller
+          ⊎ (IsLost p c.place.new.poller × Adds c.in-Some.slot (exchange.NotFree ∷ []) c.args.own.now.seat c.place.new.own.seat))) c.in-Ok.ensures.same
+          (subst (λ (slot : ℕ). OnOk c.place.result (IsOpened c.prepare.new.poller c.place.new.poller
+          ⊎ (IsLost c.prepare.new.poller c.place.new.poller × Adds slot (exchange.NotFree ∷ []) c.args.own.now.seat c.place.new.own.seat))) here c.place.ensures.counted));
       done = on_ok c.place.result
           (opened_there c.args.poller.now c.place.new.poller c.args.own.now c.prepare.new.hand hand c.in-Some.slot first
           c.prepare.new.poller c.place.new.own (record { slot = c.in-Ok.berth.pair.slot; generation = c.in-Ok.berth.pair.generation }) c.in-Ok.ensures.same here)

@@ -16,23 +16,28 @@ pub returns-in_ok-start-in-Adopted : goal.returns-in_ok-start-in-Adopted
 returns-in_ok-start-in-Adopted g c =
     let ticket : Ticket = record { slot = c.slot-slot.result; generation = c.generation-generation.result } in
     let named : ticket ≡ record { slot = c.args.berth.pair.slot; generation = c.args.berth.pair.generation } =
-    ap (λ (s : ℕ). record { slot = s; generation = c.generation-generation.result }) c.slot-slot.ensures ∙ ap (λ (n : ℕ). record { slot = c.args.berth.pair.slot; generation = n }) c.generation-generation.ensures in
+    ap (λ (s : ℕ). record { slot = s; generation = c.generation-generation.result }) c.slot-slot.ensures
+    ∙ ap (λ (n : ℕ). record { slot = c.args.berth.pair.slot; generation = n }) c.generation-generation.ensures in
     let change = c.in-Adopted.ensures.change in
     let started = c.in_ok-start-in-Adopted.ensures.started in
     record {
       between = record {
         same = c.start.ensures.only.table ∙ change.1.only.table ∙ c.requires.between.same;
         idle = c.start.ensures.idle;
-        sized = ap (λ (s : PollerState). length s.table) c.end_episodes.ensures ∙ still_sized c.args.poller.now c.count_opened.new.self ticket c.count_opened.ensures ∙ c.requires.between.sized;
+        sized = ap (λ (s : PollerState). length s.table) c.end_episodes.ensures ∙ still_sized c.args.poller.now c.count_opened.new.self ticket c.count_opened.ensures
+            ∙ c.requires.between.sized;
       };
       worn = tt;
       done = inl (subst (λ (t : Ticket). Connected (t ∷ []) [] 0 c.args.poller.now c.end_episodes.new.self c.args.own.now c.start.new.own) named
-          (placed c.args.poller.now c.count_opened.new.self ticket c.count_opened.ensures c.end_episodes.new.self c.end_episodes.ensures c.args.own.now c.start.new.own change.0 started.noted
+          (placed c.args.poller.now c.count_opened.new.self ticket c.count_opened.ensures c.end_episodes.new.self c.end_episodes.ensures c.args.own.now c.start.new.own change.0
+          started.noted
           (subst (λ (t : Ticket). IsIn c.args.poller.now.part t.slot) (sym named) c.requires.own)
           (subst (λ (t : Ticket). t.generation ≡ slice_index c.args.poller.now.table t.slot + 1) (sym named) c.requires.next)
-          (adds_both ticket.slot (exchange.Adopted change.0 ∷ []) (drop 1 (opening 0 started.noted)) c.args.own.now.seat c.adopt.new.seat c.start.new.own.seat change.1 started.seat)
+          (adds_both ticket.slot (exchange.Adopted change.0 ∷ []) (drop 1 (opening 0 started.noted)) c.args.own.now.seat c.adopt.new.seat c.start.new.own.seat change.1
+          started.seat)
           started.hand c.start.ensures.ready c.start.ensures.free));
-      poller = places_told c.args.poller.now c.count_opened.new.self c.end_episodes.new.self _ (places_opened c.args.poller.now c.count_opened.new.self _ _ c.count_opened.ensures) c.end_episodes.ensures;
+      poller = places_told c.args.poller.now c.count_opened.new.self c.end_episodes.new.self _ (places_opened c.args.poller.now c.count_opened.new.self _ _ c.count_opened.ensures)
+          c.end_episodes.ensures;
       ready = c.start.ensures.ready;
       counted = inl (is_opened c.args.poller.now c.count_opened.new.self ticket c.count_opened.ensures c.end_episodes.new.self c.end_episodes.ensures);
       free = c.start.ensures.free;
@@ -67,18 +72,29 @@ returns-in-NotFree g c =
     record {
       between = record {
         same = change.only.table ∙ c.requires.between.same;
-        idle = holds_nothing_again c.requires.between.idle change.only (ap (λ (a : Account). a.holds) (account_after c.args.berth.pair.slot (exchange.NotFree ∷ []) c.args.own.now.seat c.adopt.new.seat change) ∙ c.requires.between.idle.nowhere c.args.berth.pair.slot);
+        idle = holds_nothing_again c.requires.between.idle change.only
+            (ap (λ (a : Account). a.holds) (account_after c.args.berth.pair.slot (exchange.NotFree ∷ []) c.args.own.now.seat c.adopt.new.seat change)
+            ∙ c.requires.between.idle.nowhere c.args.berth.pair.slot);
         sized = ap (λ (s : PollerState). length s.table) c.count_lost.ensures ∙ c.requires.between.sized;
       };
       worn = tt;
       done = inr (not_placed c.args.poller.now c.count_lost.new.self c.args.own.now c.adopt.new.seat ticket c.count_lost.ensures change);
       poller = places_lost c.args.poller.now c.count_lost.new.self _ c.count_lost.ensures;
       ready = refl;
-      counted = inr ((ap (λ (s : PollerState). s.opened) c.count_lost.ensures, ap (λ (s : PollerState). s.dropped) c.count_lost.ensures, ap (λ (s : PollerState). s.lost) c.count_lost.ensures, ap (λ (s : PollerState). s.episodes) c.count_lost.ensures), change);
+      counted = inr (
+        (
+          ap (λ (s : PollerState). s.opened) c.count_lost.ensures,
+          ap (λ (s : PollerState). s.dropped) c.count_lost.ensures,
+          ap (λ (s : PollerState). s.lost) c.count_lost.ensures,
+          ap (λ (s : PollerState). s.episodes) c.count_lost.ensures,
+        ),
+        change,
+      );
       free = refl;
       slots = refl;
       room = omega arith;
     }
 
 pub start-requires-clause-holder : goal.start-requires-clause-holder
-start-requires-clause-holder g c = holds_from c.slot-slot.result (exchange.Adopted c.in-Adopted.ensures.change.0 ∷ []) c.args.own.now.seat c.adopt.new.seat c.in-Adopted.ensures.change.1 c.requires.between.idle refl
+start-requires-clause-holder g c = holds_from c.slot-slot.result (exchange.Adopted c.in-Adopted.ensures.change.0 ∷ []) c.args.own.now.seat c.adopt.new.seat
+    c.in-Adopted.ensures.change.1 c.requires.between.idle refl

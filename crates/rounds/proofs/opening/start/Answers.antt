@@ -13,7 +13,8 @@ pub returns-in-Worn-clause-worn : goal.returns-in-Worn-clause-worn
 returns-in-Worn-clause-worn g c = (
   refl,
   worn_still c.args.ticket.slot c.post-posted.new.seat c.let_go.new.own.seat c.let_go.ensures.left.seat.only
-      (ap (λ (a : Account). a.posted) (account_after c.args.ticket.slot (Release c.let_go.ensures.left.woke ∷ []) c.post-posted.new.seat c.let_go.new.own.seat c.let_go.ensures.left.seat))
+      (ap (λ (a : Account). a.posted) (account_after c.args.ticket.slot (Release c.let_go.ensures.left.woke ∷ []) c.post-posted.new.seat c.let_go.new.own.seat
+      c.let_go.ensures.left.seat))
       (subst (λ (s : SeatState). IsWorn s) (sym c.in-Worn.ensures.change.0) c.in-Worn.ensures.change.1),
 )
 
@@ -26,4 +27,5 @@ put_in-requires-clause-holder g c = (holds_still c.args.ticket.slot (Take c.take
 
 pub returns-in-Wake-clause-started : goal.returns-in-Wake-clause-started
 returns-in-Wake-clause-started g c =
-    started_by c.args.ticket c.take.result c.post-posted.result c.args.own.now c.take.new.seat c.post-posted.new.seat c.let_go.new.own c.requires.holder c.take.ensures.change c.post-posted.ensures.change c.in-Wake.is c.let_go.ensures.left
+    started_by c.args.ticket c.take.result c.post-posted.result c.args.own.now c.take.new.seat c.post-posted.new.seat c.let_go.new.own c.requires.holder c.take.ensures.change
+    c.post-posted.ensures.change c.in-Wake.is c.let_go.ensures.left

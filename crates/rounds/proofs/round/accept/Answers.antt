@@ -20,7 +20,8 @@ returns-in_err-accept_all g c =
       done = not_ok c.from_residual.result _ failed;
       ended = not_ok c.from_residual.result _ failed;
       ready = c.accept_all.ensures.ready ∙ c.tell_if_full.ensures.took.ready;
-      poller = accept_again c.args.poller.now c.tell_if_full.new.poller c.accept_all.new.poller (accept_told c.args.poller.now c.tell_if_full.new.poller _ c.tell_if_full.ensures.poller) c.accept_all.ensures.poller;
+      poller = accept_again c.args.poller.now c.tell_if_full.new.poller c.accept_all.new.poller
+          (accept_told c.args.poller.now c.tell_if_full.new.poller _ c.tell_if_full.ensures.poller) c.accept_all.ensures.poller;
       told = not_ok c.from_residual.result _ failed;
     }
 
@@ -29,12 +30,14 @@ returns g c = record {
   between = between_took c.args.shared.now.claims c.accept_all.new.own c.accept_all.new.own c.accept_all.new.poller c.tell_counted.new.self
       c.accept_all.ensures.between (took_none c.accept_all.new.own) (ap (λ (s : PollerState). s.table) c.tell_counted.ensures.told);
   worn = tt;
-  done = accept_both (accept_took c.args.poller.now c.tell_if_full.new.poller c.args.own.now c.tell_if_full.new.own (same_full _ c.tell_if_full.ensures.poller) c.tell_if_full.ensures.took)
+  done = accept_both (accept_took c.args.poller.now c.tell_if_full.new.poller c.args.own.now c.tell_if_full.new.own (same_full _ c.tell_if_full.ensures.poller)
+      c.tell_if_full.ensures.took)
       (accept_both c.in_ok-accept_all.ensures.done (accept_none c.accept_all.new.poller c.tell_counted.new.self c.accept_all.new.own (same_full _ c.tell_counted.ensures.told)));
   ended = subst (λ (s : PollerState). AcceptEnded s c.accept_all.new.own) (sym c.tell_counted.ensures.told) c.in_ok-accept_all.ensures.ended;
   ready = c.accept_all.ensures.ready ∙ c.tell_if_full.ensures.took.ready;
   poller = accept_again c.args.poller.now c.accept_all.new.poller c.tell_counted.new.self
-      (accept_again c.args.poller.now c.tell_if_full.new.poller c.accept_all.new.poller (accept_told c.args.poller.now c.tell_if_full.new.poller _ c.tell_if_full.ensures.poller) c.accept_all.ensures.poller)
+      (accept_again c.args.poller.now c.tell_if_full.new.poller c.accept_all.new.poller (accept_told c.args.poller.now c.tell_if_full.new.poller _ c.tell_if_full.ensures.poller)
+      c.accept_all.ensures.poller)
       (accept_told c.accept_all.new.poller c.tell_counted.new.self _ c.tell_counted.ensures.told);
   told = c.tell_counted.ensures.all;
 }

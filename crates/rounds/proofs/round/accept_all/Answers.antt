@@ -23,7 +23,8 @@ accept_next-requires g c =
     let sum = c.loop-try.invariant.tries in
     let more = c.loop-try-test.true in
     record {
-      between = between_took c.args.shared.now.claims c.loop-try.own c.may_accept.new.own c.loop-try.poller c.loop-try.poller c.loop-try.invariant.between c.may_accept.ensures.took refl;
+      between = between_took c.args.shared.now.claims c.loop-try.own c.may_accept.new.own c.loop-try.poller c.loop-try.poller c.loop-try.invariant.between c.may_accept.ensures.took
+          refl;
       room = omega arith;
       left = omega arith;
       slot = c.may_accept.ensures.slot c.if-not-may_accept.false;
@@ -31,7 +32,8 @@ accept_next-requires g c =
 
 pub returns-then-not-may_accept : goal.returns-then-not-may_accept
 returns-then-not-may_accept g c = record {
-  between = between_took c.args.shared.now.claims c.loop-try.own c.may_accept.new.own c.loop-try.poller c.loop-try.poller c.loop-try.invariant.between c.may_accept.ensures.took refl;
+  between = between_took c.args.shared.now.claims c.loop-try.own c.may_accept.new.own c.loop-try.poller c.loop-try.poller c.loop-try.invariant.between c.may_accept.ensures.took
+      refl;
   worn = tt;
   done = accept_and_took c.loop-try.invariant.done c.may_accept.ensures.took;
   ended = inl (inr (c.may_accept.ensures.ended c.if-not-may_accept.true));

@@ -10,5 +10,14 @@ invariant-loop-try g l = record {
   room : 4 ≤ l._try + ticket_room l.own.hand;
   tries : l._try + l.poller.tries ≡ 4;
   done : AcceptDone l.fn.poller l.poller l.fn.own l.own;
-  poller : l.poller ≡ record l.fn.poller { table = l.poller.table; accepting = l.poller.accepting; starved = l.poller.starved; tries = l.poller.tries; opened = l.poller.opened; dropped = l.poller.dropped; lost = l.poller.lost; episodes = l.poller.episodes };
+  poller : l.poller ≡ record l.fn.poller {
+    table = l.poller.table;
+    accepting = l.poller.accepting;
+    starved = l.poller.starved;
+    tries = l.poller.tries;
+    opened = l.poller.opened;
+    dropped = l.poller.dropped;
+    lost = l.poller.lost;
+    episodes = l.poller.episodes;
+  };
 }

@@ -46,7 +46,8 @@ returns-then-listener g c =
       poller = subst (λ (s : PollerState). s ≡ record p { accepting = s.accepting }) (sym c.raise_accept_flag.ensures) refl;
       worn = tt;
       delivered = subst (λ (t : List ℕ). Delivered t p.batch c.args.own.now.seat c.deliver.new.seat c.args.own.now.hand c.deliver.new.hand) c.table.ensures.table
-          (subst (λ (b : List ℕ). Delivered c.table.result.now b c.args.own.now.seat c.deliver.new.seat c.args.own.now.hand c.deliver.new.hand) c.batch.ensures.batch c.in_ok-listener.ensures.delivered);
+          (subst (λ (b : List ℕ). Delivered c.table.result.now b c.args.own.now.seat c.deliver.new.seat c.args.own.now.hand c.deliver.new.hand) c.batch.ensures.batch
+          c.in_ok-listener.ensures.delivered);
       flag = (λ _. inr (has.0 c.if-listener.true), λ _. ap (λ (s : PollerState). s.accepting) c.raise_accept_flag.ensures);
       own = own_reports p.part p.table p.batch (subst (λ (t : List ℕ). IsOwnTable p.part t) c.table.ensures.table c.table.ensures.own);
       ready = refl;
@@ -66,7 +67,8 @@ returns-else-listener g c =
       poller = refl;
       worn = tt;
       delivered = subst (λ (t : List ℕ). Delivered t p.batch c.args.own.now.seat c.deliver.new.seat c.args.own.now.hand c.deliver.new.hand) c.table.ensures.table
-          (subst (λ (b : List ℕ). Delivered c.table.result.now b c.args.own.now.seat c.deliver.new.seat c.args.own.now.hand c.deliver.new.hand) c.batch.ensures.batch c.in_ok-listener.ensures.delivered);
+          (subst (λ (b : List ℕ). Delivered c.table.result.now b c.args.own.now.seat c.deliver.new.seat c.args.own.now.hand c.deliver.new.hand) c.batch.ensures.batch
+          c.in_ok-listener.ensures.delivered);
       flag = flag_still c.in_ok-listener.listener p.accepting p.batch has c.if-listener.false;
       own = own_reports p.part p.table p.batch (subst (λ (t : List ℕ). IsOwnTable p.part t) c.table.ensures.table c.table.ensures.own);
       ready = refl;

@@ -69,7 +69,8 @@ returns-in_err-look g c =
 pub returns-in_err-deliver_batch : goal.returns-in_err-deliver_batch
 returns-in_err-deliver_batch g c =
     let looked : SameTable c.args.poller.now c.look.new.poller = looked_is c.begin.ensures.poller c.look.ensures.poller in
-    let same = delivered_lasts (looked_lasts c.args.poller.now c.begin.new.poller c.look.new.poller c.begin.ensures.poller c.look.ensures.poller c.look.ensures.listens) c.deliver_batch.ensures.poller in
+    let same = delivered_lasts (looked_lasts c.args.poller.now c.begin.new.poller c.look.new.poller c.begin.ensures.poller c.look.ensures.poller c.look.ensures.listens)
+    c.deliver_batch.ensures.poller in
     let failed = c.from_residual-in_err-deliver_batch.ensures.1 in
     record {
       same = c.deliver_batch.ensures.between.same ∙ sym c.requires.same;
@@ -107,7 +108,9 @@ keep_time-requires-clause-room g c =
 pub returns-in_err-keep_time : goal.returns-in_err-keep_time
 returns-in_err-keep_time g c =
     let looked : SameTable c.args.poller.now c.look.new.poller = looked_is c.begin.ensures.poller c.look.ensures.poller in
-    let same = swept_lasts (delivered_lasts (looked_lasts c.args.poller.now c.begin.new.poller c.look.new.poller c.begin.ensures.poller c.look.ensures.poller c.look.ensures.listens) c.deliver_batch.ensures.poller) c.keep_time.ensures.poller in
+    let same = swept_lasts
+    (delivered_lasts (looked_lasts c.args.poller.now c.begin.new.poller c.look.new.poller c.begin.ensures.poller c.look.ensures.poller c.look.ensures.listens)
+    c.deliver_batch.ensures.poller) c.keep_time.ensures.poller in
     let failed = c.from_residual-in_err-keep_time.ensures.1 in
     record {
       same = c.keep_time.ensures.between.same ∙ sym c.requires.same;
@@ -148,7 +151,9 @@ accept-requires-clause-room g c =
 pub returns-in_err-accept : goal.returns-in_err-accept
 returns-in_err-accept g c =
     let looked : SameTable c.args.poller.now c.look.new.poller = looked_is c.begin.ensures.poller c.look.ensures.poller in
-    let same = accepted_lasts (swept_lasts (delivered_lasts (looked_lasts c.args.poller.now c.begin.new.poller c.look.new.poller c.begin.ensures.poller c.look.ensures.poller c.look.ensures.listens) c.deliver_batch.ensures.poller) c.keep_time.ensures.poller) c.accept.ensures.poller in
+    let same = accepted_lasts
+    (swept_lasts (delivered_lasts (looked_lasts c.args.poller.now c.begin.new.poller c.look.new.poller c.begin.ensures.poller c.look.ensures.poller c.look.ensures.listens)
+    c.deliver_batch.ensures.poller) c.keep_time.ensures.poller) c.accept.ensures.poller in
     let failed = c.from_residual-in_err-accept.ensures.1 in
     record {
       same = c.accept.ensures.between.same ∙ sym c.requires.same;
@@ -179,7 +184,9 @@ returns-in_err-accept g c =
 pub returns : goal.returns
 returns g c =
     let looked : SameTable c.args.poller.now c.look.new.poller = looked_is c.begin.ensures.poller c.look.ensures.poller in
-    let same = accepted_lasts (swept_lasts (delivered_lasts (looked_lasts c.args.poller.now c.begin.new.poller c.look.new.poller c.begin.ensures.poller c.look.ensures.poller c.look.ensures.listens) c.deliver_batch.ensures.poller) c.keep_time.ensures.poller) c.accept.ensures.poller in
+    let same = accepted_lasts
+    (swept_lasts (delivered_lasts (looked_lasts c.args.poller.now c.begin.new.poller c.look.new.poller c.begin.ensures.poller c.look.ensures.poller c.look.ensures.listens)
+    c.deliver_batch.ensures.poller) c.keep_time.ensures.poller) c.accept.ensures.poller in
     let second = ap (λ (s : PollerState). s.second) c.take_back.ensures.poller ∙ ap (λ (s : PollerState). s.second) c.accept.ensures.poller in
     let swept = swept_is c.args.timing.now.limit c.args.poller.now c.deliver_batch.new.poller c.keep_time.new.poller c.take_back.new.poller
     (ap (λ (s : PollerState). s.second) c.deliver_batch.ensures.poller ∙ looked.second)
@@ -226,7 +233,8 @@ returns g c =
           })
           (accept_both c.in_ok-accept.ensures.done (accept_took c.accept.new.poller c.take_back.new.poller c.accept.new.own c.take_back.new.own flags c.take_back.ensures.took))
           (ap (λ (s : PollerState). s.swept) c.take_back.ensures.poller ∙ ap (λ (s : PollerState). s.swept) c.accept.ensures.poller);
-      batch = λ _. inr (still_read c.look.new.poller c.deliver_batch.new.poller c.keep_time.new.poller c.accept.new.poller c.take_back.new.poller c.look.ensures.batch c.deliver_batch.ensures.poller c.keep_time.ensures.poller c.accept.ensures.poller c.take_back.ensures.poller);
+      batch = λ _. inr (still_read c.look.new.poller c.deliver_batch.new.poller c.keep_time.new.poller c.accept.new.poller c.take_back.new.poller c.look.ensures.batch
+          c.deliver_batch.ensures.poller c.keep_time.ensures.poller c.accept.ensures.poller c.take_back.ensures.poller);
       told = inr (subst (λ (n : ℕ). g.C.Clock.tells c.args.timing.now.clock.now n) (sym second) c.in_ok-keep_time.ensures.told);
       swept = inr swept;
       unswept = inr swept;
@@ -241,7 +249,8 @@ returns g c =
       opening = ap (λ (s : PollerState). s.opening) c.take_back.ensures.poller ∙ same.opening;
       most = ap (λ (s : PollerState). s.most) c.take_back.ensures.poller ∙ same.most;
       heavy = ap (λ (s : PollerState). s.heavy) c.take_back.ensures.poller ∙ same.heavy;
-      took = ap (λ (q : EndState Ticket). q.history.taken) (c.take_back.ensures.took.ready ∙ c.accept.ensures.ready ∙ c.keep_time.ensures.ready ∙ c.deliver_batch.ensures.ready ∙ c.look.ensures.took.ready);
+      took = ap (λ (q : EndState Ticket). q.history.taken) (c.take_back.ensures.took.ready ∙ c.accept.ensures.ready ∙ c.keep_time.ensures.ready ∙ c.deliver_batch.ensures.ready
+          ∙ c.look.ensures.took.ready);
       refused = tt;
     }
 

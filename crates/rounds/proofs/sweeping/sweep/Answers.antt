@@ -26,7 +26,8 @@ pub sweep_slot-requires-clause-idle : goal.sweep_slot-requires-clause-idle
 sweep_slot-requires-clause-idle c = holds_nothing_still c.loop-slot.invariant c.requires.idle
 
 pub returns-in_err-sweep_slot-clause-idle : goal.returns-in_err-sweep_slot-clause-idle
-returns-in_err-sweep_slot-clause-idle c = subst (λ (s : SeatState). HoldsNothing s) (sym c.in_err-sweep_slot.ensures.seat) (holds_nothing_still c.loop-slot.invariant c.requires.idle)
+returns-in_err-sweep_slot-clause-idle c = subst (λ (s : SeatState). HoldsNothing s) (sym c.in_err-sweep_slot.ensures.seat)
+    (holds_nothing_still c.loop-slot.invariant c.requires.idle)
 
 pub returns-clause-idle : goal.returns-clause-idle
 returns-clause-idle c = holds_nothing_still c.loop-slot.invariant c.requires.idle

@@ -60,7 +60,8 @@ returns g c =
       worn = tt;
       posted = subst (λ (ts : List Ticket). ArePosted ts c.args.own.now.seat c.sweep.new.seat c.args.own.now.hand c.sweep.new.hand)
           (sym (sweep_is c.args.poller.now c.args.limit c.is_due.result c.is_due.ensures c.count_sweep.new.self c.count_sweep.ensures c.if-not-is_due.false))
-          (subst (λ (t : List ℕ). ArePosted (all_opened t) c.args.own.now.seat c.sweep.new.seat c.args.own.now.hand c.sweep.new.hand) c.table.ensures.table c.in_ok-sweep.ensures.posted);
+          (subst (λ (t : List ℕ). ArePosted (all_opened t) c.args.own.now.seat c.sweep.new.seat c.args.own.now.hand c.sweep.new.hand) c.table.ensures.table
+          c.in_ok-sweep.ensures.posted);
       swept = swept c.args.poller.now c.args.limit c.is_due.result c.is_due.ensures c.count_sweep.new.self c.count_sweep.ensures c.if-not-is_due.false;
       unswept = tt;
       own = own_sweep c.args.poller.now.part c.args.poller.now c.count_sweep.new.self

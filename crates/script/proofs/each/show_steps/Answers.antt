@@ -7,7 +7,8 @@ use Rattle.script.proofs.each.show_steps.Goals as goal
 
 pub returns-in_err-text : goal.returns-in_err-text
 returns-in_err-text g c =
-    stops_shown g.M.Machine.stepped g.M.Machine.told c.args.lines c.args.machine c.args.steps.now c.loop-step.step-index c.loop-step.machine c.step-item.result c.in_err-text.field-0.0 _ _ _
+    stops_shown g.M.Machine.stepped g.M.Machine.told c.args.lines c.args.machine c.args.steps.now c.loop-step.step-index c.loop-step.machine c.step-item.result
+    c.in_err-text.field-0.0 _ _ _
     c.from_residual-in_err-text.ensures.1 c.loop-step.invariant.made (slice_get_read _ _ _ _ refl c.loop-step-test.true c.step-item.is)
     c.in_err-text.ensures.refused c.loop-step.invariant.wrote
 
@@ -16,8 +17,10 @@ loop-step-preserved g c =
     let here = slice_get_read c.args.steps.now _ c.loop-step.step-index c.step-item.result refl c.loop-step-test.true c.step-item.is in
     record {
       made = played_more _ _ _ _ c.loop-step.step-index _ c.loop-step.invariant.made here ∙ c.in_ok-text.ensures.made;
-      wrote = one_more_shown g.M.Machine.stepped g.M.Machine.told c.args.lines c.args.machine c.args.steps.now c.loop-step.step-index c.loop-step.machine c.step.new.machine c.step-item.result c.loop-step.showing.lines _ _ _ _ _
-          c.loop-step.invariant.made here c.in_ok-text.ensures.made c.loop-step.invariant.lines c.loop-step.invariant.report (c.as_slice-in-loop-step.ensures.value ∙ c.in_ok-text.ensures.text)
+      wrote = one_more_shown g.M.Machine.stepped g.M.Machine.told c.args.lines c.args.machine c.args.steps.now c.loop-step.step-index c.loop-step.machine c.step.new.machine
+          c.step-item.result c.loop-step.showing.lines _ _ _ _ _
+          c.loop-step.invariant.made here c.in_ok-text.ensures.made c.loop-step.invariant.lines c.loop-step.invariant.report (c.as_slice-in-loop-step.ensures.value
+          ∙ c.in_ok-text.ensures.text)
           c.loop-step.invariant.wrote c.in_ok-put-2.ensures.ok;
       lines = c.in_ok-text.ensures.lines ∙ ap (drop 1) c.loop-step.invariant.lines ∙ drop-drop 1 (c.loop-step.step-index + 1) c.args.lines;
       report = c.in_ok-text.ensures.report;

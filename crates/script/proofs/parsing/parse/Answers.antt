@@ -17,7 +17,8 @@ returns-in_ok-steps-in-Ok-Flow-clause-script c =
 
 pub returns-in_err-steps-in-Ok-Flow-clause-script : goal.returns-in_err-steps-in-Ok-Flow-clause-script
 returns-in_err-steps-in-Ok-Flow-clause-script c =
-    flow_fails _ _ _ _ _ {Y = Vec NumberedStep Global} (λ steps. steps.items) _ _ c.if-text-gt-MAX_BYTES.false c.new-lines.ensures c.in-Some.ensures (c.in-Ok-Flow.ensures.value ∙ ap (λ h. Some h) c.in-Ok-Flow.field-0-is)
+    flow_fails _ _ _ _ _ {Y = Vec NumberedStep Global} (λ steps. steps.items) _ _ c.if-text-gt-MAX_BYTES.false c.new-lines.ensures c.in-Some.ensures (c.in-Ok-Flow.ensures.value
+    ∙ ap (λ h. Some h) c.in-Ok-Flow.field-0-is)
     c.in_err-steps-in-Ok-Flow.ensures.steps c.from_residual.ensures.1
 
 pub returns-in_err-steps-in-Ok-Flow-clause-memory : goal.returns-in_err-steps-in-Ok-Flow-clause-memory
@@ -32,7 +33,8 @@ returns-in_ok-events-in-Ok-World-clause-script c =
 
 pub returns-in_err-events-in-Ok-World-clause-script : goal.returns-in_err-events-in-Ok-World-clause-script
 returns-in_err-events-in-Ok-World-clause-script c =
-    world_fails _ _ _ _ _ {Y = Vec NumberedEvent Global} (λ events. said_lines events.items) _ _ c.if-text-gt-MAX_BYTES.false c.new-lines.ensures c.in-Some.ensures (c.in-Ok-World.ensures.value ∙ ap (λ h. Some h) c.in-Ok-World.field-0-is)
+    world_fails _ _ _ _ _ {Y = Vec NumberedEvent Global} (λ events. said_lines events.items) _ _ c.if-text-gt-MAX_BYTES.false c.new-lines.ensures c.in-Some.ensures
+    (c.in-Ok-World.ensures.value ∙ ap (λ h. Some h) c.in-Ok-World.field-0-is)
     c.in_err-events-in-Ok-World.ensures.events c.from_residual-in_err-events-in-Ok-World.ensures.1
 
 pub returns-in_err-events-in-Ok-World-clause-memory : goal.returns-in_err-events-in-Ok-World-clause-memory

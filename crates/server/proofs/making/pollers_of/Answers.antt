@@ -8,23 +8,29 @@ loop-number-preserved g c = record {
   parts = mapped_more _ _ _ _ c.loop-number.number c.push_reserved.ensures.items (ap (λ poller. poller.part) c.in_ok-poller_of-in-Some.ensures) c.loop-number.invariant.parts;
   begun = begun_one _ _ _ _ c.push_reserved.ensures.items c.in_ok-poller_of-in-Some.ensures c.loop-number.invariant.begun;
   shares = mapped_more _ _ _ _ c.loop-number.number c.push_reserved.ensures.items (ap (λ poller. poller.most) c.in_ok-poller_of-in-Some.ensures) c.loop-number.invariant.shares;
-  reported = one_taken _ _ _ _ _ _ _ c.push_reserved.ensures.items c.in-Some.ensures.items (ap (λ poller. poller.reported) c.in_ok-poller_of-in-Some.ensures) c.loop-number.invariant.reported;
-  failed = one_taken _ _ _ _ _ _ _ c.push_reserved.ensures.items c.in-Some.ensures.items (ap (λ poller. poller.failed) c.in_ok-poller_of-in-Some.ensures) c.loop-number.invariant.failed;
+  reported = one_taken _ _ _ _ _ _ _ c.push_reserved.ensures.items c.in-Some.ensures.items (ap (λ poller. poller.reported) c.in_ok-poller_of-in-Some.ensures)
+      c.loop-number.invariant.reported;
+  failed = one_taken _ _ _ _ _ _ _ c.push_reserved.ensures.items c.in-Some.ensures.items (ap (λ poller. poller.failed) c.in_ok-poller_of-in-Some.ensures)
+      c.loop-number.invariant.failed;
   len = c.push_reserved.ensures.len ∙ ap (λ (n : ℕ). n + 1) c.loop-number.invariant.len;
   room = omega (arith, c.push_reserved.ensures.capacity, c.loop-number.invariant.room);
 }
 
 pub returns-clause-parts : goal.returns-clause-parts
-returns-clause-parts g c = mapped_all _ _ _ c.loop-number.number _ (omega (arith, c.loop-number.invariant.left, c.loop-number-test.false, c.pollers-count.ensures.parts)) c.loop-number.invariant.parts
+returns-clause-parts g c = mapped_all _ _ _ c.loop-number.number _ (omega (arith, c.loop-number.invariant.left, c.loop-number-test.false, c.pollers-count.ensures.parts))
+    c.loop-number.invariant.parts
 
 pub returns-clause-shares : goal.returns-clause-shares
-returns-clause-shares g c = mapped_all _ _ _ c.loop-number.number _ (omega (arith, c.loop-number.invariant.left, c.loop-number-test.false, c.pollers-count.ensures.parts)) c.loop-number.invariant.shares
+returns-clause-shares g c = mapped_all _ _ _ c.loop-number.number _ (omega (arith, c.loop-number.invariant.left, c.loop-number-test.false, c.pollers-count.ensures.parts))
+    c.loop-number.invariant.shares
 
 pub returns-clause-reported : goal.returns-clause-reported
-returns-clause-reported g c = all_taken _ _ _ c.loop-number.fronts.items _ (let none : length c.loop-number.fronts.items ≡ 0 = omega (arith, c.loop-number.invariant.left, c.loop-number-test.false, c.pollers-count.ensures.parts) in none) c.loop-number.invariant.reported
+returns-clause-reported g c = all_taken _ _ _ c.loop-number.fronts.items _ (let none : length c.loop-number.fronts.items ≡ 0 =
+    omega (arith, c.loop-number.invariant.left, c.loop-number-test.false, c.pollers-count.ensures.parts) in none) c.loop-number.invariant.reported
 
 pub returns-clause-failed : goal.returns-clause-failed
-returns-clause-failed g c = all_taken _ _ _ c.loop-number.fronts.items _ (let none : length c.loop-number.fronts.items ≡ 0 = omega (arith, c.loop-number.invariant.left, c.loop-number-test.false, c.pollers-count.ensures.parts) in none) c.loop-number.invariant.failed
+returns-clause-failed g c = all_taken _ _ _ c.loop-number.fronts.items _ (let none : length c.loop-number.fronts.items ≡ 0 =
+    omega (arith, c.loop-number.invariant.left, c.loop-number-test.false, c.pollers-count.ensures.parts) in none) c.loop-number.invariant.failed
 
 pub loop-number-init : goal.loop-number-init
 loop-number-init g c = record {

@@ -10,7 +10,8 @@ returns-then-not-is_plain-clause-none c n small same =
     cc
 
 pub returns-clause-some : goal.returns-clause-some
-returns-clause-some c = rw c.ok.ensures.value (parsed_plain c.args.text.now c.parse.result c.parse.ensures.value.0 (rw (← c.as_bytes.ensures.value) (c.is_plain.ensures.0 c.if-not-is_plain.false)))
+returns-clause-some c =
+    rw c.ok.ensures.value (parsed_plain c.args.text.now c.parse.result c.parse.ensures.value.0 (rw (← c.as_bytes.ensures.value) (c.is_plain.ensures.0 c.if-not-is_plain.false)))
 
 pub returns-clause-none : goal.returns-clause-none
 returns-clause-none c = rw c.ok.ensures.value (unparsed c.args.text.now c.parse.result c.parse.ensures.value.0)

@@ -8,7 +8,8 @@ use Rattle.settings.proofs.read.parse.Goals as goal
 pub returns-in-Some-clause-memory : goal.returns-in-Some-clause-memory
 returns-in-Some-clause-memory c same = (
   c.in-Ok.ensures.cases.1,
-  λ blank. named_not_blank c.in-Ok.text.now (table_view c.in-Ok-table_from_str.document) _ c.in-Ok-table_from_str.ensures.ok c.in-Some.ensures.some.0.0 (rw c.in-Ok.ensures.cases.0 blank),
+  λ blank. named_not_blank c.in-Ok.text.now (table_view c.in-Ok-table_from_str.document) _ c.in-Ok-table_from_str.ensures.ok c.in-Some.ensures.some.0.0
+      (rw c.in-Ok.ensures.cases.0 blank),
 )
 
 pub returns-in-Some-clause-fault : goal.returns-in-Some-clause-fault

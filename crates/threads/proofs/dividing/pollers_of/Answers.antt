@@ -7,8 +7,10 @@ pub loop-thread-preserved : goal.loop-thread-preserved
 loop-thread-preserved g c = record {
   fresh = c.next_poller.ensures.fresh;
   left = omega (arith, c.loop-thread.invariant.left, c.in-Some.ensures.len, c.loop-thread.pollers.ok.0, c.pop.new.self.ok.0);
-  numbered = threads_more _ _ _ _ _ _ _ _ _ c.push_reserved.ensures.items c.in-Some.ensures.items (omega (arith, c.len.ensures, c.pop.new.self.ok.0)) (both c.in_ok-next_poller-in-Some.ensures.poller.0 c.in_ok-next_poller-in-Some.ensures.poller.1) c.loop-thread.invariant.numbered;
-  slots = all_pushed (λ thread. IsEndOf (map (λ ends. ends.items) c.args.rest.now.free.items) thread.number thread.own.free) _ _ _ c.push_reserved.ensures.items c.loop-thread.invariant.slots (slot_of_all _ _ _ _ _ c.loop-thread.invariant.ends c.in_ok-next_poller-in-Some.ensures.slots c.in_ok-next_poller-in-Some.ensures.poller.0);
+  numbered = threads_more _ _ _ _ _ _ _ _ _ c.push_reserved.ensures.items c.in-Some.ensures.items (omega (arith, c.len.ensures, c.pop.new.self.ok.0))
+      (both c.in_ok-next_poller-in-Some.ensures.poller.0 c.in_ok-next_poller-in-Some.ensures.poller.1) c.loop-thread.invariant.numbered;
+  slots = all_pushed (λ thread. IsEndOf (map (λ ends. ends.items) c.args.rest.now.free.items) thread.number thread.own.free) _ _ _ c.push_reserved.ensures.items
+      c.loop-thread.invariant.slots (slot_of_all _ _ _ _ _ c.loop-thread.invariant.ends c.in_ok-next_poller-in-Some.ensures.slots c.in_ok-next_poller-in-Some.ensures.poller.0);
   ends = left_of_left _ _ _ c.loop-thread.invariant.ends c.next_poller.ensures.left;
   len = c.push_reserved.ensures.len ∙ ap (λ (n : ℕ). n + 1) c.loop-thread.invariant.len;
   room = omega (arith, c.push_reserved.ensures.capacity, c.loop-thread.invariant.room);
@@ -26,7 +28,8 @@ loop-thread-init g c = record {
 }
 
 pub returns-clause-pollers : goal.returns-clause-pollers
-returns-clause-pollers g c = all_made _ _ c.loop-thread.pollers.items (let none : length c.loop-thread.pollers.items ≡ 0 = omega (arith, c.loop-thread.invariant.left, c.loop-thread-test.false) in none) c.loop-thread.invariant.numbered
+returns-clause-pollers g c = all_made _ _ c.loop-thread.pollers.items (let none : length c.loop-thread.pollers.items ≡ 0 =
+    omega (arith, c.loop-thread.invariant.left, c.loop-thread-test.false) in none) c.loop-thread.invariant.numbered
 
 pub returns-in_err-next_poller-in-Some-clause-left : goal.returns-in_err-next_poller-in-Some-clause-left
 returns-in_err-next_poller-in-Some-clause-left g c = left_of_left _ _ _ c.loop-thread.invariant.ends c.next_poller.ensures.left

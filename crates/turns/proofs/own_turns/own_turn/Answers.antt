@@ -17,7 +17,10 @@ returns-then-not-has_slot_room g c =
       poller = ap (λ (marks : List ℕ). record c.args.poller.now { heavy = marks }) (marks_none oldest c.args.poller.now.heavy);
       only = of_any oldest _ (λ t. record { table = refl; others = λ other ne. refl });
       turn = of_any oldest _ (λ t. refl);
-      none = (λ is. inr (no_room c.has_slot_room.result (length c.args.own.now.hand.slots) c.args.own.now.hand.capacity c.has_slot_room.ensures c.if-not-has_slot_room.true), λ no. refl);
+      none = (
+        λ is. inr (no_room c.has_slot_room.result (length c.args.own.now.hand.slots) c.args.own.now.hand.capacity c.has_slot_room.ensures c.if-not-has_slot_room.true),
+        λ no. refl,
+      );
       unchanged = λ is. refl;
       took = record { tickets = refl; slots = refl };
       worn = tt;
@@ -48,11 +51,13 @@ returns-in_err-worked g c =
     let first : oldest ≡ Some c.in-Some.ticket = sym c.take_ticket.ensures.value ∙ c.in-Some.is in
     let fault = c.in_err-worked.field-0.0 in
     let failed = err_is c.from_residual.result fault c.from_residual.ensures.1 in
-    let made = own_made c.args.shared.now.claims.words c.in-Some.ticket (Err fault) c.args.own.now c.turn_of.new.own c.take_ticket.new.self c.take_ticket.ensures.left c.in_err-worked.ensures.made in
+    let made = own_made c.args.shared.now.claims.words c.in-Some.ticket (Err fault) c.args.own.now c.turn_of.new.own c.take_ticket.new.self c.take_ticket.ensures.left
+    c.in_err-worked.ensures.made in
     record {
       same = c.turn_of.ensures.only.table;
       idle = c.turn_of.ensures.idle;
-      poller = ap (λ (marks : List ℕ). record c.args.poller.now { heavy = marks }) (marks_fault oldest c.in-Some.ticket c.from_residual.result fault c.args.poller.now.heavy first failed);
+      poller = ap (λ (marks : List ℕ). record c.args.poller.now { heavy = marks }) (marks_fault oldest c.in-Some.ticket c.from_residual.result fault c.args.poller.now.heavy first
+          failed);
       only = of_first oldest c.in-Some.ticket _ first c.turn_of.ensures.only;
       turn = of_first oldest c.in-Some.ticket _ first
           (subst (λ (r : Result (Option Worked) ServerFault). OwnTurn c.args.shared.now.claims.words c.in-Some.ticket r c.args.own.now c.turn_of.new.own) (sym failed) made);
@@ -70,11 +75,13 @@ pub returns : goal.returns
 returns g c =
     let oldest = slice_get c.args.own.now.hand.tickets 0 in
     let first : oldest ≡ Some c.in-Some.ticket = sym c.take_ticket.ensures.value ∙ c.in-Some.is in
-    let made = own_made c.args.shared.now.claims.words c.in-Some.ticket (Ok c.in_ok-worked.worked) c.args.own.now c.turn_of.new.own c.take_ticket.new.self c.take_ticket.ensures.left c.in_ok-worked.ensures.made in
+    let made = own_made c.args.shared.now.claims.words c.in-Some.ticket (Ok c.in_ok-worked.worked) c.args.own.now c.turn_of.new.own c.take_ticket.new.self
+    c.take_ticket.ensures.left c.in_ok-worked.ensures.made in
     record {
       same = c.turn_of.ensures.only.table;
       idle = c.turn_of.ensures.idle;
-      poller = subst (λ (o : Option Ticket). c.follow_up.new.poller ≡ record c.args.poller.now { heavy = marks_after o (Ok (Some c.in_ok-worked.worked)) c.args.poller.now.heavy }) (sym first) c.follow_up.ensures.marks;
+      poller = subst (λ (o : Option Ticket). c.follow_up.new.poller ≡ record c.args.poller.now { heavy = marks_after o (Ok (Some c.in_ok-worked.worked)) c.args.poller.now.heavy })
+          (sym first) c.follow_up.ensures.marks;
       only = of_first oldest c.in-Some.ticket _ first c.turn_of.ensures.only;
       turn = of_first oldest c.in-Some.ticket _ first made;
       none = (

@@ -7,11 +7,13 @@ use Rattle.turns.proofs.worker.play.Goals as goal
 
 pub returns-clause-holder : goal.returns-clause-holder
 returns-clause-holder g c = holds_still c.args.visit.now.ticket.slot (Take c.take-notes.result ∷ []) c.args.seat.now c.take-notes.new.seat
-    (subst (λ (slot : ℕ). Adds slot (Take c.take-notes.result ∷ []) c.args.seat.now c.take-notes.new.seat) (ap (λ (t : Ticket). t.slot) c.ticket-slot.ensures) c.take-notes.ensures.change) c.requires.holder refl
+    (subst (λ (slot : ℕ). Adds slot (Take c.take-notes.result ∷ []) c.args.seat.now c.take-notes.new.seat) (ap (λ (t : Ticket). t.slot) c.ticket-slot.ensures)
+    c.take-notes.ensures.change) c.requires.holder refl
 
 pub returns-clause-played : goal.returns-clause-played
 returns-clause-played g c = (
   c.take-notes.result,
-  subst (λ (slot : ℕ). Adds slot (Take c.take-notes.result ∷ []) c.args.seat.now c.take-notes.new.seat) (ap (λ (t : Ticket). t.slot) c.ticket-slot.ensures) c.take-notes.ensures.change,
+  subst (λ (slot : ℕ). Adds slot (Take c.take-notes.result ∷ []) c.args.seat.now c.take-notes.new.seat) (ap (λ (t : Ticket). t.slot) c.ticket-slot.ensures)
+      c.take-notes.ensures.change,
   c.play-outcome.ensures.run,
 )

@@ -12,13 +12,16 @@ pub returns-in-Quiet-clause-done : goal.returns-in-Quiet-clause-done
 returns-in-Quiet-clause-done g c = played_then c.rest.ensures.done c.play.ensures.ticket c.play.ensures.played.1 refl refl (record { tickets = refl; slots = refl })
 
 pub end-requires-clause-work : goal.end-requires-clause-work
-end-requires-clause-work g c = still_at_work c.args.shared.now.claims c.play.new.visit.ticket c.args.visit.ticket c.args.own.now _ c.play.ensures.ticket c.requires.work c.play.ensures.holder c.play.ensures.played.1.only refl
+end-requires-clause-work g c = still_at_work c.args.shared.now.claims c.play.new.visit.ticket c.args.visit.ticket c.args.own.now _ c.play.ensures.ticket c.requires.work
+    c.play.ensures.holder c.play.ensures.played.1.only refl
 
 pub again-requires-clause-work : goal.again-requires-clause-work
-again-requires-clause-work g c = still_at_work c.args.shared.now.claims c.play.new.visit.ticket c.args.visit.ticket c.args.own.now _ c.play.ensures.ticket c.requires.work c.play.ensures.holder c.play.ensures.played.1.only refl
+again-requires-clause-work g c = still_at_work c.args.shared.now.claims c.play.new.visit.ticket c.args.visit.ticket c.args.own.now _ c.play.ensures.ticket c.requires.work
+    c.play.ensures.holder c.play.ensures.played.1.only refl
 
 pub rest-requires-clause-work : goal.rest-requires-clause-work
-rest-requires-clause-work g c = still_at_work c.args.shared.now.claims c.play.new.visit.ticket c.args.visit.ticket c.args.own.now _ c.play.ensures.ticket c.requires.work c.play.ensures.holder c.play.ensures.played.1.only refl
+rest-requires-clause-work g c = still_at_work c.args.shared.now.claims c.play.new.visit.ticket c.args.visit.ticket c.args.own.now _ c.play.ensures.ticket c.requires.work
+    c.play.ensures.holder c.play.ensures.played.1.only refl
 
 pub end-requires-clause-over : goal.end-requires-clause-over
 end-requires-clause-over g c = same_either c.play.result _ _ _ c.play.ensures.outcome c.in-Done.is

@@ -15,16 +15,19 @@ pub returns-in-Worn-clause-worn : goal.returns-in-Worn-clause-worn
 returns-in-Worn-clause-worn g c = (
   refl,
   worn_still c.args.ticket.slot c.post-posted.new.seat c.leave.new.own.seat c.leave.ensures.left.done.seat.only
-      (ap (λ (a : Account). a.posted) (account_after c.args.ticket.slot (Release c.leave.ensures.left.woke ∷ []) c.post-posted.new.seat c.leave.new.own.seat c.leave.ensures.left.done.seat))
+      (ap (λ (a : Account). a.posted) (account_after c.args.ticket.slot (Release c.leave.ensures.left.woke ∷ []) c.post-posted.new.seat c.leave.new.own.seat
+      c.leave.ensures.left.done.seat))
       (subst (λ (s : SeatState). IsWorn s) (sym c.in-Worn.ensures.change.0) c.in-Worn.ensures.change.1),
 )
 
 pub returns-in-Worn-clause-done : goal.returns-in-Worn-clause-done
-returns-in-Worn-clause-done g c = left_worn c.args.ticket _ c.args.own.now _ c.leave.new.own c.in-Worn.ensures.change.0 refl refl (record { tickets = refl; slots = refl }) c.leave.ensures.left
+returns-in-Worn-clause-done g c = left_worn c.args.ticket _ c.args.own.now _ c.leave.new.own c.in-Worn.ensures.change.0 refl refl (record { tickets = refl; slots = refl })
+    c.leave.ensures.left
 
 pub returns-in-Wake : goal.returns-in-Wake
 returns-in-Wake g c = record {
-  done = posted_again c.args.ticket c.post-posted.result c.args.own.now _ c.leave.new.own c.in-Wake.is c.post-posted.ensures.change c.requires.work.holder.here refl refl (record { tickets = refl; slots = refl }) c.leave.ensures.left;
+  done = posted_again c.args.ticket c.post-posted.result c.args.own.now _ c.leave.new.own c.in-Wake.is c.post-posted.ensures.change c.requires.work.holder.here refl refl
+      (record { tickets = refl; slots = refl }) c.leave.ensures.left;
   answer = refl;
   worn = tt;
 }

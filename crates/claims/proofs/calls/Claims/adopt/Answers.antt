@@ -9,19 +9,22 @@ use Rattle.claims.proofs.Tells.{state, reads, adds, stepped, held_by_none, mark_
 use Rattle.claims.proofs.calls.Claims.adopt.Goals as goal
 
 pub fetch_and-found-requires : goal.fetch_and-found-requires
-fetch_and-found-requires c = (search rules, search rules, may_step adopt (λ n. bit_and n 18446744073709551613) adopt_clears _ _ _ _ _ (within _ _ _ _ c.self.invariant c.self.view_is c.requires.inside) tt)
+fetch_and-found-requires c =
+    (search rules, search rules, may_step adopt (λ n. bit_and n 18446744073709551613) adopt_clears _ _ _ _ _ (within _ _ _ _ c.self.invariant c.self.view_is c.requires.inside) tt)
 
 pub invariant_of-seat : goal.invariant_of-seat
 invariant_of-seat c =
     let told = c.fetch_and-found.ensures.2 in
     let gains = adopt_gains (state told) _ (sym (c.is_free.ensures (state told) (reads told)) ∙ c.if-is_free.true) in
-    kept_beside told _ _ c.fetch_and-found.ensures.0 _ _ c.seat.invariant _ _ (ap (λ a. c.seat.inside.posts + posted_of a) (sym gains)) c.seat.invariant.unworn (mark_put told _ _ (sym (ap holds_of gains)))
+    kept_beside told _ _ c.fetch_and-found.ensures.0 _ _ c.seat.invariant _ _ (ap (λ a. c.seat.inside.posts + posted_of a) (sym gains)) c.seat.invariant.unworn
+    (mark_put told _ _ (sym (ap holds_of gains)))
 
 pub invariant_of-seat-else-is_free : goal.invariant_of-seat-else-is_free
 invariant_of-seat-else-is_free c =
     let told = c.fetch_and-found.ensures.2 in
     let same = adopt_not_free (state told) _ (sym (c.is_free.ensures (state told) (reads told)) ∙ c.if-is_free.false) in
-    kept_beside told _ _ c.fetch_and-found.ensures.0 _ _ c.seat.invariant _ _ (ap (λ a. c.seat.inside.posts + posted_of a) (sym same)) c.seat.invariant.unworn (mark_kept told _ _ c.fetch_and-found.ensures.0 _ _ c.seat.invariant (ap holds_of same))
+    kept_beside told _ _ c.fetch_and-found.ensures.0 _ _ c.seat.invariant _ _ (ap (λ a. c.seat.inside.posts + posted_of a) (sym same)) c.seat.invariant.unworn
+    (mark_kept told _ _ c.fetch_and-found.ensures.0 _ _ c.seat.invariant (ap holds_of same))
 
 pub returns-then-is_free-clause-change : goal.returns-then-is_free-clause-change
 returns-then-is_free-clause-change c =
@@ -35,14 +38,17 @@ returns-then-is_free-clause-change c =
 pub returns-then-is_free-clause-lawful : goal.returns-then-is_free-clause-lawful
 returns-then-is_free-clause-lawful c =
     let told = c.fetch_and-found.ensures.2 in
-    stepped told _ _ c.fetch_and-found.ensures.0 _ _ c.seat.invariant _ c.seat.view_is adopted (says_adopted (state told) (sym (c.is_free.ensures (state told) (reads told)) ∙ c.if-is_free.true))
+    stepped told _ _ c.fetch_and-found.ensures.0 _ _ c.seat.invariant _ c.seat.view_is adopted
+    (says_adopted (state told) (sym (c.is_free.ensures (state told) (reads told)) ∙ c.if-is_free.true))
 
 pub returns-else-is_free-clause-change : goal.returns-else-is_free-clause-change
 returns-else-is_free-clause-change c =
     let told = c.fetch_and-found.ensures.2 in
-    adds told _ _ c.fetch_and-found.ensures.0 _ _ c.seat.invariant _ c.seat.view_is _ (makes_not_free (state told) (sym (c.is_free.ensures (state told) (reads told)) ∙ c.if-is_free.false))
+    adds told _ _ c.fetch_and-found.ensures.0 _ _ c.seat.invariant _ c.seat.view_is _
+    (makes_not_free (state told) (sym (c.is_free.ensures (state told) (reads told)) ∙ c.if-is_free.false))
 
 pub returns-else-is_free-clause-lawful : goal.returns-else-is_free-clause-lawful
 returns-else-is_free-clause-lawful c =
     let told = c.fetch_and-found.ensures.2 in
-    stepped told _ _ c.fetch_and-found.ensures.0 _ _ c.seat.invariant _ c.seat.view_is not_free (says_not_free (state told) (sym (c.is_free.ensures (state told) (reads told)) ∙ c.if-is_free.false))
+    stepped told _ _ c.fetch_and-found.ensures.0 _ _ c.seat.invariant _ c.seat.view_is not_free
+    (says_not_free (state told) (sym (c.is_free.ensures (state told) (reads told)) ∙ c.if-is_free.false))

@@ -9,8 +9,12 @@ use Rattle.claims.proofs.Tells.{state, reads, adds, stepped, knew_none, kept_bes
 use Rattle.claims.proofs.calls.Claims.release.Goals as goal
 
 pub fetch_and-found-requires : goal.fetch_and-found-requires
-fetch_and-found-requires c =
-    (search rules, search rules, may_step release (λ n. bit_and n 18446744073709551614) release_clears _ _ _ _ _ (within _ _ _ _ c.self.invariant c.self.view_is c.requires.inside) (holds_now _ _ c.seat.inside.seat.me.0 _ c.seat.view_is c.requires.holder))
+fetch_and-found-requires c = (
+  search rules,
+  search rules,
+  may_step release (λ n. bit_and n 18446744073709551614) release_clears _ _ _ _ _ (within _ _ _ _ c.self.invariant c.self.view_is c.requires.inside)
+      (holds_now _ _ c.seat.inside.seat.me.0 _ c.seat.view_is c.requires.holder),
+)
 
 pub invariant_of-seat : goal.invariant_of-seat
 invariant_of-seat c = kept_beside c.fetch_and-found.ensures.2 _ _ c.fetch_and-found.ensures.0 _ _ c.seat.invariant _ _ refl c.seat.invariant.unworn refl

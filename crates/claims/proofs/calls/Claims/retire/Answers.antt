@@ -6,8 +6,12 @@ use Rattle.claims.proofs.Tells.{kept_beside, adds, stepped, within, holds_now}
 use Rattle.claims.proofs.calls.Claims.retire.Goals as goal
 
 pub fetch_or-requires : goal.fetch_or-requires
-fetch_or-requires c =
-    (search rules, search rules, may_step retire (λ n. bit_or n 2) retire_sets _ _ _ _ _ (within _ _ _ _ c.self.invariant c.self.view_is c.requires.inside) (holds_now _ _ c.seat.inside.seat.me.0 _ c.seat.view_is c.requires.holder))
+fetch_or-requires c = (
+  search rules,
+  search rules,
+  may_step retire (λ n. bit_or n 2) retire_sets _ _ _ _ _ (within _ _ _ _ c.self.invariant c.self.view_is c.requires.inside)
+      (holds_now _ _ c.seat.inside.seat.me.0 _ c.seat.view_is c.requires.holder),
+)
 
 pub invariant_of-seat : goal.invariant_of-seat
 invariant_of-seat c = kept_beside c.fetch_or.ensures.2 _ _ c.fetch_or.ensures.0 _ _ c.seat.invariant _ _ refl c.seat.invariant.unworn refl

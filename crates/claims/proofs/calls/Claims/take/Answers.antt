@@ -7,13 +7,18 @@ use Rattle.claims.proofs.Tells.{state, reads, took_few, mark_kept, kept_beside, 
 use Rattle.claims.proofs.calls.Claims.take.Goals as goal
 
 pub fetch_and-found-requires : goal.fetch_and-found-requires
-fetch_and-found-requires c =
-    (search rules, search rules, may_step take (λ n. bit_and n 3) take_keeps _ _ _ _ _ (within _ _ _ _ c.self.invariant c.self.view_is c.requires.inside) (holds_now _ _ c.seat.inside.seat.me.0 _ c.seat.view_is c.requires.holder))
+fetch_and-found-requires c = (
+  search rules,
+  search rules,
+  may_step take (λ n. bit_and n 3) take_keeps _ _ _ _ _ (within _ _ _ _ c.self.invariant c.self.view_is c.requires.inside)
+      (holds_now _ _ c.seat.inside.seat.me.0 _ c.seat.view_is c.requires.holder),
+)
 
 pub invariant_of-seat : goal.invariant_of-seat
 invariant_of-seat c =
     let told = c.fetch_and-found.ensures.2 in
-    kept_beside told _ _ c.fetch_and-found.ensures.0 _ _ c.seat.invariant _ _ refl c.seat.invariant.unworn (mark_kept told _ _ c.fetch_and-found.ensures.0 _ _ c.seat.invariant refl)
+    kept_beside told _ _ c.fetch_and-found.ensures.0 _ _ c.seat.invariant _ _ refl c.seat.invariant.unworn
+    (mark_kept told _ _ c.fetch_and-found.ensures.0 _ _ c.seat.invariant refl)
 
 pub returns-clause-change : goal.returns-clause-change
 returns-clause-change c =

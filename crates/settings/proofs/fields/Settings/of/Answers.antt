@@ -29,41 +29,111 @@ returns-in_err-ring c = record {
 pub returns-in_err-budget : goal.returns-in_err-budget
 returns-in_err-budget c = record {
   settings = IfOk-from_err _ _ c.from_residual-in_err-budget.ensures.0;
-  fault = told _ _ _ c.from_residual-in_err-budget.ensures.1 (inr ((_, c.in_ok-listen.ensures.gives), inr ((_, c.in_ok-target.ensures.gives), inr ((_, c.in_ok-ring.ensures.gives), inl c.in_err-budget.ensures.fault))));
+  fault = told _ _ _ c.from_residual-in_err-budget.ensures.1
+      (inr ((_, c.in_ok-listen.ensures.gives), inr ((_, c.in_ok-target.ensures.gives), inr ((_, c.in_ok-ring.ensures.gives), inl c.in_err-budget.ensures.fault))));
 }
 
 pub returns-in_err-workers : goal.returns-in_err-workers
 returns-in_err-workers c = record {
   settings = IfOk-from_err _ _ c.from_residual-in_err-workers.ensures.0;
-  fault = told _ _ _ c.from_residual-in_err-workers.ensures.1 (inr ((_, c.in_ok-listen.ensures.gives), inr ((_, c.in_ok-target.ensures.gives), inr ((_, c.in_ok-ring.ensures.gives), inr ((_, c.in_ok-budget.ensures.gives), inl c.in_err-workers.ensures.fault)))));
+  fault = told _ _ _ c.from_residual-in_err-workers.ensures.1
+      (inr (
+        (_, c.in_ok-listen.ensures.gives),
+        inr ((_, c.in_ok-target.ensures.gives), inr ((_, c.in_ok-ring.ensures.gives), inr ((_, c.in_ok-budget.ensures.gives), inl c.in_err-workers.ensures.fault))),
+      ));
 }
 
 pub returns-in_err-slots : goal.returns-in_err-slots
 returns-in_err-slots c = record {
   settings = IfOk-from_err _ _ c.from_residual-in_err-slots.ensures.0;
-  fault = told _ _ _ c.from_residual-in_err-slots.ensures.1 (inr ((_, c.in_ok-listen.ensures.gives), inr ((_, c.in_ok-target.ensures.gives), inr ((_, c.in_ok-ring.ensures.gives), inr ((_, c.in_ok-budget.ensures.gives), inr ((_, c.in_ok-workers.ensures.gives), inl c.in_err-slots.ensures.fault))))));
+  fault = told _ _ _ c.from_residual-in_err-slots.ensures.1
+      (inr (
+        (_, c.in_ok-listen.ensures.gives),
+        inr (
+          (_, c.in_ok-target.ensures.gives),
+          inr ((_, c.in_ok-ring.ensures.gives), inr ((_, c.in_ok-budget.ensures.gives), inr ((_, c.in_ok-workers.ensures.gives), inl c.in_err-slots.ensures.fault))),
+        ),
+      ));
 }
 
 pub returns-in_err-stop_after : goal.returns-in_err-stop_after
 returns-in_err-stop_after c = record {
   settings = IfOk-from_err _ _ c.from_residual-in_err-stop_after.ensures.0;
-  fault = told _ _ _ c.from_residual-in_err-stop_after.ensures.1 (inr ((_, c.in_ok-listen.ensures.gives), inr ((_, c.in_ok-target.ensures.gives), inr ((_, c.in_ok-ring.ensures.gives), inr ((_, c.in_ok-budget.ensures.gives), inr ((_, c.in_ok-workers.ensures.gives), inr ((_, c.in_ok-slots.ensures.gives), inl c.in_err-stop_after.ensures.fault)))))));
+  fault = told _ _ _ c.from_residual-in_err-stop_after.ensures.1
+      (inr (
+        (_, c.in_ok-listen.ensures.gives),
+        inr (
+          (_, c.in_ok-target.ensures.gives),
+          inr (
+            (_, c.in_ok-ring.ensures.gives),
+            inr ((_, c.in_ok-budget.ensures.gives), inr ((_, c.in_ok-workers.ensures.gives), inr ((_, c.in_ok-slots.ensures.gives), inl c.in_err-stop_after.ensures.fault))),
+          ),
+        ),
+      ));
 }
 
 pub returns-in_err-log : goal.returns-in_err-log
 returns-in_err-log c = record {
   settings = IfOk-from_err _ _ c.from_residual-in_err-log.ensures.0;
-  fault = told _ _ _ c.from_residual-in_err-log.ensures.1 (inr ((_, c.in_ok-listen.ensures.gives), inr ((_, c.in_ok-target.ensures.gives), inr ((_, c.in_ok-ring.ensures.gives), inr ((_, c.in_ok-budget.ensures.gives), inr ((_, c.in_ok-workers.ensures.gives), inr ((_, c.in_ok-slots.ensures.gives), inr ((_, c.in_ok-stop_after.ensures.gives), inl c.in_err-log.ensures.fault))))))));
+  fault = told _ _ _ c.from_residual-in_err-log.ensures.1
+      (inr (
+        (_, c.in_ok-listen.ensures.gives),
+        inr (
+          (_, c.in_ok-target.ensures.gives),
+          inr (
+            (_, c.in_ok-ring.ensures.gives),
+            inr (
+              (_, c.in_ok-budget.ensures.gives),
+              inr ((_, c.in_ok-workers.ensures.gives), inr ((_, c.in_ok-slots.ensures.gives), inr ((_, c.in_ok-stop_after.ensures.gives), inl c.in_err-log.ensures.fault))),
+            ),
+          ),
+        ),
+      ));
 }
 
 pub returns-in_err-idle : goal.returns-in_err-idle
 returns-in_err-idle c = record {
   settings = IfOk-from_err _ _ c.from_residual-in_err-idle.ensures.0;
-  fault = told _ _ _ c.from_residual-in_err-idle.ensures.1 (inr ((_, c.in_ok-listen.ensures.gives), inr ((_, c.in_ok-target.ensures.gives), inr ((_, c.in_ok-ring.ensures.gives), inr ((_, c.in_ok-budget.ensures.gives), inr ((_, c.in_ok-workers.ensures.gives), inr ((_, c.in_ok-slots.ensures.gives), inr ((_, c.in_ok-stop_after.ensures.gives), inr ((_, c.in_ok-log.ensures.gives), inl c.in_err-idle.ensures.fault)))))))));
+  fault = told _ _ _ c.from_residual-in_err-idle.ensures.1
+      (inr (
+        (_, c.in_ok-listen.ensures.gives),
+        inr (
+          (_, c.in_ok-target.ensures.gives),
+          inr (
+            (_, c.in_ok-ring.ensures.gives),
+            inr (
+              (_, c.in_ok-budget.ensures.gives),
+              inr (
+                (_, c.in_ok-workers.ensures.gives),
+                inr ((_, c.in_ok-slots.ensures.gives), inr ((_, c.in_ok-stop_after.ensures.gives), inr ((_, c.in_ok-log.ensures.gives), inl c.in_err-idle.ensures.fault))),
+              ),
+            ),
+          ),
+        ),
+      ));
 }
 
 pub returns-in_err-proxy : goal.returns-in_err-proxy
 returns-in_err-proxy c = record {
   settings = IfOk-from_err _ _ c.from_residual-in_err-proxy.ensures.0;
-  fault = told _ _ _ c.from_residual-in_err-proxy.ensures.1 (inr ((_, c.in_ok-listen.ensures.gives), inr ((_, c.in_ok-target.ensures.gives), inr ((_, c.in_ok-ring.ensures.gives), inr ((_, c.in_ok-budget.ensures.gives), inr ((_, c.in_ok-workers.ensures.gives), inr ((_, c.in_ok-slots.ensures.gives), inr ((_, c.in_ok-stop_after.ensures.gives), inr ((_, c.in_ok-log.ensures.gives), inr ((_, c.in_ok-idle.ensures.gives), inl c.in_err-proxy.ensures.fault))))))))));
+  fault = told _ _ _ c.from_residual-in_err-proxy.ensures.1
+      (inr (
+        (_, c.in_ok-listen.ensures.gives),
+        inr (
+          (_, c.in_ok-target.ensures.gives),
+          inr (
+            (_, c.in_ok-ring.ensures.gives),
+            inr (
+              (_, c.in_ok-budget.ensures.gives),
+              inr (
+                (_, c.in_ok-workers.ensures.gives),
+                inr (
+                  (_, c.in_ok-slots.ensures.gives),
+                  inr ((_, c.in_ok-stop_after.ensures.gives), inr ((_, c.in_ok-log.ensures.gives), inr ((_, c.in_ok-idle.ensures.gives), inl c.in_err-proxy.ensures.fault))),
+                ),
+              ),
+            ),
+          ),
+        ),
+      ));
 }

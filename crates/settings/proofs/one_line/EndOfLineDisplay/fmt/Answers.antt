@@ -17,7 +17,8 @@ all_shown cs few =
     rw whole (append-nil _ ∙ ap (flat_map shown_character) (take_all 64 cs few))
 
 -- the parts are the whole
-joined : (text end dots : List ℕ) (count left_out : ℕ) → count ≡ length (chars text) → left_out ≡ count - 64 → dots ≡ (if nat_lt 64 count then codes ".." else []) → chars end ≡ drop left_out (chars text)
+joined : (text end dots : List ℕ) (count left_out : ℕ) → count ≡ length (chars text) → left_out ≡ count - 64 → dots ≡ (if nat_lt 64 count then codes ".." else [])
+    → chars end ≡ drop left_out (chars text)
     → dots ++ one_line end ≡ end_of_line text
 joined text end dots count left_out counted less before after =
     let same : chars end ≡ drop (length (chars text) - 64) (chars text) = after ∙ ap (λ (n : ℕ). drop n (chars text)) (less ∙ ap (λ (m : ℕ). m - 64) counted) in
@@ -29,4 +30,5 @@ returns-clause-writes g c = λ plain is_ok.
     let utf8 : IsUtf8 c.args.self.now.0.now = search rules in
     let (cs, drains, counted) = c.count-count.ensures.ran in
     let all = Chars-Drains _ cs c.chars.result (encodes-chars _ utf8 ∙ sym c.chars.ensures.rest) drains in
-    has_written_of_eq _ _ _ _ _ (joined _ _ _ _ _ (counted ∙ ap length all) c.saturating_sub.ensures c.dots_before-dots.ensures c.without_first.ensures) (c.write.ensures.writes plain is_ok)
+    has_written_of_eq _ _ _ _ _ (joined _ _ _ _ _ (counted ∙ ap length all) c.saturating_sub.ensures c.dots_before-dots.ensures c.without_first.ensures)
+    (c.write.ensures.writes plain is_ok)

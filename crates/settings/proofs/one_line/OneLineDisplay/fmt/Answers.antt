@@ -22,12 +22,14 @@ is_cut cs h = grind (arith, nat_tests)
 is_whole : (cs : List ℕ) → length cs ≤ 64 → nat_lt 64 (length cs) ≡ false
 is_whole cs h = grind (arith, nat_tests)
 
-cut_short : (cs : List ℕ) (n : ℕ) → n ≡ 64 → 64 < length cs → flat_map shown_character (take n cs) ++ codes ".." ≡ flat_map shown_character (take 64 cs) ++ (if nat_lt 64 (length cs) then codes ".." else [])
+cut_short : (cs : List ℕ) (n : ℕ) → n ≡ 64 → 64 < length cs → flat_map shown_character (take n cs) ++ codes ".." ≡ flat_map shown_character (take 64 cs)
+    ++ (if nat_lt 64 (length cs) then codes ".." else [])
 cut_short cs n full more =
     let cut : nat_lt 64 (length cs) ≡ true = is_cut cs more in
     rw (cut, full) refl
 
-all_shown : (cs : List ℕ) (n : ℕ) → n ≡ length cs → n ≤ 64 → flat_map shown_character (take n cs) ≡ flat_map shown_character (take 64 cs) ++ (if nat_lt 64 (length cs) then codes ".." else [])
+all_shown : (cs : List ℕ) (n : ℕ) → n ≡ length cs → n ≤ 64 → flat_map shown_character (take n cs) ≡ flat_map shown_character (take 64 cs)
+    ++ (if nat_lt 64 (length cs) then codes ".." else [])
 all_shown cs n all few =
     let whole : nat_lt 64 (length cs) ≡ false = is_whole cs (omega (arith, all, few)) in
     rw whole (ap (flat_map shown_character) (take_all n cs (omega (arith, all)) ∙ sym (take_all 64 cs (omega (arith, all, few)))) ∙ sym (append-nil _))
@@ -55,7 +57,8 @@ loop-character-preserved g c =
       omega (arith, more, within),
       λ plain.
           let before = c.loop-character.invariant.2 plain in
-          has_written_of_eq _ _ _ _ _ (one_more (chars text) c.loop-character.shown c.in-Some.character (rw counted t)) (has_written_append _ _ _ _ _ _ before (c.in_ok-write.ensures.writes before.plain refl)),
+          has_written_of_eq _ _ _ _ _ (one_more (chars text) c.loop-character.shown c.in-Some.character (rw counted t))
+          (has_written_append _ _ _ _ _ _ before (c.in_ok-write.ensures.writes before.plain refl)),
     )
 
 pub returns-clause-writes : goal.returns-clause-writes

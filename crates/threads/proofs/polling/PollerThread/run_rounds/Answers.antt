@@ -8,5 +8,6 @@ returns-in-Err-clause-tickets g c = λ well.
     c.loop-round.invariant.1 (c.in-Err.ensures.cut (told_other {T = Unit {0}} (Err c.in-Err.ended) c.in-Err.ended refl well))
 
 pub loop-round-preserved : goal.loop-round-preserved
-loop-round-preserved g c = loop_steps c.loop-round.invariant.0 c.args.self.now.poller c.loop-round.self.poller c.step.new.self.poller c.args.self.now.own c.loop-round.self.own c.step.new.self.own
+loop-round-preserved g c = loop_steps c.loop-round.invariant.0 c.args.self.now.poller c.loop-round.self.poller c.step.new.self.poller c.args.self.now.own c.loop-round.self.own
+    c.step.new.self.own
     c.loop-round.invariant.1 c.in_default.ensures.made

@@ -9,4 +9,5 @@ pub returns-then-is_over-clause-tickets : goal.returns-then-is_over-clause-ticke
 returns-then-is_over-clause-tickets g c = λ well. cut_ran c.args.self.now.poller c.args.self.now.poller c.args.self.now.own c.args.self.now.own (inl (refl, refl))
 
 pub returns-clause-tickets : goal.returns-clause-tickets
-returns-clause-tickets g c = step_told c.round.result c.args.self.now.poller c.round.new.self.poller c.args.self.now.own c.round.new.self.own c.round.ensures.made c.round.ensures.cut
+returns-clause-tickets g c = step_told c.round.result c.args.self.now.poller c.round.new.self.poller c.args.self.now.own c.round.new.self.own c.round.ensures.made
+    c.round.ensures.cut

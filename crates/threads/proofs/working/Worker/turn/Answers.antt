@@ -11,7 +11,8 @@ returns g c = record {
   ran = (
     c.worker_turn.result,
     one_between c.args.cleared.ticket c.worker_turn.result c.args.self.now.own c.change_queue.new.self.own c.worker_turn.new.own c.change_queue-2.new.self.own
-        c.change_queue.ensures.seat (out_same c.args.self.now.own c.change_queue.new.self.own c.change_queue.ensures.ready (ap (λ (h : HandState). h.tickets) c.change_queue.ensures.hand))
+        c.change_queue.ensures.seat (out_same c.args.self.now.own c.change_queue.new.self.own c.change_queue.ensures.ready
+        (ap (λ (h : HandState). h.tickets) c.change_queue.ensures.hand))
         (one_ran _ c.args.cleared.ticket c.worker_turn.result c.change_queue.new.self.own c.worker_turn.new.own (search rules) c.worker_turn.ensures.made)
         (c.change_queue-2.ensures.seat ∙ c.give_all.ensures.seat)
         (out_same c.worker_turn.new.own c.change_queue-2.new.self.own (c.change_queue-2.ensures.ready ∙ c.give_all.ensures.ready)

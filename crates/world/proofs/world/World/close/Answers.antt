@@ -10,7 +10,8 @@ returns c = grind (arith, gets)
 pub index_mut-requires : goal.index_mut-requires
 index_mut-requires c =
     let there = ap (λ world. connection_at world c.args.slot) c.self.view_is ∙ sym c.in-Some.ensures in
-    let within : c.args.slot < length c.self.inside.slots.items = option_and_then_some (λ place. place.connection) (slice_get c.self.inside.slots.items c.args.slot) _ there (λ place at is. slice_get_within c.self.inside.slots.items c.args.slot place at) in
+    let within : c.args.slot < length c.self.inside.slots.items = option_and_then_some (λ place. place.connection) (slice_get c.self.inside.slots.items c.args.slot) _ there
+    (λ place at is. slice_get_within c.self.inside.slots.items c.args.slot place at) in
     omega (arith, within, c.self.inside.slots.ok.0)
 
 pub index_mut-requires-2 : goal.index_mut-requires-2

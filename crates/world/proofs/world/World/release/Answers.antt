@@ -10,13 +10,15 @@ returns c = grind (arith, gets)
 pub index-requires : goal.index-requires
 index-requires c =
     let there = ap (λ world. connection_at world c.args.slot) c.self.view_is ∙ sym c.in-Some.ensures in
-    let within : c.args.slot < length c.self.inside.slots.items = option_and_then_some (λ place. place.connection) (slice_get c.self.inside.slots.items c.args.slot) _ there (λ place at is. slice_get_within c.self.inside.slots.items c.args.slot place at) in
+    let within : c.args.slot < length c.self.inside.slots.items = option_and_then_some (λ place. place.connection) (slice_get c.self.inside.slots.items c.args.slot) _ there
+    (λ place at is. slice_get_within c.self.inside.slots.items c.args.slot place at) in
     omega (arith, within, c.self.inside.slots.ok.0)
 
 pub index-requires-2 : goal.index-requires-2
 index-requires-2 c =
     let there = ap (λ world. connection_at world c.args.slot) c.self.view_is ∙ sym c.in-Some.ensures in
-    let within : c.args.slot < length c.self.inside.slots.items = option_and_then_some (λ place. place.connection) (slice_get c.self.inside.slots.items c.args.slot) _ there (λ place at is. slice_get_within c.self.inside.slots.items c.args.slot place at) in
+    let within : c.args.slot < length c.self.inside.slots.items = option_and_then_some (λ place. place.connection) (slice_get c.self.inside.slots.items c.args.slot) _ there
+    (λ place at is. slice_get_within c.self.inside.slots.items c.args.slot place at) in
     omega (arith, within, c.self.inside.slots.ok.0)
 
 pub index_mut-requires : goal.index_mut-requires
@@ -28,7 +30,8 @@ index_mut-requires c =
 pub index_mut-requires-2 : goal.index_mut-requires-2
 index_mut-requires-2 c =
     let there = ap (λ world. connection_at world c.args.slot) c.self.view_is ∙ sym c.in-Some.ensures in
-    let within : c.args.slot < length c.self.inside.slots.items = option_and_then_some (λ place. place.connection) (slice_get c.self.inside.slots.items c.args.slot) _ there (λ place at is. slice_get_within c.self.inside.slots.items c.args.slot place at) in
+    let within : c.args.slot < length c.self.inside.slots.items = option_and_then_some (λ place. place.connection) (slice_get c.self.inside.slots.items c.args.slot) _ there
+    (λ place at is. slice_get_within c.self.inside.slots.items c.args.slot place at) in
     omega (arith, within, c.self.inside.slots.ok.0)
 
 pub returns-then-not-may_release : goal.returns-then-not-may_release
