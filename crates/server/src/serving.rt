@@ -92,9 +92,7 @@ where
     F::Waker: Send + Sync + Drop,
 {
     count_in(&mut server.shared, lent.statistics)?;
-    if lent.log_clients {
-        server.shared.clients = ClientsAt::Info;
-    }
+    log_in(&mut server.shared, lent.log_clients);
     let timing = timing_of(settings, lent.clock);
     run_threads(rt, alloc, lent.gate, timing, lent.is_stopped, server)
 }
@@ -120,4 +118,13 @@ fn count_in<F: Front>(
         shared.statistics = Some(statistics.clone()?);
     }
     Ok(())
+}
+
+/// Sets at which level the log has clients: at info, if this says so.
+fn log_in<F: Front>(shared: &mut Shared<F>, log_clients: bool)
+    ensures { shared.new.claims ≡ shared.old.claims }
+{
+    if log_clients {
+        shared.clients = ClientsAt::Info;
+    }
 }
