@@ -1,5 +1,8 @@
-/// Called before and after each turn, so that a test can hold a turn back.
+/// Called once all threads have been started, and before and after each turn, so that a test can hold a turn back.
 pub trait Gate {
+    /// All threads have been started. The thread that serves calls this once, before it polls.
+    fn all_started(&self) {}
+
     /// A turn at this slot is about to begin.
     fn before_turn(&self, slot: usize);
 

@@ -77,7 +77,7 @@ pub fn act<R, S, P: Replay, I: Read + IsTerminal, O: Write, E: Write>(
 ) -> u8
 where
     R: AllocGlobal + Env + Files + Eprint + Net + Copy + Drop,
-    S: Fn(Settings, Bound, Extras, Option<R::File>) -> Result<(), ServerFault>,
+    S: Fn(Settings, Bound, Extras, Option<R::File>) -> Result<bool, ServerFault>,
     requires { S.IsAlwaysCallable serve.now }
     ensures status { IsCarriedOut result ⊎ (result ≡ 2) }
     ensures unread { result ≡ 2 → I.remaining reader.new ≡ I.remaining reader.old }
@@ -142,7 +142,7 @@ fn carry_out<R, S, P: Replay, L: Log, I: Read, O: Write>(
 ) -> Result<u8, ProgramFault>
 where
     R: AllocGlobal + Env + Files + Eprint + Net + Copy + Drop,
-    S: Fn(Settings, Bound, Extras, Option<R::File>) -> Result<(), ServerFault>,
+    S: Fn(Settings, Bound, Extras, Option<R::File>) -> Result<bool, ServerFault>,
     requires { S.IsAlwaysCallable serve.now }
     ensures done { IfOk result (λ status. IsCarriedOut status) }
     ensures unread { IfErr result (λ fault. status_of fault ≡ 2 → I.remaining reader.new ≡ I.remaining reader.old) }
@@ -154,14 +154,12 @@ where
         Command::Run(path, level, record, typed) => {
             let extras = extras_of(log, typed)?;
             let settings = settings_of_file(rt, log, path, level)?;
-            let mut writer = stream("output", writer, log);
-            run(rt, settings, record, extras, &mut writer, serve)
+            run(rt, settings, record, extras, serve)
         }
         Command::Forward(text, record, typed) => {
             let extras = extras_of(log, typed)?;
             let settings = settings_of_arguments(rt.alloc(), log, text.as_str())?;
-            let mut writer = stream("output", writer, log);
-            run(rt, settings, record, extras, &mut writer, serve)
+            run(rt, settings, record, extras, serve)
         }
         Command::Replay(replayed) => {
             let wanted = find_wanted(log, replayed)?;
@@ -291,19 +289,17 @@ fn print(alloc: Global, settings: &Settings, writer: &mut impl Write) -> Result<
     Ok(DONE)
 }
 
-/// Listens as the settings say, looks at what they need, makes the file to record into at a path, prints the address,
-/// and serves.
-fn run<R, S, O: Write>(
+/// Listens as the settings say, looks at what they need, makes the file to record into at a path, and serves.
+fn run<R, S>(
     rt: &R,
     settings: Settings,
     record: Option<&str>,
     extras: Extras,
-    writer: &mut O,
     serve: &S,
 ) -> Result<u8, ProgramFault>
 where
     R: AllocGlobal + Env + Files + Eprint + Net + Copy + Drop,
-    S: Fn(Settings, Bound, Extras, Option<R::File>) -> Result<(), ServerFault>,
+    S: Fn(Settings, Bound, Extras, Option<R::File>) -> Result<bool, ServerFault>,
     requires { S.IsAlwaysCallable serve.now }
     ensures done { IfOk result (λ status. status ≡ 0) }
     ensures fault { IfErr result (λ fault. status_of fault ≡ 1) }
@@ -313,24 +309,15 @@ where
     let bound = bind(&log, &settings).map_err(ProgramFault::Server)?;
     let settings = prepare(rt, &log, settings, record.map_or(0, |_| 1))?;
     let file = create(rt, &log, record)?;
-    announce(rt.alloc(), &bound, writer)?;
     match serve(settings, bound, extras, file) {
-        Ok(()) => Ok(DONE),
+        Ok(true) => Ok(DONE),
+        Ok(false) => Err(ProgramFault::Write),
         Err(fault) => Err(ProgramFault::Server(fault)),
     }
 }
 
-/// Prints the address that clients can connect to.
-fn announce(alloc: Global, bound: &Bound, writer: &mut impl Write) -> Result<(), ProgramFault>
-    ensures { IfErr result (λ fault. status_of fault ≡ 1) }
-{
-    let address = bound.text();
-    let line = format!(in alloc; "listening {address}\n")?;
-    write(writer, line.as_str())
-}
-
 /// Writes all of a text, and flushes it.
-fn write(writer: &mut impl Write, text: &str) -> Result<(), ProgramFault>
+pub(crate) fn write(writer: &mut impl Write, text: &str) -> Result<(), ProgramFault>
     ensures { IfErr result (λ fault. status_of fault ≡ 1) }
 {
     if writer.write_all(text.as_bytes()).is_err() || writer.flush().is_err() {

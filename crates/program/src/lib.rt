@@ -10,6 +10,7 @@
 //! - `recording_file` makes the file of a recording, and `replaying_file` replays one; `file_names` is how the log calls them.
 //! - [`hold_closed`] keeps the numbers of closed standard streams from whatever is opened.
 //! - [`until_eof`] waits for the end of standard input.
+//! - [`print_listening`] prints where a relay listens.
 //! - [`logging`] is the log of a relay that serves, and [`level_filter`] its level; [`telling`] its statistics; `streams` logs
 //!   what is wrong with an input or an output.
 //!
@@ -32,6 +33,7 @@ mod file_names;
 mod forwarding;
 mod journal;
 mod level;
+mod listening;
 pub mod logging;
 mod meeting;
 mod process_arguments;
@@ -49,6 +51,7 @@ pub use acting::{act, report_arguments_fault};
 pub use extras::{Extras, SecondsOption};
 pub use faults::{ConfigFault, ProgramFault};
 pub use level::level_filter;
+pub use listening::print_listening;
 pub use process_arguments::{ArgumentsFault, arguments};
 pub use standard_streams::{hold_closed, report_unheld};
 pub use starting::{foresee, log_start, prepare};

@@ -19,6 +19,10 @@ impl<'r, G, R> RecordedGate<'r, G, R> {
 }
 
 impl<G: Gate, R: Wait + Log> Gate for RecordedGate<'_, G, R> {
+    fn all_started(&self) {
+        self.inner.all_started();
+    }
+
     fn before_turn(&self, slot: usize) {
         self.inner.before_turn(slot);
         self.recorder.record_now(Act::Begin(slot));

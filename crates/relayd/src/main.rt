@@ -2,19 +2,23 @@
 //! [`program::act`] the process's own arguments, streams and handle, with a closure that serves and the machine.
 #![tactic(auto)]
 
+mod announcing;
 mod clock;
 
+use announcing::Announcing;
 use clock::MonotonicClock;
 use log::Logged;
 use log_queue::Queued;
 use program::logging::{self, Errors};
 use program::{Extras, report_unheld, telling, until_eof};
 use replaying::OnMachine;
-use server::{Bound, Lent, OpenGate, ServerFault};
+use server::{Bound, Lent, ServerFault};
 use settings::Settings;
 use std::cell::Cell;
 use std::fs::File;
 use std::process::ExitCode;
+use std::sync::atomic::AtomicBool;
+use std::sync::atomic::Ordering::SeqCst;
 
 fn main(rt: HostRuntime) -> ExitCode {
     let mut input = rt.stdin();
@@ -30,7 +34,7 @@ fn main(rt: HostRuntime) -> ExitCode {
         is_stuck: &is_stuck,
     };
     let serve = |settings: Settings, bound: Bound, extras: Extras, file: Option<File>| -> Result<
-        (),
+        bool,
         ServerFault,
     > {
         let queue = logging::start(rt)?;
@@ -40,8 +44,14 @@ fn main(rt: HostRuntime) -> ExitCode {
         let is_stopped = until_eof::watch(rt, rt.stdin(), level, extras, &queue)?;
         let statistics = telling::start(rt, &settings, extras, &queue)?;
         let counted = statistics.as_ref();
+        let gate = Announcing {
+            rt,
+            address: bound.text(),
+            is_stopped: &is_stopped,
+            is_unprinted: AtomicBool::new(false),
+        };
         let lent = Lent {
-            gate: &OpenGate,
+            gate: &gate,
             clock: &MonotonicClock(rt),
             is_stopped: &is_stopped,
             statistics: counted,
@@ -56,7 +66,8 @@ fn main(rt: HostRuntime) -> ExitCode {
             telling::tell(rt, statistics, &queue);
         }
         is_stuck.set(!logging::finish(&rt, &queue));
-        served
+        served?;
+        Ok(!gate.is_unprinted.load(SeqCst))
     };
     let status = match program::arguments(&rt) {
         Ok(arguments) => program::act(

@@ -123,6 +123,7 @@ where
                 not_started(&company.crew);
             }
         }
+        company.announce();
         company.poll()
     });
 }
@@ -138,6 +139,13 @@ impl<F: Front + Drop, G: Gate, C: Clock, R: Wait + Log> Company<'_, F, G, C, R>
 where
     F::Waker: Drop,
 {
+    /// If each thread has been started, the gate comes to know it.
+    fn announce(&self) {
+        if !self.crew.ending.is_recorded() {
+            self.crew.gate.all_started();
+        }
+    }
+
     /// The thread of a poller: the next that has not begun.
     fn poll(&self) {
         let next = self.cast.lock(self.crew.rt).pollers.pop();
