@@ -56,7 +56,7 @@ pub fn report_arguments_fault<E: Write>(errors: &mut E, fault: ArgumentsFault) -
 /// | `check --config FILE` | reads a settings file and writes each setting to `writer`; warns of what `run` would warn of |
 /// | `forward LISTEN TARGET` | does the same as `run` with the settings of the command line |
 /// | `replay FILE` | plays a recording on the machine, and writes to `writer` that each connection is a run of it, or which is not |
-/// | `run --config FILE` | reads a settings file, listens, writes `listening A.B.C.D:PORT` to `writer`, and serves; log lines go to the process's own standard error |
+/// | `run --config FILE` | reads a settings file, listens, and serves; `listening A.B.C.D:PORT` and log lines go to the process's own streams |
 ///
 /// Returns the exit status: 0 if the command was carried out, or help or the version printed; 1 for a fault, which is
 /// written to `errors` after `relayd: ` unless it is a fault of the script itself; 2 for a usage error, which is
@@ -64,8 +64,8 @@ pub fn report_arguments_fault<E: Write>(errors: &mut E, fault: ArgumentsFault) -
 /// `writer`.
 ///
 /// `serve` serves on a bound socket with the process's own handle: a thread can only be started with that one. It is
-/// told what the options ask for beside the settings, and records into the file, if there is one. `player` plays a
-/// recording.
+/// given the other options and the file to record into, if there is one, and returns whether it could print where it
+/// listens. `player` plays a recording.
 pub fn act<R, S, P: Replay, I: Read + IsTerminal, O: Write, E: Write>(
     rt: &R,
     arguments: &[String],

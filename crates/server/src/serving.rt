@@ -18,7 +18,7 @@ use threads::{Server, run_threads};
 /// What a server is lent while it serves.
 #[derive(Clone, Copy)]
 pub struct Lent<'a, G, C> {
-    /// Called before and after each turn.
+    /// Called once all threads have been started, and before and after each turn.
     pub gate: &'a G,
     /// By which the idle limit is counted.
     pub clock: &'a C,
