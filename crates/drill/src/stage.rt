@@ -269,8 +269,11 @@ fn take_away<R: Wait>(rt: &R, thread: &mut PollerThread<KernelFront>, slot: usiz
     if slot >= shared.claims.slots() {
         return;
     }
-    if shared.claims.claim(seat, slot) == Claimed::Held {
-        drop(shared.berths.take_out(rt, seat, slot));
-        shared.claims.release(seat, slot);
+    match shared.claims.claim(seat, slot) {
+        Claimed::Busy => {}
+        Claimed::Held => {
+            drop(shared.berths.take_out(rt, seat, slot));
+            shared.claims.release(seat, slot);
+        }
     }
 }
