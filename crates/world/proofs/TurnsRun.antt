@@ -126,7 +126,7 @@ right_at st w k s g there =
     total_le_at (worker_right s g) (worker_tickets s) st.workers w k (right_is_less s g) there in
     omega arith
 
-names_it : (st : State) (w : ℕ) (k : WorkerState) (t : Ticket) (p : SlotState) → slice_get st.workers w ≡ Some k → k.doing ≡ Tries t → slice_get st.slots t.slot ≡ Some p → Turns st
+pub names_it : (st : State) (w : ℕ) (k : WorkerState) (t : Ticket) (p : SlotState) → slice_get st.workers w ≡ Some k → k.doing ≡ Tries t → slice_get st.slots t.slot ≡ Some p → Turns st
     → t.generation ≡ p.generation
 names_it st w k t p there does lies turns =
     let sv : SlotOk (facts st t.slot p.generation) p = turns.each t.slot p lies in

@@ -1,0 +1,179 @@
+-- What a thread does with a connection that is out: it takes the notes, makes calls, and goes by its plan.
+use Rattle.std.proofs.Common.{◌≡◌, ℕ, ◌-◌, Bool, true, false, nat_lt, if◌then◌else◌, List, [], ◌∷◌, ◌++◌, length, slice_get, slice_set, Option, Some, None, refl, sym, ap, ◌∙◌, option_and_then}
+use Rattle.kernel_model.specs.declared.reply.Reply.{Reply}
+use Rattle.relay_core.specs.Pairs.{noted}
+use Rattle.relay_core.specs.Order.{next_call}
+use Rattle.relay_core.specs.Replies.{fits}
+use Rattle.relay_core.specs.Idle.{is_overdue, expired}
+use Rattle.claims.specs.Words.{some_wait}
+use Rattle.world.specs.declared.connection.Connection.{Connection}
+use Rattle.world.specs.declared.actors.Doing.TheVariants as doing
+use Rattle.world.specs.declared.event.Event.{Event}
+use Rattle.world.specs.declared.event.Event.TheVariants as event
+use Rattle.world.specs.declared.event.Act.TheVariants as act
+use Rattle.world.specs.declared.past.Past.{Past}
+use Rattle.world.specs.Calls.{OpenConnection, called, told_of, made}
+use Rattle.world.proofs.TurnsTotals.{get-set_same}
+use Rattle.kernel_model.specs.Kernel.{KernelState}
+use Rattle.world.specs.Slots.{SlotState, WorkerState, is_by_worker}
+use Rattle.world.specs.States.{State}
+use Rattle.world.specs.Steps as machine
+use Rattle.world.specs.Acts.{busy}
+use Rattle.world.specs.Runs as machine_runs
+use Rattle.world.proofs.TurnsKept.{Kept, kept_bind, kept_map, kept_when, kept_at}
+use Rattle.interleaving.specs.Programs.{Call}
+use Rattle.interleaving.specs.Threads.{System, Thread, Acts, Calls, with_thread, heard, planned, notes_taken, after_call}
+use Rattle.interleaving.specs.Likeness.{Held, ThreadLike, Goes, machine_of, Settled, IsSettled, calls_in}
+use Rattle.interleaving.proofs.Frames.{Follows, apart, go_on, thread_goes_on, holder_apart}
+use Rattle.interleaving.proofs.Posts.{some_notes}
+
+abbrev with_connection : SlotState → Connection → SlotState
+with_connection p c = record p { connection = Some c }
+
+abbrev held_to_limit : ℕ → ℕ → Connection → Connection
+held_to_limit now limit c = record c { pair = expired now limit c.pair }
+
+-- A worker holds the slot, and its connection fails where the idle limit has passed: by one event more, or none
+record Limited (st : System) (p : SlotState) (c : Connection) (workers : List WorkerState) (past : List Past) : Type 0 where
+  pub events : List Event
+  pub allowed : machine_runs.run (machine_of st (with_connection p c) st.entry st.tickets workers past) events
+      ≡ Some (machine_of st (with_connection p (held_to_limit st.second st.limits.idle c)) st.entry st.tickets workers past)
+  pub calls : calls_in events ≡ []
+
+limited : (st : System) (p : SlotState) (c : Connection) (workers : List WorkerState) (past : List Past) (i left : ℕ) → slice_get workers i ≡ Some (busy (doing.Holds 0 left))
+    → (b : Bool) → is_overdue st.second st.limits.idle c.pair ≡ b → Limited st p c workers past
+limited st p c workers past i left had true over = record {
+  events = event.Work i act.Expire ∷ [];
+  allowed = rw (had, over) refl;
+  calls = refl;
+}
+limited st p c workers past i left had false over = record { events = []; allowed = rw over refl; calls = refl }
+
+more_runs : (es more : List Event) (o : Option State)
+    → ((q : State) → machine_runs.run q (es ++ more) ≡ option_and_then (λ (v : State). machine_runs.run v more) (machine_runs.run q es))
+    → option_and_then (λ (q : State). machine_runs.run q (es ++ more)) o
+    ≡ option_and_then (λ (v : State). machine_runs.run v more) (option_and_then (λ (q : State). machine_runs.run q es) o)
+more_runs es more None rest = refl
+more_runs es more (Some q) rest = rest q
+
+runs_append : (w : State) (es more : List Event) → machine_runs.run w (es ++ more) ≡ option_and_then (λ (q : State). machine_runs.run q more) (machine_runs.run w es)
+runs_append w [] more = refl
+runs_append w (e ∷ es) more = more_runs es more (machine.step w e) (λ q. runs_append q es more)
+
+pub run_append : (w v u : State) (es more : List Event) → machine_runs.run w es ≡ Some v → machine_runs.run v more ≡ Some u → machine_runs.run w (es ++ more) ≡ Some u
+run_append w v u es more one two = runs_append w es more ∙ (rw one two)
+
+-- it takes the notes
+
+heard_as : (c : Connection) (notes : List ℕ) → machine.heard c notes ≡ heard (length notes) c
+heard_as c notes = rw (some_notes notes) refl
+
+same_ends : (notes : ℕ) (c : Connection) → (heard notes c).ends ≡ c.ends
+same_ends notes c = by (some_wait notes)
+  where
+    by : (b : Bool) → (if b then record c { pair = noted c.pair } else c).ends ≡ c.ends
+    by true = refl
+    by false = refl
+
+takes : (st : System) (p : SlotState) (workers : List WorkerState) (past : List Past) → Settled st p workers
+    → (i : ℕ) (t : Thread) → slice_get st.threads i ≡ Some t
+    → (c : Connection) → Held p i t c → st.place ≡ None → slice_get workers i ≡ Some (busy (doing.Holds 0 st.limits.budget))
+    → Limited (notes_taken st i t c) (record p { notes = [] }) (heard st.word.pending c) workers past
+    → Follows (machine_of st p st.entry st.tickets workers past) (Acts i) (notes_taken st i t c)
+takes st p workers past set i t there c held at had l =
+    let e : Connection = held_to_limit st.second st.limits.idle (heard st.word.pending c) in
+    let next : System = notes_taken st i t c in
+    let q : SlotState = record p { notes = []; connection = Some e } in
+    let count : length p.notes ≡ st.word.pending = rw set.word refl in
+    let same : machine.heard c p.notes ≡ heard st.word.pending c = heard_as c p.notes ∙ rw count refl in
+    let here : ThreadLike st.limits.budget st.place q i (planned st t st.limits.budget (heard st.word.pending c)) (busy (doing.Holds 0 st.limits.budget)) =
+    Goes e (record { holder = held.holder; connection = refl; generation = held.generation }) at refl refl refl in
+    record {
+      events = event.Work i act.Take ∷ l.events;
+      world = machine_of next q st.entry st.tickets workers past;
+      allowed = rw (had, held.connection, same) l.allowed;
+      like = IsSettled q workers past refl (record {
+        ends = set.ends ∙ rw (held.connection, same_ends st.word.pending c) refl;
+        word = rw set.word refl;
+        place = λ no. absurd (let yes : is_by_worker p.holder ≡ true = rw held.holder refl in cc);
+        threads = thread_goes_on st.limits.budget st.place st.place p q st.threads workers i t (planned st t st.limits.budget (heard st.word.pending c))
+            (busy (doing.Holds 0 st.limits.budget)) set.threads there had here
+            (λ j u v other like. apart st.limits.budget st.place st.place p q j u v (holder_apart p i j held.holder other) refl like);
+      });
+      calls = l.calls;
+    }
+
+pub takes_notes : (st : System) (p : SlotState) (workers : List WorkerState) (past : List Past) → Settled st p workers
+    → (i : ℕ) (t : Thread) → slice_get st.threads i ≡ Some t → (k : WorkerState) → slice_get workers i ≡ Some k
+    → (c : Connection) → Held p i t c → st.place ≡ None → k ≡ busy (doing.Holds 0 st.limits.budget)
+    → Follows (machine_of st p st.entry st.tickets workers past) (Acts i) (notes_taken st i t c)
+takes_notes st p workers past set i t there k had c held at is =
+    let still : slice_get workers i ≡ Some (busy (doing.Holds 0 st.limits.budget)) = had ∙ ap Some is in
+    takes st p workers past set i t there c held at still
+    (limited (notes_taken st i t c) (record p { notes = [] }) (heard st.word.pending c) workers past i st.limits.budget still _ refl)
+
+-- A call gets its reply
+
+all_keep_ends : (now : ℕ) (l : OpenConnection) (r : Reply) → Kept (λ (line : OpenConnection). line.connection.ends ≡ l.connection.ends) (called now l r)
+unfolding called
+all_keep_ends now l r = kept_bind _ (next_call l.connection.pair) (λ call c. kept_bind _ (told_of l call r) (λ t told. kept_when (fits l.connection.pair call t) _ (λ may.
+    kept_map _ (made l call r) (λ k after. refl))))
+
+keeps_ends : (now : ℕ) (l : OpenConnection) (r : Reply) (line : OpenConnection) → called now l r ≡ Some line → line.connection.ends ≡ l.connection.ends
+keeps_ends now l r line is = kept_at (called now l r) line is (all_keep_ends now l r)
+
+-- the worker's call, with a connection in the slot
+slot_calls : (now : ℕ) (p : SlotState) (k : KernelState) (c : Connection) (r : Reply) (line : OpenConnection) → p.connection ≡ Some c
+    → called now (record { kernel = k; connection = c }) r ≡ Some line
+    → machine.slot_call now (record { kernel = k; place = p }) r
+    ≡ Some (record { kernel = line.kernel; place = record p { connection = Some line.connection } })
+unfolding machine.slot_call
+slot_calls now p k c r line is made = rw (is, made) refl
+
+makes_call : (st : System) (p : SlotState) (workers : List WorkerState) (past : List Past) → Settled st p workers
+    → (i : ℕ) (t : Thread) → slice_get st.threads i ≡ Some t
+    → (c : Connection) → Held p i t c → st.place ≡ None → slice_get workers i ≡ Some (busy (doing.Holds 0 t.left)) → nat_lt 0 t.left ≡ true
+    → (r : Reply) (line : OpenConnection) → called st.second (record { kernel = st.kernel; connection = c }) r ≡ Some line
+    → Limited (with_thread (record st { kernel = line.kernel }) i (planned st t (t.left - 1) line.connection)) p line.connection
+    (slice_set workers i (busy (doing.Holds 0 (t.left - 1)))) past
+    → Follows (machine_of st p st.entry st.tickets workers past) (Calls i r)
+    (with_thread (record st { kernel = line.kernel }) i (planned st t (t.left - 1) line.connection))
+makes_call st p workers past set i t there c held at had some r line is l =
+    let d : Connection = held_to_limit st.second st.limits.idle line.connection in
+    let new : Thread = planned st t (t.left - 1) line.connection in
+    let next : System = with_thread (record st { kernel = line.kernel }) i new in
+    let q : SlotState = record p { connection = Some d } in
+    let busier : WorkerState = busy (doing.Holds 0 (t.left - 1)) in
+    let made : machine.slot_call st.second (record { kernel = st.kernel; place = p }) r
+    ≡ Some (record { kernel = line.kernel; place = record p { connection = Some line.connection } }) =
+    slot_calls st.second p st.kernel c r line held.connection is in
+    let ends : line.connection.ends ≡ c.ends = keeps_ends st.second (record { kernel = st.kernel; connection = c }) r line is in
+    let here : ThreadLike st.limits.budget st.place q i new busier =
+    Goes d (record { holder = held.holder; connection = refl; generation = held.generation }) at refl refl refl in
+    record {
+      events = event.Work i (act.Call r) ∷ l.events;
+      world = machine_of next q st.entry st.tickets (slice_set workers i busier) past;
+      allowed = rw (had, some, made) l.allowed;
+      like = IsSettled q (slice_set workers i busier) past refl (record {
+        ends = set.ends ∙ rw (held.connection, ends) refl;
+        word = set.word;
+        place = λ no. absurd (let yes : is_by_worker p.holder ≡ true = rw held.holder refl in cc);
+        threads = go_on st.limits.budget st.place st.place p q st.threads workers i t new busier set.threads there here
+            (λ j u v other like. apart st.limits.budget st.place st.place p q j u v (holder_apart p i j held.holder other) refl like);
+      });
+      calls = ap (λ (xs : List (ℕ × Reply)). (i, r) ∷ xs) l.calls;
+    }
+
+pub calls : (st : System) (p : SlotState) (workers : List WorkerState) (past : List Past) → Settled st p workers
+    → (i : ℕ) (t : Thread) → slice_get st.threads i ≡ Some t → (k : WorkerState) → slice_get workers i ≡ Some k
+    → (c : Connection) → Held p i t c → st.place ≡ None → t.out ≡ Some c → k ≡ busy (doing.Holds 0 t.left) → nat_lt 0 t.left ≡ true
+    → (r : Reply) → Kept (Follows (machine_of st p st.entry st.tickets workers past) (Calls i r)) (after_call st i t r Call)
+calls st p workers past set i t there k had c held at out is some r =
+    let still : slice_get workers i ≡ Some (busy (doing.Holds 0 t.left)) = had ∙ ap Some is in
+    kept_bind _ t.out (λ d has.
+    let same : d ≡ c = (let both : Some d ≡ Some c = sym has ∙ out in cc) in
+    rw same (kept_map _ (called st.second (record { kernel = st.kernel; connection = c }) r) (λ line made.
+    makes_call st p workers past set i t there c held at still some r line made
+    (limited (with_thread (record st { kernel = line.kernel }) i (planned st t (t.left - 1) line.connection)) p line.connection
+    (slice_set workers i (busy (doing.Holds 0 (t.left - 1)))) past i (t.left - 1)
+    (get-set_same workers i (busy (doing.Holds 0 t.left)) (busy (doing.Holds 0 (t.left - 1))) still) _ refl))))

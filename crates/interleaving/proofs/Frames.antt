@@ -1,0 +1,136 @@
+-- What a step of one thread leaves of the others, and what it is to go on alike.
+use Rattle.std.proofs.Common.{◌≡◌, ◌≢◌, ◌⊎◌, inl, inr, ℕ, Bool, List, [], ◌∷◌, slice_get, slice_set, Option, Some, refl, sym, ◌∙◌}
+use Rattle.std.proofs.lemmas.Bool.{cases_eq}
+use Rattle.kernel_model.specs.Kernel.{KernelState}
+use Rattle.token.specs.declared.name.Name.{Name}
+use Rattle.world.specs.declared.connection.Connection.{Connection}
+use Rattle.world.specs.declared.actors.Holder.TheVariants.{By}
+use Rattle.world.specs.declared.event.Event.{Event}
+use Rattle.world.specs.declared.past.Past.{Past}
+use Rattle.world.specs.Slots.{SlotState, WorkerState}
+use Rattle.world.specs.States.{State}
+use Rattle.world.specs.Steps as machine
+use Rattle.world.specs.Runs as machine_runs
+use Rattle.world.proofs.TurnsTotals.{get-set_same, get-set_other}
+use Rattle.interleaving.specs.Threads.{System, Thread, Step}
+use Rattle.interleaving.specs.Likeness.{ThreadLike, Rests, Opens, Tries, Holds, HasOut, Goes, Stays, Leaves, HasClosed, HasRetired, WorkerFor, WorkersFor, ends_of, machine_of, Settled, HalfOpen, opened_slot, Like, IsSettled, IsHalfOpen, call_of, calls_in}
+
+-- one step of the threads, and what the machine makes of it
+pub record Follows (w : State) (s : Step) (next : System) : Type 0 where
+  pub events : List Event
+  pub world : State
+  pub allowed : machine_runs.run w events ≡ Some world
+  pub like : Like next world
+  pub calls : calls_in events ≡ call_of s
+
+pub one_event : (w : State) (e : Event) (v : State) → machine.step w e ≡ Some v → machine_runs.run w (e ∷ []) ≡ Some v
+one_event w e v h = rw h refl
+
+-- a thread that does not hold the slot is where it was, whatever becomes of place and slot but its generation
+pub apart : (budget : ℕ) (place next : Option Connection) (p q : SlotState) (j : ℕ) (u : Thread) (k : WorkerState) → p.holder ≢ By j → q.generation ≡ p.generation
+    → ThreadLike budget place p j u k → ThreadLike budget next q j u k
+apart budget place next p q j u k not same (Rests todo is) = Rests todo is
+apart budget place next p q j u k not same (Opens first todo is) = Opens first todo is
+apart budget place next p q j u k not same (Tries todo is) = Tries todo is
+apart budget place next p q j u k not same (Holds c held at todo is) = absurd (not held.holder)
+apart budget place next p q j u k not same (HasOut c held at out todo is) = absurd (not held.holder)
+apart budget place next p q j u k not same (Goes c held at out todo is) = absurd (not held.holder)
+apart budget place next p q j u k not same (Stays c held at live todo is) = absurd (not held.holder)
+apart budget place next p q j u k not same (Leaves c held at may todo is) = absurd (not held.holder)
+apart budget place next p q j u k not same (HasClosed held at todo is) = absurd (not held.holder)
+apart budget place next p q j u k not same (HasRetired generation todo is) = HasRetired (same ∙ generation) todo is
+
+-- one thread and its worker go on, and each other one as is shown
+
+this_goes : (budget : ℕ) (next : Option Connection) (q : SlotState) (threads : List Thread) (workers : List WorkerState) (i j : ℕ) (t new u : Thread) (k old : WorkerState)
+    → j ≡ i → slice_get threads i ≡ Some t → slice_get workers i ≡ Some old → slice_get (slice_set threads i new) j ≡ Some u → ThreadLike budget next q i new k
+    → WorkerFor budget next q (slice_set workers i k) j u
+this_goes budget next q threads workers i j t new u k old same there had at like =
+    let now : slice_get (slice_set threads i new) i ≡ Some new = get-set_same threads i t new there in
+    let is : Some new ≡ Some u = sym now ∙ (rw same at at) in
+    let it : u ≡ new = cc in
+    record { worker = k; there = rw same (get-set_same workers i old k had); like = rw (same, it) like }
+
+other_goes : (budget : ℕ) (next : Option Connection) (q : SlotState) (threads : List Thread) (workers : List WorkerState) (i j : ℕ) (new u : Thread) (k v : WorkerState)
+    → i ≢ j → slice_get workers j ≡ Some v → ThreadLike budget next q j u v
+    → WorkerFor budget next q (slice_set workers i k) j u
+other_goes budget next q threads workers i j new u k v other had like =
+    record { worker = v; there = get-set_other workers i j k other ∙ had; like = like }
+
+pub go_on : (budget : ℕ) (place next : Option Connection) (p q : SlotState) (threads : List Thread) (workers : List WorkerState) (i : ℕ) (t new : Thread) (k : WorkerState)
+    → WorkersFor budget place p workers threads → slice_get threads i ≡ Some t
+    → ThreadLike budget next q i new k
+    → ((j : ℕ) (u : Thread) (v : WorkerState) → i ≢ j → ThreadLike budget place p j u v → ThreadLike budget next q j u v)
+    → WorkersFor budget next q (slice_set workers i k) (slice_set threads i new)
+go_on budget place next p q threads workers i t new k old there like others j u at = goes_on (cases_eq j i)
+  where
+    goes_on : (j ≡ i) ⊎ (j ≢ i) → WorkerFor budget next q (slice_set workers i k) j u
+    goes_on (inl same) = this_goes budget next q threads workers i j t new u k (old i t there).worker same there (old i t there).there at like
+    goes_on (inr other) =
+        let apart : i ≢ j = λ same. other (sym same) in
+        let had : WorkerFor budget place p workers j u = old j u (sym (get-set_other threads i j new apart) ∙ at) in
+        other_goes budget next q threads workers i j new u k had.worker apart had.there (others j u had.worker apart had.like)
+
+-- What the network, the kernel, the clock and the poller's own values do concerns no thread
+
+abbrev pub beside : System → ℕ → KernelState → Bool → Bool → List Name → System
+beside st n k flag accepted batch = record st { second = n; kernel = k; flag = flag; accepted = accepted; batch = batch }
+
+-- in both kinds of likeness
+pub record Frame (st : System) (p : SlotState) (entry : ℕ) (tickets : List ℕ) (workers : List WorkerState) : Type 0 where
+  pub ends : st.ends ≡ ends_of p
+  pub like : (n : ℕ) (k : KernelState) (flag accepted : Bool) (batch : List Name) (past : List Past)
+      → Like (beside st n k flag accepted batch) (machine_of (beside st n k flag accepted batch) p entry tickets workers past)
+
+pub settled_frame : (st : System) (p : SlotState) (workers : List WorkerState) → Settled st p workers → Frame st p st.entry st.tickets workers
+settled_frame st p workers s = record {
+  ends = s.ends;
+  like = λ n k flag accepted batch past. IsSettled p workers past refl (record { ends = s.ends; word = s.word; place = s.place; threads = s.threads });
+}
+
+pub half_frame : (st : System) (t : Thread) (c : Connection) (workers : List WorkerState) → HalfOpen st t c workers
+    → Frame st (opened_slot t.generation c) t.generation (t.generation ∷ []) workers
+half_frame st t c workers s = record {
+  ends = s.ends;
+  like = λ n k flag accepted batch past. IsHalfOpen t c workers past refl (record {
+    first = s.first;
+    worker = s.worker;
+    others = s.others;
+    tickets = s.tickets;
+    ends = s.ends;
+    stage = s.stage;
+  });
+}
+
+-- one thread goes on, and no worker does
+
+this_stays : (budget : ℕ) (next : Option Connection) (q : SlotState) (threads : List Thread) (workers : List WorkerState) (i j : ℕ) (t new u : Thread) (k : WorkerState)
+    → j ≡ i → slice_get threads i ≡ Some t → slice_get workers i ≡ Some k → slice_get (slice_set threads i new) j ≡ Some u → ThreadLike budget next q i new k
+    → WorkerFor budget next q workers j u
+this_stays budget next q threads workers i j t new u k same there had at like =
+    let now : slice_get (slice_set threads i new) i ≡ Some new = get-set_same threads i t new there in
+    let is : Some new ≡ Some u = sym now ∙ (rw same at at) in
+    let it : u ≡ new = cc in
+    record { worker = k; there = rw same had; like = rw (same, it) like }
+
+pub thread_goes_on : (budget : ℕ) (place next : Option Connection) (p q : SlotState) (threads : List Thread) (workers : List WorkerState) (i : ℕ) (t new : Thread) (k : WorkerState)
+    → WorkersFor budget place p workers threads → slice_get threads i ≡ Some t → slice_get workers i ≡ Some k
+    → ThreadLike budget next q i new k
+    → ((j : ℕ) (u : Thread) (v : WorkerState) → i ≢ j → ThreadLike budget place p j u v → ThreadLike budget next q j u v)
+    → WorkersFor budget next q workers (slice_set threads i new)
+thread_goes_on budget place next p q threads workers i t new k old there had like others j u at = goes_on (cases_eq j i)
+  where
+    goes_on : (j ≡ i) ⊎ (j ≢ i) → WorkerFor budget next q workers j u
+    goes_on (inl same) = this_stays budget next q threads workers i j t new u k same there had at like
+    goes_on (inr other) =
+        let apart : i ≢ j = λ same. other (sym same) in
+        let before : WorkerFor budget place p workers j u = old j u (sym (get-set_other threads i j new apart) ∙ at) in
+        record { worker = before.worker; there = before.there; like = others j u before.worker apart before.like }
+
+-- who holds the slot is one thread
+pub holder_apart : (p : SlotState) (i j : ℕ) → p.holder ≡ By i → i ≢ j → p.holder ≢ By j
+holder_apart p i j by other also = other (let same : By i ≡ By j = sym by ∙ also in cc)
+
+-- the next state of the machine, where nothing but the threads' own changes
+pub settles : (st next : System) (w : State) (s : Step) → Like next w → call_of s ≡ [] → Follows w s next
+settles st next w s like nothing = record { events = []; world = w; allowed = refl; like = like; calls = rw nothing refl }

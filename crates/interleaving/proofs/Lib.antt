@@ -1,0 +1,9 @@
+pub mod Frames
+pub mod Outside
+pub mod Posts
+pub mod Turns
+pub mod Calls
+pub mod Leaving
+pub mod Openings
+pub mod Lost
+pub mod Runs

@@ -1,0 +1,137 @@
+-- What the network, the kernel and the clock do, and what the poller does at the listener and with a poll: the same events
+-- of the machine.
+use Rattle.std.proofs.Common.{◌≡◌, ℕ, ◌+◌, ◌==◌, Bool, true, false, not, ◌&&◌, nat_lt, List, [], ◌∷◌, length, replicate, Option, Some, None, refl, sym, ◌∙◌, Vec, Global, option_map}
+use Rattle.std.proofs.lemmas.List.{length-replicate}
+use Rattle.token.specs.declared.side.Side.{Side}
+use Rattle.token.specs.declared.name.Name.{Name}
+use Rattle.kernel_model.specs.declared.watched.Watched.TheVariants as watched
+use Rattle.kernel_model.specs.declared.accepting.Accepting.{Accepting}
+use Rattle.kernel_model.specs.declared.accepting.Accepting.TheVariants.{Accepted, Blocked, Again, Starved}
+use Rattle.kernel_model.specs.declared.both.Descriptors.{Descriptors}
+use Rattle.kernel_model.specs.Ends.{is_nonempty}
+use Rattle.kernel_model.specs.Kernel as kernel
+use Rattle.kernel_model.specs.Kernel.{KernelState}
+use Rattle.world.specs.declared.connection.Connection.{Connection}
+use Rattle.world.specs.declared.event.Event.{Event}
+use Rattle.world.specs.declared.event.Event.TheVariants as event
+use Rattle.world.specs.declared.event.Change.{Change}
+use Rattle.world.specs.declared.event.Reported.{Reported}
+use Rattle.world.specs.declared.event.Reported.TheVariants as reported
+use Rattle.world.specs.declared.event.Listening.TheVariants as listening
+use Rattle.world.specs.declared.event.Polling.TheVariants as polling
+use Rattle.world.specs.declared.past.Past.{Past}
+use Rattle.world.specs.Calls.{descriptor}
+use Rattle.world.specs.Slots.{SlotState, WorkerState}
+use Rattle.world.specs.Steps as machine
+use Rattle.world.proofs.TurnsKept.{Kept, kept_some, kept_bind, kept_map, kept_when, kept_guard}
+use Rattle.interleaving.specs.Threads.{System, Step, Tick, Network, Connect, Spurious, Vanish, Accept, Drop, Poll, poller_rests, watched_of, step}
+use Rattle.interleaving.specs.Likeness.{ends_of, machine_of, call_of, call_in}
+use Rattle.interleaving.proofs.Frames.{Follows, one_event, beside, Frame}
+
+-- one event that changes nothing but these
+pub alone : (st : System) (p : SlotState) (entry : ℕ) (tickets : List ℕ) (workers : List WorkerState) (past : List Past) → Frame st p entry tickets workers
+    → (s : Step) (e : Event) (n : ℕ) (k : KernelState) (flag accepted : Bool) (batch : List Name)
+    → machine.step (machine_of st p entry tickets workers past) e ≡ Some (machine_of (beside st n k flag accepted batch) p entry tickets workers past)
+    → call_in e ≡ [] → call_of s ≡ []
+    → Follows (machine_of st p entry tickets workers past) s (beside st n k flag accepted batch)
+alone st p entry tickets workers past fr s e n k flag accepted batch h none nothing = record {
+  events = e ∷ [];
+  world = machine_of (beside st n k flag accepted batch) p entry tickets workers past;
+  allowed = one_event _ e _ h;
+  like = fr.like n k flag accepted batch past;
+  calls = rw (none, nothing) refl;
+}
+
+pub ticks : (st : System) (p : SlotState) (entry : ℕ) (tickets : List ℕ) (workers : List WorkerState) (past : List Past) → Frame st p entry tickets workers
+    → (n : ℕ) → Kept (Follows (machine_of st p entry tickets workers past) (Tick n)) (step st (Tick n))
+ticks st p entry tickets workers past fr n = kept_guard _ _ (λ may.
+    alone st p entry tickets workers past fr (Tick n) (event.Tick n) (st.second + n) st.kernel st.flag st.accepted st.batch (rw may refl) refl refl)
+
+network_at : (st : System) (p : SlotState) (entry : ℕ) (tickets : List ℕ) (workers : List WorkerState) (past : List Past) → Frame st p entry tickets workers
+    → (side : Side) (change : Change) (ends : Descriptors) (q : KernelState) → machine.change_at st.kernel (descriptor ends side) change ≡ Some q
+    → (o : Option Connection) → p.connection ≡ o → option_map (λ (c : Connection). c.ends) o ≡ Some ends
+    → Follows (machine_of st p entry tickets workers past) (Network side change) (record st { kernel = q })
+network_at st p entry tickets workers past fr side change ends q may None is there = absurd (cc)
+network_at st p entry tickets workers past fr side change ends q may (Some c) is there =
+    let same : c.ends ≡ ends = cc in
+    alone st p entry tickets workers past fr (Network side change) (event.Network 0 side change) st.second q st.flag st.accepted st.batch (rw (is, same, may) refl) refl refl
+
+pub network : (st : System) (p : SlotState) (entry : ℕ) (tickets : List ℕ) (workers : List WorkerState) (past : List Past) → Frame st p entry tickets workers
+    → (side : Side) (change : Change) → Kept (Follows (machine_of st p entry tickets workers past) (Network side change)) (step st (Network side change))
+network st p entry tickets workers past fr side change = kept_bind _ st.ends (λ ends is. kept_map _ (machine.change_at st.kernel (descriptor ends side) change) (λ q may.
+    network_at st p entry tickets workers past fr side change ends q may p.connection refl (sym fr.ends ∙ is)))
+
+pub connects : (st : System) (p : SlotState) (entry : ℕ) (tickets : List ℕ) (workers : List WorkerState) (past : List Past) → Frame st p entry tickets workers
+    → Kept (Follows (machine_of st p entry tickets workers past) Connect) (step st Connect)
+connects st p entry tickets workers past fr = kept_map _ (kernel.connect_in st.kernel) (λ q may.
+    alone st p entry tickets workers past fr Connect (event.Listen listening.Connect) st.second q st.flag st.accepted st.batch (rw may refl) refl refl)
+
+-- the machine's name of what is reported: the slot there is the first
+abbrev here : Reported → Reported
+here reported.Listener = reported.Listener
+here reported.Waker = reported.Waker
+here (reported.End s side) = reported.End 0 side
+
+same_watched : (st : System) (p : SlotState) (entry : ℕ) (tickets : List ℕ) (workers : List WorkerState) (past : List Past) → st.ends ≡ ends_of p
+    → (who : Reported) → machine.watched_of (machine_of st p entry tickets workers past) (here who) ≡ watched_of st who
+same_watched st p entry tickets workers past ends reported.Listener = refl
+same_watched st p entry tickets workers past ends reported.Waker = refl
+same_watched st p entry tickets workers past ends (reported.End s side) = rw ends (joined p.connection)
+  where
+    joined : (o : Option Connection) → option_map (λ (c : Connection). watched.End (descriptor c.ends side)) o
+        ≡ option_map (λ (ends : Descriptors). watched.End (descriptor ends side)) (option_map (λ (c : Connection). c.ends) o)
+    joined None = refl
+    joined (Some c) = refl
+
+pub spurious : (st : System) (p : SlotState) (entry : ℕ) (tickets : List ℕ) (workers : List WorkerState) (past : List Past) → Frame st p entry tickets workers
+    → (who : Reported) → Kept (Follows (machine_of st p entry tickets workers past) (Spurious who)) (step st (Spurious who))
+spurious st p entry tickets workers past fr who = kept_bind _ (watched_of st who) (λ w is. kept_map _ (kernel.spurious st.kernel w) (λ q may.
+    alone st p entry tickets workers past fr (Spurious who) (event.Spurious (here who)) st.second q st.flag st.accepted st.batch
+    (rw (same_watched st p entry tickets workers past fr.ends who, is, may) refl) refl refl))
+
+pub vanishes : (st : System) (p : SlotState) (entry : ℕ) (tickets : List ℕ) (workers : List WorkerState) (past : List Past) → Frame st p entry tickets workers
+    → (who : Reported) → Kept (Follows (machine_of st p entry tickets workers past) (Vanish who)) (step st (Vanish who))
+vanishes st p entry tickets workers past fr who = kept_bind _ (watched_of st who) (λ w is. kept_map _ (kernel.vanish st.kernel w) (λ q may.
+    alone st p entry tickets workers past fr (Vanish who) (event.Vanish (here who)) st.second q st.flag st.accepted st.batch
+    (rw (same_watched st p entry tickets workers past fr.ends who, is, may) refl) refl refl))
+
+-- the poller's own
+
+pub two_parts : (a b : Bool) → (a && b) ≡ true → b ≡ true
+two_parts true true h = refl
+two_parts true false h = absurd (cc)
+two_parts false b h = absurd (cc)
+
+some_free : (n : ℕ) → is_nonempty (replicate n 0) ≡ nat_lt 0 n
+some_free n = rw (length-replicate {A = ℕ} n 0) refl
+
+may : (st : System) (p : SlotState) (entry : ℕ) (tickets : List ℕ) (workers : List WorkerState) (past : List Past)
+    → (poller_rests st && (st.flag && (not st.accepted && nat_lt 0 st.free))) ≡ true → machine.may_accept (machine_of st p entry tickets workers past) ≡ true
+may st p entry tickets workers past h = rw (some_free st.free) (two_parts (poller_rests st) _ h)
+
+pub accepts : (st : System) (p : SlotState) (entry : ℕ) (tickets : List ℕ) (workers : List WorkerState) (past : List Past) → Frame st p entry tickets workers
+    → (reply : Accepting) → Kept (Follows (machine_of st p entry tickets workers past) (Accept reply)) (step st (Accept reply))
+accepts st p entry tickets workers past fr Accepted = kept_when _ _ (λ b. kept_map _ (kernel.accept st.kernel Accepted) (λ q can.
+    alone st p entry tickets workers past fr (Accept Accepted) (event.Listen (listening.Accept Accepted)) st.second q st.flag true st.batch
+    (rw (may st p entry tickets workers past b, can) refl) refl refl))
+accepts st p entry tickets workers past fr Blocked = kept_when _ _ (λ b. kept_map _ (kernel.accept st.kernel Blocked) (λ q can.
+    alone st p entry tickets workers past fr (Accept Blocked) (event.Listen (listening.Accept Blocked)) st.second q false st.accepted st.batch
+    (rw (may st p entry tickets workers past b, can) refl) refl refl))
+accepts st p entry tickets workers past fr Again = kept_when _ _ (λ b. kept_some (
+    alone st p entry tickets workers past fr (Accept Again) (event.Listen (listening.Accept Again)) st.second st.kernel st.flag st.accepted st.batch
+    (rw (may st p entry tickets workers past b) refl) refl refl))
+accepts st p entry tickets workers past fr Starved = kept_when _ _ (λ b. kept_some (
+    alone st p entry tickets workers past fr (Accept Starved) (event.Listen (listening.Accept Starved)) st.second st.kernel st.flag st.accepted st.batch
+    (rw (may st p entry tickets workers past b) refl) refl refl))
+
+pub drops : (st : System) (p : SlotState) (entry : ℕ) (tickets : List ℕ) (workers : List WorkerState) (past : List Past) → Frame st p entry tickets workers
+    → Kept (Follows (machine_of st p entry tickets workers past) Drop) (step st Drop)
+drops st p entry tickets workers past fr = kept_guard _ _ (λ b.
+    alone st p entry tickets workers past fr Drop (event.Listen listening.Drop) st.second st.kernel st.flag false st.batch
+    (rw (two_parts (poller_rests st) st.accepted b) refl) refl refl)
+
+pub polls : (st : System) (p : SlotState) (entry : ℕ) (tickets : List ℕ) (workers : List WorkerState) (past : List Past) → Frame st p entry tickets workers
+    → (names : Vec Name Global) → Kept (Follows (machine_of st p entry tickets workers past) (Poll names)) (step st (Poll names))
+polls st p entry tickets workers past fr names = kept_when _ _ (λ b. kept_map _ (kernel.poll st.kernel names.items) (λ q can.
+    alone st p entry tickets workers past fr (Poll names) (event.Poll (polling.Poll names)) st.second q st.flag st.accepted names.items
+    (rw (two_parts (poller_rests st) (length st.batch == 0) b, can) refl) refl refl))

@@ -1,0 +1,168 @@
+-- The poller's posts: a report that it delivers, and a sweep. A post that wakes makes a ticket, which the machine's poller
+-- puts at once.
+use Rattle.std.proofs.Common.{◌≡◌, ◌≢◌, ◌⊎◌, inl, inr, ℕ, zero, suc, ◌==◌, Bool, true, false, not, ◌||◌, nat_lt, if◌then◌else◌, List, [], ◌∷◌, ◌++◌, length, map, slice_get, arith, lt-ltb, Option, Some, None, refl, sym, ap, ◌∙◌, length-append, eqb-true, ne_eqb}
+use Rattle.std.proofs.lemmas.Bool.{cases_eq, and_parts}
+use Rattle.std.proofs.lemmas.List.{map-append}
+use Rattle.std.specs.Option.{is_none}
+use Rattle.token.specs.declared.name.Name.{Name}
+use Rattle.token.specs.declared.name.Name.TheVariants as name
+use Rattle.token.specs.Names.{EndName}
+use Rattle.kernel_model.specs.Ends.{is_nonempty}
+use Rattle.relay_core.specs.Pairs.{verdict, is_live}
+use Rattle.relay_core.specs.Order.{next_call}
+use Rattle.claims.specs.Words.{WordState, word_after, wakes, some_wait}
+use Rattle.claims.specs.Words as word
+use Rattle.world.specs.declared.connection.Connection.{Connection}
+use Rattle.world.specs.declared.event.Event.{Event}
+use Rattle.world.specs.declared.event.Event.TheVariants as event
+use Rattle.world.specs.declared.event.Polling.TheVariants as polling
+use Rattle.world.specs.declared.past.Past.{Past}
+use Rattle.world.specs.Slots.{SlotState, WorkerState, is_held}
+use Rattle.world.specs.Steps as machine
+use Rattle.world.specs.Steps.{with_note, brings_ticket, may_release}
+use Rattle.world.specs.Words.{word_at}
+pub use Rattle.world.proofs.TurnsPoller.{some_more}
+use Rattle.world.proofs.TurnsKept.{Kept, kept_some, kept_none, kept_when, kept_guard}
+use Rattle.interleaving.specs.Threads.{System, Thread, Step, Deliver, Sweep, is_limited, poller_rests, posted, delivered, delivers, step}
+use Rattle.interleaving.specs.Likeness.{ticket, Held, ThreadLike, Rests, Opens, Tries, Holds, HasOut, Goes, Stays, Leaves, HasClosed, HasRetired, WorkerFor, WorkersFor, machine_of, Settled, IsSettled, call_of, call_in}
+use Rattle.interleaving.proofs.Frames.{Follows, settled_frame}
+use Rattle.interleaving.proofs.Outside.{two_parts, alone}
+
+-- What the word says, and what the place does
+
+pub some_notes : (notes : List ℕ) → some_wait (length notes) ≡ is_nonempty notes
+some_notes [] = refl
+some_notes (n ∷ ns) = sym (lt-ltb 0 (length (n ∷ ns)) (omega arith))
+
+pub wakes_as : (p : SlotState) → wakes (word_at p) ≡ brings_ticket p
+wakes_as p = rw (some_notes p.notes) (by_bits (is_held p.holder) (is_nonempty p.notes))
+  where
+    by_bits : (held some : Bool) → (if held then false else (if some then false else true)) ≡ not (held || some)
+    by_bits true some = refl
+    by_bits false true = refl
+    by_bits false false = refl
+
+pub post_word : (p : SlotState) (g : ℕ) → word_after word.post (word_at p) ≡ word_at (with_note p g)
+post_word p g =
+    let longer : length (p.notes ++ g ∷ []) ≡ suc (length p.notes) = length-append p.notes (g ∷ []) ∙ omega arith in
+    rw longer refl
+
+-- a slot that may be released may be so with one note more
+
+or_true : (b : Bool) → (b || true) ≡ true
+or_true true = refl
+or_true false = refl
+
+pub may_still : (c : Connection) (some : Bool) → may_release c some ≡ true → may_release c true ≡ true
+unfolding may_release
+may_still c some may =
+    let parts : (is_live (verdict c.pair) ≡ true) × ((is_none (next_call c.pair) || some) ≡ true) = and_parts (is_live (verdict c.pair)) (is_none (next_call c.pair) || some) may in
+    rw parts.0 (or_true _)
+
+pub still : (p : SlotState) (g i : ℕ) (t : Thread) (c : Connection) → Held p i t c → Held (with_note p g) i t c
+still p g i t c held = record { holder = held.holder; connection = held.connection; generation = held.generation }
+
+-- with one note more each thread is where it was
+pub noted_like : (budget : ℕ) (place : Option Connection) (p : SlotState) (g : ℕ) (i : ℕ) (t : Thread) (k : WorkerState)
+    → ThreadLike budget place p i t k → ThreadLike budget place (with_note p g) i t k
+noted_like budget place p g i t k (Rests todo is) = Rests todo is
+noted_like budget place p g i t k (Opens first todo is) = Opens first todo is
+noted_like budget place p g i t k (Tries todo is) = Tries todo is
+noted_like budget place p g i t k (Holds c held at todo is) = Holds c (still p g i t c held) at todo is
+noted_like budget place p g i t k (HasOut c held at out todo is) = HasOut c (still p g i t c held) at out todo is
+noted_like budget place p g i t k (Goes c held at out todo is) = Goes c (still p g i t c held) at out todo is
+noted_like budget place p g i t k (Stays c held at live todo is) = Stays c (still p g i t c held) at live todo is
+noted_like budget place p g i t k (Leaves c held at may todo is) = Leaves c (still p g i t c held) at (rw (some_more p.notes g) (may_still c (is_nonempty p.notes) may)) todo is
+noted_like budget place p g i t k (HasClosed held at todo is) = HasClosed (record { holder = held.holder; connection = held.connection; generation = held.generation }) at todo is
+noted_like budget place p g i t k (HasRetired generation todo is) = HasRetired generation todo is
+
+pub all_noted : (budget : ℕ) (place : Option Connection) (p : SlotState) (g : ℕ) (workers : List WorkerState) (threads : List Thread)
+    → WorkersFor budget place p workers threads → WorkersFor budget place (with_note p g) workers threads
+all_noted budget place p g workers threads all i t there =
+    let it : WorkerFor budget place p workers i t = all i t there in
+    record { worker = it.worker; there = it.there; like = noted_like budget place p g i t it.worker it.like }
+
+-- A post by the poller
+
+-- the state here, with this batch
+abbrev with_batch : System → List Name → System
+with_batch st batch = record st { batch = batch }
+
+settled_post : (st : System) (p : SlotState) (workers : List WorkerState) (g : ℕ) (batch : List Name) → Settled st p workers
+    → Settled (with_batch (posted st g) batch) (with_note p g) workers
+settled_post st p workers g batch s = record {
+  ends = s.ends;
+  word = ap (word_after word.post) s.word ∙ post_word p g;
+  place = s.place;
+  threads = all_noted st.limits.budget st.place p g workers st.threads s.threads;
+}
+
+-- the machine's posts, by an event that does this
+posts_by : (st : System) (p : SlotState) (workers : List WorkerState) (past : List Past) (s : Step) (e : Event) (g : ℕ) (batch : List Name) → Settled st p workers
+    → call_in e ≡ [] → call_of s ≡ [] → (b : Bool) → brings_ticket p ≡ b
+    → machine.step (machine_of st p st.entry st.tickets workers past) e
+    ≡ Some (record (machine.posted (machine_of st p st.entry st.tickets workers past) 0 g p) { batch = batch })
+    → Follows (machine_of st p st.entry st.tickets workers past) s (with_batch (posted st g) batch)
+posts_by st p workers past s e g batch set none nothing true brings h =
+    let woke : wakes st.word ≡ true = ap wakes set.word ∙ (wakes_as p ∙ brings) in
+    let more : map ticket (st.tickets ++ g ∷ []) ≡ map ticket st.tickets ++ ticket g ∷ [] = map-append ticket st.tickets (g ∷ []) in
+    record {
+      events = e ∷ event.Poll polling.Put ∷ [];
+      world = machine_of (with_batch (posted st g) batch) (with_note p g) st.entry (st.tickets ++ g ∷ []) workers past;
+      allowed = rw (h, brings, more) refl;
+      like = IsSettled (with_note p g) workers past (rw woke refl) (settled_post st p workers g batch set);
+      calls = rw (none, nothing) refl;
+    }
+posts_by st p workers past s e g batch set none nothing false brings h =
+    let woke : wakes st.word ≡ false = ap wakes set.word ∙ (wakes_as p ∙ brings) in
+    record {
+      events = e ∷ [];
+      world = machine_of (with_batch (posted st g) batch) (with_note p g) st.entry st.tickets workers past;
+      allowed = rw (h, brings) refl;
+      like = IsSettled (with_note p g) workers past (rw woke refl) (settled_post st p workers g batch set);
+      calls = rw (none, nothing) refl;
+    }
+
+past_one : (x k : ℕ) → k ≢ 0 → slice_get (x ∷ []) k ≡ None
+past_one x zero not = absurd (not refl)
+past_one x (suc k) not = refl
+
+-- a report of an end
+
+delivers_here : (st : System) (p : SlotState) (workers : List WorkerState) (past : List Past) (n : EndName) (rest : List Name) → Settled st p workers
+    → st.batch ≡ name.End n ∷ rest → n.slot ≡ 0 → (b : Bool) → (st.entry == n.generation) ≡ b
+    → Follows (machine_of st p st.entry st.tickets workers past) Deliver (record (delivered st (name.End n)) { batch = rest })
+delivers_here st p workers past n rest set is first true own =
+    let same : n.generation ≡ st.entry = sym (eqb-true st.entry n.generation own) in
+    rw (first, own, same)
+    (posts_by st p workers past Deliver (event.Poll polling.Deliver) st.entry rest set refl refl (brings_ticket p) refl (rw (is, first, own) refl))
+delivers_here st p workers past n rest set is first false own = rw (first, own)
+    (alone st p st.entry st.tickets workers past (settled_frame st p workers set) Deliver (event.Poll polling.Deliver) st.second st.kernel st.flag st.accepted rest
+    (rw (is, first, own) refl) refl refl)
+
+delivers_end : (st : System) (p : SlotState) (workers : List WorkerState) (past : List Past) (n : EndName) (rest : List Name) → Settled st p workers
+    → st.batch ≡ name.End n ∷ rest → (n.slot ≡ 0) ⊎ (n.slot ≢ 0)
+    → Follows (machine_of st p st.entry st.tickets workers past) Deliver (record (delivered st (name.End n)) { batch = rest })
+delivers_end st p workers past n rest set is (inl first) = delivers_here st p workers past n rest set is first (st.entry == n.generation) refl
+delivers_end st p workers past n rest set is (inr other) = rw (ne_eqb n.slot 0 other)
+    (alone st p st.entry st.tickets workers past (settled_frame st p workers set) Deliver (event.Poll polling.Deliver) st.second st.kernel st.flag st.accepted rest
+    (rw (is, past_one st.entry n.slot other) refl) refl refl)
+
+delivers_all : (st : System) (p : SlotState) (workers : List WorkerState) (past : List Past) (batch : List Name) → Settled st p workers → st.batch ≡ batch
+    → Kept (Follows (machine_of st p st.entry st.tickets workers past) Deliver) (delivers st batch)
+delivers_all st p workers past [] set is = kept_none
+delivers_all st p workers past (name.Listener ∷ rest) set is = kept_some
+    (alone st p st.entry st.tickets workers past (settled_frame st p workers set) Deliver (event.Poll polling.Deliver) st.second st.kernel true st.accepted rest (rw is refl) refl refl)
+delivers_all st p workers past (name.Waker ∷ rest) set is = kept_some
+    (alone st p st.entry st.tickets workers past (settled_frame st p workers set) Deliver (event.Poll polling.Deliver) st.second st.kernel st.flag st.accepted rest (rw is refl) refl refl)
+delivers_all st p workers past (name.End n ∷ rest) set is = kept_some (delivers_end st p workers past n rest set is (cases_eq n.slot 0))
+
+pub reports : (st : System) (p : SlotState) (workers : List WorkerState) (past : List Past) → Settled st p workers
+    → Kept (Follows (machine_of st p st.entry st.tickets workers past) Deliver) (step st Deliver)
+reports st p workers past set = kept_when (poller_rests st) _ (λ b. delivers_all st p workers past st.batch set refl)
+
+pub sweeps : (st : System) (p : SlotState) (workers : List WorkerState) (past : List Past) → Settled st p workers
+    → Kept (Follows (machine_of st p st.entry st.tickets workers past) Sweep) (step st Sweep)
+sweeps st p workers past set = kept_guard _ _ (λ b.
+    let parts : (is_limited st ≡ true) × (nat_lt 0 st.entry ≡ true) = and_parts (is_limited st) (nat_lt 0 st.entry) (two_parts (poller_rests st) _ b) in
+    posts_by st p workers past Sweep (event.Poll (polling.Sweep 0)) st.entry st.batch set refl refl (brings_ticket p) refl (rw (parts.0, parts.1) refl))

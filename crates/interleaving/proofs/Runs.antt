@@ -1,0 +1,248 @@
+-- What holds after any list of steps.
+use Rattle.std.proofs.Common.{◌≡◌, ◌≢◌, ◌⊎◌, inl, inr, ℕ, zero, suc, ◌==◌, Bool, true, false, nat_lt, List, [], ◌∷◌, ◌++◌, replicate, slice_get, Option, Some, None, refl, sym, ap, ◌∙◌, option_and_then, arith, lt-ltb, append_assoc}
+use Rattle.std.proofs.lemmas.Bool.{cases_eq}
+use Rattle.std.specs.Option.{is_none}
+use Rattle.kernel_model.specs.declared.reply.Reply.{Reply}
+use Rattle.relay_core.specs.Pairs.{verdict, is_live}
+use Rattle.relay_core.specs.Order.{next_call}
+use Rattle.world.specs.declared.connection.Connection.{Connection}
+use Rattle.world.specs.declared.event.Event.{Event}
+use Rattle.world.specs.declared.limits.Limits.{Limits}
+use Rattle.world.specs.declared.past.Past.{Past}
+use Rattle.world.specs.Slots.{SlotState, WorkerState}
+use Rattle.world.specs.States.{State}
+use Rattle.world.specs.States as machine
+use Rattle.world.specs.Runs as machine_runs
+use Rattle.world.specs.Headline.{EveryRunHolds}
+use Rattle.world.specs.CoreLaws.{CoreLaws}
+use Rattle.world.proofs.TurnsTotals.{get-replicate, get_beside}
+use Rattle.world.proofs.TurnsKept.{Kept, kept_some, kept_none, kept_bind, kept_map, kept_when, kept_guard, kept_at}
+use Rattle.world.proofs.TurnsFacts.{Turns}
+use Rattle.world.proofs.TurnsRun.{turns_after}
+use Rattle.interleaving.specs.Programs.{plan}
+use Rattle.interleaving.specs.Threads.{System, Thread, Step, Tick, Network, Connect, Spurious, Vanish, Accept, Drop, Poll, Deliver, Sweep, Open, Begin, Acts, Calls, is_over, rests, poller_rests, acts, calls, begun, start, step, run}
+use Rattle.interleaving.specs.Likeness.{Held, ThreadLike, Rests, Opens, Tries, Holds, HasOut, Goes, Stays, Leaves, HasClosed, HasRetired, machine_of, Settled, Stage, Registered, Adopted, Entered, Emptied, Placed, Posted, opened_slot, HalfOpen, Like, IsSettled, IsHalfOpen, calls_of, call_in, calls_in, EveryInterleavingIsARun}
+use Rattle.interleaving.proofs.Frames.{Follows, settled_frame, half_frame}
+use Rattle.interleaving.proofs.Outside.{ticks, network, connects, spurious, vanishes, accepts, drops, polls}
+use Rattle.interleaving.proofs.Posts.{reports, sweeps}
+use Rattle.interleaving.proofs.Turns.{begins_turn, begins_opening, claims, takes_out}
+use Rattle.interleaving.proofs.Calls.{takes_notes, calls as makes_calls, run_append}
+use Rattle.interleaving.proofs.Leaving.{puts_quiet, puts_again, posts_due, releases, closes, retires, gives}
+use Rattle.interleaving.proofs.Lost.{nothing_is_lost}
+use Rattle.interleaving.proofs.Openings.{registers, goes_half, half_world}
+
+-- A thread's act, where no opening is half way
+
+some_left : (n : ℕ) → (n == 0) ≡ false → nat_lt 0 n ≡ true
+some_left zero h = absurd (cc)
+some_left (suc n) h = lt-ltb 0 (suc n) (omega arith)
+
+-- by the plan
+plan_acts : (st : System) (p : SlotState) (workers : List WorkerState) (past : List Past) → Settled st p workers → (i : ℕ) (t : Thread) → slice_get st.threads i ≡ Some t
+    → (k : WorkerState) → slice_get workers i ≡ Some k → (c : Connection) → Held p i t c → st.place ≡ None → t.out ≡ Some c
+    → k ≡ Rattle.world.specs.Acts.busy (Rattle.world.specs.declared.actors.Doing.TheVariants.Holds 0 t.left)
+    → (live none spent : Bool) → is_live (verdict c.pair) ≡ live → is_none (next_call c.pair) ≡ none → (t.left == 0) ≡ spent
+    → Kept (Follows (machine_of st p st.entry st.tickets workers past) (Acts i)) (acts st i t (plan t.left c.pair))
+plan_acts st p workers past set i t there k had c held at out is true true spent lives rest over = rw (rest, lives)
+    (kept_some (puts_quiet st p workers past set i t there k had c held out is lives rest))
+plan_acts st p workers past set i t there k had c held at out is true false true lives rest over = rw (rest, lives, over)
+    (kept_some (puts_again st p workers past set i t there k had c held out is lives))
+plan_acts st p workers past set i t there k had c held at out is true false false lives rest over = rw (rest, lives, over) kept_none
+plan_acts st p workers past set i t there k had c held at out is false none spent lives rest over = rw lives (kept_bind _ t.out (λ d has.
+    let same : d ≡ c = (let both : Some d ≡ Some c = sym has ∙ out in cc) in
+    rw same (closes st p workers past set i t there k had c held at is lives)))
+
+thread_acts : (st : System) (p : SlotState) (workers : List WorkerState) (past : List Past) → Settled st p workers → Turns (machine_of st p st.entry st.tickets workers past)
+    → (i : ℕ) (t : Thread) → slice_get st.threads i ≡ Some t → (k : WorkerState) → slice_get workers i ≡ Some k → ThreadLike st.limits.budget st.place p i t k
+    → Kept (Follows (machine_of st p st.entry st.tickets workers past) (Acts i)) (acts st i t t.todo)
+thread_acts st p workers past set turns i t there k had (Rests todo is) = rw todo kept_none
+thread_acts st p workers past set turns i t there k had (Opens first todo is) =
+    rw (todo, first) (registers st p workers past set turns t (rw first at there) k (rw first at had) is)
+thread_acts st p workers past set turns i t there k had (Tries todo is) = rw todo (kept_some (claims st p workers past set turns i t there k had todo is))
+thread_acts st p workers past set turns i t there k had (Holds c held at todo is) = rw todo (kept_some (takes_out st p workers past set turns i t there k had c held at is))
+thread_acts st p workers past set turns i t there k had (HasOut c held at out todo is) = rw todo (kept_map _ t.out (λ d has.
+    let same : d ≡ c = (let both : Some d ≡ Some c = sym has ∙ out in cc) in
+    rw same (takes_notes st p workers past set i t there k had c held at is)))
+thread_acts st p workers past set turns i t there k had (Goes c held at out todo is) = rw todo
+    (plan_acts st p workers past set i t there k had c held at out is (is_live (verdict c.pair)) (is_none (next_call c.pair)) (t.left == 0) refl refl refl)
+thread_acts st p workers past set turns i t there k had (Stays c held at live todo is) = rw todo (kept_some (posts_due st p workers past set i t there k had c held at live is))
+thread_acts st p workers past set turns i t there k had (Leaves c held at may todo is) = rw todo (kept_some (releases st p workers past set i t there k had c held at may is))
+thread_acts st p workers past set turns i t there k had (HasClosed held at todo is) = rw todo (kept_some (retires st p workers past set i t there k had held at is))
+thread_acts st p workers past set turns i t there k had (HasRetired own todo is) = rw todo (kept_some (gives st p workers past set i t there k had own is))
+
+-- A call
+
+plan_calls : (st : System) (p : SlotState) (workers : List WorkerState) (past : List Past) → Settled st p workers → (i : ℕ) (t : Thread) → slice_get st.threads i ≡ Some t
+    → (k : WorkerState) → slice_get workers i ≡ Some k → (c : Connection) → Held p i t c → st.place ≡ None → t.out ≡ Some c
+    → k ≡ Rattle.world.specs.Acts.busy (Rattle.world.specs.declared.actors.Doing.TheVariants.Holds 0 t.left)
+    → (r : Reply) (live none spent : Bool) → is_live (verdict c.pair) ≡ live → is_none (next_call c.pair) ≡ none → (t.left == 0) ≡ spent
+    → Kept (Follows (machine_of st p st.entry st.tickets workers past) (Calls i r)) (calls st i t r (plan t.left c.pair))
+plan_calls st p workers past set i t there k had c held at out is r true true spent lives rest over = rw (rest, lives) kept_none
+plan_calls st p workers past set i t there k had c held at out is r true false true lives rest over = rw (rest, lives, over) kept_none
+plan_calls st p workers past set i t there k had c held at out is r true false false lives rest over = rw (rest, lives, over)
+    (makes_calls st p workers past set i t there k had c held at out is (some_left t.left over) r)
+plan_calls st p workers past set i t there k had c held at out is r false none spent lives rest over = rw lives kept_none
+
+thread_calls : (st : System) (p : SlotState) (workers : List WorkerState) (past : List Past) → Settled st p workers
+    → (i : ℕ) (t : Thread) → slice_get st.threads i ≡ Some t → (k : WorkerState) → slice_get workers i ≡ Some k → ThreadLike st.limits.budget st.place p i t k → (r : Reply)
+    → Kept (Follows (machine_of st p st.entry st.tickets workers past) (Calls i r)) (calls st i t r t.todo)
+thread_calls st p workers past set i t there k had (Rests todo is) r = rw todo kept_none
+thread_calls st p workers past set i t there k had (Opens first todo is) r = rw todo kept_none
+thread_calls st p workers past set i t there k had (Tries todo is) r = rw todo kept_none
+thread_calls st p workers past set i t there k had (Holds c held at todo is) r = rw todo kept_none
+thread_calls st p workers past set i t there k had (HasOut c held at out todo is) r = rw todo kept_none
+thread_calls st p workers past set i t there k had (Goes c held at out todo is) r = rw todo
+    (plan_calls st p workers past set i t there k had c held at out is r (is_live (verdict c.pair)) (is_none (next_call c.pair)) (t.left == 0) refl refl refl)
+thread_calls st p workers past set i t there k had (Stays c held at live todo is) r = rw todo kept_none
+thread_calls st p workers past set i t there k had (Leaves c held at may todo is) r = rw todo kept_none
+thread_calls st p workers past set i t there k had (HasClosed held at todo is) r = rw todo kept_none
+thread_calls st p workers past set i t there k had (HasRetired own todo is) r = rw todo kept_none
+
+-- Any step, where no opening is half way
+follows_settled : (st : System) (p : SlotState) (workers : List WorkerState) (past : List Past) → Settled st p workers → Turns (machine_of st p st.entry st.tickets workers past)
+    → (s : Step) → Kept (Follows (machine_of st p st.entry st.tickets workers past) s) (step st s)
+follows_settled st p workers past set turns (Tick n) = ticks st p st.entry st.tickets workers past (settled_frame st p workers set) n
+follows_settled st p workers past set turns (Network side change) = network st p st.entry st.tickets workers past (settled_frame st p workers set) side change
+follows_settled st p workers past set turns Connect = connects st p st.entry st.tickets workers past (settled_frame st p workers set)
+follows_settled st p workers past set turns (Spurious who) = spurious st p st.entry st.tickets workers past (settled_frame st p workers set) who
+follows_settled st p workers past set turns (Vanish who) = vanishes st p st.entry st.tickets workers past (settled_frame st p workers set) who
+follows_settled st p workers past set turns (Accept reply) = accepts st p st.entry st.tickets workers past (settled_frame st p workers set) reply
+follows_settled st p workers past set turns Drop = drops st p st.entry st.tickets workers past (settled_frame st p workers set)
+follows_settled st p workers past set turns (Poll names) = polls st p st.entry st.tickets workers past (settled_frame st p workers set) names
+follows_settled st p workers past set turns Deliver = reports st p workers past set
+follows_settled st p workers past set turns Sweep = sweeps st p workers past set
+follows_settled st p workers past set turns Open = begins_opening st p workers past set
+follows_settled st p workers past set turns (Begin i) = begins_turn st p workers past set i
+follows_settled st p workers past set turns (Acts i) = kept_bind _ (slice_get st.threads i) (λ t there.
+    thread_acts st p workers past set turns i t there (set.threads i t there).worker (set.threads i t there).there (set.threads i t there).like)
+follows_settled st p workers past set turns (Calls i r) = kept_bind _ (slice_get st.threads i) (λ t there.
+    thread_calls st p workers past set i t there (set.threads i t there).worker (set.threads i t there).there (set.threads i t there).like r)
+
+-- and where one is
+
+stage_acts : (word : Rattle.claims.specs.Words.WordState) (place : Option Connection) (entry : ℕ) (t : Thread) (c : Connection) → Stage word place entry t c → rests t ≡ false
+stage_acts word place entry t c (Registered notes todo is at out) = rw todo refl
+stage_acts word place entry t c (Adopted notes todo is at out) = rw todo refl
+stage_acts word place entry t c (Entered notes todo is at out own) = rw todo refl
+stage_acts word place entry t c (Emptied todo is at out own) = rw todo refl
+stage_acts word place entry t c (Placed todo is at own) = rw todo refl
+stage_acts word place entry t c (Posted todo is at own) = rw todo refl
+
+stage_calls : (st : System) (w : State) (t : Thread) (c : Connection) (r : Reply) → Stage st.word st.place st.entry t c → Kept (Follows w (Calls 0 r)) (calls st 0 t r t.todo)
+stage_calls st w t c r (Registered notes todo is at out) = rw todo kept_none
+stage_calls st w t c r (Adopted notes todo is at out) = rw todo kept_none
+stage_calls st w t c r (Entered notes todo is at out own) = rw todo kept_none
+stage_calls st w t c r (Emptied todo is at out own) = rw todo kept_none
+stage_calls st w t c r (Placed todo is at own) = rw todo kept_none
+stage_calls st w t c r (Posted todo is at own) = rw todo kept_none
+
+poller_acts : (st : System) (t : Thread) (c : Connection) (workers : List WorkerState) → HalfOpen st t c workers → poller_rests st ≡ false
+poller_acts st t c workers half = rw half.first (stage_acts st.word st.place st.entry t c half.stage)
+
+never : (b : Bool) (X : Type 0) → b ≡ false → b ≡ true → X
+never b X a e = absurd (let no : false ≡ true = sym a ∙ e in cc)
+
+this_thread : (st : System) (t u : Thread) → slice_get st.threads 0 ≡ Some t → slice_get st.threads 0 ≡ Some u → u ≡ t
+this_thread st t u first there = let both : Some u ≡ Some t = sym there ∙ first in cc
+
+acts_half : (st : System) (t : Thread) (c : Connection) (workers : List WorkerState) (past : List Past) → HalfOpen st t c workers
+    → (i : ℕ) (u : Thread) → slice_get st.threads i ≡ Some u → (i ≡ 0) ⊎ (i ≢ 0) → Kept (Follows (half_world st t c workers past) (Acts i)) (acts st i u u.todo)
+acts_half st t c workers past half i u there (inl first) =
+    let same : u ≡ t = this_thread st t u half.first (rw first at there) in
+    rw (first, same) (goes_half st t c workers past half half.stage)
+acts_half st t c workers past half i u there (inr other) = rw (half.others i u other there).0 kept_none
+
+calls_half : (st : System) (t : Thread) (c : Connection) (workers : List WorkerState) (past : List Past) → HalfOpen st t c workers
+    → (i : ℕ) (u : Thread) (r : Reply) → slice_get st.threads i ≡ Some u → (i ≡ 0) ⊎ (i ≢ 0) → Kept (Follows (half_world st t c workers past) (Calls i r)) (calls st i u r u.todo)
+calls_half st t c workers past half i u r there (inl first) =
+    let same : u ≡ t = this_thread st t u half.first (rw first at there) in
+    rw (first, same) (stage_calls st (half_world st t c workers past) t c r half.stage)
+calls_half st t c workers past half i u r there (inr other) = rw (half.others i u other there).0 kept_none
+
+follows_half : (st : System) (t : Thread) (c : Connection) (workers : List WorkerState) (past : List Past) → HalfOpen st t c workers
+    → (s : Step) → Kept (Follows (half_world st t c workers past) s) (step st s)
+follows_half st t c workers past half (Tick n) = ticks st (opened_slot t.generation c) t.generation (t.generation ∷ []) workers past (half_frame st t c workers half) n
+follows_half st t c workers past half (Network side change) = network st (opened_slot t.generation c) t.generation (t.generation ∷ []) workers past (half_frame st t c workers half) side change
+follows_half st t c workers past half Connect = connects st (opened_slot t.generation c) t.generation (t.generation ∷ []) workers past (half_frame st t c workers half)
+follows_half st t c workers past half (Spurious who) = spurious st (opened_slot t.generation c) t.generation (t.generation ∷ []) workers past (half_frame st t c workers half) who
+follows_half st t c workers past half (Vanish who) = vanishes st (opened_slot t.generation c) t.generation (t.generation ∷ []) workers past (half_frame st t c workers half) who
+follows_half st t c workers past half (Accept reply) = accepts st (opened_slot t.generation c) t.generation (t.generation ∷ []) workers past (half_frame st t c workers half) reply
+follows_half st t c workers past half Drop = drops st (opened_slot t.generation c) t.generation (t.generation ∷ []) workers past (half_frame st t c workers half)
+follows_half st t c workers past half (Poll names) = polls st (opened_slot t.generation c) t.generation (t.generation ∷ []) workers past (half_frame st t c workers half) names
+follows_half st t c workers past half Deliver = kept_when (poller_rests st) _ (λ b. never (poller_rests st) _ (poller_acts st t c workers half) b)
+follows_half st t c workers past half Sweep = rw (poller_acts st t c workers half) kept_none
+follows_half st t c workers past half Open = kept_bind _ (slice_get st.threads 0) (λ u there. kept_guard (rests u) _ (λ b.
+    let same : u ≡ t = this_thread st t u half.first there in
+    never (rests u) _ (ap rests same ∙ stage_acts st.word st.place st.entry t c half.stage) b))
+follows_half st t c workers past half (Begin i) = kept_bind _ (slice_get st.threads i) (λ u there. kept_when (rests u) _ (λ b. rw half.tickets kept_none))
+follows_half st t c workers past half (Acts i) = kept_bind _ (slice_get st.threads i) (λ u there. acts_half st t c workers past half i u there (cases_eq i 0))
+follows_half st t c workers past half (Calls i r) = kept_bind _ (slice_get st.threads i) (λ u there. calls_half st t c workers past half i u r there (cases_eq i 0))
+
+follows : (st : System) (w : State) → Like st w → Turns w → (s : Step) → Kept (Follows w s) (step st s)
+follows st w (IsSettled p workers past is set) turns s = rw is (follows_settled st p workers past set (rw is at turns) s)
+follows st w (IsHalfOpen t c workers past is half) turns s = rw is (follows_half st t c workers past half s)
+
+-- A list of steps
+
+record Ran (w : State) (steps : List Step) (st : System) : Type 0 where
+  pub events : List Event
+  pub world : State
+  pub allowed : machine_runs.run w events ≡ Some world
+  pub like : Like st world
+  pub calls : calls_in events ≡ calls_of steps
+
+calls-append : (es more : List Event) → calls_in (es ++ more) ≡ calls_in es ++ calls_in more
+calls-append [] more = refl
+calls-append (e ∷ es) more = ap (λ (xs : List (ℕ × Reply)). call_in e ++ xs) (calls-append es more) ∙ sym (append_assoc (call_in e) (calls_in es) (calls_in more))
+
+went_on : (w : State) (s : Step) (steps : List Step) (q to : System) → (f : Follows w s q) → Ran f.world steps to → Ran w (s ∷ steps) to
+went_on w s steps q to f r = record {
+  events = f.events ++ r.events;
+  world = r.world;
+  allowed = run_append w f.world r.world f.events r.events f.allowed r.allowed;
+  like = r.like;
+  calls = calls-append f.events r.events ∙ rw (f.calls, r.calls) refl;
+}
+
+more_went : (w : State) (s : Step) (steps : List Step) (st to : System) → Kept (Follows w s) (step st s)
+    → ((q : System) → (f : Follows w s q) → run q steps ≡ Some to → Ran f.world steps to)
+    → (o : Option System) → step st s ≡ o → option_and_then (λ (q : System). run q steps) o ≡ Some to → Ran w (s ∷ steps) to
+more_went w s steps st to kept rest None is h = absurd (cc)
+more_went w s steps st to kept rest (Some q) is h =
+    let f : Follows w s q = kept_at (step st s) q is kept in
+    went_on w s steps q to f (rest q f h)
+
+went : (laws : CoreLaws) (l : Limits) (steps : List Step) (before : List Event) (w : State) (st to : System) → machine_runs.run (machine.opening l) before ≡ Some w → Like st w
+    → run st steps ≡ Some to → Ran w steps to
+went laws l [] before w st to reached like h =
+    let same : to ≡ st = cc in
+    record { events = []; world = w; allowed = refl; like = rw same like; calls = refl }
+went laws l (s ∷ steps) before w st to reached like h =
+    more_went w s steps st to (follows st w like (turns_after laws l before w reached) s)
+    (λ q f ran. went laws l steps (before ++ f.events) f.world q to (run_append (machine.opening l) w f.world before f.events reached f.allowed) f.like ran)
+    (step st s) refl h
+
+-- from the opening
+
+at_first : (l : Limits) → l.slots ≡ 1 → Like (start l) (machine.opening l)
+at_first l one = IsSettled (machine.unused l.generation) (replicate l.workers machine.resting) [] (rw one refl) (record {
+  ends = refl;
+  word = refl;
+  place = λ yes. refl;
+  threads = λ i t there.
+      let same : Rattle.interleaving.specs.Threads.resting ≡ t = get-replicate l.workers i Rattle.interleaving.specs.Threads.resting t there in
+      record { worker = machine.resting; there = get_beside l.workers i Rattle.interleaving.specs.Threads.resting t machine.resting there; like = Rests (rw (sym same) refl) refl };
+})
+
+pub every_interleaving : CoreLaws → EveryRunHolds → EveryInterleavingIsARun
+every_interleaving laws holds l steps st one ran =
+    let r : Ran (machine.opening l) steps st = went laws l steps [] (machine.opening l) (start l) st refl (at_first l one) ran in
+    record {
+      made = r.events;
+      world = r.world;
+      allowed = r.allowed;
+      like = r.like;
+      calls = r.calls;
+      holds = holds l r.events r.world r.allowed;
+      nothing = nothing_is_lost st r.world r.like (turns_after laws l r.events r.world r.allowed);
+    }

@@ -1,0 +1,150 @@
+-- What a thread does in a turn, up to its plan: it begins with a ticket, claims the slot, and takes the connection out.
+use Rattle.std.proofs.Common.{◌≡◌, ℕ, ◌==◌, Bool, true, false, if◌then◌else◌, List, [], ◌∷◌, slice_get, slice_set, Option, Some, None, is_some, refl, sym, ◌∙◌, eq-eqb}
+use Rattle.std.specs.Option.{is_none}
+use Rattle.relay_core.specs.Pairs.{PairState, verdict, is_live}
+use Rattle.relay_core.specs.Order.{next_call}
+use Rattle.claims.specs.Words.{WordState, word_after, wakes, some_wait}
+use Rattle.claims.specs.Words as word
+use Rattle.world.specs.declared.connection.Connection.{Connection}
+use Rattle.world.specs.declared.actors.Holder.TheVariants.{Nobody, By}
+use Rattle.world.specs.declared.actors.Doing.TheVariants as doing
+use Rattle.world.specs.declared.event.Event.TheVariants as event
+use Rattle.world.specs.declared.event.Act.TheVariants as act
+use Rattle.world.specs.declared.past.Past.{Past}
+use Rattle.world.specs.Slots.{SlotState, WorkerState, is_by_worker}
+use Rattle.world.specs.States.{State}
+use Rattle.world.specs.States as machine_states
+use Rattle.world.specs.Acts.{busy}
+use Rattle.world.proofs.TurnsKept.{Kept, kept_some, kept_none, kept_bind, kept_when, kept_guard}
+use Rattle.world.proofs.TurnsFacts.{facts, SlotOk, Turns}
+use Rattle.world.proofs.TurnsWorker.{Waiting, waiting}
+use Rattle.world.proofs.TurnsEnded.{own_generation}
+use Rattle.world.proofs.TurnsRun.{names_it}
+use Rattle.interleaving.specs.Programs.{Act, TakeOut, TakeNotes, Call, turn, quiet, again, ended, plan, opening}
+use Rattle.interleaving.specs.Threads.{System, Thread, Begin, Acts, Open, is_over, rests, with_thread, goes_on, begun, claimed, taken_out, step}
+use Rattle.interleaving.specs.Likeness.{ticket, Held, ThreadLike, Rests, Opens, Tries, Holds, HasOut, Goes, Stays, Leaves, HasClosed, HasRetired, WorkerFor, machine_of, Settled, IsSettled}
+use Rattle.interleaving.proofs.Frames.{Follows, apart, go_on, thread_goes_on, holder_apart, settles}
+
+-- a plan has an act
+goes_by : (live none spent : Bool) (a b c d : List Act) → is_over a ≡ false → is_over b ≡ false → is_over c ≡ false → is_over d ≡ false
+    → is_over (if live then (if none then a else (if spent then b else c)) else d) ≡ false
+goes_by true true spent a b c d h i j k = h
+goes_by true false true a b c d h i j k = i
+goes_by true false false a b c d h i j k = j
+goes_by false none spent a b c d h i j k = k
+
+pub plan_goes_on : (left : ℕ) (p : PairState) → is_over (plan left p) ≡ false
+plan_goes_on left p = goes_by (is_live (verdict p)) (is_none (next_call p)) (left == 0) quiet again (Call ∷ []) ended refl refl refl refl
+
+-- a thread without a program is like a worker with nothing to do
+pub rests_like : (budget : ℕ) (place : Option Connection) (p : SlotState) (i : ℕ) (t : Thread) (k : WorkerState) → ThreadLike budget place p i t k → rests t ≡ true
+    → k ≡ machine_states.resting
+rests_like budget place p i t k (Rests todo is) r = is
+rests_like budget place p i t k (Opens first todo is) r = is
+rests_like budget place p i t k (Tries todo is) r = absurd (let no : rests t ≡ false = rw todo refl in cc)
+rests_like budget place p i t k (Holds c held at todo is) r = absurd (let no : rests t ≡ false = rw todo refl in cc)
+rests_like budget place p i t k (HasOut c held at out todo is) r = absurd (let no : rests t ≡ false = rw todo refl in cc)
+rests_like budget place p i t k (Goes c held at out todo is) r = absurd (let no : rests t ≡ false = rw todo (plan_goes_on t.left c.pair) in cc)
+rests_like budget place p i t k (Stays c held at live todo is) r = absurd (let no : rests t ≡ false = rw todo refl in cc)
+rests_like budget place p i t k (Leaves c held at may todo is) r = absurd (let no : rests t ≡ false = rw todo refl in cc)
+rests_like budget place p i t k (HasClosed held at todo is) r = absurd (let no : rests t ≡ false = rw todo refl in cc)
+rests_like budget place p i t k (HasRetired generation todo is) r = absurd (let no : rests t ≡ false = rw todo refl in cc)
+
+-- it takes the oldest ticket
+
+begins_with : (st : System) (p : SlotState) (workers : List WorkerState) (past : List Past) → Settled st p workers → (i : ℕ) (t : Thread) → slice_get st.threads i ≡ Some t
+    → (k : WorkerState) → slice_get workers i ≡ Some k → k ≡ machine_states.resting → (tickets : List ℕ) → st.tickets ≡ tickets
+    → Kept (Follows (machine_of st p st.entry st.tickets workers past) (Begin i)) (begun st i tickets)
+begins_with st p workers past set i t there k had is [] tickets = kept_none
+begins_with st p workers past set i t there k had is (g ∷ rest) tickets =
+    let new : Thread = record { generation = g; out = None; left = 0; todo = turn } in
+    let next : System = with_thread (record st { tickets = rest }) i new in
+    let busier : WorkerState = busy (doing.Tries (ticket g)) in
+    kept_some (record {
+      events = event.Work i act.Pop ∷ [];
+      world = machine_of next p st.entry rest (slice_set workers i busier) past;
+      allowed = rw (had, is, tickets) refl;
+      like = IsSettled p (slice_set workers i busier) past refl (record {
+        ends = set.ends;
+        word = set.word;
+        place = set.place;
+        threads = go_on st.limits.budget st.place st.place p p st.threads workers i t new busier set.threads there (Tries refl refl) (λ j u v other like. like);
+      });
+      calls = refl;
+    })
+
+pub begins_turn : (st : System) (p : SlotState) (workers : List WorkerState) (past : List Past) → Settled st p workers → (i : ℕ)
+    → Kept (Follows (machine_of st p st.entry st.tickets workers past) (Begin i)) (step st (Begin i))
+begins_turn st p workers past set i = kept_bind _ (slice_get st.threads i) (λ t there. kept_when (rests t) _ (λ r.
+    let it : WorkerFor st.limits.budget st.place p workers i t = set.threads i t there in
+    begins_with st p workers past set i t there it.worker it.there (rests_like st.limits.budget st.place p i t it.worker it.like r) st.tickets refl))
+
+-- the poller's thread begins an opening
+pub begins_opening : (st : System) (p : SlotState) (workers : List WorkerState) (past : List Past) → Settled st p workers
+    → Kept (Follows (machine_of st p st.entry st.tickets workers past) Open) (step st Open)
+begins_opening st p workers past set = kept_bind _ (slice_get st.threads 0) (λ t there. kept_guard (rests t) _ (λ r.
+    let it : WorkerFor st.limits.budget st.place p workers 0 t = set.threads 0 t there in
+    let is : it.worker ≡ machine_states.resting = rests_like st.limits.budget st.place p 0 t it.worker it.like r in
+    let next : System = with_thread st 0 (goes_on t opening) in
+    settles st next (machine_of st p st.entry st.tickets workers past) Open (IsSettled p workers past refl (record {
+      ends = set.ends;
+      word = set.word;
+      place = set.place;
+      threads = thread_goes_on st.limits.budget st.place st.place p p st.threads workers 0 t (goes_on t opening) it.worker set.threads there it.there
+          (Opens refl refl is) (λ j u v other like. like);
+    })) refl))
+
+-- it claims the slot, which nobody holds
+
+some_there : (o : Option Connection) → is_some o ≡ true → (c : Connection) × (o ≡ Some c)
+some_there None h = absurd (cc)
+some_there (Some c) h = (c, refl)
+
+pub claims : (st : System) (p : SlotState) (workers : List WorkerState) (past : List Past) → Settled st p workers → Turns (machine_of st p st.entry st.tickets workers past)
+    → (i : ℕ) (t : Thread) → slice_get st.threads i ≡ Some t → (k : WorkerState) → slice_get workers i ≡ Some k → t.todo ≡ turn → k ≡ busy (doing.Tries (ticket t.generation))
+    → Follows (machine_of st p st.entry st.tickets workers past) (Acts i) (claimed st i t (TakeOut ∷ TakeNotes ∷ []))
+claims st p workers past set turns i t there k had todo is =
+    let w : State = machine_of st p st.entry st.tickets workers past in
+    let wait : Waiting p = waiting w i k (ticket t.generation) p had (rw is refl) refl turns in
+    let own : t.generation ≡ p.generation = names_it w i k (ticket t.generation) p had (rw is refl) refl turns in
+    let c : (c : Connection) × (p.connection ≡ Some c) = some_there p.connection wait.lies in
+    let free : st.word.held ≡ false = rw (set.word, wait.holder) refl in
+    let at : st.place ≡ Some c.0 = set.place (rw wait.holder refl) ∙ c.1 in
+    let new : Thread = goes_on t (TakeOut ∷ TakeNotes ∷ []) in
+    let next : System = with_thread (record st { word = word_after word.claim st.word }) i new in
+    let q : SlotState = record p { holder = By i } in
+    let busier : WorkerState = busy (doing.Holds 0 st.limits.budget) in
+    rw free (record {
+      events = event.Work i act.Claim ∷ [];
+      world = machine_of next q st.entry st.tickets (slice_set workers i busier) past;
+      allowed = rw (had, is, wait.holder) refl;
+      like = IsSettled q (slice_set workers i busier) past refl (record {
+        ends = set.ends;
+        word = rw (set.word, wait.holder) refl;
+        place = λ no. absurd (cc);
+        threads = go_on st.limits.budget st.place st.place p q st.threads workers i t new busier set.threads there
+            (Holds c.0 (record { holder = refl; connection = c.1; generation = sym own }) at refl refl)
+            (λ j u v other like. apart st.limits.budget st.place st.place p q j u v (λ by. absurd (let no : Nobody ≡ By j = sym wait.holder ∙ by in cc)) refl like);
+      });
+      calls = refl;
+    })
+
+-- it takes the connection out, which is its ticket's own
+pub takes_out : (st : System) (p : SlotState) (workers : List WorkerState) (past : List Past) → Settled st p workers → Turns (machine_of st p st.entry st.tickets workers past)
+    → (i : ℕ) (t : Thread) → slice_get st.threads i ≡ Some t → (k : WorkerState) → slice_get workers i ≡ Some k
+    → (c : Connection) → Held p i t c → st.place ≡ Some c → k ≡ busy (doing.Holds 0 st.limits.budget)
+    → Follows (machine_of st p st.entry st.tickets workers past) (Acts i) (taken_out st i t (TakeNotes ∷ []) st.place)
+takes_out st p workers past set turns i t there k had c held at is =
+    let w : State = machine_of st p st.entry st.tickets workers past in
+    let sv : SlotOk (facts w 0 p.generation) p = turns.each 0 p refl in
+    let own : c.pair.generation ≡ t.generation = own_generation (facts w 0 p.generation) p c (sv.connection c held.connection).stands ∙ held.generation in
+    let new : Thread = record t { out = Some c; todo = TakeNotes ∷ [] } in
+    let next : System = with_thread (record st { place = None }) i new in
+    rw (at, eq-eqb c.pair.generation t.generation own) (settles st next w (Acts i) (IsSettled p workers past refl (record {
+      ends = set.ends;
+      word = set.word;
+      place = λ no. absurd (let yes : is_by_worker p.holder ≡ true = rw held.holder refl in cc);
+      threads = thread_goes_on st.limits.budget st.place None p p st.threads workers i t new k set.threads there had
+          (HasOut c (record { holder = held.holder; connection = held.connection; generation = held.generation }) refl refl refl is)
+          (λ j u v other like. apart st.limits.budget st.place None p p j u v (holder_apart p i j held.holder other) refl like);
+    })) refl)

@@ -1,0 +1,180 @@
+-- When a state of the threads and a state of the machine are alike, and the law. Part of the promises. The machine has one
+-- slot. It makes an opening in one event where the threads make seven acts: it is ahead of them until the last of these.
+use Rattle.std.specs.Prelude.{◌≡◌, ◌≢◌, ℕ, true, false, List, [], ◌∷◌, ◌++◌, map, replicate, slice_get, drop, Option, Some, None, option_map}
+use Rattle.kernel_model.specs.declared.reply.Reply.{Reply}
+use Rattle.kernel_model.specs.declared.both.Descriptors.{Descriptors}
+use Rattle.kernel_model.specs.Ends.{is_nonempty}
+use Rattle.relay_core.specs.Pairs.{verdict, is_live}
+use Rattle.claims.specs.Words.{WordState}
+use Rattle.world.specs.declared.connection.Connection.{Connection}
+use Rattle.world.specs.declared.limits.Limits.{Limits}
+use Rattle.world.specs.declared.actors.Ticket.{Ticket}
+use Rattle.world.specs.declared.actors.Holder.TheVariants.{Nobody, By}
+use Rattle.world.specs.declared.actors.Doing.TheVariants as doing
+use Rattle.world.specs.declared.event.Event.{Event}
+use Rattle.world.specs.declared.event.Event.TheVariants as event
+use Rattle.world.specs.declared.event.Act.TheVariants as act
+use Rattle.world.specs.declared.past.Past.{Past}
+use Rattle.world.specs.Slots.{SlotState, WorkerState, is_by_worker}
+use Rattle.world.specs.States.{State}
+use Rattle.world.specs.States as machine
+use Rattle.world.specs.Steps.{may_release}
+use Rattle.world.specs.Words.{word_at}
+use Rattle.world.specs.Acts.{busy}
+use Rattle.world.specs.Runs as events
+use Rattle.world.specs.Headline.{HeadlineHolds}
+use Rattle.interleaving.specs.Programs.{TakeOut, TakeNotes, Post, Release, Retire, Give, turn, plan, opening}
+use Rattle.interleaving.specs.Threads.{System, Thread, Step, Calls, start, run}
+
+-- the ticket of a generation of the one slot
+abbrev pub ticket : ℕ → Ticket
+ticket g = record { slot = 0; generation = g }
+
+-- The thread i, which is t, holds the slot, of which the machine has p there, with this connection
+pub record Held (p : SlotState) (i : ℕ) (t : Thread) (c : Connection) : Type 0 where
+  pub holder : p.holder ≡ By i
+  pub connection : p.connection ≡ Some c
+  pub generation : p.generation ≡ t.generation
+
+-- it has closed the connection
+pub record HeldClosed (p : SlotState) (i : ℕ) (t : Thread) : Type 0 where
+  pub holder : p.holder ≡ By i
+  pub connection : p.connection ≡ None
+  pub generation : p.generation ≡ t.generation
+
+-- The thread i is where the machine's worker i is, if `place` is what the threads have in the slot's place. It has nothing
+-- to do; is to open a connection; has a ticket; holds the slot; has its connection out; has taken the notes too, and goes
+-- by its plan; has the connection back in its place, and is to post, or to release the slot; has closed the connection;
+-- has retired the slot
+pub data ThreadLike (budget : ℕ) (place : Option Connection) (p : SlotState) (i : ℕ) (t : Thread) (k : WorkerState) : Type 0 where
+  Rests : t.todo ≡ [] → k ≡ machine.resting → ThreadLike budget place p i t k
+  Opens : i ≡ 0 → t.todo ≡ opening → k ≡ machine.resting → ThreadLike budget place p i t k
+  Tries : t.todo ≡ turn → k ≡ busy (doing.Tries (ticket t.generation)) → ThreadLike budget place p i t k
+  Holds : (c : Connection) → Held p i t c → place ≡ Some c → t.todo ≡ TakeOut ∷ TakeNotes ∷ [] → k ≡ busy (doing.Holds 0 budget)
+      → ThreadLike budget place p i t k
+  HasOut : (c : Connection) → Held p i t c → place ≡ None → t.out ≡ Some c → t.todo ≡ TakeNotes ∷ [] → k ≡ busy (doing.Holds 0 budget)
+      → ThreadLike budget place p i t k
+  Goes : (c : Connection) → Held p i t c → place ≡ None → t.out ≡ Some c → t.todo ≡ plan t.left c.pair → k ≡ busy (doing.Holds 0 t.left)
+      → ThreadLike budget place p i t k
+  Stays : (c : Connection) → Held p i t c → place ≡ Some c → is_live (verdict c.pair) ≡ true → t.todo ≡ Post ∷ Release ∷ []
+      → k ≡ busy (doing.Holds 0 t.left) → ThreadLike budget place p i t k
+  Leaves : (c : Connection) → Held p i t c → place ≡ Some c → may_release c (is_nonempty p.notes) ≡ true → t.todo ≡ Release ∷ []
+      → k ≡ busy (doing.Holds 0 t.left) → ThreadLike budget place p i t k
+  HasClosed : HeldClosed p i t → place ≡ None → t.todo ≡ Retire ∷ Give ∷ [] → k ≡ busy (doing.Closed 0) → ThreadLike budget place p i t k
+  HasRetired : p.generation ≡ t.generation → t.todo ≡ Give ∷ [] → k ≡ busy (doing.Retired 0) → ThreadLike budget place p i t k
+
+-- the machine has a worker that is where the thread is
+pub record WorkerFor (budget : ℕ) (place : Option Connection) (p : SlotState) (workers : List WorkerState) (i : ℕ) (t : Thread) : Type 0 where
+  pub worker : WorkerState
+  pub there : slice_get workers i ≡ Some worker
+  pub like : ThreadLike budget place p i t worker
+
+-- for each thread
+abbrev pub WorkersFor : ℕ → Option Connection → SlotState → List WorkerState → List Thread → Type 0
+WorkersFor budget place p workers threads =
+    (i : ℕ) (t : Thread) → slice_get threads i ≡ Some t → WorkerFor budget place p workers i t
+
+abbrev pub ends_of : SlotState → Option Descriptors
+ends_of p = option_map (λ (c : Connection). c.ends) p.connection
+
+-- The machine that has what the threads have, with the slot p, this entry in its table, the tickets of these generations,
+-- these workers, and these connections that were closed
+abbrev pub machine_of : System → SlotState → ℕ → List ℕ → List WorkerState → List Past → State
+machine_of st p entry tickets workers past = record {
+  limits = st.limits;
+  second = st.second;
+  kernel = st.kernel;
+  flag = st.flag;
+  accepted = st.accepted;
+  table = entry ∷ [];
+  batch = st.batch;
+  hand = [];
+  ready = map ticket tickets;
+  free = replicate st.free 0;
+  slots = p ∷ [];
+  workers = workers;
+  past = past;
+}
+
+-- No opening is half way: the word and the place are those of the slot p, and each thread is where its worker is. A place
+-- is empty while its connection is out with the holder of the slot
+pub record Settled (st : System) (p : SlotState) (workers : List WorkerState) : Type 0 where
+  pub ends : st.ends ≡ ends_of p
+  pub word : st.word ≡ word_at p
+  pub place : is_by_worker p.holder ≡ false → st.place ≡ p.connection
+  pub threads : WorkersFor st.limits.budget st.place p workers st.threads
+
+-- the word of a slot that an opening has adopted, with this many notes
+abbrev pub taken_word : ℕ → WordState
+taken_word notes = record { pending = notes; free = false; held = true }
+
+-- How far the poller's thread t is with the opening of c, by the word, the place and the table's entry: both sockets are
+-- registered; the slot is adopted; the table has its generation; the old notes are gone; the connection is in its place;
+-- the note of the opening is posted
+pub data Stage (word : WordState) (place : Option Connection) (entry : ℕ) (t : Thread) (c : Connection) : Type 0 where
+  Registered : (notes : ℕ) → t.todo ≡ drop 1 opening → word ≡ record { pending = notes; free = true; held = true } → place ≡ None
+      → t.out ≡ Some c → Stage word place entry t c
+  Adopted : (notes : ℕ) → t.todo ≡ drop 2 opening → word ≡ taken_word notes → place ≡ None → t.out ≡ Some c → Stage word place entry t c
+  Entered : (notes : ℕ) → t.todo ≡ drop 3 opening → word ≡ taken_word notes → place ≡ None → t.out ≡ Some c → entry ≡ t.generation
+      → Stage word place entry t c
+  Emptied : t.todo ≡ drop 4 opening → word ≡ taken_word 0 → place ≡ None → t.out ≡ Some c → entry ≡ t.generation → Stage word place entry t c
+  Placed : t.todo ≡ drop 5 opening → word ≡ taken_word 0 → place ≡ Some c → entry ≡ t.generation → Stage word place entry t c
+  Posted : t.todo ≡ drop 6 opening → word ≡ taken_word 1 → place ≡ Some c → entry ≡ t.generation → Stage word place entry t c
+
+-- what the machine has of the slot once it has made the opening
+abbrev pub opened_slot : ℕ → Connection → SlotState
+opened_slot g c = record { generation = g; connection = Some c; holder = Nobody; notes = g ∷ [] }
+
+-- An opening is half way: the machine has made it, and nobody but the poller's thread t has anything to do with the slot
+pub record HalfOpen (st : System) (t : Thread) (c : Connection) (workers : List WorkerState) : Type 0 where
+  pub first : slice_get st.threads 0 ≡ Some t
+  pub worker : slice_get workers 0 ≡ Some machine.resting
+  pub others : (i : ℕ) (u : Thread) → i ≢ 0 → slice_get st.threads i ≡ Some u → (u.todo ≡ []) × (slice_get workers i ≡ Some machine.resting)
+  pub tickets : st.tickets ≡ []
+  pub ends : st.ends ≡ Some c.ends
+  pub stage : Stage st.word st.place st.entry t c
+
+pub data Like (st : System) (w : State) : Type 0 where
+  IsSettled : (p : SlotState) (workers : List WorkerState) (past : List Past) → w ≡ machine_of st p st.entry st.tickets workers past
+      → Settled st p workers → Like st w
+  IsHalfOpen : (t : Thread) (c : Connection) (workers : List WorkerState) (past : List Past)
+      → w ≡ machine_of st (opened_slot t.generation c) t.generation (t.generation ∷ []) workers past → HalfOpen st t c workers → Like st w
+
+-- the calls of the threads and those of the machine's workers: by which, and with which reply
+abbrev pub call_of : Step → List (ℕ × Reply)
+call_of (Calls i r) = (i, r) ∷ []
+call_of s = []
+
+abbrev pub calls_of : List Step → List (ℕ × Reply)
+calls_of [] = []
+calls_of (s ∷ steps) = call_of s ++ calls_of steps
+
+abbrev pub call_in : Event → List (ℕ × Reply)
+call_in (event.Work i (act.Call r)) = (i, r) ∷ []
+call_in e = []
+
+abbrev pub calls_in : List Event → List (ℕ × Reply)
+calls_in [] = []
+calls_in (e ∷ es) = call_in e ++ calls_in es
+
+-- What no thread ever finds: a slot that is held where it has a ticket, a place that lacks the ticket's connection, and a
+-- slot that is not free where it opens a connection
+pub record NothingIsLost (st : System) : Type 0 where
+  pub held : (i : ℕ) (t : Thread) → slice_get st.threads i ≡ Some t → t.todo ≡ turn → st.word.held ≡ false
+  pub there : (i : ℕ) (t : Thread) → slice_get st.threads i ≡ Some t → t.todo ≡ drop 1 turn
+      → (c : Connection) × (st.place ≡ Some c) × (c.pair.generation ≡ t.generation)
+  pub free : (i : ℕ) (t : Thread) → slice_get st.threads i ≡ Some t → t.todo ≡ drop 1 opening → st.word.free ≡ true
+
+-- These steps of threads are a run of the machine: there are events, allowed one after the other from its opening, that
+-- lead to a like state, with the same calls and replies in the same order. So the headline holds of it
+pub record IsARun (l : Limits) (steps : List Step) (st : System) : Type 0 where
+  pub made : List Event
+  pub world : State
+  pub allowed : events.run (machine.opening l) made ≡ Some world
+  pub like : Like st world
+  pub calls : calls_in made ≡ calls_of steps
+  pub holds : HeadlineHolds l made world
+  pub nothing : NothingIsLost st
+
+abbrev pub EveryInterleavingIsARun : Type 0
+EveryInterleavingIsARun = (l : Limits) (steps : List Step) (st : System) → l.slots ≡ 1 → run (start l) steps ≡ Some st → IsARun l steps st

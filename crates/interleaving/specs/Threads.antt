@@ -1,0 +1,307 @@
+-- The threads of the server at one slot: what they share, and what each of their acts does. Part of the promises. A turn
+-- and an opening go by the programs, and what is not a thread's own is shared: the slot's word, its place, the queues
+-- and the kernel. Acts of different threads come in any order.
+use Rattle.std.specs.Global.{Global}
+use Rattle.std.specs.Prelude.{Vec, ℕ, zero, suc, ◌+◌, ◌-◌, ◌==◌, Bool, true, false, not, ◌&&◌, nat_lt, nat_le, if◌then◌else◌, List, [], ◌∷◌, ◌++◌, length, replicate, slice_get, slice_set, Option, Some, None, option_map, option_and_then}
+use Rattle.token.specs.declared.side.Side.{Side}
+use Rattle.token.specs.declared.side.Side.TheVariants.{Client, Target}
+use Rattle.token.specs.declared.name.Name.{Name}
+use Rattle.token.specs.declared.name.Name.TheVariants as name
+use Rattle.token.specs.Names.{EndName}
+use Rattle.kernel_model.specs.declared.reply.Reply.{Reply}
+use Rattle.kernel_model.specs.declared.watched.Watched.{Watched}
+use Rattle.kernel_model.specs.declared.watched.Watched.TheVariants as watched
+use Rattle.kernel_model.specs.declared.accepting.Accepting.{Accepting}
+use Rattle.kernel_model.specs.declared.accepting.Accepting.TheVariants.{Accepted, Blocked, Again, Starved}
+use Rattle.kernel_model.specs.declared.both.Descriptors.{Descriptors}
+use Rattle.kernel_model.specs.declared.both.Sockets.{Sockets}
+use Rattle.kernel_model.specs.Outcome.{guard, Told}
+use Rattle.kernel_model.specs.Kernel as kernel
+use Rattle.kernel_model.specs.Kernel.{KernelState}
+use Rattle.relay_core.specs.Pairs.{fresh, noted}
+use Rattle.relay_core.specs.Idle.{expired}
+use Rattle.claims.specs.Words.{WordState, word_after, wakes, some_wait}
+use Rattle.claims.specs.Words as word
+use Rattle.world.specs.declared.connection.Connection.{Connection}
+use Rattle.world.specs.declared.limits.Limits.{Limits}
+use Rattle.world.specs.declared.event.Change.{Change}
+use Rattle.world.specs.declared.event.Reported.{Reported}
+use Rattle.world.specs.declared.event.Reported.TheVariants as reported
+use Rattle.world.specs.Calls.{when, OpenConnection, descriptor, called}
+use Rattle.world.specs.Steps.{change_at, token_of, is_worn}
+use Rattle.interleaving.specs.Programs.{Act, Claim, TakeOut, TakeNotes, Call, PutIn, Post, Release, Close, Retire, Give, Register, Adopt, Enter, Discard, turn, gone, plan, opening}
+
+-- A thread: the generation of its ticket or of the connection that it opens, the connection that it has out of its
+-- place, the calls that are left, and the rest of its program. Without one it rests
+pub record Thread : Type 0 where
+  pub generation : ℕ
+  pub out : Option Connection
+  pub left : ℕ
+  pub todo : List Act
+
+-- `second` is the second that it is, and `kernel` has the sockets. The poller has `flag`, which says that an accept is
+-- worth a try, perhaps an `accepted` client, the rest of its `batch`, and in its table the slot's `entry`. `ends` are the
+-- sockets of the slot's connection. `word` is the slot's word, `place` the connection in its place, `tickets` are the
+-- generations of its tickets in the ready queue and in hands, oldest first, and `free` is how often the slot stands in
+-- the queue of free slots or in the poller's hand. The first of the `threads` is the poller's
+pub record System : Type 0 where
+  pub limits : Limits
+  pub second : ℕ
+  pub kernel : KernelState
+  pub flag : Bool
+  pub accepted : Bool
+  pub batch : List Name
+  pub entry : ℕ
+  pub ends : Option Descriptors
+  pub word : WordState
+  pub place : Option Connection
+  pub tickets : List ℕ
+  pub free : ℕ
+  pub threads : List Thread
+
+abbrev pub resting : Thread
+resting = record { generation = 0; out = None; left = 0; todo = [] }
+
+-- how it begins, with the threads that the limits name
+abbrev pub start : Limits → System
+start l = record {
+  limits = l;
+  second = 0;
+  kernel = kernel.idle;
+  flag = true;
+  accepted = false;
+  batch = [];
+  entry = l.generation;
+  ends = None;
+  word = record { pending = 0; free = true; held = true };
+  place = None;
+  tickets = [];
+  free = 1;
+  threads = replicate l.workers resting;
+}
+
+-- What may happen: some seconds pass (`Tick`); the network does something (`Network`, `Connect`); a report comes without
+-- cause (`Spurious`) or is taken back (`Vanish`). The poller calls accept(2) (`Accept`), drops what it accepted (`Drop`),
+-- polls (`Poll`), delivers the first report of its batch (`Deliver`), posts for time (`Sweep`), or begins an opening
+-- (`Open`). A thread begins a turn with the oldest ticket (`Begin`), or makes the next act of its program: `Acts`, or
+-- `Calls` with the reply of a call
+pub data Step : Type 0 where
+  Tick : ℕ → Step
+  Network : Side → Change → Step
+  Connect : Step
+  Spurious : Reported → Step
+  Vanish : Reported → Step
+  Accept : Accepting → Step
+  Drop : Step
+  Poll : Vec Name Global → Step
+  Deliver : Step
+  Sweep : Step
+  Open : Step
+  Begin : ℕ → Step
+  Acts : ℕ → Step
+  Calls : ℕ → Reply → Step
+
+abbrev pub with_thread : System → ℕ → Thread → System
+with_thread st i t = record st { threads = slice_set st.threads i t }
+
+-- the thread has no program
+abbrev pub is_over : List Act → Bool
+is_over [] = true
+is_over (act ∷ rest) = false
+
+abbrev pub rests : Thread → Bool
+rests t = is_over t.todo
+
+abbrev pub rests_at : Option Thread → Bool
+rests_at None = false
+rests_at (Some t) = rests t
+
+-- the poller's thread rests
+abbrev pub poller_rests : System → Bool
+poller_rests st = rests_at (slice_get st.threads 0)
+
+-- the same over another kernel
+abbrev pub over_kernel : System → Option KernelState → Option System
+over_kernel st k = option_map (λ (q : KernelState). record st { kernel = q }) k
+
+-- Exchanges of the slot's word
+
+-- a note is posted, and a ticket of this generation is in hand where the post wakes
+abbrev pub posted : System → ℕ → System
+posted st g = record st {
+  word = word_after word.post st.word;
+  tickets = if wakes st.word then st.tickets ++ g ∷ [] else st.tickets;
+}
+
+-- a release, and a ticket of this generation is in hand where notes wait
+abbrev pub released : System → ℕ → System
+released st g = record st {
+  word = word_after word.release st.word;
+  tickets = if some_wait st.word.pending then st.tickets ++ g ∷ [] else st.tickets;
+}
+
+-- an exchange whose answer changes nothing else
+abbrev pub exchanged : System → word.StepKind → System
+exchanged st kind = record st { word = word_after kind st.word }
+
+-- The acts of a thread i, which is t, with this rest of its program
+
+abbrev pub goes_on : Thread → List Act → Thread
+goes_on t rest = record t { todo = rest }
+
+-- it holds the slot, or drops its ticket where the slot is held
+abbrev pub claimed : System → ℕ → Thread → List Act → System
+claimed st i t rest =
+    if st.word.held then with_thread st i resting
+    else with_thread (exchanged st word.claim) i (goes_on t rest)
+
+-- it has the connection, if that is the ticket's own
+abbrev pub taken_out : System → ℕ → Thread → List Act → Option Connection → System
+taken_out st i t rest None = with_thread st i (goes_on t gone)
+taken_out st i t rest (Some c) =
+    if c.pair.generation == t.generation then with_thread (record st { place = None }) i (record t { out = Some c; todo = rest })
+    else with_thread st i (goes_on t gone)
+
+-- a turn goes on with a connection that is out, and with this many calls left; it fails where the idle limit has passed
+abbrev pub with_plan : Thread → ℕ → Connection → Thread
+with_plan t left c = record t { out = Some c; left = left; todo = plan left c.pair }
+
+abbrev pub planned : System → Thread → ℕ → Connection → Thread
+planned st t left c = with_plan t left (record c { pair = expired st.second st.limits.idle c.pair })
+
+-- if there were notes, every call is worth a try again
+abbrev pub heard : ℕ → Connection → Connection
+heard notes c = if some_wait notes then record c { pair = noted c.pair } else c
+
+abbrev pub notes_taken : System → ℕ → Thread → Connection → System
+notes_taken st i t c = with_thread (exchanged st word.take) i (planned st t st.limits.budget (heard st.word.pending c))
+
+abbrev pub put_in : System → ℕ → Thread → List Act → System
+put_in st i t rest = with_thread (record st { place = t.out }) i (record t { out = None; todo = rest })
+
+abbrev pub closed : System → ℕ → Thread → List Act → Connection → Option System
+closed st i t rest c = option_map
+    (λ (told : Told KernelState Sockets). with_thread (record st { kernel = told.value; ends = None }) i (record t { out = None; todo = rest }))
+    (kernel.close_both st.kernel c.ends)
+
+-- a slot whose last generation was used is not opened again
+abbrev pub given : System → ℕ → System
+given st g = if is_worn g then st else record st { free = suc st.free }
+
+-- both sockets are open, and the connection is out with the thread
+abbrev pub registered : System → ℕ → Thread → List Act → ℕ → ℕ → Told KernelState Descriptors → System
+registered st i t rest free g told = with_thread
+    (record st { kernel = told.value; accepted = false; free = free; ends = Some told.told })
+    i (record t {
+      generation = g;
+      out = Some (record { pair = fresh 0 g st.limits.ring st.second st.limits.lead; ends = told.told });
+      todo = rest;
+    })
+
+-- with a free slot, an accepted client, and a generation after the table's
+abbrev pub registering : System → ℕ → Thread → List Act → ℕ → Option System
+registering st i t rest zero = None
+registering st i t rest (suc free) = when st.accepted (option_and_then
+    (λ (client : EndName). option_map
+    (λ (target : EndName). registered st i t rest free (st.entry + 1) (kernel.open_both st.kernel client target))
+    (token_of 0 Target (st.entry + 1)))
+    (token_of 0 Client (st.entry + 1)))
+
+-- the slot is the thread's, or no longer used where it was not free
+abbrev pub adopted : System → ℕ → Thread → List Act → System
+adopted st i t rest =
+    if st.word.free then with_thread (exchanged st word.adopt) i (goes_on t rest)
+    else with_thread st i resting
+
+abbrev pub after_act : System → ℕ → Thread → Act → List Act → Option System
+after_act st i t Claim rest = Some (claimed st i t rest)
+after_act st i t TakeOut rest = Some (taken_out st i t rest st.place)
+after_act st i t TakeNotes rest = option_map (λ (c : Connection). notes_taken st i t c) t.out
+after_act st i t Call rest = None
+after_act st i t PutIn rest = Some (put_in st i t rest)
+after_act st i t Post rest = Some (with_thread (posted st t.generation) i (goes_on t rest))
+after_act st i t Release rest = Some (with_thread (released st t.generation) i (goes_on t rest))
+after_act st i t Close rest = option_and_then (λ (c : Connection). closed st i t rest c) t.out
+after_act st i t Retire rest = Some (with_thread (exchanged st word.retire) i (goes_on t rest))
+after_act st i t Give rest = Some (with_thread (given st t.generation) i (goes_on t rest))
+after_act st i t Register rest = registering st i t rest st.free
+after_act st i t Adopt rest = Some (adopted st i t rest)
+after_act st i t Enter rest = Some (with_thread (record st { entry = t.generation }) i (goes_on t rest))
+after_act st i t Discard rest = Some (with_thread (exchanged st word.take) i (goes_on t rest))
+
+-- the next call of the connection that is out gets a reply
+abbrev pub after_call : System → ℕ → Thread → Reply → Act → Option System
+after_call st i t r Call = option_and_then
+    (λ (c : Connection). option_map
+    (λ (line : OpenConnection). with_thread (record st { kernel = line.kernel }) i (planned st t (t.left - 1) line.connection))
+    (called st.second (record { kernel = st.kernel; connection = c }) r))
+    t.out
+after_call st i t r act = None
+
+-- the first act of the rest of the program is made
+abbrev pub acts : System → ℕ → Thread → List Act → Option System
+acts st i t [] = None
+acts st i t (act ∷ rest) = after_act st i t act rest
+
+abbrev pub calls : System → ℕ → Thread → Reply → List Act → Option System
+calls st i t r [] = None
+calls st i t r (act ∷ rest) = after_call st i t r act
+
+-- the thread begins a turn with the oldest of these tickets
+abbrev pub begun : System → ℕ → List ℕ → Option System
+begun st i [] = None
+begun st i (g ∷ rest) = Some (with_thread (record st { tickets = rest }) i (record { generation = g; out = None; left = 0; todo = turn }))
+
+abbrev pub begins : System → ℕ → Thread → Option System
+begins st i t = when (rests t) (begun st i st.tickets)
+
+-- What the poller does between its programs
+
+abbrev pub after_accept : System → Accepting → System
+after_accept st Accepted = record st { accepted = true }
+after_accept st Blocked = record st { flag = false }
+after_accept st Again = st
+after_accept st Starved = st
+
+-- a report of an end is posted only where its generation is the table's
+abbrev pub delivered : System → Name → System
+delivered st name.Listener = record st { flag = true }
+delivered st name.Waker = st
+delivered st (name.End n) = if (n.slot == 0) && (st.entry == n.generation) then posted st n.generation else st
+
+abbrev pub delivers : System → List Name → Option System
+delivers st [] = None
+delivers st (n ∷ rest) = Some (record (delivered st n) { batch = rest })
+
+-- what a report is about, as the kernel knows it
+abbrev pub watched_of : System → Reported → Option Watched
+watched_of st reported.Listener = Some watched.Listener
+watched_of st reported.Waker = Some watched.Waker
+watched_of st (reported.End s side) = option_map (λ (ends : Descriptors). watched.End (descriptor ends side)) st.ends
+
+abbrev pub is_limited : System → Bool
+is_limited st = nat_lt 0 st.limits.idle
+
+abbrev pub step : System → Step → Option System
+step st (Tick n) = guard (is_limited st && (nat_le 1 n && (nat_le n 4294967295 && nat_le (st.second + n) 18446744073709551615)))
+    (record st { second = st.second + n })
+step st (Network side change) = option_and_then
+    (λ (ends : Descriptors). over_kernel st (change_at st.kernel (descriptor ends side) change)) st.ends
+step st Connect = over_kernel st (kernel.connect_in st.kernel)
+step st (Spurious who) = option_and_then (λ (w : Watched). over_kernel st (kernel.spurious st.kernel w)) (watched_of st who)
+step st (Vanish who) = option_and_then (λ (w : Watched). over_kernel st (kernel.vanish st.kernel w)) (watched_of st who)
+step st (Accept reply) = when (poller_rests st && (st.flag && (not st.accepted && nat_lt 0 st.free)))
+    (over_kernel (after_accept st reply) (kernel.accept st.kernel reply))
+step st Drop = guard (poller_rests st && st.accepted) (record st { accepted = false })
+step st (Poll names) = when (poller_rests st && (length st.batch == 0)) (over_kernel (record st { batch = names.items }) (kernel.poll st.kernel names.items))
+step st Deliver = when (poller_rests st) (delivers st st.batch)
+step st Sweep = guard (poller_rests st && (is_limited st && nat_lt 0 st.entry)) (posted st st.entry)
+step st Open = option_and_then (λ (t : Thread). guard (rests t) (with_thread st 0 (goes_on t opening))) (slice_get st.threads 0)
+step st (Begin i) = option_and_then (λ (t : Thread). begins st i t) (slice_get st.threads i)
+step st (Acts i) = option_and_then (λ (t : Thread). acts st i t t.todo) (slice_get st.threads i)
+step st (Calls i r) = option_and_then (λ (t : Thread). calls st i t r t.todo) (slice_get st.threads i)
+
+-- a list of steps, each of which can be made
+abbrev pub run : System → List Step → Option System
+run st [] = Some st
+run st (s ∷ steps) = option_and_then (λ (q : System). run q steps) (step st s)
