@@ -5,7 +5,8 @@ use Rattle.relay_core.specs.Pairs.{noted}
 use Rattle.relay_core.specs.Order.{next_call}
 use Rattle.relay_core.specs.Replies.{fits}
 use Rattle.relay_core.specs.Idle.{is_overdue, expired}
-use Rattle.claims.specs.Words.{some_wait}
+use Rattle.claims.specs.Words as word
+use Rattle.claims.specs.Words.{WordState, some_wait}
 use Rattle.world.specs.declared.connection.Connection.{Connection}
 use Rattle.world.specs.declared.actors.Doing.TheVariants as doing
 use Rattle.world.specs.declared.event.Event.{Event}
@@ -18,11 +19,15 @@ use Rattle.kernel_model.specs.Kernel.{KernelState}
 use Rattle.world.specs.Slots.{SlotState, WorkerState, is_by_worker}
 use Rattle.world.specs.States.{State}
 use Rattle.world.specs.Steps as machine
+use Rattle.world.specs.Words.{word_at}
 use Rattle.world.specs.Acts.{busy}
 use Rattle.world.specs.Runs as machine_runs
 use Rattle.world.proofs.TurnsKept.{Kept, kept_bind, kept_map, kept_when, kept_at}
 use Rattle.interleaving.specs.Programs.{Call}
 use Rattle.interleaving.specs.Threads.{System, Thread, Acts, Calls, with_thread, heard, planned, notes_taken, after_call}
+use Rattle.claims.specs.declared.view.Exchange.{Exchange}
+use Rattle.claims.specs.Rule.{made as exchange_made}
+use Rattle.interleaving.specs.Histories.{exchanges_in}
 use Rattle.interleaving.specs.Likeness.{Held, ThreadLike, Goes, machine_of, Settled, IsSettled, calls_in}
 use Rattle.interleaving.proofs.Frames.{Follows, apart, go_on, thread_goes_on, holder_apart}
 use Rattle.interleaving.proofs.Posts.{some_notes}
@@ -39,6 +44,7 @@ record Limited (st : System) (p : SlotState) (c : Connection) (workers : List Wo
   pub allowed : machine_runs.run (machine_of st (with_connection p c) st.entry st.tickets workers past) events
       ≡ Some (machine_of st (with_connection p (held_to_limit st.second st.limits.idle c)) st.entry st.tickets workers past)
   pub calls : calls_in events ≡ []
+  pub words : exchanges_in (machine_of st (with_connection p c) st.entry st.tickets workers past) events ≡ []
 
 limited : (st : System) (p : SlotState) (c : Connection) (workers : List WorkerState) (past : List Past) (i left : ℕ) → slice_get workers i ≡ Some (busy (doing.Holds 0 left))
     → (b : Bool) → is_overdue st.second st.limits.idle c.pair ≡ b → Limited st p c workers past
@@ -46,8 +52,9 @@ limited st p c workers past i left had true over = record {
   events = event.Work i act.Expire ∷ [];
   allowed = rw (had, over) refl;
   calls = refl;
+  words = rw (had, over) refl;
 }
-limited st p c workers past i left had false over = record { events = []; allowed = rw over refl; calls = refl }
+limited st p c workers past i left had false over = record { events = []; allowed = rw over refl; calls = refl; words = refl }
 
 more_runs : (es more : List Event) (o : Option State)
     → ((q : State) → machine_runs.run q (es ++ more) ≡ option_and_then (λ (v : State). machine_runs.run v more) (machine_runs.run q es))
@@ -79,7 +86,7 @@ takes : (st : System) (p : SlotState) (workers : List WorkerState) (past : List 
     → (i : ℕ) (t : Thread) → slice_get st.threads i ≡ Some t
     → (c : Connection) → Held p i t c → st.place ≡ None → slice_get workers i ≡ Some (busy (doing.Holds 0 st.limits.budget))
     → Limited (notes_taken st i t c) (record p { notes = [] }) (heard st.word.pending c) workers past
-    → Follows (machine_of st p st.entry st.tickets workers past) (Acts i) (notes_taken st i t c)
+    → Follows [] (exchange_made word.take st.word ∷ []) (machine_of st p st.entry st.tickets workers past) (Acts i) (notes_taken st i t c)
 takes st p workers past set i t there c held at had l =
     let e : Connection = held_to_limit st.second st.limits.idle (heard st.word.pending c) in
     let next : System = notes_taken st i t c in
@@ -88,6 +95,8 @@ takes st p workers past set i t there c held at had l =
     let same : machine.heard c p.notes ≡ heard st.word.pending c = heard_as c p.notes ∙ rw count refl in
     let here : ThreadLike st.limits.budget st.place q i (planned st t st.limits.budget (heard st.word.pending c)) (busy (doing.Holds 0 st.limits.budget)) =
     Goes e (record { holder = held.holder; connection = refl; generation = held.generation }) at refl refl refl in
+    let words : exchanges_in (machine_of st p st.entry st.tickets workers past) (event.Work i act.Take ∷ l.events) ≡ exchange_made word.take (word_at p) ∷ [] =
+    rw (had, held.connection, same) (ap (λ (xs : List Exchange). exchange_made word.take (word_at p) ∷ xs) l.words) in
     record {
       events = event.Work i act.Take ∷ l.events;
       world = machine_of next q st.entry st.tickets workers past;
@@ -101,12 +110,13 @@ takes st p workers past set i t there c held at had l =
             (λ j u v other like. apart st.limits.budget st.place st.place p q j u v (holder_apart p i j held.holder other) refl like);
       });
       calls = l.calls;
+      words = words ∙ ap (λ (v : WordState). exchange_made word.take v ∷ []) (sym set.word);
     }
 
 pub takes_notes : (st : System) (p : SlotState) (workers : List WorkerState) (past : List Past) → Settled st p workers
     → (i : ℕ) (t : Thread) → slice_get st.threads i ≡ Some t → (k : WorkerState) → slice_get workers i ≡ Some k
     → (c : Connection) → Held p i t c → st.place ≡ None → k ≡ busy (doing.Holds 0 st.limits.budget)
-    → Follows (machine_of st p st.entry st.tickets workers past) (Acts i) (notes_taken st i t c)
+    → Follows [] (exchange_made word.take st.word ∷ []) (machine_of st p st.entry st.tickets workers past) (Acts i) (notes_taken st i t c)
 takes_notes st p workers past set i t there k had c held at is =
     let still : slice_get workers i ≡ Some (busy (doing.Holds 0 st.limits.budget)) = had ∙ ap Some is in
     takes st p workers past set i t there c held at still
@@ -136,7 +146,7 @@ makes_call : (st : System) (p : SlotState) (workers : List WorkerState) (past : 
     → (r : Reply) (line : OpenConnection) → called st.second (record { kernel = st.kernel; connection = c }) r ≡ Some line
     → Limited (with_thread (record st { kernel = line.kernel }) i (planned st t (t.left - 1) line.connection)) p line.connection
     (slice_set workers i (busy (doing.Holds 0 (t.left - 1)))) past
-    → Follows (machine_of st p st.entry st.tickets workers past) (Calls i r)
+    → Follows [] [] (machine_of st p st.entry st.tickets workers past) (Calls i r)
     (with_thread (record st { kernel = line.kernel }) i (planned st t (t.left - 1) line.connection))
 makes_call st p workers past set i t there c held at had some r line is l =
     let d : Connection = held_to_limit st.second st.limits.idle line.connection in
@@ -162,12 +172,13 @@ makes_call st p workers past set i t there c held at had some r line is l =
             (λ j u v other like. apart st.limits.budget st.place st.place p q j u v (holder_apart p i j held.holder other) refl like);
       });
       calls = ap (λ (xs : List (ℕ × Reply)). (i, r) ∷ xs) l.calls;
+      words = rw (had, some, made) l.words;
     }
 
 pub calls : (st : System) (p : SlotState) (workers : List WorkerState) (past : List Past) → Settled st p workers
     → (i : ℕ) (t : Thread) → slice_get st.threads i ≡ Some t → (k : WorkerState) → slice_get workers i ≡ Some k
     → (c : Connection) → Held p i t c → st.place ≡ None → t.out ≡ Some c → k ≡ busy (doing.Holds 0 t.left) → nat_lt 0 t.left ≡ true
-    → (r : Reply) → Kept (Follows (machine_of st p st.entry st.tickets workers past) (Calls i r)) (after_call st i t r Call)
+    → (r : Reply) → Kept (Follows [] [] (machine_of st p st.entry st.tickets workers past) (Calls i r)) (after_call st i t r Call)
 calls st p workers past set i t there k had c held at out is some r =
     let still : slice_get workers i ≡ Some (busy (doing.Holds 0 t.left)) = had ∙ ap Some is in
     kept_bind _ t.out (λ d has.

@@ -1,5 +1,5 @@
 -- What a step of one thread leaves of the others, and what it is to go on alike.
-use Rattle.std.proofs.Common.{◌≡◌, ◌≢◌, ◌⊎◌, inl, inr, ℕ, Bool, List, [], ◌∷◌, slice_get, slice_set, Option, Some, refl, sym, ◌∙◌}
+use Rattle.std.proofs.Common.{◌≡◌, ◌≢◌, ◌⊎◌, inl, inr, ℕ, Bool, List, [], ◌∷◌, ◌++◌, slice_get, slice_set, Option, Some, refl, sym, ◌∙◌}
 use Rattle.std.proofs.lemmas.Bool.{cases_eq}
 use Rattle.kernel_model.specs.Kernel.{KernelState}
 use Rattle.token.specs.declared.name.Name.{Name}
@@ -13,15 +13,18 @@ use Rattle.world.specs.Steps as machine
 use Rattle.world.specs.Runs as machine_runs
 use Rattle.world.proofs.TurnsTotals.{get-set_same, get-set_other}
 use Rattle.interleaving.specs.Threads.{System, Thread, Step}
-use Rattle.interleaving.specs.Likeness.{ThreadLike, Rests, Opens, Tries, Holds, HasOut, Goes, Stays, Leaves, HasClosed, HasRetired, WorkerFor, WorkersFor, ends_of, machine_of, Settled, HalfOpen, opened_slot, Like, IsSettled, IsHalfOpen, call_of, calls_in}
+use Rattle.claims.specs.declared.view.Exchange.{Exchange}
+use Rattle.interleaving.specs.Histories.{exchanges_in, left_of}
+use Rattle.interleaving.specs.Likeness.{ahead, ThreadLike, Rests, Opens, Tries, Holds, HasOut, Goes, Stays, Leaves, HasClosed, HasRetired, WorkerFor, WorkersFor, ends_of, machine_of, Settled, HalfOpen, opened_slot, Like, IsSettled, IsHalfOpen, call_of, calls_in}
 
--- one step of the threads, and what the machine makes of it
-pub record Follows (w : State) (s : Step) (next : System) : Type 0 where
+-- One step of the threads, which makes these exchanges, and what the machine makes of it, which was ahead by those before
+pub record Follows (before own : List Exchange) (w : State) (s : Step) (next : System) : Type 0 where
   pub events : List Event
   pub world : State
   pub allowed : machine_runs.run w events ≡ Some world
   pub like : Like next world
   pub calls : calls_in events ≡ call_of s
+  pub words : before ++ exchanges_in w events ≡ own ++ ahead next world like
 
 pub one_event : (w : State) (e : Event) (v : State) → machine.step w e ≡ Some v → machine_runs.run w (e ∷ []) ≡ Some v
 one_event w e v h = rw h refl
@@ -77,19 +80,22 @@ abbrev pub beside : System → ℕ → KernelState → Bool → Bool → List Na
 beside st n k flag accepted batch = record st { second = n; kernel = k; flag = flag; accepted = accepted; batch = batch }
 
 -- in both kinds of likeness
-pub record Frame (st : System) (p : SlotState) (entry : ℕ) (tickets : List ℕ) (workers : List WorkerState) : Type 0 where
+pub record Frame (st : System) (before : List Exchange) (p : SlotState) (entry : ℕ) (tickets : List ℕ) (workers : List WorkerState) : Type 0 where
   pub ends : st.ends ≡ ends_of p
   pub like : (n : ℕ) (k : KernelState) (flag accepted : Bool) (batch : List Name) (past : List Past)
       → Like (beside st n k flag accepted batch) (machine_of (beside st n k flag accepted batch) p entry tickets workers past)
+  pub ahead_is : (n : ℕ) (k : KernelState) (flag accepted : Bool) (batch : List Name) (past : List Past)
+      → ahead (beside st n k flag accepted batch) (machine_of (beside st n k flag accepted batch) p entry tickets workers past) (like n k flag accepted batch past) ≡ before
 
-pub settled_frame : (st : System) (p : SlotState) (workers : List WorkerState) → Settled st p workers → Frame st p st.entry st.tickets workers
+pub settled_frame : (st : System) (p : SlotState) (workers : List WorkerState) → Settled st p workers → Frame st [] p st.entry st.tickets workers
 settled_frame st p workers s = record {
   ends = s.ends;
   like = λ n k flag accepted batch past. IsSettled p workers past refl (record { ends = s.ends; word = s.word; place = s.place; threads = s.threads });
+  ahead_is = λ n k flag accepted batch past. refl;
 }
 
 pub half_frame : (st : System) (t : Thread) (c : Connection) (workers : List WorkerState) → HalfOpen st t c workers
-    → Frame st (opened_slot t.generation c) t.generation (t.generation ∷ []) workers
+    → Frame st (left_of t.todo st.word) (opened_slot t.generation c) t.generation (t.generation ∷ []) workers
 half_frame st t c workers s = record {
   ends = s.ends;
   like = λ n k flag accepted batch past. IsHalfOpen t c workers past refl (record {
@@ -100,6 +106,7 @@ half_frame st t c workers s = record {
     ends = s.ends;
     stage = s.stage;
   });
+  ahead_is = λ n k flag accepted batch past. refl;
 }
 
 -- one thread goes on, and no worker does
@@ -132,5 +139,6 @@ pub holder_apart : (p : SlotState) (i j : ℕ) → p.holder ≡ By i → i ≢ j
 holder_apart p i j by other also = other (let same : By i ≡ By j = sym by ∙ also in cc)
 
 -- the next state of the machine, where nothing but the threads' own changes
-pub settles : (st next : System) (w : State) (s : Step) → Like next w → call_of s ≡ [] → Follows w s next
-settles st next w s like nothing = record { events = []; world = w; allowed = refl; like = like; calls = rw nothing refl }
+pub settles : (st next : System) (w : State) (s : Step) (before own : List Exchange) (like : Like next w) → call_of s ≡ [] → before ++ [] ≡ own ++ ahead next w like
+    → Follows before own w s next
+settles st next w s before own like nothing words = record { events = []; world = w; allowed = refl; like = like; calls = rw nothing refl; words = words }

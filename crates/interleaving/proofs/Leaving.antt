@@ -25,6 +25,7 @@ use Rattle.world.proofs.TurnsKept.{Kept, kept_map}
 use Rattle.world.proofs.TurnsTotals.{get-set_same}
 use Rattle.interleaving.specs.Programs.{Act, Post, Release, Retire, Give}
 use Rattle.interleaving.specs.Threads.{System, Thread, Acts, with_thread, goes_on, posted, released, put_in, closed, given}
+use Rattle.claims.specs.Rule.{made as exchange_made}
 use Rattle.interleaving.specs.Likeness.{ticket, Held, HeldClosed, ThreadLike, Rests, Stays, Leaves, HasClosed, HasRetired, machine_of, Settled, IsSettled}
 use Rattle.interleaving.proofs.Frames.{Follows, apart, go_on, thread_goes_on, holder_apart, settles}
 use Rattle.interleaving.proofs.Posts.{some_notes, post_word, some_more, noted_like}
@@ -38,16 +39,16 @@ put_back : (st : System) (p : SlotState) (workers : List WorkerState) (past : Li
     → (i : ℕ) (t : Thread) → slice_get st.threads i ≡ Some t → (k : WorkerState) → slice_get workers i ≡ Some k
     → (c : Connection) → Held p i t c → t.out ≡ Some c → (rest : List Act)
     → ThreadLike st.limits.budget (Some c) p i (record t { out = None; todo = rest }) k
-    → Follows (machine_of st p st.entry st.tickets workers past) (Acts i) (put_in st i t rest)
+    → Follows [] [] (machine_of st p st.entry st.tickets workers past) (Acts i) (put_in st i t rest)
 put_back st p workers past set i t there k had c held out rest here =
     let new : Thread = record t { out = None; todo = rest } in
-    rw out (settles st (with_thread (record st { place = Some c }) i new) (machine_of st p st.entry st.tickets workers past) (Acts i) (IsSettled p workers past refl (record {
+    rw out (settles st (with_thread (record st { place = Some c }) i new) (machine_of st p st.entry st.tickets workers past) (Acts i) [] [] (IsSettled p workers past refl (record {
       ends = set.ends;
       word = set.word;
       place = λ no. held_by p i _ held.holder no;
       threads = thread_goes_on st.limits.budget st.place (Some c) p p st.threads workers i t new k set.threads there had here
           (λ j u v other like. apart st.limits.budget st.place (Some c) p p j u v (holder_apart p i j held.holder other) refl like);
-    })) refl)
+    })) refl refl)
 
 rests_now : (c : Connection) (some : Bool) → is_live (verdict c.pair) ≡ true → is_none (next_call c.pair) ≡ true → may_release c some ≡ true
 unfolding may_release
@@ -58,7 +59,7 @@ pub puts_quiet : (st : System) (p : SlotState) (workers : List WorkerState) (pas
     → (i : ℕ) (t : Thread) → slice_get st.threads i ≡ Some t → (k : WorkerState) → slice_get workers i ≡ Some k
     → (c : Connection) → Held p i t c → t.out ≡ Some c → k ≡ busy (doing.Holds 0 t.left)
     → is_live (verdict c.pair) ≡ true → is_none (next_call c.pair) ≡ true
-    → Follows (machine_of st p st.entry st.tickets workers past) (Acts i) (put_in st i t (Release ∷ []))
+    → Follows [] [] (machine_of st p st.entry st.tickets workers past) (Acts i) (put_in st i t (Release ∷ []))
 puts_quiet st p workers past set i t there k had c held out is live none =
     put_back st p workers past set i t there k had c held out (Release ∷ [])
     (Leaves c (record { holder = held.holder; connection = held.connection; generation = held.generation }) refl (rests_now c (is_nonempty p.notes) live none) refl is)
@@ -68,7 +69,7 @@ pub puts_again : (st : System) (p : SlotState) (workers : List WorkerState) (pas
     → (i : ℕ) (t : Thread) → slice_get st.threads i ≡ Some t → (k : WorkerState) → slice_get workers i ≡ Some k
     → (c : Connection) → Held p i t c → t.out ≡ Some c → k ≡ busy (doing.Holds 0 t.left)
     → is_live (verdict c.pair) ≡ true
-    → Follows (machine_of st p st.entry st.tickets workers past) (Acts i) (put_in st i t (Post ∷ Release ∷ []))
+    → Follows [] [] (machine_of st p st.entry st.tickets workers past) (Acts i) (put_in st i t (Post ∷ Release ∷ []))
 puts_again st p workers past set i t there k had c held out is live =
     put_back st p workers past set i t there k had c held out (Post ∷ Release ∷ [])
     (Stays c (record { holder = held.holder; connection = held.connection; generation = held.generation }) refl live refl is)
@@ -86,7 +87,7 @@ due_now c live = rw live (or_true _)
 pub posts_due : (st : System) (p : SlotState) (workers : List WorkerState) (past : List Past) → Settled st p workers
     → (i : ℕ) (t : Thread) → slice_get st.threads i ≡ Some t → (k : WorkerState) → slice_get workers i ≡ Some k
     → (c : Connection) → Held p i t c → st.place ≡ Some c → is_live (verdict c.pair) ≡ true → k ≡ busy (doing.Holds 0 t.left)
-    → Follows (machine_of st p st.entry st.tickets workers past) (Acts i) (with_thread (posted st t.generation) i (goes_on t (Release ∷ [])))
+    → Follows [] (exchange_made word.post st.word ∷ []) (machine_of st p st.entry st.tickets workers past) (Acts i) (with_thread (posted st t.generation) i (goes_on t (Release ∷ [])))
 posts_due st p workers past set i t there k had c held at live is =
     let g : ℕ = c.pair.generation in
     let q : SlotState = with_note p g in
@@ -108,6 +109,7 @@ posts_due st p workers past set i t there k had c held at live is =
             (λ j u v other like. noted_like st.limits.budget st.place p g j u v like);
       });
       calls = refl;
+      words = rw (had, is, held.connection, live, held.holder) refl;
     })
 
 -- A release
@@ -134,7 +136,7 @@ released_like st p workers set i t there c held at tickets =
 releases_by : (st : System) (p : SlotState) (workers : List WorkerState) (past : List Past) → Settled st p workers
     → (i : ℕ) (t : Thread) → slice_get st.threads i ≡ Some t → slice_get workers i ≡ Some (busy (doing.Holds 0 t.left))
     → (c : Connection) → Held p i t c → st.place ≡ Some c → (b : Bool) → is_nonempty p.notes ≡ b → may_release c b ≡ true
-    → Follows (machine_of st p st.entry st.tickets workers past) (Acts i) (with_thread (released st t.generation) i (goes_on t []))
+    → Follows [] (exchange_made word.release st.word ∷ []) (machine_of st p st.entry st.tickets workers past) (Acts i) (with_thread (released st t.generation) i (goes_on t []))
 releases_by st p workers past set i t there had c held at true some may =
     let wait : some_wait st.word.pending ≡ true = rw set.word (some_notes p.notes ∙ some) in
     let tickets : List ℕ = st.tickets ++ t.generation ∷ [] in
@@ -157,6 +159,7 @@ releases_by st p workers past set i t there had c held at true some may =
       like = IsSettled (record p { holder = Nobody }) (slice_set workers i machine_states.resting) past refl
           (released_like st p workers set i t there c held at tickets);
       calls = refl;
+      words = rw (had, held.connection, some, may, held.generation, get-set_same workers i (busy (doing.Holds 0 t.left)) between had, some_notes p.notes ∙ some) refl;
     })
 releases_by st p workers past set i t there had c held at false some may =
     let wait : some_wait st.word.pending ≡ false = rw set.word (some_notes p.notes ∙ some) in
@@ -168,12 +171,13 @@ releases_by st p workers past set i t there had c held at false some may =
       like = IsSettled (record p { holder = Nobody }) (slice_set workers i machine_states.resting) past refl
           (released_like st p workers set i t there c held at st.tickets);
       calls = refl;
+      words = rw (had, held.connection, some, may, some_notes p.notes ∙ some) refl;
     })
 
 pub releases : (st : System) (p : SlotState) (workers : List WorkerState) (past : List Past) → Settled st p workers
     → (i : ℕ) (t : Thread) → slice_get st.threads i ≡ Some t → (k : WorkerState) → slice_get workers i ≡ Some k
     → (c : Connection) → Held p i t c → st.place ≡ Some c → may_release c (is_nonempty p.notes) ≡ true → k ≡ busy (doing.Holds 0 t.left)
-    → Follows (machine_of st p st.entry st.tickets workers past) (Acts i) (with_thread (released st t.generation) i (goes_on t []))
+    → Follows [] (exchange_made word.release st.word ∷ []) (machine_of st p st.entry st.tickets workers past) (Acts i) (with_thread (released st t.generation) i (goes_on t []))
 releases st p workers past set i t there k had c held at may is =
     releases_by st p workers past set i t there (had ∙ ap Some is) c held at (is_nonempty p.notes) refl may
 
@@ -182,7 +186,7 @@ releases st p workers past set i t there k had c held at may is =
 pub closes : (st : System) (p : SlotState) (workers : List WorkerState) (past : List Past) → Settled st p workers
     → (i : ℕ) (t : Thread) → slice_get st.threads i ≡ Some t → (k : WorkerState) → slice_get workers i ≡ Some k
     → (c : Connection) → Held p i t c → st.place ≡ None → k ≡ busy (doing.Holds 0 t.left) → is_live (verdict c.pair) ≡ false
-    → Kept (Follows (machine_of st p st.entry st.tickets workers past) (Acts i)) (closed st i t (Retire ∷ Give ∷ []) c)
+    → Kept (Follows [] [] (machine_of st p st.entry st.tickets workers past) (Acts i)) (closed st i t (Retire ∷ Give ∷ []) c)
 closes st p workers past set i t there k had c held at is over = kept_map _ (kernel.close_both st.kernel c.ends) (λ told may.
     let new : Thread = record t { out = None; todo = Retire ∷ Give ∷ [] } in
     let next : System = with_thread (record st { kernel = told.value; ends = None }) i new in
@@ -202,12 +206,13 @@ closes st p workers past set i t there k had c held at is over = kept_map _ (ker
             (λ j u v other like. apart st.limits.budget st.place st.place p q j u v (holder_apart p i j held.holder other) refl like);
       });
       calls = refl;
+      words = rw (had, is, held.connection, over, may) refl;
     })
 
 pub retires : (st : System) (p : SlotState) (workers : List WorkerState) (past : List Past) → Settled st p workers
     → (i : ℕ) (t : Thread) → slice_get st.threads i ≡ Some t → (k : WorkerState) → slice_get workers i ≡ Some k
     → HeldClosed p i t → st.place ≡ None → k ≡ busy (doing.Closed 0)
-    → Follows (machine_of st p st.entry st.tickets workers past) (Acts i)
+    → Follows [] (exchange_made word.retire st.word ∷ []) (machine_of st p st.entry st.tickets workers past) (Acts i)
     (with_thread (record st { word = word_after word.retire st.word }) i (goes_on t (Give ∷ [])))
 retires st p workers past set i t there k had held at is =
     let new : Thread = goes_on t (Give ∷ []) in
@@ -226,6 +231,7 @@ retires st p workers past set i t there k had held at is =
             (λ j u v other like. apart st.limits.budget st.place st.place p q j u v (holder_apart p i j held.holder other) refl like);
       });
       calls = refl;
+      words = rw (had, is) refl;
     }
 
 one_more : (n : ℕ) → replicate {A = ℕ} n zero ++ zero ∷ [] ≡ replicate {A = ℕ} (suc n) zero
@@ -235,7 +241,7 @@ one_more (suc n) = ap (λ (xs : List ℕ). 0 ∷ xs) (one_more n)
 gives_by : (st : System) (p : SlotState) (workers : List WorkerState) (past : List Past) → Settled st p workers
     → (i : ℕ) (t : Thread) → slice_get st.threads i ≡ Some t → (k : WorkerState) → slice_get workers i ≡ Some k
     → p.generation ≡ t.generation → k ≡ busy (doing.Retired 0) → (b : Bool) → is_worn t.generation ≡ b
-    → Follows (machine_of st p st.entry st.tickets workers past) (Acts i) (with_thread (given st t.generation) i (goes_on t []))
+    → Follows [] [] (machine_of st p st.entry st.tickets workers past) (Acts i) (with_thread (given st t.generation) i (goes_on t []))
 gives_by st p workers past set i t there k had own is true worn = rw worn (record {
   events = event.Work i act.Free ∷ [];
   world = machine_of (with_thread st i (goes_on t [])) p st.entry st.tickets (slice_set workers i machine_states.resting) past;
@@ -247,6 +253,7 @@ gives_by st p workers past set i t there k had own is true worn = rw worn (recor
     threads = go_on st.limits.budget st.place st.place p p st.threads workers i t (goes_on t []) machine_states.resting set.threads there (Rests refl refl) (λ j u v other like. like);
   });
   calls = refl;
+  words = rw (had, is) refl;
 })
 gives_by st p workers past set i t there k had own is false worn = rw worn (record {
   events = event.Work i act.Free ∷ [];
@@ -259,10 +266,11 @@ gives_by st p workers past set i t there k had own is false worn = rw worn (reco
     threads = go_on st.limits.budget st.place st.place p p st.threads workers i t (goes_on t []) machine_states.resting set.threads there (Rests refl refl) (λ j u v other like. like);
   });
   calls = refl;
+  words = rw (had, is) refl;
 })
 
 pub gives : (st : System) (p : SlotState) (workers : List WorkerState) (past : List Past) → Settled st p workers
     → (i : ℕ) (t : Thread) → slice_get st.threads i ≡ Some t → (k : WorkerState) → slice_get workers i ≡ Some k
     → p.generation ≡ t.generation → k ≡ busy (doing.Retired 0)
-    → Follows (machine_of st p st.entry st.tickets workers past) (Acts i) (with_thread (given st t.generation) i (goes_on t []))
+    → Follows [] [] (machine_of st p st.entry st.tickets workers past) (Acts i) (with_thread (given st t.generation) i (goes_on t []))
 gives st p workers past set i t there k had own is = gives_by st p workers past set i t there k had own is (is_worn t.generation) refl

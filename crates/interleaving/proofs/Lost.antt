@@ -1,11 +1,10 @@
 -- What no thread ever finds.
-use Rattle.std.proofs.Common.{◌≡◌, ◌≢◌, ◌⊎◌, inl, inr, ℕ, ◌==◌, Bool, true, false, if◌then◌else◌, List, [], ◌∷◌, drop, slice_get, Option, Some, None, refl, sym, ap, ◌∙◌}
+use Rattle.std.proofs.Common.{◌≡◌, ◌≢◌, ◌⊎◌, inl, inr, ℕ, ◌==◌, Bool, true, false, if◌then◌else◌, List, [], ◌∷◌, drop, slice_get, Option, Some, refl, sym, ap, ◌∙◌}
 use Rattle.std.proofs.lemmas.Bool.{cases_eq}
 use Rattle.std.specs.Option.{is_none}
 use Rattle.relay_core.specs.Pairs.{PairState, verdict, is_live}
 use Rattle.relay_core.specs.Order.{next_call}
 use Rattle.world.specs.declared.connection.Connection.{Connection}
-use Rattle.world.specs.declared.actors.Doing.TheVariants as doing
 use Rattle.world.specs.declared.past.Past.{Past}
 use Rattle.world.specs.Slots.{SlotState, WorkerState}
 use Rattle.world.specs.States.{State}
@@ -14,7 +13,7 @@ use Rattle.world.proofs.TurnsWorker.{Waiting, waiting}
 use Rattle.world.proofs.TurnsEnded.{own_generation}
 use Rattle.interleaving.specs.Programs.{Act, Claim, TakeOut, Call, Adopt, turn, quiet, again, ended, plan, opening}
 use Rattle.interleaving.specs.Threads.{System, Thread}
-use Rattle.interleaving.specs.Likeness.{ticket, ThreadLike, Rests, Opens, Tries, Holds, HasOut, Goes, Stays, Leaves, HasClosed, HasRetired, WorkerFor, machine_of, Settled, Stage, Registered, Adopted, Entered, Emptied, Placed, Posted, HalfOpen, Like, IsSettled, IsHalfOpen, NothingIsLost}
+use Rattle.interleaving.specs.Likeness.{ticket, ThreadLike, Rests, Opens, Tries, Holds, HasOut, Goes, Stays, Leaves, HasClosed, HasRetired, machine_of, Settled, Stage, Registered, Adopted, Entered, Emptied, Placed, Posted, HalfOpen, Like, IsSettled, IsHalfOpen, NothingIsLost}
 
 -- which act comes first, where it is one of these three
 data First : Type 0 where

@@ -1,5 +1,5 @@
 -- An opening, act by act. The machine makes it as soon as both sockets are registered.
-use Rattle.std.proofs.Common.{◌≡◌, ◌≢◌, ◌⊎◌, inl, inr, ℕ, zero, suc, ◌+◌, ◌≤◌, true, false, List, [], ◌∷◌, drop, length, map, replicate, slice_get, slice_set, Option, Some, None, is_some, refl, sym, ap, ◌∙◌, arith}
+use Rattle.std.proofs.Common.{◌≡◌, ◌≢◌, ◌⊎◌, inl, inr, ℕ, zero, suc, ◌+◌, ◌≤◌, true, false, List, [], ◌∷◌, ◌++◌, drop, length, map, replicate, slice_get, slice_set, Option, Some, None, is_some, refl, sym, ap, ◌∙◌, arith}
 use Rattle.std.proofs.lemmas.Bool.{cases_eq}
 use Rattle.token.specs.declared.side.Side.TheVariants.{Client, Target}
 use Rattle.token.specs.Names.{EndName}
@@ -8,6 +8,7 @@ use Rattle.kernel_model.specs.Outcome.{Told}
 use Rattle.kernel_model.specs.Kernel as kernel
 use Rattle.kernel_model.specs.Kernel.{KernelState}
 use Rattle.relay_core.specs.Pairs.{fresh}
+use Rattle.claims.specs.Words as word
 use Rattle.claims.specs.Words.{WordState}
 use Rattle.world.specs.declared.connection.Connection.{Connection}
 use Rattle.world.specs.declared.actors.Holder.{Holder}
@@ -24,8 +25,11 @@ use Rattle.world.specs.Words.{is_free}
 use Rattle.world.proofs.TurnsKept.{Kept, kept_some, kept_none, kept_bind, kept_map, kept_when}
 use Rattle.world.proofs.TurnsTotals.{total_at, get-set_same, get-set_other}
 use Rattle.world.proofs.TurnsFacts.{Facts, facts, SlotOk, Turns, is_number, worker_holds, worker_closes, worker_retires, one_same}
-use Rattle.interleaving.specs.Programs.{opening}
+use Rattle.interleaving.specs.Programs.{Release, opening}
 use Rattle.interleaving.specs.Threads.{System, Thread, Acts, with_thread, goes_on, registering, registered, acts, released}
+use Rattle.claims.specs.declared.view.Exchange.{Exchange}
+use Rattle.claims.specs.Rule.{made as exchange_made}
+use Rattle.interleaving.specs.Histories.{exchange, first_kind, left_of}
 use Rattle.interleaving.specs.Likeness.{ticket, ThreadLike, Rests, Opens, Tries, Holds, HasOut, Goes, Stays, Leaves, HasClosed, HasRetired, WorkerFor, machine_of, Settled, taken_word, Stage, Registered, Adopted, Entered, Emptied, Placed, Posted, opened_slot, HalfOpen, IsSettled, IsHalfOpen}
 use Rattle.interleaving.proofs.Frames.{Follows, settles}
 
@@ -98,7 +102,7 @@ after_set st new workers old i u other at = old i u (sym (get-set_other st.threa
 registers_by : (st : System) (p : SlotState) (workers : List WorkerState) (past : List Past) → Settled st p workers → Unused st p workers
     → (t : Thread) → slice_get st.threads 0 ≡ Some t → (k : WorkerState) → slice_get workers 0 ≡ Some k → k ≡ machine_states.resting
     → (free : ℕ) → st.free ≡ suc free → st.accepted ≡ true → (client target : EndName) → token_of 0 Client (st.entry + 1) ≡ Some client → token_of 0 Target (st.entry + 1) ≡ Some target
-    → Follows (machine_of st p st.entry st.tickets workers past) (Acts 0) (registered st 0 t (drop 1 opening) free (st.entry + 1) (kernel.open_both st.kernel client target))
+    → Follows [] [] (machine_of st p st.entry st.tickets workers past) (Acts 0) (registered st 0 t (drop 1 opening) free (st.entry + 1) (kernel.open_both st.kernel client target))
 registers_by st p workers past set un t there k had is free some accepted client target one two =
     let g : ℕ = st.entry + 1 in
     let told : Told KernelState Descriptors = kernel.open_both st.kernel client target in
@@ -118,11 +122,12 @@ registers_by st p workers past set un t there k had is free some accepted client
         stage = Registered (length p.notes) refl (rw (set.word, un.holder) refl) (set.place (rw un.holder refl) ∙ un.connection) refl;
       });
       calls = refl;
+      words = rw (accepted, some, one, two, set.word) refl;
     }
 
 registers_with : (st : System) (p : SlotState) (workers : List WorkerState) (past : List Past) → Settled st p workers → Turns (machine_of st p st.entry st.tickets workers past)
     → (t : Thread) → slice_get st.threads 0 ≡ Some t → (k : WorkerState) → slice_get workers 0 ≡ Some k → k ≡ machine_states.resting
-    → (free : ℕ) → st.free ≡ free → Kept (Follows (machine_of st p st.entry st.tickets workers past) (Acts 0)) (registering st 0 t (drop 1 opening) free)
+    → (free : ℕ) → st.free ≡ free → Kept (Follows [] [] (machine_of st p st.entry st.tickets workers past) (Acts 0)) (registering st 0 t (drop 1 opening) free)
 registers_with st p workers past set turns t there k had is zero some = kept_none
 registers_with st p workers past set turns t there k had is (suc free) some = kept_when st.accepted _ (λ accepted.
     kept_bind _ (token_of 0 Client (st.entry + 1)) (λ client one. kept_map _ (token_of 0 Target (st.entry + 1)) (λ target two.
@@ -130,7 +135,7 @@ registers_with st p workers past set turns t there k had is (suc free) some = ke
 
 pub registers : (st : System) (p : SlotState) (workers : List WorkerState) (past : List Past) → Settled st p workers → Turns (machine_of st p st.entry st.tickets workers past)
     → (t : Thread) → slice_get st.threads 0 ≡ Some t → (k : WorkerState) → slice_get workers 0 ≡ Some k → k ≡ machine_states.resting
-    → Kept (Follows (machine_of st p st.entry st.tickets workers past) (Acts 0)) (registering st 0 t (drop 1 opening) st.free)
+    → Kept (Follows [] [] (machine_of st p st.entry st.tickets workers past) (Acts 0)) (registering st 0 t (drop 1 opening) st.free)
 registers st p workers past set turns t there k had is = registers_with st p workers past set turns t there k had is st.free refl
 
 -- The acts after that: the machine makes no event
@@ -141,9 +146,10 @@ half_world st t c workers past = machine_of st (opened_slot t.generation c) t.ge
 -- the next stage
 stays_half : (st : System) (t : Thread) (c : Connection) (workers : List WorkerState) (past : List Past) → HalfOpen st t c workers
     → (new : WordState) (place : Option Connection) (entry : ℕ) (u : Thread) → u.generation ≡ t.generation → Stage new place entry u c
-    → Follows (half_world st t c workers past) (Acts 0) (with_thread (record st { word = new; place = place; entry = entry }) 0 u)
-stays_half st t c workers past half new place entry u same stage =
-    settles st (with_thread (record st { word = new; place = place; entry = entry }) 0 u) (half_world st t c workers past) (Acts 0)
+    → (before own : List Exchange) → before ++ [] ≡ own ++ left_of u.todo new
+    → Follows before own (half_world st t c workers past) (Acts 0) (with_thread (record st { word = new; place = place; entry = entry }) 0 u)
+stays_half st t c workers past half new place entry u same stage before own words =
+    settles st (with_thread (record st { word = new; place = place; entry = entry }) 0 u) (half_world st t c workers past) (Acts 0) before own
     (IsHalfOpen u c workers past (rw same refl) (record {
       first = get-set_same st.threads 0 t u half.first;
       worker = half.worker;
@@ -151,20 +157,20 @@ stays_half st t c workers past half new place entry u same stage =
       tickets = half.tickets;
       ends = half.ends;
       stage = stage;
-    })) refl
+    })) refl words
 
 -- the slot is released, and the opening is over
 leaves_half : (st : System) (t : Thread) (c : Connection) (workers : List WorkerState) (past : List Past) → HalfOpen st t c workers
     → st.word ≡ taken_word 1 → st.place ≡ Some c → st.entry ≡ t.generation
-    → Follows (half_world st t c workers past) (Acts 0) (with_thread (released st t.generation) 0 (goes_on t []))
+    → Follows (left_of (Release ∷ []) st.word) (exchange_made word.release st.word ∷ []) (half_world st t c workers past) (Acts 0) (with_thread (released st t.generation) 0 (goes_on t []))
 leaves_half st t c workers past half is at own =
     let next : System = with_thread (record st { word = record { pending = 1; free = false; held = false }; tickets = t.generation ∷ [] }) 0 (goes_on t []) in
-    rw (is, half.tickets) (settles st next (half_world st t c workers past) (Acts 0) (IsSettled (opened_slot t.generation c) workers past (rw own refl) (record {
+    rw (is, half.tickets) (settles st next (half_world st t c workers past) (Acts 0) _ _ (IsSettled (opened_slot t.generation c) workers past (rw own refl) (record {
       ends = half.ends;
       word = refl;
       place = λ yes. at;
       threads = λ i u there. over i u there (cases_eq i 0);
-    })) refl)
+    })) refl refl)
   where
     over : (i : ℕ) (u : Thread) → slice_get (slice_set st.threads 0 (goes_on t [])) i ≡ Some u → (i ≡ 0) ⊎ (i ≢ 0)
         → WorkerFor st.limits.budget st.place (opened_slot t.generation c) workers i u
@@ -178,15 +184,15 @@ leaves_half st t c workers past half is at own =
         record { worker = machine_states.resting; there = rest.1; like = Rests rest.0 refl }
 
 pub goes_half : (st : System) (t : Thread) (c : Connection) (workers : List WorkerState) (past : List Past) → HalfOpen st t c workers → Stage st.word st.place st.entry t c
-    → Kept (Follows (half_world st t c workers past) (Acts 0)) (acts st 0 t t.todo)
+    → Kept (Follows (left_of t.todo st.word) (exchange st.word (first_kind t.todo)) (half_world st t c workers past) (Acts 0)) (acts st 0 t t.todo)
 goes_half st t c workers past half (Registered notes todo is at out) = rw (todo, is) (kept_some
-    (stays_half st t c workers past half (taken_word notes) st.place st.entry (goes_on t (drop 2 opening)) refl (Adopted notes refl refl at out)))
+    (stays_half st t c workers past half (taken_word notes) st.place st.entry (goes_on t (drop 2 opening)) refl (Adopted notes refl refl at out) _ _ refl))
 goes_half st t c workers past half (Adopted notes todo is at out) = rw todo (kept_some
-    (stays_half st t c workers past half st.word st.place t.generation (goes_on t (drop 3 opening)) refl (Entered notes refl is at out refl)))
+    (stays_half st t c workers past half st.word st.place t.generation (goes_on t (drop 3 opening)) refl (Entered notes refl is at out refl) _ _ refl))
 goes_half st t c workers past half (Entered notes todo is at out own) = rw (todo, is) (kept_some
-    (stays_half st t c workers past half (taken_word 0) st.place st.entry (goes_on t (drop 4 opening)) refl (Emptied refl refl at out own)))
+    (stays_half st t c workers past half (taken_word 0) st.place st.entry (goes_on t (drop 4 opening)) refl (Emptied refl refl at out own) _ _ refl))
 goes_half st t c workers past half (Emptied todo is at out own) = rw todo (kept_some
-    (stays_half st t c workers past half st.word t.out st.entry (record t { out = None; todo = drop 5 opening }) refl (Placed refl is out own)))
+    (stays_half st t c workers past half st.word t.out st.entry (record t { out = None; todo = drop 5 opening }) refl (Placed refl is out own) _ _ refl))
 goes_half st t c workers past half (Placed todo is at own) = rw (todo, is) (kept_some
-    (stays_half st t c workers past half (taken_word 1) st.place st.entry (goes_on t (drop 6 opening)) refl (Posted refl refl at own)))
+    (stays_half st t c workers past half (taken_word 1) st.place st.entry (goes_on t (drop 6 opening)) refl (Posted refl refl at own) _ _ refl))
 goes_half st t c workers past half (Posted todo is at own) = rw todo (kept_some (leaves_half st t c workers past half is at own))

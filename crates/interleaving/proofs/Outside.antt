@@ -1,6 +1,6 @@
 -- What the network, the kernel and the clock do, and what the poller does at the listener and with a poll: the same events
 -- of the machine.
-use Rattle.std.proofs.Common.{◌≡◌, ℕ, ◌+◌, ◌==◌, Bool, true, false, not, ◌&&◌, nat_lt, List, [], ◌∷◌, length, replicate, Option, Some, None, refl, sym, ◌∙◌, Vec, Global, option_map}
+use Rattle.std.proofs.Common.{◌≡◌, ℕ, ◌+◌, ◌==◌, Bool, true, false, not, ◌&&◌, nat_lt, List, [], ◌∷◌, length, replicate, Option, Some, None, refl, sym, ◌∙◌, append-nil, Vec, Global, option_map}
 use Rattle.std.proofs.lemmas.List.{length-replicate}
 use Rattle.token.specs.declared.side.Side.{Side}
 use Rattle.token.specs.declared.name.Name.{Name}
@@ -25,46 +25,49 @@ use Rattle.world.specs.Slots.{SlotState, WorkerState}
 use Rattle.world.specs.Steps as machine
 use Rattle.world.proofs.TurnsKept.{Kept, kept_some, kept_bind, kept_map, kept_when, kept_guard}
 use Rattle.interleaving.specs.Threads.{System, Step, Tick, Network, Connect, Spurious, Vanish, Accept, Drop, Poll, poller_rests, watched_of, step}
+use Rattle.claims.specs.declared.view.Exchange.{Exchange}
+use Rattle.interleaving.specs.Histories.{exchanges_of}
 use Rattle.interleaving.specs.Likeness.{ends_of, machine_of, call_of, call_in}
 use Rattle.interleaving.proofs.Frames.{Follows, one_event, beside, Frame}
 
 -- one event that changes nothing but these
-pub alone : (st : System) (p : SlotState) (entry : ℕ) (tickets : List ℕ) (workers : List WorkerState) (past : List Past) → Frame st p entry tickets workers
+pub alone : (st : System) (before : List Exchange) (p : SlotState) (entry : ℕ) (tickets : List ℕ) (workers : List WorkerState) (past : List Past) → Frame st before p entry tickets workers
     → (s : Step) (e : Event) (n : ℕ) (k : KernelState) (flag accepted : Bool) (batch : List Name)
     → machine.step (machine_of st p entry tickets workers past) e ≡ Some (machine_of (beside st n k flag accepted batch) p entry tickets workers past)
-    → call_in e ≡ [] → call_of s ≡ []
-    → Follows (machine_of st p entry tickets workers past) s (beside st n k flag accepted batch)
-alone st p entry tickets workers past fr s e n k flag accepted batch h none nothing = record {
+    → call_in e ≡ [] → call_of s ≡ [] → exchanges_of (machine_of st p entry tickets workers past) e ≡ []
+    → Follows before [] (machine_of st p entry tickets workers past) s (beside st n k flag accepted batch)
+alone st before p entry tickets workers past fr s e n k flag accepted batch h none nothing quiet = record {
   events = e ∷ [];
   world = machine_of (beside st n k flag accepted batch) p entry tickets workers past;
   allowed = one_event _ e _ h;
   like = fr.like n k flag accepted batch past;
   calls = rw (none, nothing) refl;
+  words = rw (quiet, h) (append-nil before ∙ sym (fr.ahead_is n k flag accepted batch past));
 }
 
-pub ticks : (st : System) (p : SlotState) (entry : ℕ) (tickets : List ℕ) (workers : List WorkerState) (past : List Past) → Frame st p entry tickets workers
-    → (n : ℕ) → Kept (Follows (machine_of st p entry tickets workers past) (Tick n)) (step st (Tick n))
-ticks st p entry tickets workers past fr n = kept_guard _ _ (λ may.
-    alone st p entry tickets workers past fr (Tick n) (event.Tick n) (st.second + n) st.kernel st.flag st.accepted st.batch (rw may refl) refl refl)
+pub ticks : (st : System) (before : List Exchange) (p : SlotState) (entry : ℕ) (tickets : List ℕ) (workers : List WorkerState) (past : List Past) → Frame st before p entry tickets workers
+    → (n : ℕ) → Kept (Follows before [] (machine_of st p entry tickets workers past) (Tick n)) (step st (Tick n))
+ticks st before p entry tickets workers past fr n = kept_guard _ _ (λ may.
+    alone st before p entry tickets workers past fr (Tick n) (event.Tick n) (st.second + n) st.kernel st.flag st.accepted st.batch (rw may refl) refl refl refl)
 
-network_at : (st : System) (p : SlotState) (entry : ℕ) (tickets : List ℕ) (workers : List WorkerState) (past : List Past) → Frame st p entry tickets workers
+network_at : (st : System) (before : List Exchange) (p : SlotState) (entry : ℕ) (tickets : List ℕ) (workers : List WorkerState) (past : List Past) → Frame st before p entry tickets workers
     → (side : Side) (change : Change) (ends : Descriptors) (q : KernelState) → machine.change_at st.kernel (descriptor ends side) change ≡ Some q
     → (o : Option Connection) → p.connection ≡ o → option_map (λ (c : Connection). c.ends) o ≡ Some ends
-    → Follows (machine_of st p entry tickets workers past) (Network side change) (record st { kernel = q })
-network_at st p entry tickets workers past fr side change ends q may None is there = absurd (cc)
-network_at st p entry tickets workers past fr side change ends q may (Some c) is there =
+    → Follows before [] (machine_of st p entry tickets workers past) (Network side change) (record st { kernel = q })
+network_at st before p entry tickets workers past fr side change ends q may None is there = absurd (cc)
+network_at st before p entry tickets workers past fr side change ends q may (Some c) is there =
     let same : c.ends ≡ ends = cc in
-    alone st p entry tickets workers past fr (Network side change) (event.Network 0 side change) st.second q st.flag st.accepted st.batch (rw (is, same, may) refl) refl refl
+    alone st before p entry tickets workers past fr (Network side change) (event.Network 0 side change) st.second q st.flag st.accepted st.batch (rw (is, same, may) refl) refl refl refl
 
-pub network : (st : System) (p : SlotState) (entry : ℕ) (tickets : List ℕ) (workers : List WorkerState) (past : List Past) → Frame st p entry tickets workers
-    → (side : Side) (change : Change) → Kept (Follows (machine_of st p entry tickets workers past) (Network side change)) (step st (Network side change))
-network st p entry tickets workers past fr side change = kept_bind _ st.ends (λ ends is. kept_map _ (machine.change_at st.kernel (descriptor ends side) change) (λ q may.
-    network_at st p entry tickets workers past fr side change ends q may p.connection refl (sym fr.ends ∙ is)))
+pub network : (st : System) (before : List Exchange) (p : SlotState) (entry : ℕ) (tickets : List ℕ) (workers : List WorkerState) (past : List Past) → Frame st before p entry tickets workers
+    → (side : Side) (change : Change) → Kept (Follows before [] (machine_of st p entry tickets workers past) (Network side change)) (step st (Network side change))
+network st before p entry tickets workers past fr side change = kept_bind _ st.ends (λ ends is. kept_map _ (machine.change_at st.kernel (descriptor ends side) change) (λ q may.
+    network_at st before p entry tickets workers past fr side change ends q may p.connection refl (sym fr.ends ∙ is)))
 
-pub connects : (st : System) (p : SlotState) (entry : ℕ) (tickets : List ℕ) (workers : List WorkerState) (past : List Past) → Frame st p entry tickets workers
-    → Kept (Follows (machine_of st p entry tickets workers past) Connect) (step st Connect)
-connects st p entry tickets workers past fr = kept_map _ (kernel.connect_in st.kernel) (λ q may.
-    alone st p entry tickets workers past fr Connect (event.Listen listening.Connect) st.second q st.flag st.accepted st.batch (rw may refl) refl refl)
+pub connects : (st : System) (before : List Exchange) (p : SlotState) (entry : ℕ) (tickets : List ℕ) (workers : List WorkerState) (past : List Past) → Frame st before p entry tickets workers
+    → Kept (Follows before [] (machine_of st p entry tickets workers past) Connect) (step st Connect)
+connects st before p entry tickets workers past fr = kept_map _ (kernel.connect_in st.kernel) (λ q may.
+    alone st before p entry tickets workers past fr Connect (event.Listen listening.Connect) st.second q st.flag st.accepted st.batch (rw may refl) refl refl refl)
 
 -- the machine's name of what is reported: the slot there is the first
 abbrev here : Reported → Reported
@@ -83,17 +86,17 @@ same_watched st p entry tickets workers past ends (reported.End s side) = rw end
     joined None = refl
     joined (Some c) = refl
 
-pub spurious : (st : System) (p : SlotState) (entry : ℕ) (tickets : List ℕ) (workers : List WorkerState) (past : List Past) → Frame st p entry tickets workers
-    → (who : Reported) → Kept (Follows (machine_of st p entry tickets workers past) (Spurious who)) (step st (Spurious who))
-spurious st p entry tickets workers past fr who = kept_bind _ (watched_of st who) (λ w is. kept_map _ (kernel.spurious st.kernel w) (λ q may.
-    alone st p entry tickets workers past fr (Spurious who) (event.Spurious (here who)) st.second q st.flag st.accepted st.batch
-    (rw (same_watched st p entry tickets workers past fr.ends who, is, may) refl) refl refl))
+pub spurious : (st : System) (before : List Exchange) (p : SlotState) (entry : ℕ) (tickets : List ℕ) (workers : List WorkerState) (past : List Past) → Frame st before p entry tickets workers
+    → (who : Reported) → Kept (Follows before [] (machine_of st p entry tickets workers past) (Spurious who)) (step st (Spurious who))
+spurious st before p entry tickets workers past fr who = kept_bind _ (watched_of st who) (λ w is. kept_map _ (kernel.spurious st.kernel w) (λ q may.
+    alone st before p entry tickets workers past fr (Spurious who) (event.Spurious (here who)) st.second q st.flag st.accepted st.batch
+    (rw (same_watched st p entry tickets workers past fr.ends who, is, may) refl) refl refl refl))
 
-pub vanishes : (st : System) (p : SlotState) (entry : ℕ) (tickets : List ℕ) (workers : List WorkerState) (past : List Past) → Frame st p entry tickets workers
-    → (who : Reported) → Kept (Follows (machine_of st p entry tickets workers past) (Vanish who)) (step st (Vanish who))
-vanishes st p entry tickets workers past fr who = kept_bind _ (watched_of st who) (λ w is. kept_map _ (kernel.vanish st.kernel w) (λ q may.
-    alone st p entry tickets workers past fr (Vanish who) (event.Vanish (here who)) st.second q st.flag st.accepted st.batch
-    (rw (same_watched st p entry tickets workers past fr.ends who, is, may) refl) refl refl))
+pub vanishes : (st : System) (before : List Exchange) (p : SlotState) (entry : ℕ) (tickets : List ℕ) (workers : List WorkerState) (past : List Past) → Frame st before p entry tickets workers
+    → (who : Reported) → Kept (Follows before [] (machine_of st p entry tickets workers past) (Vanish who)) (step st (Vanish who))
+vanishes st before p entry tickets workers past fr who = kept_bind _ (watched_of st who) (λ w is. kept_map _ (kernel.vanish st.kernel w) (λ q may.
+    alone st before p entry tickets workers past fr (Vanish who) (event.Vanish (here who)) st.second q st.flag st.accepted st.batch
+    (rw (same_watched st p entry tickets workers past fr.ends who, is, may) refl) refl refl refl))
 
 -- the poller's own
 
@@ -109,29 +112,29 @@ may : (st : System) (p : SlotState) (entry : ℕ) (tickets : List ℕ) (workers 
     → (poller_rests st && (st.flag && (not st.accepted && nat_lt 0 st.free))) ≡ true → machine.may_accept (machine_of st p entry tickets workers past) ≡ true
 may st p entry tickets workers past h = rw (some_free st.free) (two_parts (poller_rests st) _ h)
 
-pub accepts : (st : System) (p : SlotState) (entry : ℕ) (tickets : List ℕ) (workers : List WorkerState) (past : List Past) → Frame st p entry tickets workers
-    → (reply : Accepting) → Kept (Follows (machine_of st p entry tickets workers past) (Accept reply)) (step st (Accept reply))
-accepts st p entry tickets workers past fr Accepted = kept_when _ _ (λ b. kept_map _ (kernel.accept st.kernel Accepted) (λ q can.
-    alone st p entry tickets workers past fr (Accept Accepted) (event.Listen (listening.Accept Accepted)) st.second q st.flag true st.batch
-    (rw (may st p entry tickets workers past b, can) refl) refl refl))
-accepts st p entry tickets workers past fr Blocked = kept_when _ _ (λ b. kept_map _ (kernel.accept st.kernel Blocked) (λ q can.
-    alone st p entry tickets workers past fr (Accept Blocked) (event.Listen (listening.Accept Blocked)) st.second q false st.accepted st.batch
-    (rw (may st p entry tickets workers past b, can) refl) refl refl))
-accepts st p entry tickets workers past fr Again = kept_when _ _ (λ b. kept_some (
-    alone st p entry tickets workers past fr (Accept Again) (event.Listen (listening.Accept Again)) st.second st.kernel st.flag st.accepted st.batch
-    (rw (may st p entry tickets workers past b) refl) refl refl))
-accepts st p entry tickets workers past fr Starved = kept_when _ _ (λ b. kept_some (
-    alone st p entry tickets workers past fr (Accept Starved) (event.Listen (listening.Accept Starved)) st.second st.kernel st.flag st.accepted st.batch
-    (rw (may st p entry tickets workers past b) refl) refl refl))
+pub accepts : (st : System) (before : List Exchange) (p : SlotState) (entry : ℕ) (tickets : List ℕ) (workers : List WorkerState) (past : List Past) → Frame st before p entry tickets workers
+    → (reply : Accepting) → Kept (Follows before [] (machine_of st p entry tickets workers past) (Accept reply)) (step st (Accept reply))
+accepts st before p entry tickets workers past fr Accepted = kept_when _ _ (λ b. kept_map _ (kernel.accept st.kernel Accepted) (λ q can.
+    alone st before p entry tickets workers past fr (Accept Accepted) (event.Listen (listening.Accept Accepted)) st.second q st.flag true st.batch
+    (rw (may st p entry tickets workers past b, can) refl) refl refl refl))
+accepts st before p entry tickets workers past fr Blocked = kept_when _ _ (λ b. kept_map _ (kernel.accept st.kernel Blocked) (λ q can.
+    alone st before p entry tickets workers past fr (Accept Blocked) (event.Listen (listening.Accept Blocked)) st.second q false st.accepted st.batch
+    (rw (may st p entry tickets workers past b, can) refl) refl refl refl))
+accepts st before p entry tickets workers past fr Again = kept_when _ _ (λ b. kept_some (
+    alone st before p entry tickets workers past fr (Accept Again) (event.Listen (listening.Accept Again)) st.second st.kernel st.flag st.accepted st.batch
+    (rw (may st p entry tickets workers past b) refl) refl refl refl))
+accepts st before p entry tickets workers past fr Starved = kept_when _ _ (λ b. kept_some (
+    alone st before p entry tickets workers past fr (Accept Starved) (event.Listen (listening.Accept Starved)) st.second st.kernel st.flag st.accepted st.batch
+    (rw (may st p entry tickets workers past b) refl) refl refl refl))
 
-pub drops : (st : System) (p : SlotState) (entry : ℕ) (tickets : List ℕ) (workers : List WorkerState) (past : List Past) → Frame st p entry tickets workers
-    → Kept (Follows (machine_of st p entry tickets workers past) Drop) (step st Drop)
-drops st p entry tickets workers past fr = kept_guard _ _ (λ b.
-    alone st p entry tickets workers past fr Drop (event.Listen listening.Drop) st.second st.kernel st.flag false st.batch
-    (rw (two_parts (poller_rests st) st.accepted b) refl) refl refl)
+pub drops : (st : System) (before : List Exchange) (p : SlotState) (entry : ℕ) (tickets : List ℕ) (workers : List WorkerState) (past : List Past) → Frame st before p entry tickets workers
+    → Kept (Follows before [] (machine_of st p entry tickets workers past) Drop) (step st Drop)
+drops st before p entry tickets workers past fr = kept_guard _ _ (λ b.
+    alone st before p entry tickets workers past fr Drop (event.Listen listening.Drop) st.second st.kernel st.flag false st.batch
+    (rw (two_parts (poller_rests st) st.accepted b) refl) refl refl refl)
 
-pub polls : (st : System) (p : SlotState) (entry : ℕ) (tickets : List ℕ) (workers : List WorkerState) (past : List Past) → Frame st p entry tickets workers
-    → (names : Vec Name Global) → Kept (Follows (machine_of st p entry tickets workers past) (Poll names)) (step st (Poll names))
-polls st p entry tickets workers past fr names = kept_when _ _ (λ b. kept_map _ (kernel.poll st.kernel names.items) (λ q can.
-    alone st p entry tickets workers past fr (Poll names) (event.Poll (polling.Poll names)) st.second q st.flag st.accepted names.items
-    (rw (two_parts (poller_rests st) (length st.batch == 0) b, can) refl) refl refl))
+pub polls : (st : System) (before : List Exchange) (p : SlotState) (entry : ℕ) (tickets : List ℕ) (workers : List WorkerState) (past : List Past) → Frame st before p entry tickets workers
+    → (names : Vec Name Global) → Kept (Follows before [] (machine_of st p entry tickets workers past) (Poll names)) (step st (Poll names))
+polls st before p entry tickets workers past fr names = kept_when _ _ (λ b. kept_map _ (kernel.poll st.kernel names.items) (λ q can.
+    alone st before p entry tickets workers past fr (Poll names) (event.Poll (polling.Poll names)) st.second q st.flag st.accepted names.items
+    (rw (two_parts (poller_rests st) (length st.batch == 0) b, can) refl) refl refl refl))

@@ -1,5 +1,5 @@
 -- What holds after any list of steps.
-use Rattle.std.proofs.Common.{◌≡◌, ◌≢◌, ◌⊎◌, inl, inr, ℕ, zero, suc, ◌==◌, Bool, true, false, nat_lt, List, [], ◌∷◌, ◌++◌, replicate, slice_get, Option, Some, None, refl, sym, ap, ◌∙◌, option_and_then, arith, lt-ltb, append_assoc}
+use Rattle.std.proofs.Common.{◌≡◌, ◌≢◌, ◌⊎◌, inl, inr, ℕ, zero, suc, ◌==◌, Bool, true, false, nat_lt, List, [], ◌∷◌, ◌++◌, replicate, slice_get, Option, Some, None, refl, sym, ap, ◌∙◌, option_and_then, arith, lt-ltb, append_assoc, append-nil, subst, option_map, unwrap_or}
 use Rattle.std.proofs.lemmas.Bool.{cases_eq}
 use Rattle.std.specs.Option.{is_none}
 use Rattle.kernel_model.specs.declared.reply.Reply.{Reply}
@@ -11,7 +11,8 @@ use Rattle.world.specs.declared.limits.Limits.{Limits}
 use Rattle.world.specs.declared.past.Past.{Past}
 use Rattle.world.specs.Slots.{SlotState, WorkerState}
 use Rattle.world.specs.States.{State}
-use Rattle.world.specs.States as machine
+use Rattle.world.specs.States as machine_states
+use Rattle.world.specs.Steps as machine
 use Rattle.world.specs.Runs as machine_runs
 use Rattle.world.specs.Headline.{EveryRunHolds}
 use Rattle.world.specs.CoreLaws.{CoreLaws}
@@ -21,7 +22,9 @@ use Rattle.world.proofs.TurnsFacts.{Turns}
 use Rattle.world.proofs.TurnsRun.{turns_after}
 use Rattle.interleaving.specs.Programs.{plan}
 use Rattle.interleaving.specs.Threads.{System, Thread, Step, Tick, Network, Connect, Spurious, Vanish, Accept, Drop, Poll, Deliver, Sweep, Open, Begin, Acts, Calls, is_over, rests, poller_rests, acts, calls, begun, start, step, run}
-use Rattle.interleaving.specs.Likeness.{Held, ThreadLike, Rests, Opens, Tries, Holds, HasOut, Goes, Stays, Leaves, HasClosed, HasRetired, machine_of, Settled, Stage, Registered, Adopted, Entered, Emptied, Placed, Posted, opened_slot, HalfOpen, Like, IsSettled, IsHalfOpen, calls_of, call_in, calls_in, EveryInterleavingIsARun}
+use Rattle.claims.specs.declared.view.Exchange.{Exchange}
+use Rattle.interleaving.specs.Histories.{exchange, first_kind, kind_in, exchanges, exchanges_of, exchanges_in, left_of}
+use Rattle.interleaving.specs.Likeness.{ahead, Held, ThreadLike, Rests, Opens, Tries, Holds, HasOut, Goes, Stays, Leaves, HasClosed, HasRetired, machine_of, Settled, Stage, Registered, Adopted, Entered, Emptied, Placed, Posted, opened_slot, HalfOpen, Like, IsSettled, IsHalfOpen, calls_of, call_in, calls_in, EveryInterleavingIsARun}
 use Rattle.interleaving.proofs.Frames.{Follows, settled_frame, half_frame}
 use Rattle.interleaving.proofs.Outside.{ticks, network, connects, spurious, vanishes, accepts, drops, polls}
 use Rattle.interleaving.proofs.Posts.{reports, sweeps}
@@ -42,7 +45,7 @@ plan_acts : (st : System) (p : SlotState) (workers : List WorkerState) (past : L
     → (k : WorkerState) → slice_get workers i ≡ Some k → (c : Connection) → Held p i t c → st.place ≡ None → t.out ≡ Some c
     → k ≡ Rattle.world.specs.Acts.busy (Rattle.world.specs.declared.actors.Doing.TheVariants.Holds 0 t.left)
     → (live none spent : Bool) → is_live (verdict c.pair) ≡ live → is_none (next_call c.pair) ≡ none → (t.left == 0) ≡ spent
-    → Kept (Follows (machine_of st p st.entry st.tickets workers past) (Acts i)) (acts st i t (plan t.left c.pair))
+    → Kept (Follows [] (exchange st.word (first_kind (plan t.left c.pair))) (machine_of st p st.entry st.tickets workers past) (Acts i)) (acts st i t (plan t.left c.pair))
 plan_acts st p workers past set i t there k had c held at out is true true spent lives rest over = rw (rest, lives)
     (kept_some (puts_quiet st p workers past set i t there k had c held out is lives rest))
 plan_acts st p workers past set i t there k had c held at out is true false true lives rest over = rw (rest, lives, over)
@@ -54,7 +57,7 @@ plan_acts st p workers past set i t there k had c held at out is false none spen
 
 thread_acts : (st : System) (p : SlotState) (workers : List WorkerState) (past : List Past) → Settled st p workers → Turns (machine_of st p st.entry st.tickets workers past)
     → (i : ℕ) (t : Thread) → slice_get st.threads i ≡ Some t → (k : WorkerState) → slice_get workers i ≡ Some k → ThreadLike st.limits.budget st.place p i t k
-    → Kept (Follows (machine_of st p st.entry st.tickets workers past) (Acts i)) (acts st i t t.todo)
+    → Kept (Follows [] (exchange st.word (first_kind t.todo)) (machine_of st p st.entry st.tickets workers past) (Acts i)) (acts st i t t.todo)
 thread_acts st p workers past set turns i t there k had (Rests todo is) = rw todo kept_none
 thread_acts st p workers past set turns i t there k had (Opens first todo is) =
     rw (todo, first) (registers st p workers past set turns t (rw first at there) k (rw first at had) is)
@@ -76,7 +79,7 @@ plan_calls : (st : System) (p : SlotState) (workers : List WorkerState) (past : 
     → (k : WorkerState) → slice_get workers i ≡ Some k → (c : Connection) → Held p i t c → st.place ≡ None → t.out ≡ Some c
     → k ≡ Rattle.world.specs.Acts.busy (Rattle.world.specs.declared.actors.Doing.TheVariants.Holds 0 t.left)
     → (r : Reply) (live none spent : Bool) → is_live (verdict c.pair) ≡ live → is_none (next_call c.pair) ≡ none → (t.left == 0) ≡ spent
-    → Kept (Follows (machine_of st p st.entry st.tickets workers past) (Calls i r)) (calls st i t r (plan t.left c.pair))
+    → Kept (Follows [] [] (machine_of st p st.entry st.tickets workers past) (Calls i r)) (calls st i t r (plan t.left c.pair))
 plan_calls st p workers past set i t there k had c held at out is r true true spent lives rest over = rw (rest, lives) kept_none
 plan_calls st p workers past set i t there k had c held at out is r true false true lives rest over = rw (rest, lives, over) kept_none
 plan_calls st p workers past set i t there k had c held at out is r true false false lives rest over = rw (rest, lives, over)
@@ -85,7 +88,7 @@ plan_calls st p workers past set i t there k had c held at out is r false none s
 
 thread_calls : (st : System) (p : SlotState) (workers : List WorkerState) (past : List Past) → Settled st p workers
     → (i : ℕ) (t : Thread) → slice_get st.threads i ≡ Some t → (k : WorkerState) → slice_get workers i ≡ Some k → ThreadLike st.limits.budget st.place p i t k → (r : Reply)
-    → Kept (Follows (machine_of st p st.entry st.tickets workers past) (Calls i r)) (calls st i t r t.todo)
+    → Kept (Follows [] [] (machine_of st p st.entry st.tickets workers past) (Calls i r)) (calls st i t r t.todo)
 thread_calls st p workers past set i t there k had (Rests todo is) r = rw todo kept_none
 thread_calls st p workers past set i t there k had (Opens first todo is) r = rw todo kept_none
 thread_calls st p workers past set i t there k had (Tries todo is) r = rw todo kept_none
@@ -100,21 +103,21 @@ thread_calls st p workers past set i t there k had (HasRetired own todo is) r = 
 
 -- Any step, where no opening is half way
 follows_settled : (st : System) (p : SlotState) (workers : List WorkerState) (past : List Past) → Settled st p workers → Turns (machine_of st p st.entry st.tickets workers past)
-    → (s : Step) → Kept (Follows (machine_of st p st.entry st.tickets workers past) s) (step st s)
-follows_settled st p workers past set turns (Tick n) = ticks st p st.entry st.tickets workers past (settled_frame st p workers set) n
-follows_settled st p workers past set turns (Network side change) = network st p st.entry st.tickets workers past (settled_frame st p workers set) side change
-follows_settled st p workers past set turns Connect = connects st p st.entry st.tickets workers past (settled_frame st p workers set)
-follows_settled st p workers past set turns (Spurious who) = spurious st p st.entry st.tickets workers past (settled_frame st p workers set) who
-follows_settled st p workers past set turns (Vanish who) = vanishes st p st.entry st.tickets workers past (settled_frame st p workers set) who
-follows_settled st p workers past set turns (Accept reply) = accepts st p st.entry st.tickets workers past (settled_frame st p workers set) reply
-follows_settled st p workers past set turns Drop = drops st p st.entry st.tickets workers past (settled_frame st p workers set)
-follows_settled st p workers past set turns (Poll names) = polls st p st.entry st.tickets workers past (settled_frame st p workers set) names
+    → (s : Step) → Kept (Follows [] (exchange st.word (kind_in st s)) (machine_of st p st.entry st.tickets workers past) s) (step st s)
+follows_settled st p workers past set turns (Tick n) = ticks st [] p st.entry st.tickets workers past (settled_frame st p workers set) n
+follows_settled st p workers past set turns (Network side change) = network st [] p st.entry st.tickets workers past (settled_frame st p workers set) side change
+follows_settled st p workers past set turns Connect = connects st [] p st.entry st.tickets workers past (settled_frame st p workers set)
+follows_settled st p workers past set turns (Spurious who) = spurious st [] p st.entry st.tickets workers past (settled_frame st p workers set) who
+follows_settled st p workers past set turns (Vanish who) = vanishes st [] p st.entry st.tickets workers past (settled_frame st p workers set) who
+follows_settled st p workers past set turns (Accept reply) = accepts st [] p st.entry st.tickets workers past (settled_frame st p workers set) reply
+follows_settled st p workers past set turns Drop = drops st [] p st.entry st.tickets workers past (settled_frame st p workers set)
+follows_settled st p workers past set turns (Poll names) = polls st [] p st.entry st.tickets workers past (settled_frame st p workers set) names
 follows_settled st p workers past set turns Deliver = reports st p workers past set
 follows_settled st p workers past set turns Sweep = sweeps st p workers past set
 follows_settled st p workers past set turns Open = begins_opening st p workers past set
 follows_settled st p workers past set turns (Begin i) = begins_turn st p workers past set i
 follows_settled st p workers past set turns (Acts i) = kept_bind _ (slice_get st.threads i) (λ t there.
-    thread_acts st p workers past set turns i t there (set.threads i t there).worker (set.threads i t there).there (set.threads i t there).like)
+    rw there (thread_acts st p workers past set turns i t there (set.threads i t there).worker (set.threads i t there).there (set.threads i t there).like))
 follows_settled st p workers past set turns (Calls i r) = kept_bind _ (slice_get st.threads i) (λ t there.
     thread_calls st p workers past set i t there (set.threads i t there).worker (set.threads i t there).there (set.threads i t there).like r)
 
@@ -128,13 +131,14 @@ stage_acts word place entry t c (Emptied todo is at out own) = rw todo refl
 stage_acts word place entry t c (Placed todo is at own) = rw todo refl
 stage_acts word place entry t c (Posted todo is at own) = rw todo refl
 
-stage_calls : (st : System) (w : State) (t : Thread) (c : Connection) (r : Reply) → Stage st.word st.place st.entry t c → Kept (Follows w (Calls 0 r)) (calls st 0 t r t.todo)
-stage_calls st w t c r (Registered notes todo is at out) = rw todo kept_none
-stage_calls st w t c r (Adopted notes todo is at out) = rw todo kept_none
-stage_calls st w t c r (Entered notes todo is at out own) = rw todo kept_none
-stage_calls st w t c r (Emptied todo is at out own) = rw todo kept_none
-stage_calls st w t c r (Placed todo is at own) = rw todo kept_none
-stage_calls st w t c r (Posted todo is at own) = rw todo kept_none
+stage_calls : (st : System) (before : List Exchange) (w : State) (t : Thread) (c : Connection) (r : Reply) → Stage st.word st.place st.entry t c
+    → Kept (Follows before [] w (Calls 0 r)) (calls st 0 t r t.todo)
+stage_calls st before w t c r (Registered notes todo is at out) = rw todo kept_none
+stage_calls st before w t c r (Adopted notes todo is at out) = rw todo kept_none
+stage_calls st before w t c r (Entered notes todo is at out own) = rw todo kept_none
+stage_calls st before w t c r (Emptied todo is at out own) = rw todo kept_none
+stage_calls st before w t c r (Placed todo is at own) = rw todo kept_none
+stage_calls st before w t c r (Posted todo is at own) = rw todo kept_none
 
 poller_acts : (st : System) (t : Thread) (c : Connection) (workers : List WorkerState) → HalfOpen st t c workers → poller_rests st ≡ false
 poller_acts st t c workers half = rw half.first (stage_acts st.word st.place st.entry t c half.stage)
@@ -146,103 +150,132 @@ this_thread : (st : System) (t u : Thread) → slice_get st.threads 0 ≡ Some t
 this_thread st t u first there = let both : Some u ≡ Some t = sym there ∙ first in cc
 
 acts_half : (st : System) (t : Thread) (c : Connection) (workers : List WorkerState) (past : List Past) → HalfOpen st t c workers
-    → (i : ℕ) (u : Thread) → slice_get st.threads i ≡ Some u → (i ≡ 0) ⊎ (i ≢ 0) → Kept (Follows (half_world st t c workers past) (Acts i)) (acts st i u u.todo)
+    → (i : ℕ) (u : Thread) → slice_get st.threads i ≡ Some u → (i ≡ 0) ⊎ (i ≢ 0) → Kept (Follows (left_of t.todo st.word) (exchange st.word (first_kind u.todo)) (half_world st t c workers past) (Acts i)) (acts st i u u.todo)
 acts_half st t c workers past half i u there (inl first) =
     let same : u ≡ t = this_thread st t u half.first (rw first at there) in
     rw (first, same) (goes_half st t c workers past half half.stage)
 acts_half st t c workers past half i u there (inr other) = rw (half.others i u other there).0 kept_none
 
 calls_half : (st : System) (t : Thread) (c : Connection) (workers : List WorkerState) (past : List Past) → HalfOpen st t c workers
-    → (i : ℕ) (u : Thread) (r : Reply) → slice_get st.threads i ≡ Some u → (i ≡ 0) ⊎ (i ≢ 0) → Kept (Follows (half_world st t c workers past) (Calls i r)) (calls st i u r u.todo)
+    → (i : ℕ) (u : Thread) (r : Reply) → slice_get st.threads i ≡ Some u → (i ≡ 0) ⊎ (i ≢ 0) → Kept (Follows (left_of t.todo st.word) [] (half_world st t c workers past) (Calls i r)) (calls st i u r u.todo)
 calls_half st t c workers past half i u r there (inl first) =
     let same : u ≡ t = this_thread st t u half.first (rw first at there) in
-    rw (first, same) (stage_calls st (half_world st t c workers past) t c r half.stage)
+    rw (first, same) (stage_calls st (left_of t.todo st.word) (half_world st t c workers past) t c r half.stage)
 calls_half st t c workers past half i u r there (inr other) = rw (half.others i u other there).0 kept_none
 
 follows_half : (st : System) (t : Thread) (c : Connection) (workers : List WorkerState) (past : List Past) → HalfOpen st t c workers
-    → (s : Step) → Kept (Follows (half_world st t c workers past) s) (step st s)
-follows_half st t c workers past half (Tick n) = ticks st (opened_slot t.generation c) t.generation (t.generation ∷ []) workers past (half_frame st t c workers half) n
-follows_half st t c workers past half (Network side change) = network st (opened_slot t.generation c) t.generation (t.generation ∷ []) workers past (half_frame st t c workers half) side change
-follows_half st t c workers past half Connect = connects st (opened_slot t.generation c) t.generation (t.generation ∷ []) workers past (half_frame st t c workers half)
-follows_half st t c workers past half (Spurious who) = spurious st (opened_slot t.generation c) t.generation (t.generation ∷ []) workers past (half_frame st t c workers half) who
-follows_half st t c workers past half (Vanish who) = vanishes st (opened_slot t.generation c) t.generation (t.generation ∷ []) workers past (half_frame st t c workers half) who
-follows_half st t c workers past half (Accept reply) = accepts st (opened_slot t.generation c) t.generation (t.generation ∷ []) workers past (half_frame st t c workers half) reply
-follows_half st t c workers past half Drop = drops st (opened_slot t.generation c) t.generation (t.generation ∷ []) workers past (half_frame st t c workers half)
-follows_half st t c workers past half (Poll names) = polls st (opened_slot t.generation c) t.generation (t.generation ∷ []) workers past (half_frame st t c workers half) names
+    → (s : Step) → Kept (Follows (left_of t.todo st.word) (exchange st.word (kind_in st s)) (half_world st t c workers past) s) (step st s)
+follows_half st t c workers past half (Tick n) = ticks st (left_of t.todo st.word) (opened_slot t.generation c) t.generation (t.generation ∷ []) workers past (half_frame st t c workers half) n
+follows_half st t c workers past half (Network side change) = network st (left_of t.todo st.word) (opened_slot t.generation c) t.generation (t.generation ∷ []) workers past (half_frame st t c workers half) side change
+follows_half st t c workers past half Connect = connects st (left_of t.todo st.word) (opened_slot t.generation c) t.generation (t.generation ∷ []) workers past (half_frame st t c workers half)
+follows_half st t c workers past half (Spurious who) = spurious st (left_of t.todo st.word) (opened_slot t.generation c) t.generation (t.generation ∷ []) workers past (half_frame st t c workers half) who
+follows_half st t c workers past half (Vanish who) = vanishes st (left_of t.todo st.word) (opened_slot t.generation c) t.generation (t.generation ∷ []) workers past (half_frame st t c workers half) who
+follows_half st t c workers past half (Accept reply) = accepts st (left_of t.todo st.word) (opened_slot t.generation c) t.generation (t.generation ∷ []) workers past (half_frame st t c workers half) reply
+follows_half st t c workers past half Drop = drops st (left_of t.todo st.word) (opened_slot t.generation c) t.generation (t.generation ∷ []) workers past (half_frame st t c workers half)
+follows_half st t c workers past half (Poll names) = polls st (left_of t.todo st.word) (opened_slot t.generation c) t.generation (t.generation ∷ []) workers past (half_frame st t c workers half) names
 follows_half st t c workers past half Deliver = kept_when (poller_rests st) _ (λ b. never (poller_rests st) _ (poller_acts st t c workers half) b)
 follows_half st t c workers past half Sweep = rw (poller_acts st t c workers half) kept_none
 follows_half st t c workers past half Open = kept_bind _ (slice_get st.threads 0) (λ u there. kept_guard (rests u) _ (λ b.
     let same : u ≡ t = this_thread st t u half.first there in
     never (rests u) _ (ap rests same ∙ stage_acts st.word st.place st.entry t c half.stage) b))
 follows_half st t c workers past half (Begin i) = kept_bind _ (slice_get st.threads i) (λ u there. kept_when (rests u) _ (λ b. rw half.tickets kept_none))
-follows_half st t c workers past half (Acts i) = kept_bind _ (slice_get st.threads i) (λ u there. acts_half st t c workers past half i u there (cases_eq i 0))
+follows_half st t c workers past half (Acts i) = kept_bind _ (slice_get st.threads i) (λ u there.
+    rw there (acts_half st t c workers past half i u there (cases_eq i 0)))
 follows_half st t c workers past half (Calls i r) = kept_bind _ (slice_get st.threads i) (λ u there. calls_half st t c workers past half i u r there (cases_eq i 0))
 
-follows : (st : System) (w : State) → Like st w → Turns w → (s : Step) → Kept (Follows w s) (step st s)
+follows : (st : System) (w : State) (like : Like st w) → Turns w → (s : Step) → Kept (Follows (ahead st w like) (exchange st.word (kind_in st s)) w s) (step st s)
 follows st w (IsSettled p workers past is set) turns s = rw is (follows_settled st p workers past set (rw is at turns) s)
 follows st w (IsHalfOpen t c workers past is half) turns s = rw is (follows_half st t c workers past half s)
 
 -- A list of steps
 
-record Ran (w : State) (steps : List Step) (st : System) : Type 0 where
+record Ran (st : System) (w : State) (before : List Exchange) (steps : List Step) (to : System) : Type 0 where
   pub events : List Event
   pub world : State
   pub allowed : machine_runs.run w events ≡ Some world
-  pub like : Like st world
+  pub like : Like to world
   pub calls : calls_in events ≡ calls_of steps
+  pub words : before ++ exchanges_in w events ≡ exchanges st steps ++ ahead to world like
 
 calls-append : (es more : List Event) → calls_in (es ++ more) ≡ calls_in es ++ calls_in more
 calls-append [] more = refl
 calls-append (e ∷ es) more = ap (λ (xs : List (ℕ × Reply)). call_in e ++ xs) (calls-append es more) ∙ sym (append_assoc (call_in e) (calls_in es) (calls_in more))
 
-went_on : (w : State) (s : Step) (steps : List Step) (q to : System) → (f : Follows w s q) → Ran f.world steps to → Ran w (s ∷ steps) to
-went_on w s steps q to f r = record {
+exchanges_on : (w v : State) (e : Event) (es more : List Event) (o : Option State) → option_and_then (λ (q : State). machine_runs.run q es) o ≡ Some v
+    → ((q : State) → machine_runs.run q es ≡ Some v → exchanges_in q (es ++ more) ≡ exchanges_in q es ++ exchanges_in v more)
+    → exchanges_of w e ++ unwrap_or (option_map (λ (q : State). exchanges_in q (es ++ more)) o) []
+    ≡ (exchanges_of w e ++ unwrap_or (option_map (λ (q : State). exchanges_in q es) o) []) ++ exchanges_in v more
+exchanges_on w v e es more None h rest = absurd (cc)
+exchanges_on w v e es more (Some q) h rest =
+    ap (λ (xs : List Exchange). exchanges_of w e ++ xs) (rest q h) ∙ sym (append_assoc (exchanges_of w e) (exchanges_in q es) (exchanges_in v more))
+
+exchanges-append : (es more : List Event) (w v : State) → machine_runs.run w es ≡ Some v → exchanges_in w (es ++ more) ≡ exchanges_in w es ++ exchanges_in v more
+exchanges-append [] more w v h = let same : w ≡ v = cc in rw same refl
+exchanges-append (e ∷ es) more w v h = exchanges_on w v e es more (machine.step w e) h (λ q ran. exchanges-append es more q v ran)
+
+-- one list of exchanges after another
+joined : (before a b own middle last rest : List Exchange) → before ++ a ≡ own ++ middle → middle ++ b ≡ rest ++ last → before ++ (a ++ b) ≡ (own ++ rest) ++ last
+joined before a b own middle last rest one two =
+    sym (append_assoc before a b) ∙ (ap (λ (xs : List Exchange). xs ++ b) one ∙ (append_assoc own middle b ∙ (ap (λ (xs : List Exchange). own ++ xs) two
+    ∙ sym (append_assoc own rest last))))
+
+went_on : (before : List Exchange) (w : State) (s : Step) (steps : List Step) (st q to : System) → step st s ≡ Some q → (f : Follows before (exchange st.word (kind_in st s)) w s q)
+    → Ran q f.world (ahead q f.world f.like) steps to → Ran st w before (s ∷ steps) to
+went_on before w s steps st q to is f r = record {
   events = f.events ++ r.events;
   world = r.world;
   allowed = run_append w f.world r.world f.events r.events f.allowed r.allowed;
   like = r.like;
   calls = calls-append f.events r.events ∙ rw (f.calls, r.calls) refl;
+  words = rw (exchanges-append f.events r.events w f.world f.allowed, is) (joined before (exchanges_in w f.events) (exchanges_in f.world r.events)
+      (exchange st.word (kind_in st s)) (ahead q f.world f.like) (ahead to r.world r.like) (exchanges q steps) f.words r.words);
 }
 
-more_went : (w : State) (s : Step) (steps : List Step) (st to : System) → Kept (Follows w s) (step st s)
-    → ((q : System) → (f : Follows w s q) → run q steps ≡ Some to → Ran f.world steps to)
-    → (o : Option System) → step st s ≡ o → option_and_then (λ (q : System). run q steps) o ≡ Some to → Ran w (s ∷ steps) to
-more_went w s steps st to kept rest None is h = absurd (cc)
-more_went w s steps st to kept rest (Some q) is h =
-    let f : Follows w s q = kept_at (step st s) q is kept in
-    went_on w s steps q to f (rest q f h)
+more_went : (before : List Exchange) (w : State) (s : Step) (steps : List Step) (st to : System) → Kept (Follows before (exchange st.word (kind_in st s)) w s) (step st s)
+    → ((q : System) → (f : Follows before (exchange st.word (kind_in st s)) w s q) → run q steps ≡ Some to → Ran q f.world (ahead q f.world f.like) steps to)
+    → (o : Option System) → step st s ≡ o → option_and_then (λ (q : System). run q steps) o ≡ Some to → Ran st w before (s ∷ steps) to
+more_went before w s steps st to kept rest None is h = absurd (cc)
+more_went before w s steps st to kept rest (Some q) is h =
+    let f : Follows before (exchange st.word (kind_in st s)) w s q = kept_at (step st s) q is kept in
+    went_on before w s steps st q to is f (rest q f h)
 
-went : (laws : CoreLaws) (l : Limits) (steps : List Step) (before : List Event) (w : State) (st to : System) → machine_runs.run (machine.opening l) before ≡ Some w → Like st w
-    → run st steps ≡ Some to → Ran w steps to
+ended_at : (st to : System) (w : State) (like : Like st w) → st ≡ to → Ran st w (ahead st w like) [] to
+ended_at st to w like same = subst (λ (x : System). Ran st w (ahead st w like) [] x) same
+    (record { events = []; world = w; allowed = refl; like = like; calls = refl; words = append-nil (ahead st w like) })
+
+went : (laws : CoreLaws) (l : Limits) (steps : List Step) (before : List Event) (w : State) (st to : System) → machine_runs.run (machine_states.opening l) before ≡ Some w
+    → (like : Like st w) → run st steps ≡ Some to → Ran st w (ahead st w like) steps to
 went laws l [] before w st to reached like h =
-    let same : to ≡ st = cc in
-    record { events = []; world = w; allowed = refl; like = rw same like; calls = refl }
+    let same : st ≡ to = cc in
+    ended_at st to w like same
 went laws l (s ∷ steps) before w st to reached like h =
-    more_went w s steps st to (follows st w like (turns_after laws l before w reached) s)
-    (λ q f ran. went laws l steps (before ++ f.events) f.world q to (run_append (machine.opening l) w f.world before f.events reached f.allowed) f.like ran)
+    more_went (ahead st w like) w s steps st to (follows st w like (turns_after laws l before w reached) s)
+    (λ q f ran. went laws l steps (before ++ f.events) f.world q to (run_append (machine_states.opening l) w f.world before f.events reached f.allowed) f.like ran)
     (step st s) refl h
 
 -- from the opening
 
-at_first : (l : Limits) → l.slots ≡ 1 → Like (start l) (machine.opening l)
-at_first l one = IsSettled (machine.unused l.generation) (replicate l.workers machine.resting) [] (rw one refl) (record {
+at_first : (l : Limits) → l.slots ≡ 1 → Like (start l) (machine_states.opening l)
+at_first l one = IsSettled (machine_states.unused l.generation) (replicate l.workers machine_states.resting) [] (rw one refl) (record {
   ends = refl;
   word = refl;
   place = λ yes. refl;
   threads = λ i t there.
       let same : Rattle.interleaving.specs.Threads.resting ≡ t = get-replicate l.workers i Rattle.interleaving.specs.Threads.resting t there in
-      record { worker = machine.resting; there = get_beside l.workers i Rattle.interleaving.specs.Threads.resting t machine.resting there; like = Rests (rw (sym same) refl) refl };
+      record { worker = machine_states.resting; there = get_beside l.workers i Rattle.interleaving.specs.Threads.resting t machine_states.resting there; like = Rests (rw (sym same) refl) refl };
 })
 
 pub every_interleaving : CoreLaws → EveryRunHolds → EveryInterleavingIsARun
+unfolding at_first
 every_interleaving laws holds l steps st one ran =
-    let r : Ran (machine.opening l) steps st = went laws l steps [] (machine.opening l) (start l) st refl (at_first l one) ran in
+    let r : Ran (start l) (machine_states.opening l) [] steps st = went laws l steps [] (machine_states.opening l) (start l) st refl (at_first l one) ran in
     record {
       made = r.events;
       world = r.world;
       allowed = r.allowed;
       like = r.like;
       calls = r.calls;
+      words = r.words;
       holds = holds l r.events r.world r.allowed;
       nothing = nothing_is_lost st r.world r.like (turns_after laws l r.events r.world r.allowed);
     }

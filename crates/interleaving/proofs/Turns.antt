@@ -22,6 +22,7 @@ use Rattle.world.proofs.TurnsEnded.{own_generation}
 use Rattle.world.proofs.TurnsRun.{names_it}
 use Rattle.interleaving.specs.Programs.{Act, TakeOut, TakeNotes, Call, turn, quiet, again, ended, plan, opening}
 use Rattle.interleaving.specs.Threads.{System, Thread, Begin, Acts, Open, is_over, rests, with_thread, goes_on, begun, claimed, taken_out, step}
+use Rattle.claims.specs.Rule.{made as exchange_made}
 use Rattle.interleaving.specs.Likeness.{ticket, Held, ThreadLike, Rests, Opens, Tries, Holds, HasOut, Goes, Stays, Leaves, HasClosed, HasRetired, WorkerFor, machine_of, Settled, IsSettled}
 use Rattle.interleaving.proofs.Frames.{Follows, apart, go_on, thread_goes_on, holder_apart, settles}
 
@@ -54,7 +55,7 @@ rests_like budget place p i t k (HasRetired generation todo is) r = absurd (let 
 
 begins_with : (st : System) (p : SlotState) (workers : List WorkerState) (past : List Past) → Settled st p workers → (i : ℕ) (t : Thread) → slice_get st.threads i ≡ Some t
     → (k : WorkerState) → slice_get workers i ≡ Some k → k ≡ machine_states.resting → (tickets : List ℕ) → st.tickets ≡ tickets
-    → Kept (Follows (machine_of st p st.entry st.tickets workers past) (Begin i)) (begun st i tickets)
+    → Kept (Follows [] [] (machine_of st p st.entry st.tickets workers past) (Begin i)) (begun st i tickets)
 begins_with st p workers past set i t there k had is [] tickets = kept_none
 begins_with st p workers past set i t there k had is (g ∷ rest) tickets =
     let new : Thread = record { generation = g; out = None; left = 0; todo = turn } in
@@ -71,28 +72,29 @@ begins_with st p workers past set i t there k had is (g ∷ rest) tickets =
         threads = go_on st.limits.budget st.place st.place p p st.threads workers i t new busier set.threads there (Tries refl refl) (λ j u v other like. like);
       });
       calls = refl;
+      words = rw (had, is, tickets) refl;
     })
 
 pub begins_turn : (st : System) (p : SlotState) (workers : List WorkerState) (past : List Past) → Settled st p workers → (i : ℕ)
-    → Kept (Follows (machine_of st p st.entry st.tickets workers past) (Begin i)) (step st (Begin i))
+    → Kept (Follows [] [] (machine_of st p st.entry st.tickets workers past) (Begin i)) (step st (Begin i))
 begins_turn st p workers past set i = kept_bind _ (slice_get st.threads i) (λ t there. kept_when (rests t) _ (λ r.
     let it : WorkerFor st.limits.budget st.place p workers i t = set.threads i t there in
     begins_with st p workers past set i t there it.worker it.there (rests_like st.limits.budget st.place p i t it.worker it.like r) st.tickets refl))
 
 -- the poller's thread begins an opening
 pub begins_opening : (st : System) (p : SlotState) (workers : List WorkerState) (past : List Past) → Settled st p workers
-    → Kept (Follows (machine_of st p st.entry st.tickets workers past) Open) (step st Open)
+    → Kept (Follows [] [] (machine_of st p st.entry st.tickets workers past) Open) (step st Open)
 begins_opening st p workers past set = kept_bind _ (slice_get st.threads 0) (λ t there. kept_guard (rests t) _ (λ r.
     let it : WorkerFor st.limits.budget st.place p workers 0 t = set.threads 0 t there in
     let is : it.worker ≡ machine_states.resting = rests_like st.limits.budget st.place p 0 t it.worker it.like r in
     let next : System = with_thread st 0 (goes_on t opening) in
-    settles st next (machine_of st p st.entry st.tickets workers past) Open (IsSettled p workers past refl (record {
+    settles st next (machine_of st p st.entry st.tickets workers past) Open [] [] (IsSettled p workers past refl (record {
       ends = set.ends;
       word = set.word;
       place = set.place;
       threads = thread_goes_on st.limits.budget st.place st.place p p st.threads workers 0 t (goes_on t opening) it.worker set.threads there it.there
           (Opens refl refl is) (λ j u v other like. like);
-    })) refl))
+    })) refl refl))
 
 -- it claims the slot, which nobody holds
 
@@ -102,7 +104,7 @@ some_there (Some c) h = (c, refl)
 
 pub claims : (st : System) (p : SlotState) (workers : List WorkerState) (past : List Past) → Settled st p workers → Turns (machine_of st p st.entry st.tickets workers past)
     → (i : ℕ) (t : Thread) → slice_get st.threads i ≡ Some t → (k : WorkerState) → slice_get workers i ≡ Some k → t.todo ≡ turn → k ≡ busy (doing.Tries (ticket t.generation))
-    → Follows (machine_of st p st.entry st.tickets workers past) (Acts i) (claimed st i t (TakeOut ∷ TakeNotes ∷ []))
+    → Follows [] (exchange_made word.claim st.word ∷ []) (machine_of st p st.entry st.tickets workers past) (Acts i) (claimed st i t (TakeOut ∷ TakeNotes ∷ []))
 claims st p workers past set turns i t there k had todo is =
     let w : State = machine_of st p st.entry st.tickets workers past in
     let wait : Waiting p = waiting w i k (ticket t.generation) p had (rw is refl) refl turns in
@@ -127,24 +129,25 @@ claims st p workers past set turns i t there k had todo is =
             (λ j u v other like. apart st.limits.budget st.place st.place p q j u v (λ by. absurd (let no : Nobody ≡ By j = sym wait.holder ∙ by in cc)) refl like);
       });
       calls = refl;
+      words = rw (had, is, set.word, wait.holder) refl;
     })
 
 -- it takes the connection out, which is its ticket's own
 pub takes_out : (st : System) (p : SlotState) (workers : List WorkerState) (past : List Past) → Settled st p workers → Turns (machine_of st p st.entry st.tickets workers past)
     → (i : ℕ) (t : Thread) → slice_get st.threads i ≡ Some t → (k : WorkerState) → slice_get workers i ≡ Some k
     → (c : Connection) → Held p i t c → st.place ≡ Some c → k ≡ busy (doing.Holds 0 st.limits.budget)
-    → Follows (machine_of st p st.entry st.tickets workers past) (Acts i) (taken_out st i t (TakeNotes ∷ []) st.place)
+    → Follows [] [] (machine_of st p st.entry st.tickets workers past) (Acts i) (taken_out st i t (TakeNotes ∷ []) st.place)
 takes_out st p workers past set turns i t there k had c held at is =
     let w : State = machine_of st p st.entry st.tickets workers past in
     let sv : SlotOk (facts w 0 p.generation) p = turns.each 0 p refl in
     let own : c.pair.generation ≡ t.generation = own_generation (facts w 0 p.generation) p c (sv.connection c held.connection).stands ∙ held.generation in
     let new : Thread = record t { out = Some c; todo = TakeNotes ∷ [] } in
     let next : System = with_thread (record st { place = None }) i new in
-    rw (at, eq-eqb c.pair.generation t.generation own) (settles st next w (Acts i) (IsSettled p workers past refl (record {
+    rw (at, eq-eqb c.pair.generation t.generation own) (settles st next w (Acts i) [] [] (IsSettled p workers past refl (record {
       ends = set.ends;
       word = set.word;
       place = λ no. absurd (let yes : is_by_worker p.holder ≡ true = rw held.holder refl in cc);
       threads = thread_goes_on st.limits.budget st.place None p p st.threads workers i t new k set.threads there had
           (HasOut c (record { holder = held.holder; connection = held.connection; generation = held.generation }) refl refl refl is)
           (λ j u v other like. apart st.limits.budget st.place None p p j u v (holder_apart p i j held.holder other) refl like);
-    })) refl)
+    })) refl refl)

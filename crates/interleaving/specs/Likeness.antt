@@ -5,6 +5,7 @@ use Rattle.kernel_model.specs.declared.reply.Reply.{Reply}
 use Rattle.kernel_model.specs.declared.both.Descriptors.{Descriptors}
 use Rattle.kernel_model.specs.Ends.{is_nonempty}
 use Rattle.relay_core.specs.Pairs.{verdict, is_live}
+use Rattle.claims.specs.declared.view.Exchange.{Exchange}
 use Rattle.claims.specs.Words.{WordState}
 use Rattle.world.specs.declared.connection.Connection.{Connection}
 use Rattle.world.specs.declared.limits.Limits.{Limits}
@@ -24,6 +25,7 @@ use Rattle.world.specs.Acts.{busy}
 use Rattle.world.specs.Runs as events
 use Rattle.world.specs.Headline.{HeadlineHolds}
 use Rattle.interleaving.specs.Programs.{TakeOut, TakeNotes, Post, Release, Retire, Give, turn, plan, opening}
+use Rattle.interleaving.specs.Histories.{exchanges, exchanges_in, left_of}
 use Rattle.interleaving.specs.Threads.{System, Thread, Step, Calls, start, run}
 
 -- the ticket of a generation of the one slot
@@ -140,6 +142,11 @@ pub data Like (st : System) (w : State) : Type 0 where
   IsHalfOpen : (t : Thread) (c : Connection) (workers : List WorkerState) (past : List Past)
       → w ≡ machine_of st (opened_slot t.generation c) t.generation (t.generation ∷ []) workers past → HalfOpen st t c workers → Like st w
 
+-- What the machine is ahead by: the exchanges of an opening that is half way which the threads have not yet made
+abbrev pub ahead : (st : System) (w : State) → Like st w → List Exchange
+ahead st w (IsSettled p workers past is set) = []
+ahead st w (IsHalfOpen t c workers past is half) = left_of t.todo st.word
+
 -- the calls of the threads and those of the machine's workers: by which, and with which reply
 abbrev pub call_of : Step → List (ℕ × Reply)
 call_of (Calls i r) = (i, r) ∷ []
@@ -166,13 +173,15 @@ pub record NothingIsLost (st : System) : Type 0 where
   pub free : (i : ℕ) (t : Thread) → slice_get st.threads i ≡ Some t → t.todo ≡ drop 1 opening → st.word.free ≡ true
 
 -- These steps of threads are a run of the machine: there are events, allowed one after the other from its opening, that
--- lead to a like state, with the same calls and replies in the same order. So the headline holds of it
+-- lead to a like state. They have the same calls and replies in the same order, and the same exchanges of the slot's word
+-- with the same answers in the same order, but for what the machine is ahead by. So the headline holds of it
 pub record IsARun (l : Limits) (steps : List Step) (st : System) : Type 0 where
   pub made : List Event
   pub world : State
   pub allowed : events.run (machine.opening l) made ≡ Some world
   pub like : Like st world
   pub calls : calls_in made ≡ calls_of steps
+  pub words : exchanges_in (machine.opening l) made ≡ exchanges (start l) steps ++ ahead st world like
   pub holds : HeadlineHolds l made world
   pub nothing : NothingIsLost st
 
