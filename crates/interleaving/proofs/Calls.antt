@@ -1,5 +1,5 @@
 -- What a thread does with a connection that is out: it takes the notes, makes calls, and goes by its plan.
-use Rattle.std.proofs.Common.{◌≡◌, ℕ, ◌-◌, Bool, true, false, nat_lt, if◌then◌else◌, List, [], ◌∷◌, ◌++◌, length, slice_get, slice_set, Option, Some, None, refl, sym, ap, ◌∙◌, option_and_then}
+use Rattle.std.proofs.Common.{◌≤◌, arith, ◌≡◌, ℕ, ◌-◌, Bool, true, false, nat_lt, if◌then◌else◌, List, [], ◌∷◌, ◌++◌, length, slice_get, slice_set, Option, Some, None, refl, sym, ap, ◌∙◌, option_and_then}
 use Rattle.kernel_model.specs.declared.reply.Reply.{Reply}
 use Rattle.relay_core.specs.Pairs.{noted}
 use Rattle.relay_core.specs.Order.{next_call}
@@ -84,17 +84,17 @@ same_ends notes c = by (some_wait notes)
 
 takes : (st : System) (p : SlotState) (workers : List WorkerState) (past : List Past) → Settled st p workers
     → (i : ℕ) (t : Thread) → slice_get st.threads i ≡ Some t
-    → (c : Connection) → Held p i t c → st.place ≡ None → slice_get workers i ≡ Some (busy (doing.Holds 0 st.limits.budget))
+    → (c : Connection) → Held p i t c → st.place ≡ None → t.left ≤ st.limits.budget → slice_get workers i ≡ Some (busy (doing.Holds 0 st.limits.budget))
     → Limited (notes_taken st i t c) (record p { notes = [] }) (heard st.word.pending c) workers past
     → Follows [] (exchange_made word.take st.word ∷ []) (machine_of st p st.entry st.tickets workers past) (Acts i) (notes_taken st i t c)
-takes st p workers past set i t there c held at had l =
+takes st p workers past set i t there c held at least had l =
     let e : Connection = held_to_limit st.second st.limits.idle (heard st.word.pending c) in
     let next : System = notes_taken st i t c in
     let q : SlotState = record p { notes = []; connection = Some e } in
     let count : length p.notes ≡ st.word.pending = rw set.word refl in
     let same : machine.heard c p.notes ≡ heard st.word.pending c = heard_as c p.notes ∙ rw count refl in
-    let here : ThreadLike st.limits.budget st.place q i (planned st t st.limits.budget (heard st.word.pending c)) (busy (doing.Holds 0 st.limits.budget)) =
-    Goes e (record { holder = held.holder; connection = refl; generation = held.generation }) at refl refl refl in
+    let here : ThreadLike st.limits.budget st.place q i (planned st t t.left (heard st.word.pending c)) (busy (doing.Holds 0 st.limits.budget)) =
+    Goes e st.limits.budget (record { holder = held.holder; connection = refl; generation = held.generation }) at refl refl least refl in
     let words : exchanges_in (machine_of st p st.entry st.tickets workers past) (event.Work i act.Take ∷ l.events) ≡ exchange_made word.take (word_at p) ∷ [] =
     rw (had, held.connection, same) (ap (λ (xs : List Exchange). exchange_made word.take (word_at p) ∷ xs) l.words) in
     record {
@@ -105,7 +105,7 @@ takes st p workers past set i t there c held at had l =
         ends = set.ends ∙ rw (held.connection, same_ends st.word.pending c) refl;
         word = rw set.word refl;
         place = λ no. absurd (let yes : is_by_worker p.holder ≡ true = rw held.holder refl in cc);
-        threads = thread_goes_on st.limits.budget st.place st.place p q st.threads workers i t (planned st t st.limits.budget (heard st.word.pending c))
+        threads = thread_goes_on st.limits.budget st.place st.place p q st.threads workers i t (planned st t t.left (heard st.word.pending c))
             (busy (doing.Holds 0 st.limits.budget)) set.threads there had here
             (λ j u v other like. apart st.limits.budget st.place st.place p q j u v (holder_apart p i j held.holder other) refl like);
       });
@@ -115,11 +115,11 @@ takes st p workers past set i t there c held at had l =
 
 pub takes_notes : (st : System) (p : SlotState) (workers : List WorkerState) (past : List Past) → Settled st p workers
     → (i : ℕ) (t : Thread) → slice_get st.threads i ≡ Some t → (k : WorkerState) → slice_get workers i ≡ Some k
-    → (c : Connection) → Held p i t c → st.place ≡ None → k ≡ busy (doing.Holds 0 st.limits.budget)
+    → (c : Connection) → Held p i t c → st.place ≡ None → t.left ≤ st.limits.budget → k ≡ busy (doing.Holds 0 st.limits.budget)
     → Follows [] (exchange_made word.take st.word ∷ []) (machine_of st p st.entry st.tickets workers past) (Acts i) (notes_taken st i t c)
-takes_notes st p workers past set i t there k had c held at is =
+takes_notes st p workers past set i t there k had c held at least is =
     let still : slice_get workers i ≡ Some (busy (doing.Holds 0 st.limits.budget)) = had ∙ ap Some is in
-    takes st p workers past set i t there c held at still
+    takes st p workers past set i t there c held at least still
     (limited (notes_taken st i t c) (record p { notes = [] }) (heard st.word.pending c) workers past i st.limits.budget still _ refl)
 
 -- A call gets its reply
@@ -142,24 +142,24 @@ slot_calls now p k c r line is made = rw (is, made) refl
 
 makes_call : (st : System) (p : SlotState) (workers : List WorkerState) (past : List Past) → Settled st p workers
     → (i : ℕ) (t : Thread) → slice_get st.threads i ≡ Some t
-    → (c : Connection) → Held p i t c → st.place ≡ None → slice_get workers i ≡ Some (busy (doing.Holds 0 t.left)) → nat_lt 0 t.left ≡ true
+    → (c : Connection) → Held p i t c → st.place ≡ None → (more : ℕ) → t.left ≤ more → slice_get workers i ≡ Some (busy (doing.Holds 0 more)) → nat_lt 0 more ≡ true
     → (r : Reply) (line : OpenConnection) → called st.second (record { kernel = st.kernel; connection = c }) r ≡ Some line
     → Limited (with_thread (record st { kernel = line.kernel }) i (planned st t (t.left - 1) line.connection)) p line.connection
-    (slice_set workers i (busy (doing.Holds 0 (t.left - 1)))) past
+    (slice_set workers i (busy (doing.Holds 0 (more - 1)))) past
     → Follows [] [] (machine_of st p st.entry st.tickets workers past) (Calls i r)
     (with_thread (record st { kernel = line.kernel }) i (planned st t (t.left - 1) line.connection))
-makes_call st p workers past set i t there c held at had some r line is l =
+makes_call st p workers past set i t there c held at more least had some r line is l =
     let d : Connection = held_to_limit st.second st.limits.idle line.connection in
     let new : Thread = planned st t (t.left - 1) line.connection in
     let next : System = with_thread (record st { kernel = line.kernel }) i new in
     let q : SlotState = record p { connection = Some d } in
-    let busier : WorkerState = busy (doing.Holds 0 (t.left - 1)) in
+    let busier : WorkerState = busy (doing.Holds 0 (more - 1)) in
     let made : machine.slot_call st.second (record { kernel = st.kernel; place = p }) r
     ≡ Some (record { kernel = line.kernel; place = record p { connection = Some line.connection } }) =
     slot_calls st.second p st.kernel c r line held.connection is in
     let ends : line.connection.ends ≡ c.ends = keeps_ends st.second (record { kernel = st.kernel; connection = c }) r line is in
     let here : ThreadLike st.limits.budget st.place q i new busier =
-    Goes d (record { holder = held.holder; connection = refl; generation = held.generation }) at refl refl refl in
+    Goes d (more - 1) (record { holder = held.holder; connection = refl; generation = held.generation }) at refl refl (omega arith) refl in
     record {
       events = event.Work i (act.Call r) ∷ l.events;
       world = machine_of next q st.entry st.tickets (slice_set workers i busier) past;
@@ -177,14 +177,14 @@ makes_call st p workers past set i t there c held at had some r line is l =
 
 pub calls : (st : System) (p : SlotState) (workers : List WorkerState) (past : List Past) → Settled st p workers
     → (i : ℕ) (t : Thread) → slice_get st.threads i ≡ Some t → (k : WorkerState) → slice_get workers i ≡ Some k
-    → (c : Connection) → Held p i t c → st.place ≡ None → t.out ≡ Some c → k ≡ busy (doing.Holds 0 t.left) → nat_lt 0 t.left ≡ true
+    → (c : Connection) → Held p i t c → st.place ≡ None → t.out ≡ Some c → (more : ℕ) → t.left ≤ more → k ≡ busy (doing.Holds 0 more) → nat_lt 0 more ≡ true
     → (r : Reply) → Kept (Follows [] [] (machine_of st p st.entry st.tickets workers past) (Calls i r)) (after_call st i t r Call)
-calls st p workers past set i t there k had c held at out is some r =
-    let still : slice_get workers i ≡ Some (busy (doing.Holds 0 t.left)) = had ∙ ap Some is in
+calls st p workers past set i t there k had c held at out more least is some r =
+    let still : slice_get workers i ≡ Some (busy (doing.Holds 0 more)) = had ∙ ap Some is in
     kept_bind _ t.out (λ d has.
     let same : d ≡ c = (let both : Some d ≡ Some c = sym has ∙ out in cc) in
     rw same (kept_map _ (called st.second (record { kernel = st.kernel; connection = c }) r) (λ line made.
-    makes_call st p workers past set i t there c held at still some r line made
+    makes_call st p workers past set i t there c held at more least still some r line made
     (limited (with_thread (record st { kernel = line.kernel }) i (planned st t (t.left - 1) line.connection)) p line.connection
-    (slice_set workers i (busy (doing.Holds 0 (t.left - 1)))) past i (t.left - 1)
-    (get-set_same workers i (busy (doing.Holds 0 t.left)) (busy (doing.Holds 0 (t.left - 1))) still) _ refl))))
+    (slice_set workers i (busy (doing.Holds 0 (more - 1)))) past i (more - 1)
+    (get-set_same workers i (busy (doing.Holds 0 more)) (busy (doing.Holds 0 (more - 1))) still) _ refl))))

@@ -34,12 +34,12 @@ pub apart : (budget : ℕ) (place next : Option Connection) (p q : SlotState) (j
     → ThreadLike budget place p j u k → ThreadLike budget next q j u k
 apart budget place next p q j u k not same (Rests todo is) = Rests todo is
 apart budget place next p q j u k not same (Opens first todo is) = Opens first todo is
-apart budget place next p q j u k not same (Tries todo is) = Tries todo is
-apart budget place next p q j u k not same (Holds c held at todo is) = absurd (not held.holder)
-apart budget place next p q j u k not same (HasOut c held at out todo is) = absurd (not held.holder)
-apart budget place next p q j u k not same (Goes c held at out todo is) = absurd (not held.holder)
-apart budget place next p q j u k not same (Stays c held at live todo is) = absurd (not held.holder)
-apart budget place next p q j u k not same (Leaves c held at may todo is) = absurd (not held.holder)
+apart budget place next p q j u k not same (Tries todo least is) = Tries todo least is
+apart budget place next p q j u k not same (Holds c held at todo least is) = absurd (not held.holder)
+apart budget place next p q j u k not same (HasOut c held at out todo least is) = absurd (not held.holder)
+apart budget place next p q j u k not same (Goes c more held at out todo least is) = absurd (not held.holder)
+apart budget place next p q j u k not same (Stays c more held at live todo is) = absurd (not held.holder)
+apart budget place next p q j u k not same (Leaves c more held at may todo is) = absurd (not held.holder)
 apart budget place next p q j u k not same (HasClosed held at todo is) = absurd (not held.holder)
 apart budget place next p q j u k not same (HasRetired generation todo is) = HasRetired (same ∙ generation) todo is
 

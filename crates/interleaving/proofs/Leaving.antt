@@ -57,22 +57,22 @@ rests_now c some live none = rw (none, live) refl
 -- with nothing to do
 pub puts_quiet : (st : System) (p : SlotState) (workers : List WorkerState) (past : List Past) → Settled st p workers
     → (i : ℕ) (t : Thread) → slice_get st.threads i ≡ Some t → (k : WorkerState) → slice_get workers i ≡ Some k
-    → (c : Connection) → Held p i t c → t.out ≡ Some c → k ≡ busy (doing.Holds 0 t.left)
+    → (c : Connection) (more : ℕ) → Held p i t c → t.out ≡ Some c → k ≡ busy (doing.Holds 0 more)
     → is_live (verdict c.pair) ≡ true → is_none (next_call c.pair) ≡ true
     → Follows [] [] (machine_of st p st.entry st.tickets workers past) (Acts i) (put_in st i t (Release ∷ []))
-puts_quiet st p workers past set i t there k had c held out is live none =
+puts_quiet st p workers past set i t there k had c more held out is live none =
     put_back st p workers past set i t there k had c held out (Release ∷ [])
-    (Leaves c (record { holder = held.holder; connection = held.connection; generation = held.generation }) refl (rests_now c (is_nonempty p.notes) live none) refl is)
+    (Leaves c more (record { holder = held.holder; connection = held.connection; generation = held.generation }) refl (rests_now c (is_nonempty p.notes) live none) refl is)
 
 -- with its budget spent
 pub puts_again : (st : System) (p : SlotState) (workers : List WorkerState) (past : List Past) → Settled st p workers
     → (i : ℕ) (t : Thread) → slice_get st.threads i ≡ Some t → (k : WorkerState) → slice_get workers i ≡ Some k
-    → (c : Connection) → Held p i t c → t.out ≡ Some c → k ≡ busy (doing.Holds 0 t.left)
+    → (c : Connection) (more : ℕ) → Held p i t c → t.out ≡ Some c → k ≡ busy (doing.Holds 0 more)
     → is_live (verdict c.pair) ≡ true
     → Follows [] [] (machine_of st p st.entry st.tickets workers past) (Acts i) (put_in st i t (Post ∷ Release ∷ []))
-puts_again st p workers past set i t there k had c held out is live =
+puts_again st p workers past set i t there k had c more held out is live =
     put_back st p workers past set i t there k had c held out (Post ∷ Release ∷ [])
-    (Stays c (record { holder = held.holder; connection = held.connection; generation = held.generation }) refl live refl is)
+    (Stays c more (record { holder = held.holder; connection = held.connection; generation = held.generation }) refl live refl is)
 
 -- a post by the holder, which wakes nobody
 
@@ -86,9 +86,9 @@ due_now c live = rw live (or_true _)
 
 pub posts_due : (st : System) (p : SlotState) (workers : List WorkerState) (past : List Past) → Settled st p workers
     → (i : ℕ) (t : Thread) → slice_get st.threads i ≡ Some t → (k : WorkerState) → slice_get workers i ≡ Some k
-    → (c : Connection) → Held p i t c → st.place ≡ Some c → is_live (verdict c.pair) ≡ true → k ≡ busy (doing.Holds 0 t.left)
+    → (c : Connection) (more : ℕ) → Held p i t c → st.place ≡ Some c → is_live (verdict c.pair) ≡ true → k ≡ busy (doing.Holds 0 more)
     → Follows [] (exchange_made word.post st.word ∷ []) (machine_of st p st.entry st.tickets workers past) (Acts i) (with_thread (posted st t.generation) i (goes_on t (Release ∷ [])))
-posts_due st p workers past set i t there k had c held at live is =
+posts_due st p workers past set i t there k had c more held at live is =
     let g : ℕ = c.pair.generation in
     let q : SlotState = with_note p g in
     let new : Thread = goes_on t (Release ∷ []) in
@@ -96,7 +96,7 @@ posts_due st p workers past set i t there k had c held at live is =
     let woke : wakes st.word ≡ false = rw held_word refl in
     let next : System = with_thread (record st { word = word_after word.post st.word }) i new in
     let here : ThreadLike st.limits.budget st.place q i new k =
-    Leaves c (record { holder = held.holder; connection = held.connection; generation = held.generation }) at (rw (some_more p.notes g) (due_now c live)) refl is in
+    Leaves c more (record { holder = held.holder; connection = held.connection; generation = held.generation }) at (rw (some_more p.notes g) (due_now c live)) refl is in
     rw woke (record {
       events = event.Work i act.Post ∷ [];
       world = machine_of next q st.entry st.tickets workers past;
@@ -134,14 +134,14 @@ released_like st p workers set i t there c held at tickets =
     }
 
 releases_by : (st : System) (p : SlotState) (workers : List WorkerState) (past : List Past) → Settled st p workers
-    → (i : ℕ) (t : Thread) → slice_get st.threads i ≡ Some t → slice_get workers i ≡ Some (busy (doing.Holds 0 t.left))
+    → (i : ℕ) (t : Thread) → slice_get st.threads i ≡ Some t → (more : ℕ) → slice_get workers i ≡ Some (busy (doing.Holds 0 more))
     → (c : Connection) → Held p i t c → st.place ≡ Some c → (b : Bool) → is_nonempty p.notes ≡ b → may_release c b ≡ true
     → Follows [] (exchange_made word.release st.word ∷ []) (machine_of st p st.entry st.tickets workers past) (Acts i) (with_thread (released st t.generation) i (goes_on t []))
-releases_by st p workers past set i t there had c held at true some may =
+releases_by st p workers past set i t there more had c held at true some may =
     let wait : some_wait st.word.pending ≡ true = rw set.word (some_notes p.notes ∙ some) in
     let tickets : List ℕ = st.tickets ++ t.generation ∷ [] in
     let between : WorkerState = record { doing = doing.Idle; hand = ticket t.generation ∷ [] } in
-    let more : map ticket tickets ≡ map ticket st.tickets ++ ticket t.generation ∷ [] = map-append ticket st.tickets (t.generation ∷ []) in
+    let longer : map ticket tickets ≡ map ticket st.tickets ++ ticket t.generation ∷ [] = map-append ticket st.tickets (t.generation ∷ []) in
     rw wait (record {
       events = event.Work i act.Release ∷ event.Work i act.Put ∷ [];
       world = machine_of (with_thread (record st { word = word_after word.release st.word; tickets = tickets }) i (goes_on t [])) (record p { holder = Nobody })
@@ -152,16 +152,16 @@ releases_by st p workers past set i t there had c held at true some may =
         some,
         may,
         held.generation,
-        get-set_same workers i (busy (doing.Holds 0 t.left)) between had,
+        get-set_same workers i (busy (doing.Holds 0 more)) between had,
         set_twice workers i between machine_states.resting,
-        more,
+        longer,
       ) refl;
       like = IsSettled (record p { holder = Nobody }) (slice_set workers i machine_states.resting) past refl
           (released_like st p workers set i t there c held at tickets);
       calls = refl;
-      words = rw (had, held.connection, some, may, held.generation, get-set_same workers i (busy (doing.Holds 0 t.left)) between had, some_notes p.notes ∙ some) refl;
+      words = rw (had, held.connection, some, may, held.generation, get-set_same workers i (busy (doing.Holds 0 more)) between had, some_notes p.notes ∙ some) refl;
     })
-releases_by st p workers past set i t there had c held at false some may =
+releases_by st p workers past set i t there more had c held at false some may =
     let wait : some_wait st.word.pending ≡ false = rw set.word (some_notes p.notes ∙ some) in
     rw wait (record {
       events = event.Work i act.Release ∷ [];
@@ -176,18 +176,18 @@ releases_by st p workers past set i t there had c held at false some may =
 
 pub releases : (st : System) (p : SlotState) (workers : List WorkerState) (past : List Past) → Settled st p workers
     → (i : ℕ) (t : Thread) → slice_get st.threads i ≡ Some t → (k : WorkerState) → slice_get workers i ≡ Some k
-    → (c : Connection) → Held p i t c → st.place ≡ Some c → may_release c (is_nonempty p.notes) ≡ true → k ≡ busy (doing.Holds 0 t.left)
+    → (c : Connection) (more : ℕ) → Held p i t c → st.place ≡ Some c → may_release c (is_nonempty p.notes) ≡ true → k ≡ busy (doing.Holds 0 more)
     → Follows [] (exchange_made word.release st.word ∷ []) (machine_of st p st.entry st.tickets workers past) (Acts i) (with_thread (released st t.generation) i (goes_on t []))
-releases st p workers past set i t there k had c held at may is =
-    releases_by st p workers past set i t there (had ∙ ap Some is) c held at (is_nonempty p.notes) refl may
+releases st p workers past set i t there k had c more held at may is =
+    releases_by st p workers past set i t there more (had ∙ ap Some is) c held at (is_nonempty p.notes) refl may
 
 -- The connection is closed
 
 pub closes : (st : System) (p : SlotState) (workers : List WorkerState) (past : List Past) → Settled st p workers
     → (i : ℕ) (t : Thread) → slice_get st.threads i ≡ Some t → (k : WorkerState) → slice_get workers i ≡ Some k
-    → (c : Connection) → Held p i t c → st.place ≡ None → k ≡ busy (doing.Holds 0 t.left) → is_live (verdict c.pair) ≡ false
+    → (c : Connection) (more : ℕ) → Held p i t c → st.place ≡ None → k ≡ busy (doing.Holds 0 more) → is_live (verdict c.pair) ≡ false
     → Kept (Follows [] [] (machine_of st p st.entry st.tickets workers past) (Acts i)) (closed st i t (Retire ∷ Give ∷ []) c)
-closes st p workers past set i t there k had c held at is over = kept_map _ (kernel.close_both st.kernel c.ends) (λ told may.
+closes st p workers past set i t there k had c more held at is over = kept_map _ (kernel.close_both st.kernel c.ends) (λ told may.
     let new : Thread = record t { out = None; todo = Retire ∷ Give ∷ [] } in
     let next : System = with_thread (record st { kernel = told.value; ends = None }) i new in
     let q : SlotState = record p { connection = None } in

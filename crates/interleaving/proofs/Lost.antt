@@ -46,15 +46,15 @@ held_now : (st : System) (p : SlotState) (workers : List WorkerState) (past : Li
     → (i : ℕ) (t : Thread) (k : WorkerState) → slice_get workers i ≡ Some k → ThreadLike st.limits.budget st.place p i t k → t.todo ≡ turn → st.word.held ≡ false
 held_now st p workers past set turns i t k had (Rests todo is) at = absurd (cc)
 held_now st p workers past set turns i t k had (Opens first todo is) at = absurd (cc)
-held_now st p workers past set turns i t k had (Tries todo is) at =
+held_now st p workers past set turns i t k had (Tries todo least is) at =
     let wait : Waiting p = waiting (machine_of st p st.entry st.tickets workers past) i k (ticket t.generation) p had (rw is refl) refl turns in
     rw (set.word, wait.holder) refl
-held_now st p workers past set turns i t k had (Holds c held in_place todo is) at = absurd (cc)
-held_now st p workers past set turns i t k had (HasOut c held in_place out todo is) at = absurd (cc)
-held_now st p workers past set turns i t k had (Goes c held in_place out todo is) at =
+held_now st p workers past set turns i t k had (Holds c held in_place todo least is) at = absurd (cc)
+held_now st p workers past set turns i t k had (HasOut c held in_place out todo least is) at = absurd (cc)
+held_now st p workers past set turns i t k had (Goes c more held in_place out todo least is) at =
     differs _ t (plan t.left c.pair) turn Another Claims todo at (plan_first t.left c.pair) refl (λ same. absurd (cc))
-held_now st p workers past set turns i t k had (Stays c held in_place live todo is) at = absurd (cc)
-held_now st p workers past set turns i t k had (Leaves c held in_place may todo is) at = absurd (cc)
+held_now st p workers past set turns i t k had (Stays c more held in_place live todo is) at = absurd (cc)
+held_now st p workers past set turns i t k had (Leaves c more held in_place may todo is) at = absurd (cc)
 held_now st p workers past set turns i t k had (HasClosed held in_place todo is) at = absurd (cc)
 held_now st p workers past set turns i t k had (HasRetired own todo is) at = absurd (cc)
 
@@ -63,15 +63,15 @@ there_now : (st : System) (p : SlotState) (workers : List WorkerState) (past : L
     → (c : Connection) × (st.place ≡ Some c) × (c.pair.generation ≡ t.generation)
 there_now st p workers past turns i t k (Rests todo is) at = absurd (cc)
 there_now st p workers past turns i t k (Opens first todo is) at = absurd (cc)
-there_now st p workers past turns i t k (Tries todo is) at = absurd (cc)
-there_now st p workers past turns i t k (Holds c held in_place todo is) at =
+there_now st p workers past turns i t k (Tries todo least is) at = absurd (cc)
+there_now st p workers past turns i t k (Holds c held in_place todo least is) at =
     let sv : SlotOk (facts (machine_of st p st.entry st.tickets workers past) 0 p.generation) p = turns.each 0 p refl in
     (c, in_place, own_generation (facts (machine_of st p st.entry st.tickets workers past) 0 p.generation) p c (sv.connection c held.connection).stands ∙ held.generation)
-there_now st p workers past turns i t k (HasOut c held in_place out todo is) at = absurd (cc)
-there_now st p workers past turns i t k (Goes c held in_place out todo is) at =
+there_now st p workers past turns i t k (HasOut c held in_place out todo least is) at = absurd (cc)
+there_now st p workers past turns i t k (Goes c more held in_place out todo least is) at =
     differs _ t (plan t.left c.pair) (drop 1 turn) Another TakesOut todo at (plan_first t.left c.pair) refl (λ same. absurd (cc))
-there_now st p workers past turns i t k (Stays c held in_place live todo is) at = absurd (cc)
-there_now st p workers past turns i t k (Leaves c held in_place may todo is) at = absurd (cc)
+there_now st p workers past turns i t k (Stays c more held in_place live todo is) at = absurd (cc)
+there_now st p workers past turns i t k (Leaves c more held in_place may todo is) at = absurd (cc)
 there_now st p workers past turns i t k (HasClosed held in_place todo is) at = absurd (cc)
 there_now st p workers past turns i t k (HasRetired own todo is) at = absurd (cc)
 
@@ -79,13 +79,13 @@ there_now st p workers past turns i t k (HasRetired own todo is) at = absurd (cc
 no_adopt : (budget : ℕ) (place : Option Connection) (p : SlotState) (i : ℕ) (t : Thread) (k : WorkerState) (X : Type 0) → ThreadLike budget place p i t k → t.todo ≡ drop 1 opening → X
 no_adopt budget place p i t k X (Rests todo is) at = absurd (cc)
 no_adopt budget place p i t k X (Opens first todo is) at = absurd (cc)
-no_adopt budget place p i t k X (Tries todo is) at = absurd (cc)
-no_adopt budget place p i t k X (Holds c held in_place todo is) at = absurd (cc)
-no_adopt budget place p i t k X (HasOut c held in_place out todo is) at = absurd (cc)
-no_adopt budget place p i t k X (Goes c held in_place out todo is) at =
+no_adopt budget place p i t k X (Tries todo least is) at = absurd (cc)
+no_adopt budget place p i t k X (Holds c held in_place todo least is) at = absurd (cc)
+no_adopt budget place p i t k X (HasOut c held in_place out todo least is) at = absurd (cc)
+no_adopt budget place p i t k X (Goes c more held in_place out todo least is) at =
     differs _ t (plan t.left c.pair) (drop 1 opening) Another Adopts todo at (plan_first t.left c.pair) refl (λ same. absurd (cc))
-no_adopt budget place p i t k X (Stays c held in_place live todo is) at = absurd (cc)
-no_adopt budget place p i t k X (Leaves c held in_place may todo is) at = absurd (cc)
+no_adopt budget place p i t k X (Stays c more held in_place live todo is) at = absurd (cc)
+no_adopt budget place p i t k X (Leaves c more held in_place may todo is) at = absurd (cc)
 no_adopt budget place p i t k X (HasClosed held in_place todo is) at = absurd (cc)
 no_adopt budget place p i t k X (HasRetired own todo is) at = absurd (cc)
 

@@ -60,14 +60,14 @@ none_here : (st : System) (p : SlotState) (workers : List WorkerState) (i : ℕ)
     → ThreadLike st.limits.budget st.place p i u k → (u.todo ≡ []) × (slice_get workers i ≡ Some machine_states.resting)
 none_here st p workers i u k there other free none gone (Rests todo is) = (todo, there ∙ ap Some is)
 none_here st p workers i u k there other free none gone (Opens first todo is) = absurd (other first)
-none_here st p workers i u k there other free none gone (Tries todo is) = absurd (
+none_here st p workers i u k there other free none gone (Tries todo least is) = absurd (
     let least : worker_tickets 0 k ≤ total (worker_tickets 0) workers = total_at (worker_tickets 0) workers i k there in
     let some : worker_tickets 0 k ≡ 1 = rw is refl in omega arith)
-none_here st p workers i u k there other free none gone (Holds c held at todo is) = absurd (let no : Free ≡ By i = sym free ∙ held.holder in cc)
-none_here st p workers i u k there other free none gone (HasOut c held at out todo is) = absurd (let no : Free ≡ By i = sym free ∙ held.holder in cc)
-none_here st p workers i u k there other free none gone (Goes c held at out todo is) = absurd (let no : Free ≡ By i = sym free ∙ held.holder in cc)
-none_here st p workers i u k there other free none gone (Stays c held at live todo is) = absurd (let no : Free ≡ By i = sym free ∙ held.holder in cc)
-none_here st p workers i u k there other free none gone (Leaves c held at may todo is) = absurd (let no : Free ≡ By i = sym free ∙ held.holder in cc)
+none_here st p workers i u k there other free none gone (Holds c held at todo least is) = absurd (let no : Free ≡ By i = sym free ∙ held.holder in cc)
+none_here st p workers i u k there other free none gone (HasOut c held at out todo least is) = absurd (let no : Free ≡ By i = sym free ∙ held.holder in cc)
+none_here st p workers i u k there other free none gone (Goes c more held at out todo least is) = absurd (let no : Free ≡ By i = sym free ∙ held.holder in cc)
+none_here st p workers i u k there other free none gone (Stays c more held at live todo is) = absurd (let no : Free ≡ By i = sym free ∙ held.holder in cc)
+none_here st p workers i u k there other free none gone (Leaves c more held at may todo is) = absurd (let no : Free ≡ By i = sym free ∙ held.holder in cc)
 none_here st p workers i u k there other free none gone (HasClosed held at todo is) = absurd (let no : Free ≡ By i = sym free ∙ held.holder in cc)
 none_here st p workers i u k there other free none gone (HasRetired own todo is) = absurd (
     let least : worker_retires 0 k ≤ total (worker_retires 0) workers = total_at (worker_retires 0) workers i k there in

@@ -69,12 +69,12 @@ pub noted_like : (budget : ℕ) (place : Option Connection) (p : SlotState) (g :
     → ThreadLike budget place p i t k → ThreadLike budget place (with_note p g) i t k
 noted_like budget place p g i t k (Rests todo is) = Rests todo is
 noted_like budget place p g i t k (Opens first todo is) = Opens first todo is
-noted_like budget place p g i t k (Tries todo is) = Tries todo is
-noted_like budget place p g i t k (Holds c held at todo is) = Holds c (still p g i t c held) at todo is
-noted_like budget place p g i t k (HasOut c held at out todo is) = HasOut c (still p g i t c held) at out todo is
-noted_like budget place p g i t k (Goes c held at out todo is) = Goes c (still p g i t c held) at out todo is
-noted_like budget place p g i t k (Stays c held at live todo is) = Stays c (still p g i t c held) at live todo is
-noted_like budget place p g i t k (Leaves c held at may todo is) = Leaves c (still p g i t c held) at (rw (some_more p.notes g) (may_still c (is_nonempty p.notes) may)) todo is
+noted_like budget place p g i t k (Tries todo least is) = Tries todo least is
+noted_like budget place p g i t k (Holds c held at todo least is) = Holds c (still p g i t c held) at todo least is
+noted_like budget place p g i t k (HasOut c held at out todo least is) = HasOut c (still p g i t c held) at out todo least is
+noted_like budget place p g i t k (Goes c more held at out todo least is) = Goes c more (still p g i t c held) at out todo least is
+noted_like budget place p g i t k (Stays c more held at live todo is) = Stays c more (still p g i t c held) at live todo is
+noted_like budget place p g i t k (Leaves c more held at may todo is) = Leaves c more (still p g i t c held) at (rw (some_more p.notes g) (may_still c (is_nonempty p.notes) may)) todo is
 noted_like budget place p g i t k (HasClosed held at todo is) = HasClosed (record { holder = held.holder; connection = held.connection; generation = held.generation }) at todo is
 noted_like budget place p g i t k (HasRetired generation todo is) = HasRetired generation todo is
 

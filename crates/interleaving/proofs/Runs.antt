@@ -1,5 +1,5 @@
 -- What holds after any list of steps.
-use Rattle.std.proofs.Common.{◌≡◌, ◌≢◌, ◌⊎◌, inl, inr, ℕ, zero, suc, ◌==◌, Bool, true, false, nat_lt, List, [], ◌∷◌, ◌++◌, replicate, slice_get, Option, Some, None, refl, sym, ap, ◌∙◌, option_and_then, arith, lt-ltb, append_assoc, append-nil, subst, option_map, unwrap_or}
+use Rattle.std.proofs.Common.{nat_le, ◌&&◌, ◌≤◌, ◌≡◌, ◌≢◌, ◌⊎◌, inl, inr, ℕ, zero, suc, ◌==◌, Bool, true, false, nat_lt, List, [], ◌∷◌, ◌++◌, replicate, slice_get, Option, Some, None, refl, sym, ap, ◌∙◌, option_and_then, arith, lt-ltb, append_assoc, append-nil, subst, option_map, unwrap_or}
 use Rattle.std.proofs.lemmas.Bool.{cases_eq}
 use Rattle.std.specs.Option.{is_none}
 use Rattle.kernel_model.specs.declared.reply.Reply.{Reply}
@@ -36,24 +36,24 @@ use Rattle.interleaving.proofs.Openings.{registers, goes_half, half_world}
 
 -- A thread's act, where no opening is half way
 
-some_left : (n : ℕ) → (n == 0) ≡ false → nat_lt 0 n ≡ true
-some_left zero h = absurd (cc)
-some_left (suc n) h = lt-ltb 0 (suc n) (omega arith)
+some_more_left : (n more : ℕ) → (n == 0) ≡ false → n ≤ more → nat_lt 0 more ≡ true
+some_more_left zero more h least = absurd (cc)
+some_more_left (suc n) more h least = lt-ltb 0 more (omega arith)
 
 -- by the plan
 plan_acts : (st : System) (p : SlotState) (workers : List WorkerState) (past : List Past) → Settled st p workers → (i : ℕ) (t : Thread) → slice_get st.threads i ≡ Some t
-    → (k : WorkerState) → slice_get workers i ≡ Some k → (c : Connection) → Held p i t c → st.place ≡ None → t.out ≡ Some c
-    → k ≡ Rattle.world.specs.Acts.busy (Rattle.world.specs.declared.actors.Doing.TheVariants.Holds 0 t.left)
+    → (k : WorkerState) → slice_get workers i ≡ Some k → (c : Connection) (more : ℕ) → Held p i t c → st.place ≡ None → t.out ≡ Some c
+    → t.left ≤ more → k ≡ Rattle.world.specs.Acts.busy (Rattle.world.specs.declared.actors.Doing.TheVariants.Holds 0 more)
     → (live none spent : Bool) → is_live (verdict c.pair) ≡ live → is_none (next_call c.pair) ≡ none → (t.left == 0) ≡ spent
     → Kept (Follows [] (exchange st.word (first_kind (plan t.left c.pair))) (machine_of st p st.entry st.tickets workers past) (Acts i)) (acts st i t (plan t.left c.pair))
-plan_acts st p workers past set i t there k had c held at out is true true spent lives rest over = rw (rest, lives)
-    (kept_some (puts_quiet st p workers past set i t there k had c held out is lives rest))
-plan_acts st p workers past set i t there k had c held at out is true false true lives rest over = rw (rest, lives, over)
-    (kept_some (puts_again st p workers past set i t there k had c held out is lives))
-plan_acts st p workers past set i t there k had c held at out is true false false lives rest over = rw (rest, lives, over) kept_none
-plan_acts st p workers past set i t there k had c held at out is false none spent lives rest over = rw lives (kept_bind _ t.out (λ d has.
+plan_acts st p workers past set i t there k had c more held at out least is true true spent lives rest over = rw (rest, lives)
+    (kept_some (puts_quiet st p workers past set i t there k had c more held out is lives rest))
+plan_acts st p workers past set i t there k had c more held at out least is true false true lives rest over = rw (rest, lives, over)
+    (kept_some (puts_again st p workers past set i t there k had c more held out is lives))
+plan_acts st p workers past set i t there k had c more held at out least is true false false lives rest over = rw (rest, lives, over) kept_none
+plan_acts st p workers past set i t there k had c more held at out least is false none spent lives rest over = rw lives (kept_bind _ t.out (λ d has.
     let same : d ≡ c = (let both : Some d ≡ Some c = sym has ∙ out in cc) in
-    rw same (closes st p workers past set i t there k had c held at is lives)))
+    rw same (closes st p workers past set i t there k had c more held at is lives)))
 
 thread_acts : (st : System) (p : SlotState) (workers : List WorkerState) (past : List Past) → Settled st p workers → Turns (machine_of st p st.entry st.tickets workers past)
     → (i : ℕ) (t : Thread) → slice_get st.threads i ≡ Some t → (k : WorkerState) → slice_get workers i ≡ Some k → ThreadLike st.limits.budget st.place p i t k
@@ -61,43 +61,43 @@ thread_acts : (st : System) (p : SlotState) (workers : List WorkerState) (past :
 thread_acts st p workers past set turns i t there k had (Rests todo is) = rw todo kept_none
 thread_acts st p workers past set turns i t there k had (Opens first todo is) =
     rw (todo, first) (registers st p workers past set turns t (rw first at there) k (rw first at had) is)
-thread_acts st p workers past set turns i t there k had (Tries todo is) = rw todo (kept_some (claims st p workers past set turns i t there k had todo is))
-thread_acts st p workers past set turns i t there k had (Holds c held at todo is) = rw todo (kept_some (takes_out st p workers past set turns i t there k had c held at is))
-thread_acts st p workers past set turns i t there k had (HasOut c held at out todo is) = rw todo (kept_map _ t.out (λ d has.
+thread_acts st p workers past set turns i t there k had (Tries todo least is) = rw todo (kept_some (claims st p workers past set turns i t there k had todo least is))
+thread_acts st p workers past set turns i t there k had (Holds c held at todo least is) = rw todo (kept_some (takes_out st p workers past set turns i t there k had c held at least is))
+thread_acts st p workers past set turns i t there k had (HasOut c held at out todo least is) = rw todo (kept_map _ t.out (λ d has.
     let same : d ≡ c = (let both : Some d ≡ Some c = sym has ∙ out in cc) in
-    rw same (takes_notes st p workers past set i t there k had c held at is)))
-thread_acts st p workers past set turns i t there k had (Goes c held at out todo is) = rw todo
-    (plan_acts st p workers past set i t there k had c held at out is (is_live (verdict c.pair)) (is_none (next_call c.pair)) (t.left == 0) refl refl refl)
-thread_acts st p workers past set turns i t there k had (Stays c held at live todo is) = rw todo (kept_some (posts_due st p workers past set i t there k had c held at live is))
-thread_acts st p workers past set turns i t there k had (Leaves c held at may todo is) = rw todo (kept_some (releases st p workers past set i t there k had c held at may is))
+    rw same (takes_notes st p workers past set i t there k had c held at least is)))
+thread_acts st p workers past set turns i t there k had (Goes c more held at out todo least is) = rw todo
+    (plan_acts st p workers past set i t there k had c more held at out least is (is_live (verdict c.pair)) (is_none (next_call c.pair)) (t.left == 0) refl refl refl)
+thread_acts st p workers past set turns i t there k had (Stays c more held at live todo is) = rw todo (kept_some (posts_due st p workers past set i t there k had c more held at live is))
+thread_acts st p workers past set turns i t there k had (Leaves c more held at may todo is) = rw todo (kept_some (releases st p workers past set i t there k had c more held at may is))
 thread_acts st p workers past set turns i t there k had (HasClosed held at todo is) = rw todo (kept_some (retires st p workers past set i t there k had held at is))
 thread_acts st p workers past set turns i t there k had (HasRetired own todo is) = rw todo (kept_some (gives st p workers past set i t there k had own is))
 
 -- A call
 
 plan_calls : (st : System) (p : SlotState) (workers : List WorkerState) (past : List Past) → Settled st p workers → (i : ℕ) (t : Thread) → slice_get st.threads i ≡ Some t
-    → (k : WorkerState) → slice_get workers i ≡ Some k → (c : Connection) → Held p i t c → st.place ≡ None → t.out ≡ Some c
-    → k ≡ Rattle.world.specs.Acts.busy (Rattle.world.specs.declared.actors.Doing.TheVariants.Holds 0 t.left)
+    → (k : WorkerState) → slice_get workers i ≡ Some k → (c : Connection) (more : ℕ) → Held p i t c → st.place ≡ None → t.out ≡ Some c
+    → t.left ≤ more → k ≡ Rattle.world.specs.Acts.busy (Rattle.world.specs.declared.actors.Doing.TheVariants.Holds 0 more)
     → (r : Reply) (live none spent : Bool) → is_live (verdict c.pair) ≡ live → is_none (next_call c.pair) ≡ none → (t.left == 0) ≡ spent
     → Kept (Follows [] [] (machine_of st p st.entry st.tickets workers past) (Calls i r)) (calls st i t r (plan t.left c.pair))
-plan_calls st p workers past set i t there k had c held at out is r true true spent lives rest over = rw (rest, lives) kept_none
-plan_calls st p workers past set i t there k had c held at out is r true false true lives rest over = rw (rest, lives, over) kept_none
-plan_calls st p workers past set i t there k had c held at out is r true false false lives rest over = rw (rest, lives, over)
-    (makes_calls st p workers past set i t there k had c held at out is (some_left t.left over) r)
-plan_calls st p workers past set i t there k had c held at out is r false none spent lives rest over = rw lives kept_none
+plan_calls st p workers past set i t there k had c more held at out least is r true true spent lives rest over = rw (rest, lives) kept_none
+plan_calls st p workers past set i t there k had c more held at out least is r true false true lives rest over = rw (rest, lives, over) kept_none
+plan_calls st p workers past set i t there k had c more held at out least is r true false false lives rest over = rw (rest, lives, over)
+    (makes_calls st p workers past set i t there k had c held at out more least is (some_more_left t.left more over least) r)
+plan_calls st p workers past set i t there k had c more held at out least is r false none spent lives rest over = rw lives kept_none
 
 thread_calls : (st : System) (p : SlotState) (workers : List WorkerState) (past : List Past) → Settled st p workers
     → (i : ℕ) (t : Thread) → slice_get st.threads i ≡ Some t → (k : WorkerState) → slice_get workers i ≡ Some k → ThreadLike st.limits.budget st.place p i t k → (r : Reply)
     → Kept (Follows [] [] (machine_of st p st.entry st.tickets workers past) (Calls i r)) (calls st i t r t.todo)
 thread_calls st p workers past set i t there k had (Rests todo is) r = rw todo kept_none
 thread_calls st p workers past set i t there k had (Opens first todo is) r = rw todo kept_none
-thread_calls st p workers past set i t there k had (Tries todo is) r = rw todo kept_none
-thread_calls st p workers past set i t there k had (Holds c held at todo is) r = rw todo kept_none
-thread_calls st p workers past set i t there k had (HasOut c held at out todo is) r = rw todo kept_none
-thread_calls st p workers past set i t there k had (Goes c held at out todo is) r = rw todo
-    (plan_calls st p workers past set i t there k had c held at out is r (is_live (verdict c.pair)) (is_none (next_call c.pair)) (t.left == 0) refl refl refl)
-thread_calls st p workers past set i t there k had (Stays c held at live todo is) r = rw todo kept_none
-thread_calls st p workers past set i t there k had (Leaves c held at may todo is) r = rw todo kept_none
+thread_calls st p workers past set i t there k had (Tries todo least is) r = rw todo kept_none
+thread_calls st p workers past set i t there k had (Holds c held at todo least is) r = rw todo kept_none
+thread_calls st p workers past set i t there k had (HasOut c held at out todo least is) r = rw todo kept_none
+thread_calls st p workers past set i t there k had (Goes c more held at out todo least is) r = rw todo
+    (plan_calls st p workers past set i t there k had c more held at out least is r (is_live (verdict c.pair)) (is_none (next_call c.pair)) (t.left == 0) refl refl refl)
+thread_calls st p workers past set i t there k had (Stays c more held at live todo is) r = rw todo kept_none
+thread_calls st p workers past set i t there k had (Leaves c more held at may todo is) r = rw todo kept_none
 thread_calls st p workers past set i t there k had (HasClosed held at todo is) r = rw todo kept_none
 thread_calls st p workers past set i t there k had (HasRetired own todo is) r = rw todo kept_none
 
@@ -115,7 +115,7 @@ follows_settled st p workers past set turns (Poll names) = polls st [] p st.entr
 follows_settled st p workers past set turns Deliver = reports st p workers past set
 follows_settled st p workers past set turns Sweep = sweeps st p workers past set
 follows_settled st p workers past set turns Open = begins_opening st p workers past set
-follows_settled st p workers past set turns (Begin i) = begins_turn st p workers past set i
+follows_settled st p workers past set turns (Begin i most) = begins_turn st p workers past set i most
 follows_settled st p workers past set turns (Acts i) = kept_bind _ (slice_get st.threads i) (λ t there.
     rw there (thread_acts st p workers past set turns i t there (set.threads i t there).worker (set.threads i t there).there (set.threads i t there).like))
 follows_settled st p workers past set turns (Calls i r) = kept_bind _ (slice_get st.threads i) (λ t there.
@@ -178,7 +178,7 @@ follows_half st t c workers past half Sweep = rw (poller_acts st t c workers hal
 follows_half st t c workers past half Open = kept_bind _ (slice_get st.threads 0) (λ u there. kept_guard (rests u) _ (λ b.
     let same : u ≡ t = this_thread st t u half.first there in
     never (rests u) _ (ap rests same ∙ stage_acts st.word st.place st.entry t c half.stage) b))
-follows_half st t c workers past half (Begin i) = kept_bind _ (slice_get st.threads i) (λ u there. kept_when (rests u) _ (λ b. rw half.tickets kept_none))
+follows_half st t c workers past half (Begin i most) = kept_bind _ (slice_get st.threads i) (λ u there. kept_when (rests u && nat_le most st.limits.budget) _ (λ b. rw half.tickets kept_none))
 follows_half st t c workers past half (Acts i) = kept_bind _ (slice_get st.threads i) (λ u there.
     rw there (acts_half st t c workers past half i u there (cases_eq i 0)))
 follows_half st t c workers past half (Calls i r) = kept_bind _ (slice_get st.threads i) (λ u there. calls_half st t c workers past half i u r there (cases_eq i 0))

@@ -1,5 +1,6 @@
 -- What a thread does in a turn, up to its plan: it begins with a ticket, claims the slot, and takes the connection out.
-use Rattle.std.proofs.Common.{◌≡◌, ℕ, ◌==◌, Bool, true, false, if◌then◌else◌, List, [], ◌∷◌, slice_get, slice_set, Option, Some, None, is_some, refl, sym, ◌∙◌, eq-eqb}
+use Rattle.std.proofs.Common.{◌≤◌, ◌&&◌, nat_le, leb-true, ◌≡◌, ℕ, ◌==◌, Bool, true, false, if◌then◌else◌, List, [], ◌∷◌, slice_get, slice_set, Option, Some, None, is_some, refl, sym, ◌∙◌, eq-eqb}
+use Rattle.std.proofs.lemmas.Bool.{and_parts}
 use Rattle.std.specs.Option.{is_none}
 use Rattle.relay_core.specs.Pairs.{PairState, verdict, is_live}
 use Rattle.relay_core.specs.Order.{next_call}
@@ -42,23 +43,23 @@ pub rests_like : (budget : ℕ) (place : Option Connection) (p : SlotState) (i :
     → k ≡ machine_states.resting
 rests_like budget place p i t k (Rests todo is) r = is
 rests_like budget place p i t k (Opens first todo is) r = is
-rests_like budget place p i t k (Tries todo is) r = absurd (let no : rests t ≡ false = rw todo refl in cc)
-rests_like budget place p i t k (Holds c held at todo is) r = absurd (let no : rests t ≡ false = rw todo refl in cc)
-rests_like budget place p i t k (HasOut c held at out todo is) r = absurd (let no : rests t ≡ false = rw todo refl in cc)
-rests_like budget place p i t k (Goes c held at out todo is) r = absurd (let no : rests t ≡ false = rw todo (plan_goes_on t.left c.pair) in cc)
-rests_like budget place p i t k (Stays c held at live todo is) r = absurd (let no : rests t ≡ false = rw todo refl in cc)
-rests_like budget place p i t k (Leaves c held at may todo is) r = absurd (let no : rests t ≡ false = rw todo refl in cc)
+rests_like budget place p i t k (Tries todo least is) r = absurd (let no : rests t ≡ false = rw todo refl in cc)
+rests_like budget place p i t k (Holds c held at todo least is) r = absurd (let no : rests t ≡ false = rw todo refl in cc)
+rests_like budget place p i t k (HasOut c held at out todo least is) r = absurd (let no : rests t ≡ false = rw todo refl in cc)
+rests_like budget place p i t k (Goes c more held at out todo least is) r = absurd (let no : rests t ≡ false = rw todo (plan_goes_on t.left c.pair) in cc)
+rests_like budget place p i t k (Stays c more held at live todo is) r = absurd (let no : rests t ≡ false = rw todo refl in cc)
+rests_like budget place p i t k (Leaves c more held at may todo is) r = absurd (let no : rests t ≡ false = rw todo refl in cc)
 rests_like budget place p i t k (HasClosed held at todo is) r = absurd (let no : rests t ≡ false = rw todo refl in cc)
 rests_like budget place p i t k (HasRetired generation todo is) r = absurd (let no : rests t ≡ false = rw todo refl in cc)
 
 -- it takes the oldest ticket
 
 begins_with : (st : System) (p : SlotState) (workers : List WorkerState) (past : List Past) → Settled st p workers → (i : ℕ) (t : Thread) → slice_get st.threads i ≡ Some t
-    → (k : WorkerState) → slice_get workers i ≡ Some k → k ≡ machine_states.resting → (tickets : List ℕ) → st.tickets ≡ tickets
-    → Kept (Follows [] [] (machine_of st p st.entry st.tickets workers past) (Begin i)) (begun st i tickets)
-begins_with st p workers past set i t there k had is [] tickets = kept_none
-begins_with st p workers past set i t there k had is (g ∷ rest) tickets =
-    let new : Thread = record { generation = g; out = None; left = 0; todo = turn } in
+    → (k : WorkerState) → slice_get workers i ≡ Some k → k ≡ machine_states.resting → (most : ℕ) → most ≤ st.limits.budget → (tickets : List ℕ) → st.tickets ≡ tickets
+    → Kept (Follows [] [] (machine_of st p st.entry st.tickets workers past) (Begin i most)) (begun st i most tickets)
+begins_with st p workers past set i t there k had is most within [] tickets = kept_none
+begins_with st p workers past set i t there k had is most within (g ∷ rest) tickets =
+    let new : Thread = record { generation = g; out = None; left = most; todo = turn } in
     let next : System = with_thread (record st { tickets = rest }) i new in
     let busier : WorkerState = busy (doing.Tries (ticket g)) in
     kept_some (record {
@@ -69,17 +70,19 @@ begins_with st p workers past set i t there k had is (g ∷ rest) tickets =
         ends = set.ends;
         word = set.word;
         place = set.place;
-        threads = go_on st.limits.budget st.place st.place p p st.threads workers i t new busier set.threads there (Tries refl refl) (λ j u v other like. like);
+        threads = go_on st.limits.budget st.place st.place p p st.threads workers i t new busier set.threads there (Tries refl within refl) (λ j u v other like. like);
       });
       calls = refl;
       words = rw (had, is, tickets) refl;
     })
 
-pub begins_turn : (st : System) (p : SlotState) (workers : List WorkerState) (past : List Past) → Settled st p workers → (i : ℕ)
-    → Kept (Follows [] [] (machine_of st p st.entry st.tickets workers past) (Begin i)) (step st (Begin i))
-begins_turn st p workers past set i = kept_bind _ (slice_get st.threads i) (λ t there. kept_when (rests t) _ (λ r.
+pub begins_turn : (st : System) (p : SlotState) (workers : List WorkerState) (past : List Past) → Settled st p workers → (i most : ℕ)
+    → Kept (Follows [] [] (machine_of st p st.entry st.tickets workers past) (Begin i most)) (step st (Begin i most))
+begins_turn st p workers past set i most = kept_bind _ (slice_get st.threads i) (λ t there. kept_when (rests t && nat_le most st.limits.budget) _ (λ r.
     let it : WorkerFor st.limits.budget st.place p workers i t = set.threads i t there in
-    begins_with st p workers past set i t there it.worker it.there (rests_like st.limits.budget st.place p i t it.worker it.like r) st.tickets refl))
+    let parts : (rests t ≡ true) × (nat_le most st.limits.budget ≡ true) = and_parts (rests t) (nat_le most st.limits.budget) r in
+    begins_with st p workers past set i t there it.worker it.there (rests_like st.limits.budget st.place p i t it.worker it.like parts.0)
+    most (leb-true most st.limits.budget parts.1) st.tickets refl))
 
 -- the poller's thread begins an opening
 pub begins_opening : (st : System) (p : SlotState) (workers : List WorkerState) (past : List Past) → Settled st p workers
@@ -103,9 +106,9 @@ some_there None h = absurd (cc)
 some_there (Some c) h = (c, refl)
 
 pub claims : (st : System) (p : SlotState) (workers : List WorkerState) (past : List Past) → Settled st p workers → Turns (machine_of st p st.entry st.tickets workers past)
-    → (i : ℕ) (t : Thread) → slice_get st.threads i ≡ Some t → (k : WorkerState) → slice_get workers i ≡ Some k → t.todo ≡ turn → k ≡ busy (doing.Tries (ticket t.generation))
+    → (i : ℕ) (t : Thread) → slice_get st.threads i ≡ Some t → (k : WorkerState) → slice_get workers i ≡ Some k → t.todo ≡ turn → t.left ≤ st.limits.budget → k ≡ busy (doing.Tries (ticket t.generation))
     → Follows [] (exchange_made word.claim st.word ∷ []) (machine_of st p st.entry st.tickets workers past) (Acts i) (claimed st i t (TakeOut ∷ TakeNotes ∷ []))
-claims st p workers past set turns i t there k had todo is =
+claims st p workers past set turns i t there k had todo least is =
     let w : State = machine_of st p st.entry st.tickets workers past in
     let wait : Waiting p = waiting w i k (ticket t.generation) p had (rw is refl) refl turns in
     let own : t.generation ≡ p.generation = names_it w i k (ticket t.generation) p had (rw is refl) refl turns in
@@ -125,7 +128,7 @@ claims st p workers past set turns i t there k had todo is =
         word = rw (set.word, wait.holder) refl;
         place = λ no. absurd (cc);
         threads = go_on st.limits.budget st.place st.place p q st.threads workers i t new busier set.threads there
-            (Holds c.0 (record { holder = refl; connection = c.1; generation = sym own }) at refl refl)
+            (Holds c.0 (record { holder = refl; connection = c.1; generation = sym own }) at refl least refl)
             (λ j u v other like. apart st.limits.budget st.place st.place p q j u v (λ by. absurd (let no : Nobody ≡ By j = sym wait.holder ∙ by in cc)) refl like);
       });
       calls = refl;
@@ -135,9 +138,9 @@ claims st p workers past set turns i t there k had todo is =
 -- it takes the connection out, which is its ticket's own
 pub takes_out : (st : System) (p : SlotState) (workers : List WorkerState) (past : List Past) → Settled st p workers → Turns (machine_of st p st.entry st.tickets workers past)
     → (i : ℕ) (t : Thread) → slice_get st.threads i ≡ Some t → (k : WorkerState) → slice_get workers i ≡ Some k
-    → (c : Connection) → Held p i t c → st.place ≡ Some c → k ≡ busy (doing.Holds 0 st.limits.budget)
+    → (c : Connection) → Held p i t c → st.place ≡ Some c → t.left ≤ st.limits.budget → k ≡ busy (doing.Holds 0 st.limits.budget)
     → Follows [] [] (machine_of st p st.entry st.tickets workers past) (Acts i) (taken_out st i t (TakeNotes ∷ []) st.place)
-takes_out st p workers past set turns i t there k had c held at is =
+takes_out st p workers past set turns i t there k had c held at least is =
     let w : State = machine_of st p st.entry st.tickets workers past in
     let sv : SlotOk (facts w 0 p.generation) p = turns.each 0 p refl in
     let own : c.pair.generation ≡ t.generation = own_generation (facts w 0 p.generation) p c (sv.connection c held.connection).stands ∙ held.generation in
@@ -148,6 +151,6 @@ takes_out st p workers past set turns i t there k had c held at is =
       word = set.word;
       place = λ no. absurd (let yes : is_by_worker p.holder ≡ true = rw held.holder refl in cc);
       threads = thread_goes_on st.limits.budget st.place None p p st.threads workers i t new k set.threads there had
-          (HasOut c (record { holder = held.holder; connection = held.connection; generation = held.generation }) refl refl refl is)
+          (HasOut c (record { holder = held.holder; connection = held.connection; generation = held.generation }) refl refl refl least is)
           (λ j u v other like. apart st.limits.budget st.place None p p j u v (holder_apart p i j held.holder other) refl like);
     })) refl refl)

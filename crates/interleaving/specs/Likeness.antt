@@ -1,6 +1,6 @@
 -- When a state of the threads and a state of the machine are alike, and the law. Part of the promises. The machine has one
 -- slot. It makes an opening in one event where the threads make seven acts: it is ahead of them until the last of these.
-use Rattle.std.specs.Prelude.{◌≡◌, ◌≢◌, ℕ, true, false, List, [], ◌∷◌, ◌++◌, map, replicate, slice_get, drop, Option, Some, None, option_map}
+use Rattle.std.specs.Prelude.{◌≡◌, ◌≢◌, ℕ, ◌≤◌, true, false, List, [], ◌∷◌, ◌++◌, map, replicate, slice_get, drop, Option, Some, None, option_map}
 use Rattle.kernel_model.specs.declared.reply.Reply.{Reply}
 use Rattle.kernel_model.specs.declared.both.Descriptors.{Descriptors}
 use Rattle.kernel_model.specs.Ends.{is_nonempty}
@@ -51,17 +51,17 @@ pub record HeldClosed (p : SlotState) (i : ℕ) (t : Thread) : Type 0 where
 pub data ThreadLike (budget : ℕ) (place : Option Connection) (p : SlotState) (i : ℕ) (t : Thread) (k : WorkerState) : Type 0 where
   Rests : t.todo ≡ [] → k ≡ machine.resting → ThreadLike budget place p i t k
   Opens : i ≡ 0 → t.todo ≡ opening → k ≡ machine.resting → ThreadLike budget place p i t k
-  Tries : t.todo ≡ turn → k ≡ busy (doing.Tries (ticket t.generation)) → ThreadLike budget place p i t k
-  Holds : (c : Connection) → Held p i t c → place ≡ Some c → t.todo ≡ TakeOut ∷ TakeNotes ∷ [] → k ≡ busy (doing.Holds 0 budget)
+  Tries : t.todo ≡ turn → t.left ≤ budget → k ≡ busy (doing.Tries (ticket t.generation)) → ThreadLike budget place p i t k
+  Holds : (c : Connection) → Held p i t c → place ≡ Some c → t.todo ≡ TakeOut ∷ TakeNotes ∷ [] → t.left ≤ budget → k ≡ busy (doing.Holds 0 budget)
       → ThreadLike budget place p i t k
-  HasOut : (c : Connection) → Held p i t c → place ≡ None → t.out ≡ Some c → t.todo ≡ TakeNotes ∷ [] → k ≡ busy (doing.Holds 0 budget)
+  HasOut : (c : Connection) → Held p i t c → place ≡ None → t.out ≡ Some c → t.todo ≡ TakeNotes ∷ [] → t.left ≤ budget → k ≡ busy (doing.Holds 0 budget)
       → ThreadLike budget place p i t k
-  Goes : (c : Connection) → Held p i t c → place ≡ None → t.out ≡ Some c → t.todo ≡ plan t.left c.pair → k ≡ busy (doing.Holds 0 t.left)
+  Goes : (c : Connection) (more : ℕ) → Held p i t c → place ≡ None → t.out ≡ Some c → t.todo ≡ plan t.left c.pair → t.left ≤ more → k ≡ busy (doing.Holds 0 more)
       → ThreadLike budget place p i t k
-  Stays : (c : Connection) → Held p i t c → place ≡ Some c → is_live (verdict c.pair) ≡ true → t.todo ≡ Post ∷ Release ∷ []
-      → k ≡ busy (doing.Holds 0 t.left) → ThreadLike budget place p i t k
-  Leaves : (c : Connection) → Held p i t c → place ≡ Some c → may_release c (is_nonempty p.notes) ≡ true → t.todo ≡ Release ∷ []
-      → k ≡ busy (doing.Holds 0 t.left) → ThreadLike budget place p i t k
+  Stays : (c : Connection) (more : ℕ) → Held p i t c → place ≡ Some c → is_live (verdict c.pair) ≡ true → t.todo ≡ Post ∷ Release ∷ []
+      → k ≡ busy (doing.Holds 0 more) → ThreadLike budget place p i t k
+  Leaves : (c : Connection) (more : ℕ) → Held p i t c → place ≡ Some c → may_release c (is_nonempty p.notes) ≡ true → t.todo ≡ Release ∷ []
+      → k ≡ busy (doing.Holds 0 more) → ThreadLike budget place p i t k
   HasClosed : HeldClosed p i t → place ≡ None → t.todo ≡ Retire ∷ Give ∷ [] → k ≡ busy (doing.Closed 0) → ThreadLike budget place p i t k
   HasRetired : p.generation ≡ t.generation → t.todo ≡ Give ∷ [] → k ≡ busy (doing.Retired 0) → ThreadLike budget place p i t k
 

@@ -83,7 +83,7 @@ start l = record {
 -- What may happen: some seconds pass (`Tick`); the network does something (`Network`, `Connect`); a report comes without
 -- cause (`Spurious`) or is taken back (`Vanish`). The poller calls accept(2) (`Accept`), drops what it accepted (`Drop`),
 -- polls (`Poll`), delivers the first report of its batch (`Deliver`), posts for time (`Sweep`), or begins an opening
--- (`Open`). A thread begins a turn with the oldest ticket (`Begin`), or makes the next act of its program: `Acts`, or
+-- (`Open`). A thread begins a turn with the oldest ticket and with so many calls (`Begin`), at most the budget, or makes the next act of its program: `Acts`, or
 -- `Calls` with the reply of a call
 pub data Step : Type 0 where
   Tick : ℕ → Step
@@ -97,7 +97,7 @@ pub data Step : Type 0 where
   Deliver : Step
   Sweep : Step
   Open : Step
-  Begin : ℕ → Step
+  Begin : ℕ → ℕ → Step
   Acts : ℕ → Step
   Calls : ℕ → Reply → Step
 
@@ -174,7 +174,7 @@ abbrev pub heard : ℕ → Connection → Connection
 heard notes c = if some_wait notes then record c { pair = noted c.pair } else c
 
 abbrev pub notes_taken : System → ℕ → Thread → Connection → System
-notes_taken st i t c = with_thread (exchanged st word.take) i (planned st t st.limits.budget (heard st.word.pending c))
+notes_taken st i t c = with_thread (exchanged st word.take) i (planned st t t.left (heard st.word.pending c))
 
 abbrev pub put_in : System → ℕ → Thread → List Act → System
 put_in st i t rest = with_thread (record st { place = t.out }) i (record t { out = None; todo = rest })
@@ -248,12 +248,13 @@ calls st i t r [] = None
 calls st i t r (act ∷ rest) = after_call st i t r act
 
 -- the thread begins a turn with the oldest of these tickets
-abbrev pub begun : System → ℕ → List ℕ → Option System
-begun st i [] = None
-begun st i (g ∷ rest) = Some (with_thread (record st { tickets = rest }) i (record { generation = g; out = None; left = 0; todo = turn }))
+abbrev pub begun : System → ℕ → ℕ → List ℕ → Option System
+begun st i most [] = None
+begun st i most (g ∷ rest) = Some (with_thread (record st { tickets = rest }) i (record { generation = g; out = None; left = most; todo = turn }))
 
-abbrev pub begins : System → ℕ → Thread → Option System
-begins st i t = when (rests t) (begun st i st.tickets)
+-- a turn makes at most the budget of calls, and fewer in the poller's thread
+abbrev pub begins : System → ℕ → ℕ → Thread → Option System
+begins st i most t = when (rests t && nat_le most st.limits.budget) (begun st i most st.tickets)
 
 -- What the poller does between its programs
 
@@ -297,7 +298,7 @@ step st (Poll names) = when (poller_rests st && (length st.batch == 0)) (over_ke
 step st Deliver = when (poller_rests st) (delivers st st.batch)
 step st Sweep = guard (poller_rests st && (is_limited st && nat_lt 0 st.entry)) (posted st st.entry)
 step st Open = option_and_then (λ (t : Thread). guard (rests t) (with_thread st 0 (goes_on t opening))) (slice_get st.threads 0)
-step st (Begin i) = option_and_then (λ (t : Thread). begins st i t) (slice_get st.threads i)
+step st (Begin i most) = option_and_then (λ (t : Thread). begins st i most t) (slice_get st.threads i)
 step st (Acts i) = option_and_then (λ (t : Thread). acts st i t t.todo) (slice_get st.threads i)
 step st (Calls i r) = option_and_then (λ (t : Thread). calls st i t r t.todo) (slice_get st.threads i)
 
