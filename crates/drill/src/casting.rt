@@ -15,7 +15,7 @@ use std::cell::{Cell, RefCell};
 use std::rc::Rc;
 use std::sync::atomic::AtomicBool;
 use std::sync::{Arc, Wait};
-use threads::{Cast, Ending, PollerThread, Rest, Server, Worker, divide};
+use threads::{Ending, PollerThread, Rest, Server, ServerThreads, Worker, divide};
 
 /// A server of these sizes.
 pub fn stage_of<R: Wait>(rt: &R, alloc: Global, sizes: Sizes) -> Result<Stage, ServerFault>
@@ -45,8 +45,8 @@ type Players = (
     Vec<Player<Worker<KernelFront>>>,
 );
 
-fn players_of(alloc: Global, cast: Cast<KernelFront>) -> Result<Players, AllocError> {
-    let Cast {
+fn players_of(alloc: Global, cast: ServerThreads<KernelFront>) -> Result<Players, AllocError> {
+    let ServerThreads {
         pollers,
         mut workers,
     } = cast;
@@ -86,7 +86,7 @@ fn cast_of<R: Wait>(
     outside: &OutsideCell,
     settings: &Settings,
     sizes: Sizes,
-) -> Result<Cast<KernelFront>, ServerFault>
+) -> Result<ServerThreads<KernelFront>, ServerFault>
     requires { IsServerSize sizes }
 {
     let split = sizes.split;

@@ -17,7 +17,7 @@ use std::rc::Rc;
 use std::sync::Wait;
 use std::sync::atomic::AtomicBool;
 use std::sync::atomic::Ordering::SeqCst;
-use threads::{Crew, Ending, PollerThread, Worker};
+use threads::{Context, Ending, PollerThread, Worker};
 
 /// A thread of the server. It is in a cell, so that one can make a step inside a step of another.
 #[derive(Drop)]
@@ -69,8 +69,8 @@ impl Stage {
     }
 
     /// What a thread is handed for a step.
-    fn crew<'a, G, R>(&'a self, rt: &'a R, gate: &'a G) -> Crew<'a, G, Ticks, R> {
-        Crew {
+    fn crew<'a, G, R>(&'a self, rt: &'a R, gate: &'a G) -> Context<'a, G, Ticks, R> {
+        Context {
             rt,
             alloc: self.alloc,
             gate,
@@ -85,7 +85,7 @@ impl Stage {
     }
 
     /// One step of a poller's thread, unless it is in a turn or has ended.
-    fn round<G: Gate, R: Wait + Log>(&self, crew: &Crew<'_, G, Ticks, R>, poller: usize) {
+    fn round<G: Gate, R: Wait + Log>(&self, crew: &Context<'_, G, Ticks, R>, poller: usize) {
         let Some(player) = self.pollers.get(poller) else {
             return;
         };
@@ -98,7 +98,7 @@ impl Stage {
     /// The step of a poller's thread. Answers whether the thread ends with it.
     fn round_of<G: Gate, R: Wait + Log>(
         &self,
-        crew: &Crew<'_, G, Ticks, R>,
+        crew: &Context<'_, G, Ticks, R>,
         poller: usize,
         thread: &mut PollerThread<KernelFront>,
     ) -> bool {
@@ -118,7 +118,7 @@ impl Stage {
     /// this ticket, which nobody made and which is no more than taken.
     fn turn<G: Gate, R: Wait + Log>(
         &self,
-        crew: &Crew<'_, G, Ticks, R>,
+        crew: &Context<'_, G, Ticks, R>,
         number: usize,
         made_up: Option<Ticket>,
     ) {
@@ -134,7 +134,7 @@ impl Stage {
     /// The step of a worker's thread, unless it would wait. Answers whether the thread ends with it.
     fn turn_of<G: Gate, R: Wait + Log>(
         &self,
-        crew: &Crew<'_, G, Ticks, R>,
+        crew: &Context<'_, G, Ticks, R>,
         worker: &mut Worker<KernelFront>,
         made_up: Option<Ticket>,
     ) -> bool {
@@ -158,7 +158,7 @@ impl Stage {
 
     fn make_turn<G: Gate, R: Wait + Log>(
         &self,
-        crew: &Crew<'_, G, Ticks, R>,
+        crew: &Context<'_, G, Ticks, R>,
         worker: &mut Worker<KernelFront>,
     ) -> bool {
         let former = self.enter(None);
@@ -228,7 +228,7 @@ impl Stage {
 
 /// A step of a poller's thread. Answers whether that ended the thread.
 fn step_poller<G: Gate, R: Wait + Log>(
-    crew: &Crew<'_, G, Ticks, R>,
+    crew: &Context<'_, G, Ticks, R>,
     thread: &mut PollerThread<KernelFront>,
 ) -> bool {
     match thread.step(crew) {
@@ -242,7 +242,7 @@ fn step_poller<G: Gate, R: Wait + Log>(
 
 /// The same of a worker's.
 fn step_worker<G: Gate, R: Wait + Log>(
-    crew: &Crew<'_, G, Ticks, R>,
+    crew: &Context<'_, G, Ticks, R>,
     worker: &mut Worker<KernelFront>,
 ) -> bool {
     match worker.step(crew) {

@@ -2,7 +2,7 @@
 use Rattle.std.proofs.Common.{◌≡◌, ◌≢◌, ℕ, zero, suc, ◌+◌, ◌<◌, ◌≤◌, Bool, true, false, cond, List, [], ◌∷◌, ◌++◌, length, length-append, drop, sym, ◌∙◌, refl, subst, ap, arith, inl, inr, append_assoc}
 use Rattle.std.specs.List.{All}
 use Rattle.std.proofs.lemmas.List.Elements.{All-append}
-use Rattle.std.specs.Prelude.{◌==◌, ◌&&◌, Option, Some, None, Result, Ok, Err, IfErr, IfOk, IfSome, OnOk, OnErr, slice_get, map, nat_lt, if◌then◌else◌}
+use Rattle.std.specs.Prelude.{◌==◌, ◌&&◌, Option, Some, None, Result, Ok, Err, IfOk, IfSome, OnOk, OnErr, slice_get, map, nat_lt, if◌then◌else◌}
 use Rattle.std.proofs.lemmas.List.{map-append, append-nil}
 use Rattle.std.proofs.lemmas.List.Sums.{sum_by-append}
 use Rattle.std.proofs.lemmas.Bool.{ltb-true, ltb-false, false≢true}
@@ -10,10 +10,9 @@ use Rattle.std.specs.Option.{is_some}
 use Rattle.std.proofs.lemmas.Option.{none-some}
 use mathlib.Core.Logic.{dite}
 use native.Mathlib.Decide.{ℕ_discrete}
-use Rattle.claims.specs.declared.view.Account.{Account}
 use Rattle.claims.specs.declared.view.Exchange.{Exchange}
 use Rattle.claims.specs.Views.{minted_by}
-use Rattle.claims.specs.Seats.{SeatState, TableId, account_at, OnlyAt}
+use Rattle.claims.specs.Seats.{SeatState, TableId, OnlyAt}
 use Rattle.ready.specs.declared.history.History.{History}
 use Rattle.ready.specs.declared.ticket.Ticket.{Ticket}
 use Rattle.ready.specs.Steps.{EndState}
@@ -27,7 +26,7 @@ use Rattle.dispatch.specs.Outgoing.{outgoing, Inserted, tickets_out, slots_out, 
 use Rattle.dispatch.specs.Polls.{PollerState, looked_at}
 use Rattle.rounds.specs.Rounds.{RoundDone}
 use Rattle.turns.specs.Shares.{AreShared, OneShared, TicketsShared}
-use Rattle.turns.specs.Turns.{program, TicketsKept, SlotGiven, SlotsKept, IsTurnOf, TurnMade, OwnTurn}
+use Rattle.turns.specs.Turns.{TicketsKept, SlotGiven, SlotsKept, IsTurnOf, TurnMade, OwnTurn}
 use Rattle.rounds.specs.Acts.{Act, ActsMade, made_by, due_of}
 use Rattle.rounds.proofs.Acts.{all_none, all_one, acts_none, acts_one, acts_both, due-append}
 use Rattle.threads.specs.declared.ended.Ended.{Ended}
@@ -149,10 +148,10 @@ puts end = map (λ (put : ℕ × Ticket). put.1) end.history.put
 pub out_same : (a b : Own) → b.ready ≡ a.ready → b.hand.tickets ≡ a.hand.tickets → tickets_out b ≡ tickets_out a
 out_same a b ready hand = ap (λ (q : EndState Ticket). outgoing q.history b.hand.tickets) ready ∙ ap (λ (ts : List Ticket). outgoing a.ready.history ts) hand
 
--- what is told of a refusal
+-- what is said of a refusal
 pub on_err : {T E : Type 0} {X : Type 0} (result : Result T E) → X → OnErr result X
-on_err (Ok value) told = tt
-on_err (Err error) told = told
+on_err (Ok value) said = tt
+on_err (Err error) said = said
 
 -- A worker
 
@@ -232,22 +231,22 @@ worker_then_ends a b c one two = record { left = two.left; few = two.few; made =
 
 -- sharing the tickets in hand loses none
 
-one_shared : (u : Ticket) (stayed : ℕ) (heavy : List ℕ) (t : Ticket) (queue : EndState Ticket) (after : ℕ) (behind : List Ticket) (next : EndState Ticket)
-    → OneShared stayed heavy t queue after behind next
-    → times_of u (puts next) + times_of u behind ≡ times_of u (puts queue) + times_of u (t ∷ [])
-one_shared u stayed heavy t queue after behind next (inl stays) =
-    let same : times_of u behind ≡ times_of u (t ∷ []) = ap (λ (ts : List Ticket). times_of u ts) stays.2 in
+one_shared : (u : Ticket) (stayed : ℕ) (heavy : List ℕ) (t : Ticket) (queue : EndState Ticket) (after : ℕ) (in_hand : List Ticket) (next : EndState Ticket)
+    → OneShared stayed heavy t queue after in_hand next
+    → times_of u (puts next) + times_of u in_hand ≡ times_of u (puts queue) + times_of u (t ∷ [])
+one_shared u stayed heavy t queue after in_hand next (inl stays) =
+    let same : times_of u in_hand ≡ times_of u (t ∷ []) = ap (λ (ts : List Ticket). times_of u ts) stays.2 in
     let queued : times_of u (puts next) ≡ times_of u (puts queue) = ap (λ (q : EndState Ticket). times_of u (puts q)) stays.3 in
     omega arith
-one_shared u stayed heavy t queue after behind next (inr (goes, still, inl put)) =
-    let none : times_of u behind ≡ times_of u [] = ap (λ (ts : List Ticket). times_of u ts) put.1 in
+one_shared u stayed heavy t queue after in_hand next (inr (goes, still, inl put)) =
+    let none : times_of u in_hand ≡ times_of u [] = ap (λ (ts : List Ticket). times_of u ts) put.1 in
     let queued : times_of u (puts next) ≡ times_of u (puts queue ++ t ∷ []) =
     ap (λ (h : History Ticket). times_of u (map (λ (put : ℕ × Ticket). put.1) h.put)) put.0.put.put
     ∙ ap (λ (ts : List Ticket). times_of u ts) (map-append (λ (put : ℕ × Ticket). put.1) queue.history.put ((_, t) ∷ [])) in
     let both = times-append u (puts queue) (t ∷ []) in
     omega arith
-one_shared u stayed heavy t queue after behind next (inr (goes, still, inr refused)) =
-    let same : times_of u behind ≡ times_of u (t ∷ []) = ap (λ (ts : List Ticket). times_of u ts) refused.1 in
+one_shared u stayed heavy t queue after in_hand next (inr (goes, still, inr refused)) =
+    let same : times_of u in_hand ≡ times_of u (t ∷ []) = ap (λ (ts : List Ticket). times_of u ts) refused.1 in
     let queued : times_of u (puts next) ≡ times_of u (puts queue) = ap (λ (q : EndState Ticket). times_of u (puts q)) refused.0.same in
     omega arith
 
@@ -258,11 +257,11 @@ all_shared u stayed heavy [] queue kept left end none =
     let hand : times_of u kept ≡ times_of u [] = ap (λ (ts : List Ticket). times_of u ts) none.0 in
     let queued : times_of u (puts end) ≡ times_of u (puts queue) = ap (λ (q : EndState Ticket). times_of u (puts q)) none.2 in
     omega arith
-all_shared u stayed heavy (t ∷ ts) queue kept left end (after, behind, next, rest, one, is, more) =
-    let first = one_shared u stayed heavy t queue after behind next one in
+all_shared u stayed heavy (t ∷ ts) queue kept left end (after, in_hand, next, rest, one, is, more) =
+    let first = one_shared u stayed heavy t queue after in_hand next one in
     let others = all_shared u after (looked_at t.slot heavy) ts next rest left end more in
-    let hand : times_of u kept ≡ times_of u (behind ++ rest) = ap (λ (us : List Ticket). times_of u us) is in
-    let both = times-append u behind rest in
+    let hand : times_of u kept ≡ times_of u (in_hand ++ rest) = ap (λ (us : List Ticket). times_of u us) is in
+    let both = times-append u in_hand rest in
     let whole = times-append u (t ∷ []) ts in
     omega arith
 
@@ -413,16 +412,11 @@ steps_ran (suc steps) p q a b (r, c, before, last) = ran_both a c b (steps_ran s
 pub loop_ran : (steps : ℕ) (p r q : PollerState) (a c b : Own) → StepsMade steps p r a c → StepCut r q c b → PollerRan a b
 loop_ran steps p r q a c b before last = ran_both a c b (steps_ran steps p r a c before) (cut_ran r q c b last)
 
-pub step_told : (told : Result (Unit {0}) Ended) (p q : PollerState) (a b : Own) → OnOk told (StepMade p q a b)
+pub step_tickets : (told : Result (Unit {0}) Ended) (p q : PollerState) (a b : Own) → OnOk told (StepMade p q a b)
     → OnErr told (told ≢ Err (record { fault = Some Worn }) → StepCut p q a b)
     → told ≢ Err (record { fault = Some Worn }) → PollerRan a b
-step_told (Ok done) p q a b made cut well = step_ran p q a b made
-step_told (Err ended) p q a b made cut well = cut_ran p q a b (cut well)
-
--- The loop is not told that the seat was worn: then the answer did not say so
-pub not_worn : {T : Type 0} (answer : Result T ServerFault) (told : Result T Ended)
-    → IfErr answer (λ fault. told ≡ Err (record { fault = Some fault })) → told ≢ Err (record { fault = Some Worn }) → answer ≢ Err Worn
-not_worn {T} answer told by well worn = well (subst (λ (r : Result T ServerFault). IfErr r (λ fault. told ≡ Err (record { fault = Some fault }))) worn by)
+step_tickets (Ok done) p q a b made cut well = step_ran p q a b made
+step_tickets (Err ended) p q a b made cut well = cut_ran p q a b (cut well)
 
 -- which turn was run, if one was
 abbrev ran_of : Result (Option Worked) Ended → Option Worked
@@ -438,9 +432,9 @@ none_is None answer is none = is
 none_is (Some worked) answer is none = absurd (false≢true (sym none))
 
 -- that no turn was run is told as it was answered
-pub none_told : (answer : Result (Option Worked) ServerFault) (told : Result (Option Worked) Ended)
+pub none_answered : (answer : Result (Option Worked) ServerFault) (told : Result (Option Worked) Ended)
     → IfOk answer (λ value. told ≡ Ok value) → answer ≡ Ok None → told ≡ Ok None
-none_told answer told good none = subst (λ (r : Result (Option Worked) ServerFault). IfOk r (λ value. told ≡ Ok value)) none good
+none_answered answer told good none = subst (λ (r : Result (Option Worked) ServerFault). IfOk r (λ value. told ≡ Ok value)) none good
 
 pub loop_steps : (steps : ℕ) (p q r : PollerState) (a b c : Own) → StepsMade steps p q a b → StepMade q r b c → (more : ℕ) × StepsMade more p r a c
 loop_steps steps p q r a b c before last = (suc steps, (q, b, before, last))

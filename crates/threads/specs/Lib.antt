@@ -1,4 +1,4 @@
 -- The crate's definitions. The first line of each file says whether the promises need it.
-pub mod Casts
+pub mod Divided
 pub mod Endings
 pub mod Loops

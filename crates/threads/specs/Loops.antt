@@ -108,26 +108,25 @@ pub record SharedAndRan (count : ℕ) (p q : PollerState) (a b : Own) : Type 0 w
   pub turns : OwnTurnsRan count shared b
   pub poller : q ≡ record p { heavy = q.heavy }
 
--- Behind a round the tickets in hand were shared, and 16 of those that stayed were run, or fewer: then none is left, or
+-- After a round the tickets in hand were shared, and 16 of those that stayed were run, or fewer: then none is left, or
 -- no slot more fits in hand
-pub record TurnsBehind (p q : PollerState) (a b : Own) : Type 0 where
+pub record TurnsAfter (p q : PollerState) (a b : Own) : Type 0 where
   pub count : ℕ
   pub made : SharedAndRan count p q a b
   pub most : count ≤ 16
   pub ended : (count ≡ 16) ⊎ NoOwnTurn b
 
--- Behind a round the tickets in hand were shared, and fewer than 16 of those that stayed were run
+-- After a round the tickets in hand were shared, and fewer than 16 of those that stayed were run
 pub record TurnsCut (p q : PollerState) (a b : Own) : Type 0 where
   pub count : ℕ
   pub made : SharedAndRan count p q a b
   pub few : count < 16
 
--- a poller may have been told to open no more connections
+-- from now on a poller may open no more connections
 abbrev pub MayStop : PollerState → PollerState → Type 0
 MayStop p q = (q ≡ p) ⊎ (q ≡ record p { most = 0 })
 
--- A poller's thread made a round. Before it, the poller may have been told to open no more; else it may open as many as
--- before
+-- A poller's thread made a round. Before it, the poller may have been stopped; else it may open as many as before
 pub record RoundMade (p q : PollerState) (a b : Own) : Type 0 where
   pub begun : PollerState
   pub stopped : MayStop p begun
@@ -137,16 +136,16 @@ pub record RoundMade (p q : PollerState) (a b : Own) : Type 0 where
 
 -- A round, and what came after it. Once all connections that the poller may open were opened, its front does not
 -- listen, unless the round ended early
-pub record RoundAnd (Behind : PollerState → PollerState → Own → Own → Type 0) (p q : PollerState) (a b : Own) : Type 0 where
+pub record RoundAnd (After : PollerState → PollerState → Own → Own → Type 0) (p q : PollerState) (a b : Own) : Type 0 where
   pub polled : PollerState
   pub between : Own
   pub round : RoundMade p polled a between
   pub closed : EndedEarly (length polled.table) between ⊎ ListensToOpen polled
-  pub turns : Behind polled q between b
+  pub turns : After polled q between b
 
 -- a step of a poller's thread: a round, and the turns after it
 abbrev pub StepMade : PollerState → PollerState → Own → Own → Type 0
-StepMade p q a b = RoundAnd TurnsBehind p q a b
+StepMade p q a b = RoundAnd TurnsAfter p q a b
 
 -- the last step: nothing happened, or a round alone, or a round and fewer turns after it
 abbrev pub StepCut : PollerState → PollerState → Own → Own → Type 0

@@ -4,7 +4,7 @@ ghost use Rattle.std.specs.Arc.{arc_value};
 ghost use Rattle.std.specs.List.{range_with_len};
 ghost use Rattle.claims.specs.Seats.{fresh_seat};
 ghost use Rattle.dispatch.specs.Parts.{AreFresh};
-ghost use Rattle.threads.specs.Casts.{numbered, IsEndOf, AreEndsFrom, AreLeft, HasOneOfEach};
+ghost use Rattle.threads.specs.Divided.{numbered, IsEndOf, AreEndsFrom, AreLeft, HasOneOfEach};
 
 use crate::limits::WORKER_HAND;
 use crate::polling::PollerThread;
@@ -16,7 +16,7 @@ use std::sync::Arc;
 
 /// The threads of a server that have not begun.
 #[derive(Drop)]
-pub struct Cast<F: Front> {
+pub struct ServerThreads<F: Front> {
     pub pollers: Vec<PollerThread<F>>,
     pub workers: Vec<Worker<F>>,
 }
@@ -40,22 +40,22 @@ pub fn divide<F: Front + Drop>(
     mut rest: Rest,
     pollers: Vec<Poller<F>>,
     workers: usize,
-) -> Result<Cast<F>, ServerFault>
+) -> Result<ServerThreads<F>, ServerFault>
 where
     F::Waker: Drop,
     requires { AreFresh (arc_value shared.now).claims rest.parts.seats.items }
-    ensures pollers { IfOk result (λ cast. map (λ thread. (thread.number, thread.poller)) cast.pollers.items ≡ numbered pollers.items) }
-    ensures own_slots { IfOk result (λ cast. All (λ thread. IsEndOf (map (λ ends. ends.items) rest.free.items) thread.number
-        thread.own.free) cast.pollers.items) }
-    ensures workers { IfOk result (λ cast. map (λ worker. worker.number) cast.workers.items ≡ range_with_len (length pollers.items)
+    ensures pollers { IfOk result (λ made. map (λ thread. (thread.number, thread.poller)) made.pollers.items ≡ numbered pollers.items) }
+    ensures own_slots { IfOk result (λ made. All (λ thread. IsEndOf (map (λ ends. ends.items) rest.free.items) thread.number
+        thread.own.free) made.pollers.items) }
+    ensures workers { IfOk result (λ made. map (λ worker. worker.number) made.workers.items ≡ range_with_len (length pollers.items)
         workers) }
-    ensures all_slots { IfOk result (λ cast. All (λ worker. HasOneOfEach (map (λ ends. ends.items) rest.free.items)
-        (worker.own.free ∷ worker.others.items)) cast.workers.items) }
+    ensures all_slots { IfOk result (λ made. All (λ worker. HasOneOfEach (map (λ ends. ends.items) rest.free.items)
+        (worker.own.free ∷ worker.others.items)) made.workers.items) }
 {
     let first = pollers.len();
     let pollers = pollers_of(alloc, shared, &mut rest, pollers)?;
     let workers = workers_of(alloc, shared, &mut rest, first, workers)?;
-    Ok(Cast { pollers, workers })
+    Ok(ServerThreads { pollers, workers })
 }
 
 /// The threads of the pollers.
@@ -122,7 +122,7 @@ fn poller_hand(slots: usize) -> usize {
 }
 
 /// The threads of this many workers, numbered from `first` on.
-#[tactic(auto, using(crate::proofs::Casts::all_left))]
+#[tactic(auto, using(crate::proofs::Divided::all_left))]
 fn workers_of<F: Front + Drop>(
     alloc: Global,
     shared: &Arc<Shared<F>>,

@@ -1,10 +1,10 @@
-//! How a thread's loop ended, which the thread has to tell its crew.
+//! How a thread's loop ended.
 ghost use Rattle.std.specs.Prelude.{◌≡◌, Some, None, Ok, Err, IfOk, IfErr};
 
 use dispatch::ServerFault;
 
-/// How a thread's loop ended: well, or on a fault. It cannot be dropped, and only the crew takes it
-/// ([`crate::Crew::end`]). So the fault of a round or a turn is not forgotten.
+/// How a thread's loop ended: well, or on a fault. It cannot be dropped, and only the context takes it
+/// ([`crate::Context::end`]). So the fault of a round or a turn is not forgotten.
 pub struct Ended {
     fault: Option<ServerFault>,
 }

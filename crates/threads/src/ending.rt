@@ -44,7 +44,7 @@ pub(crate) struct NoFault {
     ghost none: { recorded ≡ false },
 }
 
-/// A ticket, and a look that found no fault once it was taken. Nothing but [`Ending::look_behind`] makes one: a look
+/// A ticket, and a look that found no fault once it was taken. Nothing but [`Ending::look_after_take`] makes one: a look
 /// from before the sleep for the ticket does not do.
 #[derive(Drop)]
 pub(crate) struct Cleared {
@@ -100,7 +100,7 @@ impl Ending {
     }
 
     /// The same for the turn of a ticket that was taken, for which the thread may have slept.
-    pub(crate) fn look_behind(&self, ticket: Ticket) -> Result<Cleared, Ended>
+    pub(crate) fn look_after_take(&self, ticket: Ticket) -> Result<Cleared, Ended>
         ensures ticket { IfOk result (λ cleared. cleared.ticket ≡ ticket) }
         ensures well { IfErr result (λ ended. ended.fault ≡ None) }
     {

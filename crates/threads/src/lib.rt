@@ -9,7 +9,7 @@
 //!
 //! A worker's turn puts a free slot into no other queue than that of the poller whose slot it is (`Worker::turn`:
 //! `gives`) and leaves none in hand (`given`), of which none is lost (`give_all`: `slots`). How a loop ended is a
-//! value that cannot be dropped, and `Crew::end` takes it: a fault is recorded under its thread's number (`recorded`,
+//! value that cannot be dropped, and `Context::end` takes it: a fault is recorded under its thread's number (`recorded`,
 //! by a value that only `Ending::record` makes), every poller is woken (`woken`), and of two faults the first
 //! thread's is kept (`earliest`). Each round, each turn and each taking of a ticket requires a look of its own that
 //! found no fault recorded (`NoFault`), a worker's turn one after the taking, for which it may have slept
@@ -18,7 +18,7 @@
 //! own by its type (a `Box` in `Own`).
 #![tactic(auto)]
 
-mod crew;
+mod context;
 mod dividing;
 mod ended;
 mod ending;
@@ -27,8 +27,8 @@ mod polling;
 mod running;
 mod working;
 
-pub use crew::Crew;
-pub use dividing::{Cast, Rest, divide};
+pub use context::Context;
+pub use dividing::{Rest, ServerThreads, divide};
 pub use ended::Ended;
 pub use ending::{Ending, Recorded};
 pub use polling::PollerThread;

@@ -7,9 +7,9 @@ ghost use Rattle.dispatch.specs.Drops.{no_drops};
 ghost use Rattle.rounds.specs.Rounds.{EndedEarly, ListensToOpen, RoundDone};
 ghost use Rattle.turns.specs.Turns.{NoOwnTurn};
 ghost use Rattle.threads.specs.Endings.{AllWoken};
-ghost use Rattle.threads.specs.Loops.{LoopMade, MayStop, OwnTurnsRan, PollerRan, RoundMade, StepCut, StepMade, TurnsBehind, TurnsCut};
+ghost use Rattle.threads.specs.Loops.{LoopMade, MayStop, OwnTurnsRan, PollerRan, RoundMade, StepCut, StepMade, TurnsAfter, TurnsCut};
 
-use crate::crew::Crew;
+use crate::context::Context;
 use crate::ended::Ended;
 use crate::ending::NoFault;
 use dispatch::{Clock, Front, Gate, MAX_OWN_TURNS, Own, Poller, Shared};
@@ -37,48 +37,48 @@ where
     F::Waker: Drop,
 {
     /// Makes its steps until one ends the thread.
-    pub fn run<G: Gate, C: Clock, R: Wait + Log>(&mut self, crew: &Crew<'_, G, C, R>) {
-        self.begin(crew);
-        let ended = self.run_rounds(crew);
-        self.finish(crew, ended);
+    pub fn run<G: Gate, C: Clock, R: Wait + Log>(&mut self, context: &Context<'_, G, C, R>) {
+        self.begin(context);
+        let ended = self.run_rounds(context);
+        self.finish(context, ended);
     }
 
     /// The thread begins: sweeps are counted from now on.
-    pub fn begin<G: Gate, C: Clock, R: Wait + Log>(&mut self, crew: &Crew<'_, G, C, R>)
+    pub fn begin<G: Gate, C: Clock, R: Wait + Log>(&mut self, context: &Context<'_, G, C, R>)
         ensures own { self.new.own ≡ self.old.own }
-        ensures begun { (second : ℕ) × C.tells crew.now.timing.clock.now second
+        ensures begun { (second : ℕ) × C.tells context.now.timing.clock.now second
             × (self.new.poller ≡ record self.old.poller { swept = second }) }
     {
-        self.poller.begin_at(crew.timing.moment().second);
+        self.poller.begin_at(context.timing.moment().second);
     }
 
-    /// The thread has ended. A fault of its own is recorded, and ends all other threads. Behind the last poller the
-    /// workers end. The log is told of all clients that were closed unopened.
+    /// The thread has ended. A fault of its own is recorded, and ends all other threads. After the last poller the
+    /// workers end. All clients that were closed unopened are logged.
     pub fn finish<G: Gate, C: Clock, R: Wait + Log>(
         &mut self,
-        crew: &Crew<'_, G, C, R>,
+        context: &Context<'_, G, C, R>,
         ended: Ended,
     )
         ensures own { self.new.own ≡ self.old.own }
-        ensures told { self.new.poller.episodes.drops ≡ no_drops }
+        ensures logged { self.new.poller.episodes.drops ≡ no_drops }
     {
-        self.poller.end_episodes(crew.rt);
-        if let Some(recorded) = crew.end(&self.shared, self.number, &mut self.own.ready, ended) {
+        self.poller.end_episodes(context.rt);
+        if let Some(recorded) = context.end(&self.shared, self.number, &mut self.own.ready, ended) {
             recorded.spend();
         }
-        crew.leave(&mut self.own.ready);
+        context.leave(&mut self.own.ready);
     }
 
     /// Makes steps until the poller is over, or a fault is recorded or met.
     pub fn run_rounds<G: Gate, C: Clock, R: Wait + Log>(
         &mut self,
-        crew: &Crew<'_, G, C, R>,
+        context: &Context<'_, G, C, R>,
     ) -> Ended
         ensures made { result.fault ≢ Some Worn → LoopMade self.old.poller self.new.poller self.old.own self.new.own }
         ensures tickets { result.fault ≢ Some Worn → PollerRan self.old.own self.new.own }
     {
-        for _round in crew.rt.forever() {
-            if let Err(ended) = self.step(crew) {
+        for _round in context.rt.forever() {
+            if let Err(ended) = self.step(context) {
                 return ended;
             }
         }
@@ -86,86 +86,86 @@ where
     }
 
     /// One step of the thread: a round, and the turns of the tickets that it leaves to the poller's own thread, 16 at
-    /// most. It is refused where the thread has come to its end: the poller is over, a fault is recorded before the
+    /// most. It is refused if the thread ends: the poller is over, a fault is recorded before the
     /// round or before one of the turns, or this step met one.
     pub fn step<G: Gate, C: Clock, R: Wait + Log>(
         &mut self,
-        crew: &Crew<'_, G, C, R>,
+        context: &Context<'_, G, C, R>,
     ) -> Result<(), Ended>
         ensures made { OnOk result (StepMade self.old.poller self.new.poller self.old.own self.new.own) }
         ensures cut { OnErr result (result ≢ Err (record { fault = Some Worn })
             → StepCut self.old.poller self.new.poller self.old.own self.new.own) }
         ensures tickets { result ≢ Err (record { fault = Some Worn }) → PollerRan self.old.own self.new.own }
     {
-        let seen = crew.ending.look()?;
+        let seen = context.ending.look()?;
         if self.poller.is_over() {
             return Err(Ended::well());
         }
-        self.round(crew, seen)
+        self.round(context, seen)
     }
 
-    /// If no more connections may be opened, this poller opens none, and all others are woken, so that they come to
-    /// know it.
-    fn stop_if_asked<G: Gate, C: Clock, R: Wait + Log>(&mut self, crew: &Crew<'_, G, C, R>)
+    /// If no more connections may be opened, this poller opens none, and all others are woken, so that they find that
+    /// out.
+    fn stop_if_asked<G: Gate, C: Clock, R: Wait + Log>(&mut self, context: &Context<'_, G, C, R>)
         ensures own { self.new.own ≡ self.old.own }
         ensures stopped { MayStop self.old.poller self.new.poller }
-        ensures woken { (self.new.poller ≡ self.old.poller) ⊎ AllWoken (F.woke (arc_value self.old.shared).waker) crew.now.split }
+        ensures woken { (self.new.poller ≡ self.old.poller) ⊎ AllWoken (F.woke (arc_value self.old.shared).waker) context.now.split }
     {
-        if crew.is_stopped.load(SeqCst) && !self.poller.has_opened_all() {
+        if context.is_stopped.load(SeqCst) && !self.poller.has_opened_all() {
             self.poller.stop_opening();
-            crew.wake_pollers(&self.shared);
+            context.wake_pollers(&self.shared);
         }
     }
 
     /// Makes a round, and runs the turns that it left to its own thread.
     fn round<G: Gate, C: Clock, R: Wait + Log>(
         &mut self,
-        crew: &Crew<'_, G, C, R>,
+        context: &Context<'_, G, C, R>,
         seen: NoFault,
     ) -> Result<(), Ended>
         ensures made { OnOk result (StepMade self.old.poller self.new.poller self.old.own self.new.own) }
         ensures cut { OnErr result (result ≢ Err (record { fault = Some Worn })
             → StepCut self.old.poller self.new.poller self.old.own self.new.own) }
     {
-        match self.poll(crew, seen) {
-            Ok(()) => self.run_turns(crew),
+        match self.poll(context, seen) {
+            Ok(()) => self.run_turns(context),
             polled => polled,
         }
     }
 
-    /// Makes a round, and runs no turn. Where no more connections may be opened, the poller first comes to know that.
+    /// Makes a round, and runs no turn. If no more connections may be opened, the poller opens none in it.
     fn poll<G: Gate, C: Clock, R: Wait + Log>(
         &mut self,
-        crew: &Crew<'_, G, C, R>,
+        context: &Context<'_, G, C, R>,
         _seen: NoFault,
     ) -> Result<(), Ended>
         ensures round { result ≢ Err (record { fault = Some Worn }) → RoundMade self.old.poller self.new.poller self.old.own self.new.own }
         ensures closed { OnOk result (EndedEarly (length self.new.poller.table) self.new.own ⊎ ListensToOpen self.new.poller) }
     {
-        self.stop_if_asked(crew);
+        self.stop_if_asked(context);
         Ended::on_fault(poller_round(
-            crew.rt,
-            crew.alloc,
+            context.rt,
+            context.alloc,
             &self.shared,
             &mut self.own,
             &mut self.poller,
-            &crew.timing,
+            &context.timing,
         ))
     }
 
     /// Runs the tickets in hand that are for its own thread, until a fault is recorded.
     fn run_turns<G: Gate, C: Clock, R: Wait + Log>(
         &mut self,
-        crew: &Crew<'_, G, C, R>,
+        context: &Context<'_, G, C, R>,
     ) -> Result<(), Ended>
-        ensures turns { OnOk result (TurnsBehind self.old.poller self.new.poller self.old.own self.new.own) }
+        ensures turns { OnOk result (TurnsAfter self.old.poller self.new.poller self.old.own self.new.own) }
         ensures cut { OnErr result (result ≢ Err (record { fault = Some Worn })
             → TurnsCut self.old.poller self.new.poller self.old.own self.new.own) }
     {
-        share_tickets(crew.rt, &mut self.own, &mut self.poller);
+        share_tickets(context.rt, &mut self.own, &mut self.poller);
         for _turn in 0..MAX_OWN_TURNS {
-            let seen = crew.ending.look()?;
-            if self.turn(crew, seen)?.is_none() {
+            let seen = context.ending.look()?;
+            if self.turn(context, seen)?.is_none() {
                 return Ok(());
             }
         }
@@ -175,7 +175,7 @@ where
     /// Runs the turn of the oldest ticket in hand. None if there is no ticket, or no room in hand for a slot.
     fn turn<G: Gate, C: Clock, R: Wait + Log>(
         &mut self,
-        crew: &Crew<'_, G, C, R>,
+        context: &Context<'_, G, C, R>,
         _seen: NoFault,
     ) -> Result<Option<Worked>, Ended>
         ensures ran { result ≢ Ok None → OwnTurnsRan 1 self.old.own self.new.own }
@@ -184,12 +184,12 @@ where
         ensures worn { IfErr result (λ ended. ended ≡ record { fault = Some Worn }) }
     {
         Ended::on_fault(own_turn(
-            crew.rt,
+            context.rt,
             &self.shared,
             &mut self.own,
-            crew.gate,
+            context.gate,
             &mut self.poller,
-            &crew.timing,
+            &context.timing,
         ))
     }
 }

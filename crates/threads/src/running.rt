@@ -1,8 +1,8 @@
 //! A server's threads, from the first to the last.
 ghost use Rattle.dispatch.specs.Parts.{AreFresh};
 
-use crate::crew::Crew;
-use crate::dividing::{Cast, Rest, divide};
+use crate::context::Context;
+use crate::dividing::{Rest, ServerThreads, divide};
 use crate::ending::Ending;
 use dispatch::{Clock, Front, Gate, Parts, Poller, ServerFault, Shared, Split, Timing};
 use log::Log;
@@ -29,7 +29,7 @@ pub struct Server<F: Front> {
 }
 
 /// Runs a server: starts all threads but one that polls, which is the calling thread, and returns when the last of
-/// them has ended. Once it `is_stopped`, no more connections are opened, and it ends once all are closed.
+/// them has ended. Once `is_stopped` is set, no more connections are opened, and it ends once all are closed.
 ///
 /// Refuses with `NoMemory` if there is none for what the threads own, before any has started; else with the fault
 /// that a thread met, or `Threads` for one that could not be started. Of several it is that of the first poller, or
@@ -82,9 +82,9 @@ where
         ..
     } = server;
     let shared = Arc::new(alloc, shared)?;
-    let cast = divide(alloc, &shared, Rest { parts, free }, pollers, workers)?;
-    let company = Company {
-        crew: Crew {
+    let threads = divide(alloc, &shared, Rest { parts, free }, pollers, workers)?;
+    let startup = Startup {
+        context: Context {
             rt,
             alloc,
             gate,
@@ -93,16 +93,16 @@ where
             is_stopped,
             split,
         },
-        cast: Mutex::new(cast),
+        threads: Mutex::new(threads),
     };
-    run_all(&company, workers);
+    run_all(&startup, workers);
     Ok(())
 }
 
 /// Starts the threads of the workers and of all pollers but one, runs that one in the calling thread, and ends with
 /// the last of them. A thread that cannot be started is a fault.
 fn run_all<F, G: Gate + Sync, C: Clock + Sync, R: Wait + Threads + Log + Sync>(
-    company: &Company<F, G, C, R>,
+    startup: &Startup<F, G, C, R>,
     workers: usize,
 )
 where
@@ -111,62 +111,62 @@ where
     F::Target: Send,
     F::Waker: Send + Sync + Drop,
 {
-    let pollers = company.crew.split.pollers();
-    thread::scope(thread::scope_env(), company.crew.rt, move |scope| {
+    let pollers = startup.context.split.pollers();
+    thread::scope(thread::scope_env(), startup.context.rt, move |scope| {
         for _worker in 0..workers {
-            if scope.spawn(move || company.work()).is_err() {
-                not_started(&company.crew);
+            if scope.spawn(move || startup.work()).is_err() {
+                not_started(&startup.context);
             }
         }
         for _poller in 1..pollers {
-            if scope.spawn(move || company.poll()).is_err() {
-                not_started(&company.crew);
+            if scope.spawn(move || startup.poll()).is_err() {
+                not_started(&startup.context);
             }
         }
-        company.announce();
-        company.poll()
+        startup.announce();
+        startup.poll()
     });
 }
 
 /// What each thread is handed, and the threads that have not begun.
 #[derive(Drop)]
-struct Company<'a, F: Front, G, C, R> {
-    crew: Crew<'a, G, C, R>,
-    cast: Mutex<Cast<F>>,
+struct Startup<'a, F: Front, G, C, R> {
+    context: Context<'a, G, C, R>,
+    threads: Mutex<ServerThreads<F>>,
 }
 
-impl<F: Front + Drop, G: Gate, C: Clock, R: Wait + Log> Company<'_, F, G, C, R>
+impl<F: Front + Drop, G: Gate, C: Clock, R: Wait + Log> Startup<'_, F, G, C, R>
 where
     F::Waker: Drop,
 {
-    /// If each thread has been started, the gate comes to know it.
+    /// Calls the gate, if each thread has been started.
     fn announce(&self) {
-        if !self.crew.ending.is_recorded() {
-            self.crew.gate.all_started();
+        if !self.context.ending.is_recorded() {
+            self.context.gate.all_started();
         }
     }
 
     /// The thread of a poller: the next that has not begun.
     fn poll(&self) {
-        let next = self.cast.lock(self.crew.rt).pollers.pop();
+        let next = self.threads.lock(self.context.rt).pollers.pop();
         if let Some(mut poller) = next {
-            poller.run(&self.crew);
+            poller.run(&self.context);
             drop(poller);
         }
     }
 
     /// The thread of a worker: the next that has not begun.
     fn work(&self) {
-        let next = self.cast.lock(self.crew.rt).workers.pop();
+        let next = self.threads.lock(self.context.rt).workers.pop();
         if let Some(mut worker) = next {
-            worker.run(&self.crew);
+            worker.run(&self.context);
             drop(worker);
         }
     }
 }
 
 /// A thread that was not started is a fault.
-fn not_started<G, C, R: Wait + Log>(crew: &Crew<G, C, R>) {
-    let fault = log_no_thread(crew.rt);
-    crew.ending.record(crew.rt, 0, fault).spend();
+fn not_started<G, C, R: Wait + Log>(context: &Context<G, C, R>) {
+    let fault = log_no_thread(context.rt);
+    context.ending.record(context.rt, 0, fault).spend();
 }

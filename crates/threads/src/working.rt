@@ -7,7 +7,7 @@ ghost use Rattle.dispatch.specs.Outgoing.{outgoing, slots_out};
 ghost use Rattle.relay_log.specs.declared.faults.ServerFault.{ServerFault};
 ghost use Rattle.threads.specs.Loops.{GivesToOwner, OneRan, Took, WorkerEnded, WorkerRan};
 
-use crate::crew::Crew;
+use crate::context::Context;
 use crate::ended::Ended;
 use crate::ending::{Cleared, NoFault};
 use dispatch::{Clock, Front, Gate, Hand, Own, Shared, give_slots, put_tickets};
@@ -36,32 +36,35 @@ where
     F::Waker: Drop,
 {
     /// Makes its steps until one ends the thread.
-    pub fn run<G: Gate, C: Clock, R: Wait + Log>(&mut self, crew: &Crew<'_, G, C, R>)
+    pub fn run<G: Gate, C: Clock, R: Wait + Log>(&mut self, context: &Context<'_, G, C, R>)
         ensures ran { WorkerEnded self.old.own self.new.own }
     {
-        let ended = self.run_turns(crew);
-        self.finish(crew, ended);
+        let ended = self.run_turns(context);
+        self.finish(context, ended);
     }
 
     /// The thread has ended. A fault of its own is recorded, and ends all other threads.
     pub fn finish<G: Gate, C: Clock, R: Wait + Log>(
         &mut self,
-        crew: &Crew<'_, G, C, R>,
+        context: &Context<'_, G, C, R>,
         ended: Ended,
     )
         ensures { self.new.own ≡ self.old.own }
     {
-        if let Some(recorded) = crew.end(&self.shared, self.number, &mut self.own.ready, ended) {
+        if let Some(recorded) = context.end(&self.shared, self.number, &mut self.own.ready, ended) {
             recorded.spend();
         }
     }
 
     /// Makes steps until the queue of tickets is closed and empty, or a fault is recorded or met.
-    fn run_turns<G: Gate, C: Clock, R: Wait + Log>(&mut self, crew: &Crew<'_, G, C, R>) -> Ended
+    fn run_turns<G: Gate, C: Clock, R: Wait + Log>(
+        &mut self,
+        context: &Context<'_, G, C, R>,
+    ) -> Ended
         ensures ran { WorkerEnded self.old.own self.new.own }
     {
-        for _turn in crew.rt.forever() {
-            if let Err(ended) = self.step(crew) {
+        for _turn in context.rt.forever() {
+            if let Err(ended) = self.step(context) {
                 return ended;
             }
         }
@@ -69,26 +72,26 @@ where
     }
 
     /// One step of the thread: it takes a ticket, which may mean to wait for one, and runs its turn. It is refused
-    /// where the thread has come to its end: the queue of tickets is closed and empty, a fault is recorded before the
-    /// ticket is taken or after that, or this step met one. Behind a fault the ticket that was taken stays in hand.
+    /// if the thread ends: the queue of tickets is closed and empty, a fault is recorded before the
+    /// ticket is taken or after that, or this step met one. After a fault the ticket that was taken stays in hand.
     pub fn step<G: Gate, C: Clock, R: Wait + Log>(
         &mut self,
-        crew: &Crew<'_, G, C, R>,
+        context: &Context<'_, G, C, R>,
     ) -> Result<(), Ended>
         ensures ran { OnOk result (WorkerRan [] self.old.own self.new.own) }
         ensures cut { OnErr result (WorkerEnded self.old.own self.new.own) }
     {
-        let seen = crew.ending.look()?;
+        let seen = context.ending.look()?;
         if !self.own.hand.has_room() {
-            self.empty_hand(crew.rt);
+            self.empty_hand(context.rt);
             return Ok(());
         }
-        let Some(ticket) = self.take(crew.rt, seen) else {
+        let Some(ticket) = self.take(context.rt, seen) else {
             return Err(Ended::well());
         };
-        match crew.ending.look_behind(ticket) {
+        match context.ending.look_after_take(ticket) {
             Ok(cleared) => {
-                self.turn(crew, cleared)?;
+                self.turn(context, cleared)?;
                 Ok(())
             }
             Err(ended) => {
@@ -121,29 +124,29 @@ where
     /// Runs a turn. If its connection ends, its slot goes back to the poller that has it.
     fn turn<G: Gate, C: Clock, R: Wait + Log>(
         &mut self,
-        crew: &Crew<'_, G, C, R>,
+        context: &Context<'_, G, C, R>,
         cleared: Cleared,
     ) -> Result<Worked, Ended>
         requires { HasRoom self.old.own.hand }
         ensures ran { (answer : Result Worked ServerFault) × OneRan cleared.ticket answer self.old.own self.new.own }
         ensures took { self.new.own.ready.history.taken ≡ self.old.own.ready.history.taken }
         ensures given { self.new.own.hand.slots ≡ [] }
-        ensures gives { cleared.ticket.slot < crew.now.split.slots
-            → GivesToOwner crew.now.split cleared.ticket.slot (self.old.own.free ∷ self.old.others.items)
+        ensures gives { cleared.ticket.slot < context.now.split.slots
+            → GivesToOwner context.now.split cleared.ticket.slot (self.old.own.free ∷ self.old.others.items)
             (self.new.own.free ∷ self.new.others.items) }
     {
         let ticket = cleared.ticket;
-        let poller = crew.split.poller_of(ticket.slot);
+        let poller = context.split.poller_of(ticket.slot);
         self.change_queue(poller);
         let worked = Ended::on_fault(worker_turn(
-            crew.rt,
+            context.rt,
             &self.shared,
             &mut self.own,
-            crew.gate,
+            context.gate,
             ticket,
-            &crew.timing,
+            &context.timing,
         ));
-        self.give_all(crew.rt);
+        self.give_all(context.rt);
         self.change_queue(poller);
         worked
     }

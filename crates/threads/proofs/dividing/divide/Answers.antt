@@ -1,5 +1,5 @@
 use Rattle.std.specs.Prelude.{◌∷◌}
-use Rattle.threads.proofs.Casts.{each_of_all}
+use Rattle.threads.proofs.Divided.{each_of_all}
 use Rattle.threads.proofs.dividing.divide.Goals as goal
 
 pub returns-clause-all_slots : goal.returns-clause-all_slots

@@ -1,6 +1,6 @@
 use Rattle.std.proofs.Common.{ap, sym, ◌∙◌, length}
 use Rattle.claims.proofs.Seats.{fresh_holds_nothing}
-use Rattle.threads.proofs.Casts.{all_left}
+use Rattle.threads.proofs.Divided.{all_left}
 use Rattle.threads.proofs.dividing.next_poller.Goals as goal
 
 pub invariant_of-result : goal.invariant_of-result

@@ -1,6 +1,6 @@
 use Rattle.std.proofs.Common.{ap, sym, ◌∙◌}
 use Rattle.claims.proofs.Seats.{fresh_holds_nothing}
-use Rattle.threads.proofs.Casts.{left_of_left, one_of_each}
+use Rattle.threads.proofs.Divided.{left_of_left, one_of_each}
 use Rattle.threads.proofs.dividing.next_worker.Goals as goal
 
 pub returns-clause-slots : goal.returns-clause-slots

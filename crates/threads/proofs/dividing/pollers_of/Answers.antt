@@ -1,6 +1,6 @@
 use Rattle.std.proofs.Common.{◌≡◌, ap, ◌∙◌, ◌+◌, ℕ, length, map, arith}
-use Rattle.threads.specs.Casts.{IsEndOf}
-use Rattle.threads.proofs.Casts.{all_left, all_made, all_pushed, left_of_left, none_all, none_made, slot_of_all, threads_more, both}
+use Rattle.threads.specs.Divided.{IsEndOf}
+use Rattle.threads.proofs.Divided.{all_left, all_made, all_pushed, left_of_left, none_all, none_made, slot_of_all, threads_more, both}
 use Rattle.threads.proofs.dividing.pollers_of.Goals as goal
 
 pub loop-thread-preserved : goal.loop-thread-preserved

@@ -2,7 +2,7 @@ use Rattle.std.proofs.Common.{◌≡◌, ◌+◌, ◌≤◌, ◌++◌, map, leng
 use Rattle.std.specs.Prelude.{vec_len, vec_capacity}
 use Rattle.std.specs.Arc.{arc_value}
 use Rattle.dispatch.specs.Parts.{AreFresh}
-use Rattle.threads.specs.Casts.{numbered, IsEndOf, AreLeft}
+use Rattle.threads.specs.Divided.{numbered, IsEndOf, AreLeft}
 use Rattle.threads.proofs.dividing.pollers_of.Given as goal
 
 abbrev pub invariant-loop-thread : goal.invariant-loop-thread

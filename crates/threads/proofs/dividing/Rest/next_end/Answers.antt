@@ -1,5 +1,5 @@
 use Rattle.std.proofs.Common.{◌<◌, length, refl, arith}
-use Rattle.threads.proofs.Casts.{end_of_last, taken_last}
+use Rattle.threads.proofs.Divided.{end_of_last, taken_last}
 use Rattle.threads.proofs.dividing.Rest.next_end.Goals as goal
 
 pub returns-clause-left : goal.returns-clause-left

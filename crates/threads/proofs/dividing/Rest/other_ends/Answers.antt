@@ -1,5 +1,5 @@
 use Rattle.std.proofs.Common.{◌∙◌, arith}
-use Rattle.threads.proofs.Casts.{all_left, ends_pushed, left_of_left, length_pushed}
+use Rattle.threads.proofs.Divided.{all_left, ends_pushed, left_of_left, length_pushed}
 use Rattle.threads.proofs.dividing.Rest.other_ends.Goals as goal
 
 pub loop-poller-preserved : goal.loop-poller-preserved

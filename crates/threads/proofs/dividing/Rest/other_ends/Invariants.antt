@@ -1,6 +1,6 @@
 use Rattle.std.proofs.Common.{◌≡◌, ◌≤◌, ◌+◌, map, length}
 use Rattle.std.specs.Prelude.{vec_len, vec_capacity}
-use Rattle.threads.specs.Casts.{AreEndsFrom, AreLeft}
+use Rattle.threads.specs.Divided.{AreEndsFrom, AreLeft}
 use Rattle.threads.proofs.dividing.Rest.other_ends.Given as goal
 
 -- the seats and the ends of the queue of tickets stay

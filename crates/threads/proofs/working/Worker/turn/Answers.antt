@@ -2,7 +2,7 @@ use Rattle.std.proofs.Common.{ap, rules, ◌∙◌}
 use mathlib.Core.Logic.{dite}
 use native.Mathlib.Decide.{ℕ_discrete}
 use Rattle.dispatch.specs.Hands.{HandState}
-use Rattle.threads.proofs.Casts.{first_used, other_used}
+use Rattle.threads.proofs.Divided.{first_used, other_used}
 use Rattle.threads.proofs.Loops.{one_between, one_ran, out_same}
 use Rattle.threads.proofs.working.Worker.turn.Goals as goal
 

@@ -11,8 +11,8 @@ numbered pollers = reverse (enumerate_from 0 pollers)
 -- queue
 pub record IsEndOf (ends : List (List (EndState ℕ))) (poller : ℕ) (end : EndState ℕ) : Type 0 where
   pub before : List (EndState ℕ)
-  pub behind : List (EndState ℕ)
-  pub there : slice_get ends poller ≡ Some (before ++ end ∷ behind)
+  pub after : List (EndState ℕ)
+  pub there : slice_get ends poller ≡ Some (before ++ end ∷ after)
 
 -- these are ends of the queues of the pollers from this one on, in order
 abbrev pub AreEndsFrom : List (List (EndState ℕ)) → ℕ → List (EndState ℕ) → Type 0

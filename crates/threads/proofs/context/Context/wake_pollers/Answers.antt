@@ -2,7 +2,7 @@ use Rattle.std.proofs.Common.{ℕ, subst, arith}
 use Rattle.dispatch.specs.declared.part.Part.{Part}
 use Rattle.dispatch.specs.Splits.{part_of, parts_of}
 use Rattle.threads.proofs.Loops.{none_below, one_below, all_below}
-use Rattle.threads.proofs.crew.Crew.wake_pollers.Goals as goal
+use Rattle.threads.proofs.context.Context.wake_pollers.Goals as goal
 
 pub loop-poller-init : goal.loop-poller-init
 loop-poller-init g c = none_below (λ (q : ℕ). g.F.Front.woke c.args.shared.now.waker (part_of c.args.self.now.split.slots c.args.self.now.split.size q).first)

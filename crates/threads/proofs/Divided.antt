@@ -6,7 +6,7 @@ use Rattle.std.proofs.lemmas.List.Elements.{All-push}
 use Rattle.std.proofs.lemmas.Option.{slice_get-get_or, slice_get-map, slice_get_within}
 use Rattle.std.proofs.lemmas.List.{get_or-set_same, length-map, map-append, nil_from_length, reverse-append}
 use Rattle.ready.specs.Steps.{EndState}
-use Rattle.threads.specs.Casts.{numbered, IsEndOf, AreEndsFrom, AreLeft, HasOneOfEach}
+use Rattle.threads.specs.Divided.{numbered, IsEndOf, AreEndsFrom, AreLeft, HasOneOfEach}
 use Rattle.threads.specs.Loops.{OthersKept}
 
 abbrev pub End : Type 0
@@ -19,8 +19,8 @@ all_left ends = record { pollers = refl; each = λ poller some is. ([], is ∙ a
 -- an end that is taken of what is left is one of all
 pub end_of_all : (old new : List (List End)) (poller : ℕ) (end : End) → AreLeft old new → IsEndOf new poller end → IsEndOf old poller end
 end_of_all old new poller end left is =
-    let was = left.each poller (is.before ++ end ∷ is.behind) is.there in
-    record { before = is.before; behind = is.behind ++ was.0; there = was.1 ∙ ap (λ (xs : List End). Some xs) (append_assoc is.before (end ∷ is.behind) was.0) }
+    let was = left.each poller (is.before ++ end ∷ is.after) is.there in
+    record { before = is.before; after = is.after ++ was.0; there = was.1 ∙ ap (λ (xs : List End). Some xs) (append_assoc is.before (end ∷ is.after) was.0) }
 
 pub left_of_left : (a b c : List (List End)) → AreLeft a b → AreLeft b c → AreLeft a c
 left_of_left a b c first second = record {
@@ -109,7 +109,7 @@ module _ {X : Type 0} where
   end_of_last f xs poller x left None within is ends = search
   end_of_last f xs poller x left (Some end) within is ends =
       let there : slice_get xs poller ≡ Some x = slice_get-get_or xs poller x within ∙ ap (λ (y : X). Some y) (sym is) in
-      record { before = left; behind = []; there = slice_get-map f xs poller ∙ ap (λ (o : Option X). option_map f o) there ∙ ap (λ (es : List End). Some es) ends }
+      record { before = left; after = []; there = slice_get-map f xs poller ∙ ap (λ (o : Option X). option_map f o) there ∙ ap (λ (es : List End). Some es) ends }
 
   -- one of each queue, the first poller's last
   pub one_of_each : (f : X → List End) (xs : List X) (new : List (List End)) (end : End) (others : List End) → AreEndsFrom (map f xs) 1 others → length others ≡ length xs - 1
@@ -117,7 +117,7 @@ module _ {X : Type 0} where
       → HasOneOfEach (map f xs) (end ∷ others)
   one_of_each f xs new end others are len left is =
       let first : IsEndOf (map f xs) 0 end = end_of_all (map f xs) new 0 end left is in
-      let some : 0 < length (map f xs) = slice_get_within (map f xs) 0 (first.before ++ end ∷ first.behind) first.there in
+      let some : 0 < length (map f xs) = slice_get_within (map f xs) 0 (first.before ++ end ∷ first.after) first.there in
       ((first, are), omega (arith, len, some, length-map xs f))
 
   pub all_pushed : (P : X → Type 0) (made now : List X) (x : X) → now ≡ made ++ x ∷ [] → All P made → P x → All P now

@@ -12,7 +12,7 @@ use std::sync::atomic::AtomicBool;
 
 /// What every thread of a server is handed at each of its steps.
 #[derive(Drop)]
-pub struct Crew<'a, G, C, R> {
+pub struct Context<'a, G, C, R> {
     pub rt: &'a R,
     pub alloc: Global,
     pub gate: &'a G,
@@ -24,7 +24,7 @@ pub struct Crew<'a, G, C, R> {
     pub split: Split,
 }
 
-impl<G, C, R: Wait> Crew<'_, G, C, R> {
+impl<G, C, R: Wait> Context<'_, G, C, R> {
     /// The loop of the thread with this number has ended. A fault is recorded, and ends all others: workers that
     /// sleep are woken, and so are the pollers.
     pub fn end<F: Front>(
@@ -54,7 +54,7 @@ impl<G, C, R: Wait> Crew<'_, G, C, R> {
         }
     }
 
-    /// A poller has ended. Behind the last one, and after a fault, the queue of tickets is closed, which ends the
+    /// A poller has ended. After the last one, and after a fault, the queue of tickets is closed, which ends the
     /// workers.
     pub fn leave(&self, ready: &mut ReadyQueue)
         ensures { ready.new ≡ ready.old }

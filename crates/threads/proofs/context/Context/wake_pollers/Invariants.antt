@@ -1,6 +1,6 @@
 use Rattle.std.proofs.Common.{ℕ, ◌<◌}
 use Rattle.dispatch.specs.Splits.{part_of}
-use Rattle.threads.proofs.crew.Crew.wake_pollers.Given as goal
+use Rattle.threads.proofs.context.Context.wake_pollers.Given as goal
 
 -- the pollers so far were woken
 abbrev pub invariant-loop-poller : goal.invariant-loop-poller
