@@ -5,7 +5,8 @@
  * but with GROWTHS_OF_ALL. The count stands in the 8 bytes of the file GROWTHS_COUNT, also where the program ends by a
  * signal.
  *
- * With MOST_THREADS so many threads can be started, and no more. With TIMES_FASTER clocks go so many times as fast. */
+ * With MOST_THREADS so many threads can be started, and no more. With TIMES_FASTER clocks go so many times as fast. With
+ * POLL_FAILS the call of epoll_wait(2) with this number fails, counted from 1 over all threads. */
 #define _GNU_SOURCE
 #include <dlfcn.h>
 #include <errno.h>
@@ -15,6 +16,7 @@
 #include <stdatomic.h>
 #include <stdint.h>
 #include <stdlib.h>
+#include <sys/epoll.h>
 #include <sys/mman.h>
 #include <sys/syscall.h>
 #include <time.h>
@@ -84,6 +86,14 @@ int pthread_create(pthread_t *thread, const pthread_attr_t *attributes, void *(*
   if (!most || started++ < atoi(most)) return create(thread, attributes, run, argument);
   usleep(100000); /* the others sleep by the time that this is told */
   return EAGAIN;
+}
+
+int epoll_wait(int poll, struct epoll_event *events, int most, int timeout) {
+  static atomic_int made;
+  const char *fails = getenv("POLL_FAILS");
+  if (!fails || ++made != atoi(fails)) return syscall(SYS_epoll_pwait, poll, events, most, timeout, NULL, 0);
+  errno = EIO;
+  return -1;
 }
 
 int clock_gettime(clockid_t clock, struct timespec *time) {

@@ -118,7 +118,7 @@ fn two_workers_run_at_once(rt: HostRuntime) -> Result<(), Fail> {
     let is_stopped = AtomicBool::new(false);
     let (served, echoed) = thread::join(
         &rt,
-        || serve(&log, alloc, &settings, bound, lend(&gate, &is_stopped)),
+        || serve(&log, alloc, &settings, bound, lend(&gate, &is_stopped)).into_result(),
         || echo_twice(&listener),
     );
     echoed?;

@@ -66,7 +66,7 @@ fn main(rt: HostRuntime) -> ExitCode {
             telling::tell(rt, statistics, &queue);
         }
         is_stuck.set(!logging::finish(&rt, &queue));
-        served?;
+        served.into_result()?;
         Ok(!gate.is_unprinted.load(SeqCst))
     };
     let status = match program::arguments(&rt) {

@@ -15,3 +15,4 @@ pub use making::{build, split_of};
 pub use recorded::serve_recorded;
 pub use serving::{Lent, serve};
 pub use sockets::Bound;
+pub use threads::Outcome;

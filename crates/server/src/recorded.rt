@@ -11,18 +11,19 @@ use records::Header;
 use relay_log::log_no_thread;
 use settings::Settings;
 use sockets::{Bound, Dial, Forwarding, open_all};
-use std::alloc::Global;
+use std::alloc::{AllocError, Global};
 use std::io::Write;
 use std::net::Net;
 use std::sync::{Mutex, Wait};
 use std::thread::{self, Threads};
+use threads::Outcome;
 
 /// Serves as [`serve`](crate::serve) does, and records into the file what each thread does, until the server ends:
 /// then the last line says that all is recorded. One thread more writes the file, and the call returns once it has
 /// written all. Where records come faster than they are written, or the file cannot be written, the recording ends, a
 /// warning is logged, and the server serves on.
 ///
-/// Refuses what `serve` refuses, and also with `NoMemory` and `Threads` if the recording cannot begin.
+/// It ends as `serve` does, and also by `NoMemory` and `Threads` if the recording cannot begin.
 pub fn serve_recorded<
     G: Gate + Sync,
     C: Clock + Sync,
@@ -35,11 +36,15 @@ pub fn serve_recorded<
     bound: Bound,
     lent: Lent<'_, G, C>,
     file: W,
-) -> Result<(), ServerFault> {
+) -> Outcome {
+    let queue = match RecordQueue::new(alloc, split_of(settings)) {
+        Ok(queue) => queue,
+        Err(AllocError) => return Outcome::refused(ServerFault::NoMemory),
+    };
     let recording = Recording {
         rt,
         alloc,
-        queue: RecordQueue::new(alloc, split_of(settings))?,
+        queue,
         header: header_of(settings, split_of(settings)),
         file: Mutex::new(Some(file)),
     };
@@ -72,11 +77,11 @@ impl<W: Write + Drop, R: Wait + Log> Recording<'_, W, R> {
 }
 
 /// Starts the thread that writes, serves, and waits until all is written.
-fn serve_beside<W, R, S>(recording: &Recording<'_, W, R>, serve: S) -> Result<(), ServerFault>
+fn serve_beside<W, R, S>(recording: &Recording<'_, W, R>, serve: S) -> Outcome
 where
     W: Write + Send + Drop,
     R: Wait + Threads + Log + Sync,
-    S: FnOnce() -> Result<(), ServerFault> + Drop,
+    S: FnOnce() -> Outcome + Drop,
     requires { S.IsAlwaysCallable serve }
 {
     thread::scope(
@@ -86,7 +91,7 @@ where
             requires { S.IsAlwaysCallable serve }
         {
             if scope.spawn(move || recording.write()).is_err() {
-                return Err(log_no_thread(recording.rt));
+                return Outcome::refused(log_no_thread(recording.rt));
             }
             let served = serve();
             recording.queue.close();
@@ -103,10 +108,12 @@ fn serve_into<G: Gate + Sync, C: Clock + Sync, R: Net + Dial + Wait + Threads + 
     bound: Bound,
     lent: Lent<'_, G, C>,
     queue: &RecordQueue,
-) -> Result<(), ServerFault> {
+) -> Outcome {
     let forwarding = Forwarding::of(settings, lent.patience);
-    let (fronts, wakers) = open_all(rt, alloc, bound, forwarding, split_of(settings))?;
-    run_recorded(rt, alloc, settings, fronts, wakers, lent, queue)
+    match open_all(rt, alloc, bound, forwarding, split_of(settings)) {
+        Ok((fronts, wakers)) => run_recorded(rt, alloc, settings, fronts, wakers, lent, queue),
+        Err(fault) => Outcome::refused(fault),
+    }
 }
 
 /// Runs a server with these fronts, one for each poller, and records what they and what is lent do.
@@ -118,7 +125,7 @@ fn run_recorded<F, G: Gate + Sync, C: Clock + Sync, R: Wait + Threads + Log + Sy
     waker: F::Waker,
     lent: Lent<'_, G, C>,
     queue: &RecordQueue,
-) -> Result<(), ServerFault>
+) -> Outcome
 where
     F: Front + Drop + Send,
     F::Client: Send,
@@ -127,7 +134,10 @@ where
     requires { length fronts.items ≡ pollers_for settings.now.slots settings.now.workers }
 {
     let recorder = Recorder::new(rt, queue);
-    let fronts = record_all(alloc, fronts, &recorder)?;
+    let fronts = match record_all(alloc, fronts, &recorder) {
+        Ok(fronts) => fronts,
+        Err(AllocError) => return Outcome::refused(ServerFault::NoMemory),
+    };
     let lent = Lent {
         gate: &RecordedGate::new(lent.gate, recorder.again()),
         clock: &RecordedClock::new(lent.clock, recorder.again(), settings.idle > 0),

@@ -13,7 +13,7 @@ use std::net::Net;
 use std::sync::atomic::AtomicBool;
 use std::sync::{Arc, Wait};
 use std::thread::Threads;
-use threads::{Server, run_threads};
+use threads::{Outcome, Server, run_threads};
 
 /// What a server is lent while it serves.
 #[derive(Clone, Copy)]
@@ -22,7 +22,7 @@ pub struct Lent<'a, G, C> {
     pub gate: &'a G,
     /// By which the idle limit is counted.
     pub clock: &'a C,
-    /// Set by another thread from when on no more connections may be opened.
+    /// Another thread sets this once no more connections may be opened.
     pub is_stopped: &'a AtomicBool,
     /// Where what becomes of the connections is counted, if it is, with a place for each of the settings' slots.
     pub statistics: Option<&'a Arc<Statistics>>,
@@ -42,19 +42,21 @@ pub struct Lent<'a, G, C> {
 /// opened are closed; or on a fault. Once no more may be opened, the listening socket is closed. When it returns,
 /// every thread has ended, and every socket is closed.
 ///
-/// Refuses with `NoMemory` if there is not enough to begin with, `Poll` if the system cannot report on sockets,
+/// The fault is `NoMemory` if there is not enough to begin with, `Poll` if the system cannot report on sockets,
 /// `Threads` if a thread cannot be started, and `Worn` if a thread has posted 2^56 notes. Of several faults it
-/// answers that of the first poller, or else of the first worker.
+/// is that of the first poller, or else of the first worker.
 pub fn serve<G: Gate + Sync, C: Clock + Sync, R: Net + Dial + Wait + Threads + Log + Sync>(
     rt: &R,
     alloc: Global,
     settings: &Settings,
     bound: Bound,
     lent: Lent<'_, G, C>,
-) -> Result<(), ServerFault> {
+) -> Outcome {
     let forwarding = Forwarding::of(settings, lent.patience);
-    let (fronts, wakers) = open_all(rt, alloc, bound, forwarding, split_of(settings))?;
-    run_on(rt, alloc, settings, fronts, wakers, lent)
+    match open_all(rt, alloc, bound, forwarding, split_of(settings)) {
+        Ok((fronts, wakers)) => run_on(rt, alloc, settings, fronts, wakers, lent),
+        Err(fault) => Outcome::refused(fault),
+    }
 }
 
 /// Makes a server with these fronts, one for each poller, and runs it.
@@ -65,7 +67,7 @@ pub(crate) fn run_on<F, G: Gate + Sync, C: Clock + Sync, R: Wait + Threads + Log
     fronts: Vec<F>,
     waker: F::Waker,
     lent: Lent<'_, G, C>,
-) -> Result<(), ServerFault>
+) -> Outcome
 where
     F: Front + Drop + Send,
     F::Client: Send,
@@ -73,8 +75,10 @@ where
     F::Waker: Send + Sync + Drop,
     requires { length fronts.items ≡ pollers_for settings.now.slots settings.now.workers }
 {
-    let server = build(rt, alloc, settings, split_of(settings), fronts, waker)?;
-    run(rt, alloc, settings, server, lent)
+    match build(rt, alloc, settings, split_of(settings), fronts, waker) {
+        Ok(server) => run(rt, alloc, settings, server, lent),
+        Err(fault) => Outcome::refused(fault),
+    }
 }
 
 /// Runs a server that was made as the settings say.
@@ -84,14 +88,16 @@ pub(crate) fn run<F, G: Gate + Sync, C: Clock + Sync, R: Wait + Threads + Log + 
     settings: &Settings,
     mut server: Server<F>,
     lent: Lent<'_, G, C>,
-) -> Result<(), ServerFault>
+) -> Outcome
 where
     F: Front + Drop + Send,
     F::Client: Send,
     F::Target: Send,
     F::Waker: Send + Sync + Drop,
 {
-    count_in(&mut server.shared, lent.statistics)?;
+    if let Err(AllocError) = count_in(&mut server.shared, lent.statistics) {
+        return Outcome::refused(ServerFault::NoMemory);
+    }
     log_in(&mut server.shared, lent.log_clients);
     let timing = timing_of(settings, lent.clock);
     run_threads(rt, alloc, lent.gate, timing, lent.is_stopped, server)

@@ -2,35 +2,39 @@
 use Rattle.std.proofs.Common.{◌≡◌, ◌≢◌, ℕ, zero, suc, ◌+◌, ◌<◌, ◌≤◌, Bool, true, false, cond, List, [], ◌∷◌, ◌++◌, length, length-append, drop, sym, ◌∙◌, refl, subst, ap, arith, inl, inr, append_assoc}
 use Rattle.std.specs.List.{All}
 use Rattle.std.proofs.lemmas.List.Elements.{All-append}
-use Rattle.std.specs.Prelude.{◌==◌, ◌&&◌, Option, Some, None, Result, Ok, Err, IfOk, IfSome, OnOk, OnErr, slice_get, map, nat_lt, if◌then◌else◌}
+use Rattle.std.specs.Prelude.{◌==◌, ◌&&◌, Option, Some, None, Result, Ok, Err, IfOk, IfSome, OnOk, slice_get, map, nat_lt, if◌then◌else◌, OnSome, IfErr, ◌⊎◌}
 use Rattle.std.proofs.lemmas.List.{map-append, append-nil}
 use Rattle.std.proofs.lemmas.List.Sums.{sum_by-append}
-use Rattle.std.proofs.lemmas.Bool.{ltb-true, ltb-false, false≢true}
-use Rattle.std.specs.Option.{is_some}
-use Rattle.std.proofs.lemmas.Option.{none-some}
+use Rattle.std.proofs.lemmas.Bool.{ltb-true, ltb-false, cases_lt}
 use mathlib.Core.Logic.{dite}
 use native.Mathlib.Decide.{ℕ_discrete}
 use Rattle.claims.specs.declared.view.Exchange.{Exchange}
 use Rattle.claims.specs.Views.{minted_by}
-use Rattle.claims.specs.Seats.{SeatState, TableId, OnlyAt}
+use Rattle.claims.specs.Seats.{SeatState, TableId}
 use Rattle.ready.specs.declared.history.History.{History}
 use Rattle.ready.specs.declared.ticket.Ticket.{Ticket}
-use Rattle.ready.specs.Steps.{EndState}
+use Rattle.ready.specs.Steps.{EndState, HeldOnce}
 use Rattle.relay_log.specs.declared.faults.ServerFault.{ServerFault}
-use Rattle.relay_log.specs.declared.faults.ServerFault.TheVariants.{Worn}
+use Rattle.relay_log.specs.declared.faults.ServerFault.TheVariants.{Worn, Poll, Listen, Threads, NoMemory}
 use Rattle.dispatch.specs.declared.shared.Own.{Own}
 use Rattle.turns.specs.declared.worker.Worked.{Worked}
 use Rattle.turns.specs.declared.worker.Worked.TheVariants as worked
 use Rattle.dispatch.specs.Hands.{HandState}
-use Rattle.dispatch.specs.Outgoing.{outgoing, Inserted, tickets_out, slots_out, without_first}
+use Rattle.dispatch.specs.Outgoing.{outgoing, Inserted, tickets_out, slots_out, without_first, TookNothing}
 use Rattle.dispatch.specs.Polls.{PollerState, looked_at}
-use Rattle.rounds.specs.Rounds.{RoundDone}
+use Rattle.rounds.specs.Rounds.{RoundDone, EndedEarly, ListenerKept, ListensToOpen}
 use Rattle.turns.specs.Shares.{AreShared, OneShared, TicketsShared}
-use Rattle.turns.specs.Turns.{TicketsKept, SlotGiven, SlotsKept, IsTurnOf, TurnMade, OwnTurn}
-use Rattle.rounds.specs.Acts.{Act, ActsMade, made_by, due_of}
-use Rattle.rounds.proofs.Acts.{all_none, all_one, acts_none, acts_one, acts_both, due-append}
-use Rattle.threads.specs.declared.ended.Ended.{Ended}
-use Rattle.threads.specs.Loops.{times_of, times_in, freed_by, freed, Run, tickets_of, acts_of, TurnsMade, OneRan, tickets_in, Took, WorkerEnded, WorkerRan, OwnTurnsRan, SharedAndRan, StepMade, StepCut, StepsMade, IsPollerAct, PollerRan}
+use Rattle.turns.specs.Turns.{TicketsKept, SlotGiven, SlotsKept, IsTurnOf, TurnMade, OwnTurn, program}
+use Rattle.rounds.specs.Acts.{Act, ActsMade, made_by, due_of, IsPost, IsTry}
+use Rattle.rounds.proofs.Acts.{all_none, all_one, acts_none, acts_one, acts_both, at_slot-append, due-append}
+use Rattle.rounds.specs.Deliveries.{at_slot}
+use Rattle.rounds.specs.Openings.{slots_in}
+use Rattle.dispatch.specs.Posts.{OnlyWorn}
+use Rattle.threads.specs.declared.ending.Ended.{Ended}
+use Rattle.threads.specs.declared.ending.Why.{Why}
+use Rattle.threads.specs.declared.ending.Why.TheVariants.{FaultFound, QueueClosed, Met}
+use Rattle.threads.specs.Endings.{faults_by}
+use Rattle.threads.specs.Loops.{times_of, times_in, freed_by, freed, Run, tickets_of, acts_of, fault_in, faults_of, TurnsMade, OneRan, tickets_in, Took, WorkerMayEnd, WorkerEnded, WorkerRan, OwnTurnsRan, SharedAndRan, TurnsCut, WornEnd, NoTicketTaken, Asked, RoundMade, RoundCut, StepMade, StepCut, StepsMade, LoopMade, IsPollerAct, PollerRan, PollerEnded, opened_by, openings_of}
 
 -- how often a ticket stands in lists one after the other
 times-append : (u : Ticket) (xs ys : List Ticket) → times_of u (xs ++ ys) ≡ times_of u xs + times_of u ys
@@ -91,6 +95,15 @@ slots_one t (Err fault) a b same es s = slots_same s a b same
 
 -- Turns, one after the other
 
+faults-append : (xs ys : List Run) → faults_of (xs ++ ys) ≡ faults_of xs ++ faults_of ys
+faults-append [] ys = refl
+faults-append (x ∷ xs) ys =
+    ap (λ (fs : List ServerFault). fault_in x.answer ++ fs) (faults-append xs ys) ∙ sym (append_assoc (fault_in x.answer) (faults_of xs) (faults_of ys))
+
+-- the first ones met none
+faults_then : (xs ys : List Run) (faults : List ServerFault) → faults_of xs ≡ [] → faults_of ys ≡ faults → faults_of (xs ++ ys) ≡ faults
+faults_then xs ys faults none met = faults-append xs ys ∙ ap (λ (fs : List ServerFault). fs ++ faults_of ys) none ∙ met
+
 turns_none : (s : SeatState) → TurnsMade [] [] s s
 turns_none s = record { each = λ i d lt. absurd (omega arith); made = acts_none s; due_are = refl }
 
@@ -148,28 +161,25 @@ puts end = map (λ (put : ℕ × Ticket). put.1) end.history.put
 pub out_same : (a b : Own) → b.ready ≡ a.ready → b.hand.tickets ≡ a.hand.tickets → tickets_out b ≡ tickets_out a
 out_same a b ready hand = ap (λ (q : EndState Ticket). outgoing q.history b.hand.tickets) ready ∙ ap (λ (ts : List Ticket). outgoing a.ready.history ts) hand
 
--- what is said of a refusal
-pub on_err : {T E : Type 0} {X : Type 0} (result : Result T E) → X → OnErr result X
-on_err (Ok value) said = tt
-on_err (Err error) said = said
-
 -- A worker
 
 -- nothing was taken and nothing was run, and what was to be put is put or in hand
-pub worker_none : (a b : Own) → b.seat ≡ a.seat → tickets_out b ≡ tickets_out a → b.ready.history.taken ≡ a.ready.history.taken → WorkerRan [] a b
+pub worker_none : (a b : Own) → b.seat ≡ a.seat → tickets_out b ≡ tickets_out a → b.ready.history.taken ≡ a.ready.history.taken → WorkerRan [] [] a b
 worker_none a b seat out taken = record {
   ran = [];
   due = [];
   turns = subst (λ (s : SeatState). TurnsMade [] [] a.seat s) (sym seat) (turns_none a.seat);
+  met = refl;
   taken = ap (λ (takes : List (ℕ × Ticket)). map (λ (take : ℕ × Ticket). take.1) takes) taken ∙ sym (append-nil (tickets_in a));
   tickets = λ u. (let same : times_of u (tickets_out b) ≡ times_of u (tickets_out a) = ap (λ (ts : List Ticket). times_of u ts) out in omega arith);
 }
 
-pub worker_both : (left : List Ticket) (a b c : Own) → WorkerRan [] a b → WorkerRan left b c → WorkerRan left a c
-worker_both left a b c one two = record {
+pub worker_both : (left : List Ticket) (faults : List ServerFault) (a b c : Own) → WorkerRan [] [] a b → WorkerRan left faults b c → WorkerRan left faults a c
+worker_both left faults a b c one two = record {
   ran = one.ran ++ two.ran;
   due = one.due ++ two.due;
   turns = turns_both one.ran two.ran one.due two.due a.seat b.seat c.seat one.turns two.turns;
+  met = faults_then one.ran two.ran faults one.met two.met;
   taken = two.taken ∙ ap (λ (ts : List Ticket). ts ++ (tickets_of two.ran ++ left)) (one.taken ∙ ap (λ (ts : List Ticket). tickets_in a ++ ts) (append-nil (tickets_of one.ran)))
       ∙ append_assoc (tickets_in a) (tickets_of one.ran) (tickets_of two.ran ++ left)
       ∙ ap (λ (ts : List Ticket). tickets_in a ++ ts) (sym (append_assoc (tickets_of one.ran) (tickets_of two.ran) left)
@@ -187,11 +197,12 @@ took_out t a b took = ap (λ (h : History Ticket). outgoing h b.hand.tickets) to
 
 -- a ticket was taken, and its turn was run
 pub worker_one : (t : Ticket) (answer : Result Worked ServerFault) (a b c : Own) → Took t a b
-    → OneRan t answer b c → c.ready.history.taken ≡ b.ready.history.taken → WorkerRan [] a c
+    → OneRan t answer b c → c.ready.history.taken ≡ b.ready.history.taken → WorkerRan [] (fault_in answer) a c
 worker_one t answer a b c took ran taken = record {
   ran = record { ticket = t; answer = answer; exchanges = ran.exchanges } ∷ [];
   due = ran.due;
   turns = subst (λ (s : SeatState). TurnsMade (record { ticket = t; answer = answer; exchanges = ran.exchanges } ∷ []) ran.due s c.seat) took.seat ran.turns;
+  met = append-nil (fault_in answer);
   taken = ap (λ (takes : List (ℕ × Ticket)). map (λ (take : ℕ × Ticket). take.1) takes) taken ∙ taken_one t a b took;
   tickets = λ u. (
       let after = ran.tickets u in
@@ -199,15 +210,17 @@ worker_one t answer a b c took ran taken = record {
       omega arith);
 }
 
--- a ticket was taken, and stays in hand
-pub worker_kept : (t : Ticket) (a b c : Own) → Took t a b → c.seat ≡ b.seat → c.ready ≡ b.ready → c.hand ≡ record b.hand { tickets = b.hand.tickets ++ t ∷ [] } → WorkerEnded a c
-worker_kept t a b c took seat ready hand = record {
+-- a look found a fault once a ticket was taken, which stays in hand
+pub worker_kept : (t : Ticket) (why : Why) (a b c : Own) → why ≡ FaultFound → Took t a b → c.seat ≡ b.seat → c.ready ≡ b.ready
+    → c.hand ≡ record b.hand { tickets = b.hand.tickets ++ t ∷ [] } → WorkerEnded why a c
+worker_kept t why a b c is took seat ready hand = record {
   left = t ∷ [];
-  few = omega arith;
+  few = inr (is, refl);
   made = record {
     ran = [];
     due = [];
     turns = subst (λ (s : SeatState). TurnsMade [] [] a.seat s) (sym (seat ∙ took.seat)) (turns_none a.seat);
+    met = sym (ap faults_by is);
     taken = ap (λ (q : EndState Ticket). map (λ (take : ℕ × Ticket). take.1) q.history.taken) ready ∙ taken_one t a b took;
     tickets = λ u. (
         let out : tickets_out c ≡ tickets_out b ++ t ∷ [] =
@@ -218,14 +231,56 @@ worker_kept t a b c took seat ready hand = record {
         let same : times_of u (tickets_out b) ≡ times_of u (tickets_out a) = ap (λ (ts : List Ticket). times_of u ts) (took_out t a b took) in
         omega arith);
   };
+  reason = subst (λ (w : Why). WorkerMayEnd w c) (sym is) tt;
 }
 
--- nothing was left
-pub worker_ends : (a b : Own) → WorkerRan [] a b → WorkerEnded a b
-worker_ends a b made = record { left = []; few = omega arith; made = made }
+-- no ticket was left
+worker_ends : (why : Why) (a b : Own) → WorkerRan [] (faults_by why) a b → WorkerMayEnd why b → WorkerEnded why a b
+worker_ends why a b made reason = record { left = []; few = inl refl; made = made; reason = reason }
 
-pub worker_then_ends : (a b c : Own) → WorkerRan [] a b → WorkerEnded b c → WorkerEnded a c
-worker_then_ends a b c one two = record { left = two.left; few = two.few; made = worker_both two.left a b c one two.made }
+worker_did_nothing : (why : Why) (a b : Own) → faults_by why ≡ [] → b ≡ a → WorkerMayEnd why b → WorkerEnded why a b
+worker_did_nothing why a b none same reason = worker_ends why a b
+    (subst (λ (fs : List ServerFault). WorkerRan [] fs a b) (sym none)
+    (worker_none a b (ap (λ (o : Own). o.seat) same) (ap (λ (o : Own). tickets_out o) same) (ap (λ (o : Own). o.ready.history.taken) same))) reason
+
+-- a look found a fault before a ticket was taken
+pub worker_found : (why : Why) (a : Own) → why ≡ FaultFound → WorkerEnded why a a
+worker_found why a is = worker_did_nothing why a a (ap faults_by is) refl (subst (λ (w : Why). WorkerMayEnd w a) (sym is) tt)
+
+-- the queue of tickets was found closed
+pub worker_closed : (why : Why) (a b : Own) → why ≡ QueueClosed → b ≡ a → HeldOnce 0 b.ready.history → WorkerEnded why a b
+worker_closed why a b is same empty = worker_did_nothing why a b (ap faults_by is) same (subst (λ (w : Why). WorkerMayEnd w b) (sym is) empty)
+
+-- a turn was the last
+pub worker_worn : (t : Ticket) (why : Why) (a b c : Own) → Took t a b → OneRan t (Err Worn) b c → c.ready.history.taken ≡ b.ready.history.taken → WornEnd why c
+    → WorkerEnded why a c
+worker_worn t why a b c took ran taken worn = worker_ends why a c
+    (subst (λ (fs : List ServerFault). WorkerRan [] fs a c) (sym (ap faults_by worn.0)) (worker_one t (Err Worn) a b c took ran taken))
+    (subst (λ (w : Why). WorkerMayEnd w c) (sym worn.0) (refl, worn.1))
+
+pub worker_then_ends : (why : Why) (a b c : Own) → WorkerRan [] [] a b → WorkerEnded why b c → WorkerEnded why a c
+worker_then_ends why a b c one two = record {
+  left = two.left;
+  few = two.few;
+  made = worker_both two.left (faults_by why) a b c one two.made;
+  reason = two.reason;
+}
+
+-- what a turn answered is what its caller returns, or ends by
+pub turn_well : (said : Result Worked Ended) (t : Ticket) (answer : Result Worked ServerFault) (a b : Own) → IfOk said (λ worked. answer ≡ Ok worked) → OneRan t answer a b
+    → IfOk said (λ worked. OneRan t (Ok worked) a b)
+turn_well (Ok worked) t answer a b is ran = subst (λ (r : Result Worked ServerFault). OneRan t r a b) is ran
+turn_well (Err ended) t answer a b is ran = tt
+
+pub turn_worn : (said : Result Worked Ended) (t : Ticket) (answer : Result Worked ServerFault) (a b : Own)
+    → IfErr said (λ ended. (fault : ServerFault) × (answer ≡ Err fault) × (ended.why ≡ Met fault)) → IfErr answer (λ fault. OnlyWorn fault b.seat) → OneRan t answer a b
+    → IfErr said (λ ended. OneRan t (Err Worn) a b × WornEnd ended.why b)
+turn_worn (Ok worked) t answer a b met worn ran = tt
+turn_worn (Err ended) t answer a b (fault, is, was) worn ran =
+    let only : OnlyWorn fault b.seat = subst (λ (r : Result Worked ServerFault). IfErr r (λ fault. OnlyWorn fault b.seat)) is worn in (
+      subst (λ (f : ServerFault). OneRan t (Err f) a b) only.0 (subst (λ (r : Result Worked ServerFault). OneRan t r a b) is ran),
+      (was ∙ ap (λ (f : ServerFault). Met f) only.0, only.1),
+    )
 
 -- A poller
 
@@ -273,14 +328,16 @@ shared_same u heavy left a b shared =
     omega arith
 
 -- no turn was run
-pub own_none : (a : Own) → OwnTurnsRan 0 a a
-own_none a = record { ran = []; due = []; each = refl; turns = turns_none a.seat; tickets = λ u. omega arith; slots = λ s. omega arith }
+pub own_none : (a : Own) → OwnTurnsRan 0 [] a a
+own_none a = record { ran = []; due = []; each = refl; met = refl; took = record { tickets = refl; slots = refl }; turns = turns_none a.seat; tickets = λ u. omega arith; slots = λ s. omega arith }
 
-pub own_both : (n m : ℕ) (a b c : Own) → OwnTurnsRan n a b → OwnTurnsRan m b c → OwnTurnsRan (n + m) a c
-own_both n m a b c one two = record {
+pub own_both : (n m : ℕ) (faults : List ServerFault) (a b c : Own) → OwnTurnsRan n [] a b → OwnTurnsRan m faults b c → OwnTurnsRan (n + m) faults a c
+own_both n m faults a b c one two = record {
   ran = one.ran ++ two.ran;
   due = one.due ++ two.due;
   each = (let long = length-append one.ran two.ran in let first = one.each in let second = two.each in omega arith);
+  met = faults_then one.ran two.ran faults one.met two.met;
+  took = record { tickets = two.took.tickets ∙ one.took.tickets; slots = two.took.slots ∙ one.took.slots };
   turns = turns_both one.ran two.ran one.due two.due a.seat b.seat c.seat one.turns two.turns;
   tickets = λ u. (
       let first = one.tickets u in
@@ -295,12 +352,14 @@ own_both n m a b c one two = record {
 
 -- the oldest ticket in hand was run
 own_one : (t : Ticket) (ts : List Ticket) (answer : Result Worked ServerFault) (a b : Own) → a.hand.tickets ≡ t ∷ ts → OneRan t answer (without_first a) b
-    → SlotsKept t answer (without_first a) b
-    → OwnTurnsRan 1 a b
-own_one t ts answer a b is ran kept = record {
+    → SlotsKept t answer (without_first a) b → TookNothing a b
+    → OwnTurnsRan 1 (fault_in answer) a b
+own_one t ts answer a b is ran kept took = record {
   ran = record { ticket = t; answer = answer; exchanges = ran.exchanges } ∷ [];
   due = ran.due;
   each = refl;
+  met = append-nil (fault_in answer);
+  took = took;
   turns = ran.turns;
   tickets = λ u. (
       let turn = ran.tickets u in
@@ -315,33 +374,126 @@ own_one t ts answer a b is ran kept = record {
 }
 
 turn_ran : (words : ℕ) (t : Ticket) (ts : List Ticket) (answer : Result Worked ServerFault) (a b : Own) → a.seat.table.words ≡ words → a.hand.tickets ≡ t ∷ ts
-    → TurnMade words t answer (without_first a) b → OwnTurnsRan 1 a b
-turn_ran words t ts answer a b same is turn = own_one t ts answer a b is (one_ran words t answer (without_first a) b same turn) turn.done.slots
+    → TookNothing a b → TurnMade words t answer (without_first a) b → OwnTurnsRan 1 (fault_in answer) a b
+turn_ran words t ts answer a b same is took turn = own_one t ts answer a b is (one_ran words t answer (without_first a) b same turn) turn.done.slots took
+
+-- what an own turn did, by its answer
+abbrev pub OwnRan : Result (Option Worked) ServerFault → Own → Own → Type 0
+OwnRan (Ok None) a b = Unit {0}
+OwnRan (Ok (Some worked)) a b = OwnTurnsRan 1 [] a b
+OwnRan (Err fault) a b = OwnTurnsRan 1 (fault ∷ []) a b
 
 own_turn_of : (words : ℕ) (t : Ticket) (ts : List Ticket) (result : Result (Option Worked) ServerFault) (a b : Own) → a.seat.table.words ≡ words → a.hand.tickets ≡ t ∷ ts
-    → OnlyAt t.slot a.seat b.seat
-    → OwnTurn words t result a b → result ≢ Ok None → OwnTurnsRan 1 a b
-own_turn_of words t ts (Ok None) a b same is only turn some = absurd (some refl)
-own_turn_of words t ts (Ok (Some worked)) a b same is only turn some = turn_ran words t ts (Ok worked) a b same is turn
-own_turn_of words t ts (Err fault) a b same is only turn some = turn_ran words t ts (Err fault) a b same is turn
+    → TookNothing a b → OwnTurn words t result a b → OwnRan result a b
+own_turn_of words t ts (Ok None) a b same is took turn = tt
+own_turn_of words t ts (Ok (Some worked)) a b same is took turn = turn_ran words t ts (Ok worked) a b same is took turn
+own_turn_of words t ts (Err fault) a b same is took turn = turn_ran words t ts (Err fault) a b same is took turn
 
-own_turn_by : (words : ℕ) (us : List Ticket) (result : Result (Option Worked) ServerFault) (a b : Own) → a.seat.table.words ≡ words → a.hand.tickets ≡ us
-    → IfSome (slice_get us 0) (λ t. OnlyAt t.slot a.seat b.seat)
-    → IfSome (slice_get us 0) (λ t. OwnTurn words t result a b)
-    → (a.hand.tickets ≡ [] → result ≡ Ok None) → result ≢ Ok None → OwnTurnsRan 1 a b
-own_turn_by words [] result a b same is only turn none some = absurd (some (none is))
-own_turn_by words (t ∷ ts) result a b same is only turn none some = own_turn_of words t ts result a b same is only turn some
+own_turn_by : (words : ℕ) (us : List Ticket) (result : Result (Option Worked) ServerFault) (a b : Own) → a.seat.table.words ≡ words → a.hand.tickets ≡ us → TookNothing a b
+    → IfSome (slice_get us 0) (λ t. OwnTurn words t result a b) → (a.hand.tickets ≡ [] → result ≡ Ok None) → OwnRan result a b
+own_turn_by words [] result a b same is took turn none = subst (λ (r : Result (Option Worked) ServerFault). OwnRan r a b) (sym (none is)) tt
+own_turn_by words (t ∷ ts) result a b same is took turn none = own_turn_of words t ts result a b same is took turn
 
-pub own_turn_ran : (words : ℕ) (result : Result (Option Worked) ServerFault) (a b : Own) → a.seat.table.words ≡ words
-    → IfSome (slice_get a.hand.tickets 0) (λ t. OnlyAt t.slot a.seat b.seat)
-    → IfSome (slice_get a.hand.tickets 0) (λ t. OwnTurn words t result a b)
-    → (a.hand.tickets ≡ [] → result ≡ Ok None) → result ≢ Ok None → OwnTurnsRan 1 a b
-own_turn_ran words result a b same only turn none some = own_turn_by words a.hand.tickets result a b same (λ i. a.hand.tickets) only turn none some
+pub own_turn_ran : (words : ℕ) (result : Result (Option Worked) ServerFault) (a b : Own) → a.seat.table.words ≡ words → TookNothing a b
+    → IfSome (slice_get a.hand.tickets 0) (λ t. OwnTurn words t result a b) → (a.hand.tickets ≡ [] → result ≡ Ok None) → OwnRan result a b
+own_turn_ran words result a b same took turn none = own_turn_by words a.hand.tickets result a b same (λ i. a.hand.tickets) took turn none
+
+pub own_well : (worked : Option Worked) (answer : Result (Option Worked) ServerFault) (a b : Own) → answer ≡ Ok worked → OwnRan answer a b
+    → OnSome worked (OwnTurnsRan 1 [] a b)
+own_well None answer a b is ran = tt
+own_well (Some worked) answer a b is ran = subst (λ (r : Result (Option Worked) ServerFault). OwnRan r a b) is ran
+
+pub own_worn : (why : Why) (answer : Result (Option Worked) ServerFault) (a b : Own) → (fault : ServerFault) × (answer ≡ Err fault) × (why ≡ Met fault)
+    → IfErr answer (λ fault. OnlyWorn fault b.seat) → OwnRan answer a b → OwnTurnsRan 1 (faults_by why) a b × WornEnd why b
+own_worn why answer a b (fault, is, was) worn ran =
+    let only : OnlyWorn fault b.seat = subst (λ (r : Result (Option Worked) ServerFault). IfErr r (λ fault. OnlyWorn fault b.seat)) is worn in (
+      subst (λ (fs : List ServerFault). OwnTurnsRan 1 fs a b) (sym (ap faults_by was)) (subst (λ (r : Result (Option Worked) ServerFault). OwnRan r a b) is ran),
+      (was ∙ ap (λ (f : ServerFault). Met f) only.0, only.1),
+    )
+
+-- a look before the next turn found a fault
+pub cut_found : (count : ℕ) (why : Why) (p q : PollerState) (a b : Own) → why ≡ FaultFound → SharedAndRan count [] p q a b → count < 16 → TurnsCut why p q a b
+cut_found count why p q a b is made few = record {
+  count = count;
+  made = subst (λ (fs : List ServerFault). SharedAndRan (count + length fs) fs p q a b) (sym (ap faults_by is))
+      (subst (λ (n : ℕ). SharedAndRan n [] p q a b) (let e : count ≡ count + 0 = omega arith in e) made);
+  few = few;
+  reason = inl is;
+}
+
+-- in the next turn the seat was worn
+pub cut_worn : (count : ℕ) (why : Why) (p r q : PollerState) (a b c : Own) → WornEnd why c → SharedAndRan count [] p r a b → OwnTurnsRan 1 (faults_by why) b c
+    → q ≡ record p { heavy = q.heavy } → count < 16 → TurnsCut why p q a c
+cut_worn count why p r q a b c worn made turn poller few = record {
+  count = count;
+  made = record {
+    heavy = made.heavy;
+    shared = made.shared;
+    sharing = made.sharing;
+    turns = subst (λ (n : ℕ). OwnTurnsRan (count + n) (faults_by why) made.shared c) (sym (ap (λ (w : Why). length (faults_by w)) worn.0))
+        (own_both count 1 (faults_by why) made.shared b c made.turns turn);
+    poller = poller;
+  };
+  few = few;
+  reason = inr worn;
+}
+
+-- Which connections acts opened
+
+openings-append : (xs ys : List Act) → openings_of (xs ++ ys) ≡ openings_of xs ++ openings_of ys
+openings-append [] ys = refl
+openings-append (x ∷ xs) ys =
+    ap (λ (ts : List Ticket). opened_by x.exchanges x.ticket ++ ts) (openings-append xs ys) ∙ sym (append_assoc (opened_by x.exchanges x.ticket) (openings_of xs) (openings_of ys))
+
+posts_open_none : (posts : List Act) → All IsPost posts → openings_of posts ≡ []
+posts_open_none [] each = refl
+posts_open_none (post ∷ posts) each =
+    let one : IsPost post = each 0 post (omega arith) in
+    ap (λ (es : List Exchange). opened_by es post.ticket ++ openings_of posts) one.1 ∙ posts_open_none posts (λ i d lt. each (suc i) d (omega arith))
+
+try_opens : (act : Act) → IsTry act → opened_by act.exchanges act.ticket ≡ made_by (minted_by act.exchanges) act.ticket
+try_opens act (inl (found, noted, is)) = subst (λ (es : List Exchange). opened_by es act.ticket ≡ made_by (minted_by es) act.ticket) (sym is) refl
+try_opens act (inr is) = subst (λ (es : List Exchange). opened_by es act.ticket ≡ made_by (minted_by es) act.ticket) (sym is) refl
+
+tries_open : (tries : List Act) → All IsTry tries → openings_of tries ≡ due_of tries
+tries_open [] each = refl
+tries_open (act ∷ tries) each =
+    ap (λ (ts : List Ticket). ts ++ openings_of tries) (try_opens act (each 0 act (omega arith)))
+    ∙ ap (λ (ts : List Ticket). made_by (minted_by act.exchanges) act.ticket ++ ts) (tries_open tries (λ i d lt. each (suc i) d (omega arith)))
+
+program_opens_none : (answer : Result Worked ServerFault) (found noted : ℕ) (woke : Bool) (t : Ticket) → opened_by (program answer found noted woke) t ≡ []
+program_opens_none (Ok worked.Busy) found noted woke t = refl
+program_opens_none (Ok worked.Gone) found noted woke t = refl
+program_opens_none (Ok worked.Ended) found noted woke t = refl
+program_opens_none (Ok worked.Again) found noted woke t = refl
+program_opens_none (Ok worked.Quiet) found noted woke t = refl
+program_opens_none (Err fault) found noted woke t = refl
+
+turn_opens_none : (words : ℕ) (run : Run) → IsTurnOf words run.ticket.slot run.answer run.exchanges → (run.ticket.slot < words) ⊎ (words ≤ run.ticket.slot)
+    → opened_by run.exchanges run.ticket ≡ []
+turn_opens_none words run is (inl inside) =
+    ap (λ (es : List Exchange). opened_by es run.ticket) (is.inside inside) ∙ program_opens_none run.answer is.found is.noted is.woke run.ticket
+turn_opens_none words run is (inr outside) = ap (λ (es : List Exchange). opened_by es run.ticket) (is.outside outside).0
+
+turns_open_none : (words : ℕ) (ran : List Run) → All (λ run. IsTurnOf words run.ticket.slot run.answer run.exchanges) ran → openings_of (acts_of ran) ≡ []
+turns_open_none words [] each = refl
+turns_open_none words (run ∷ ran) each =
+    ap (λ (ts : List Ticket). ts ++ openings_of (acts_of ran)) (turn_opens_none words run (each 0 run (omega arith)) (cases_lt run.ticket.slot words))
+    ∙ turns_open_none words ran (λ i d lt. each (suc i) d (omega arith))
 
 -- Rounds and steps, by ticket
 
-ran_none : (a : Own) → PollerRan a a
-ran_none a = record { acts = []; each = all_none (IsPollerAct a.seat.table.words); made = acts_none a.seat; ran = []; tickets = λ u. omega arith }
+pub ran_none : (a : Own) → PollerRan a a
+ran_none a = record {
+  acts = [];
+  each = all_none (IsPollerAct a.seat.table.words);
+  made = acts_none a.seat;
+  ran = [];
+  lost = [];
+  tickets = λ u. omega arith;
+  took = refl;
+  slots = λ s. omega arith;
+}
 
 ran_both : (a b c : Own) → PollerRan a b → PollerRan b c → PollerRan a c
 ran_both a b c one two = record {
@@ -349,22 +501,35 @@ ran_both a b c one two = record {
   each = All-append (IsPollerAct a.seat.table.words) one.acts two.acts one.each (subst (λ (t : TableId). All (IsPollerAct t.words) two.acts) one.made.table two.each);
   made = acts_both one.acts two.acts a.seat b.seat c.seat one.made two.made;
   ran = one.ran ++ two.ran;
+  lost = one.lost ++ two.lost;
   tickets = λ u. (
       let first = one.tickets u in
       let second = two.tickets u in
-      let runs = times-append u one.ran two.ran in
+      let mapped : times_of u (tickets_of (one.ran ++ two.ran)) ≡ times_of u (tickets_of one.ran ++ tickets_of two.ran) =
+      ap (λ (ts : List Ticket). times_of u ts) (map-append (λ (run : Run). run.ticket) one.ran two.ran) in
+      let runs = times-append u (tickets_of one.ran) (tickets_of two.ran) in
       let due = ap (λ (ts : List Ticket). times_of u ts) (due-append one.acts two.acts) in
       let ups = times-append u (due_of one.acts) (due_of two.acts) in
       omega arith);
+  took = two.took ∙ one.took;
+  slots = λ s. (
+      let first = one.slots s in
+      let second = two.slots s in
+      let freed = freed-append s one.ran two.ran in
+      let lost = slots-append s one.lost two.lost in
+      let opened = ap (λ (ts : List Ticket). at_slot s ts) (openings-append one.acts two.acts) in
+      let sum = at_slot-append s (openings_of one.acts) (openings_of two.acts) in
+      omega arith);
 }
 
-round_ran : (p q : PollerState) (a b : Own) → RoundDone p q a b → PollerRan a b
-round_ran p q a b done = record {
+round_ran : (p q : PollerState) (a b : Own) → RoundDone p q a b → NoTicketTaken a b → PollerRan a b
+round_ran p q a b done took = record {
   acts = done.reports ++ (done.sweep ++ done.tries);
   each = All-append (IsPollerAct a.seat.table.words) done.reports (done.sweep ++ done.tries) (λ i d lt. inl (done.reported.each i d lt))
       (All-append (IsPollerAct a.seat.table.words) done.sweep done.tries (λ i d lt. inl (done.swept.each i d lt)) (λ i d lt. inr (inl (done.tried.each i d lt))));
   made = done.made;
   ran = [];
+  lost = done.lost;
   tickets = λ u. (
       let due : due_of (done.reports ++ (done.sweep ++ done.tries)) ≡ due_of done.reports ++ (due_of done.sweep ++ done.opened) =
       due-append done.reports (done.sweep ++ done.tries) ∙ ap (λ (ts : List Ticket). due_of done.reports ++ ts) (due-append done.sweep done.tries
@@ -374,6 +539,19 @@ round_ran p q a b done = record {
       let both = times-append u (tickets_out a) (due_of done.reports ++ (due_of done.sweep ++ done.opened)) in
       let same = ap (λ (ts : List Ticket). times_of u ts) due in
       omega arith);
+  took = took;
+  slots = λ s. (
+      let law = done.slots s in
+      let opened : openings_of (done.reports ++ (done.sweep ++ done.tries)) ≡ done.opened =
+      openings-append done.reports (done.sweep ++ done.tries)
+      ∙ ap (λ (ts : List Ticket). ts ++ openings_of (done.sweep ++ done.tries)) (posts_open_none done.reports done.reported.each)
+      ∙ openings-append done.sweep done.tries ∙ ap (λ (ts : List Ticket). ts ++ openings_of done.tries) (posts_open_none done.sweep done.swept.each)
+      ∙ tries_open done.tries done.tried.each ∙ done.tried.made in
+      let at = ap (λ (ts : List Ticket). at_slot s ts) opened in
+      let gave = ap (λ (puts : List (ℕ × ℕ)). times_in s (map (λ (put : ℕ × ℕ). put.1) puts)) done.gave in
+      let before = slots-append s (map (λ (put : ℕ × ℕ). put.1) a.free.history.put) a.hand.slots in
+      let after = slots-append s (map (λ (put : ℕ × ℕ). put.1) b.free.history.put) b.hand.slots in
+      omega arith);
 }
 
 turn_acts : (words : ℕ) (ran : List Run) → All (λ run. IsTurnOf words run.ticket.slot run.answer run.exchanges) ran → All (IsPollerAct words) (acts_of ran)
@@ -381,71 +559,117 @@ turn_acts words [] each i d lt = absurd (omega arith)
 turn_acts words (run ∷ ran) each zero d lt = inr (inr (run.answer, each 0 run (omega arith)))
 turn_acts words (run ∷ ran) each (suc i) d lt = turn_acts words ran (λ j e l. each (suc j) e (omega arith)) i d (omega arith)
 
-turns_ran : (count : ℕ) (p q : PollerState) (a b : Own) → SharedAndRan count p q a b → PollerRan a b
-turns_ran count p q a b made = record {
+turns_ran : (count : ℕ) (faults : List ServerFault) (p q : PollerState) (a b : Own) → SharedAndRan count faults p q a b → PollerRan a b
+turns_ran count faults p q a b made = record {
   acts = acts_of made.turns.ran;
   each = subst (λ (s : SeatState). All (IsPollerAct s.table.words) (acts_of made.turns.ran)) made.sharing.seat
       (turn_acts made.shared.seat.table.words made.turns.ran made.turns.turns.each);
   made = subst (λ (s : SeatState). ActsMade (acts_of made.turns.ran) s b.seat) made.sharing.seat made.turns.turns.made;
-  ran = tickets_of made.turns.ran;
+  ran = made.turns.ran;
+  lost = [];
   tickets = λ u. (
       let law = made.turns.tickets u in
       let same = shared_same u p.heavy made.heavy a made.shared made.sharing in
       let due = ap (λ (ts : List Ticket). times_of u ts) made.turns.turns.due_are in
       omega arith);
+  took = made.turns.took.tickets ∙ made.sharing.took;
+  slots = λ s. (
+      let law = made.turns.slots s in
+      let none = ap (λ (ts : List Ticket). at_slot s ts) (turns_open_none made.shared.seat.table.words made.turns.ran made.turns.turns.each) in
+      let taken : slots_in b ≡ slots_in a = ap (λ (takes : List (ℕ × ℕ)). map (λ (take : ℕ × ℕ). take.1) takes) (made.turns.took.slots
+      ∙ ap (λ (end : EndState ℕ). end.history.taken) made.sharing.free) in
+      let took = ap (λ (xs : List ℕ). times_in s xs) taken in
+      let out : slots_out made.shared ≡ slots_out a = ap (λ (end : EndState ℕ). outgoing end.history made.shared.hand.slots) made.sharing.free
+      ∙ ap (λ (xs : List ℕ). outgoing a.free.history xs) made.sharing.slots in
+      let same = ap (λ (xs : List ℕ). times_in s xs) out in
+      omega arith);
 }
 
-pub step_ran : (p q : PollerState) (a b : Own) → StepMade p q a b → PollerRan a b
-step_ran p q a b step =
-    ran_both a step.between b (round_ran step.round.begun step.polled a step.between step.round.round) (turns_ran step.turns.count step.polled q step.between b step.turns.made)
+made_ran : (said : Bool → Type 0) (p q : PollerState) (a b : Own) → RoundMade said p q a b → PollerRan a b
+made_ran said p q a b made = round_ran made.begun q a b made.round made.took
 
-pub cut_ran : (p q : PollerState) (a b : Own) → StepCut p q a b → PollerRan a b
-cut_ran p q a b (inl same) = subst (λ (o : Own). PollerRan a o) (sym same.1) (ran_none a)
-cut_ran p q a b (inr (inl done)) = round_ran done.begun q a b done.round
-cut_ran p q a b (inr (inr step)) =
-    ran_both a step.between b (round_ran step.round.begun step.polled a step.between step.round.round) (turns_ran step.turns.count step.polled q step.between b step.turns.made)
+step_ran : (said : Bool → Type 0) (p q : PollerState) (a b : Own) → StepMade said p q a b → PollerRan a b
+step_ran said p q a b step = ran_both a step.between b (made_ran said p step.polled a step.between step.round)
+    (turns_ran step.turns.count [] step.polled q step.between b step.turns.made)
 
-pub steps_ran : (steps : ℕ) (p q : PollerState) (a b : Own) → StepsMade steps p q a b → PollerRan a b
-steps_ran zero p q a b same = subst (λ (o : Own). PollerRan a o) (sym same.1) (ran_none a)
-steps_ran (suc steps) p q a b (r, c, before, last) = ran_both a c b (steps_ran steps p r a c before) (step_ran r q c b last)
+pub cut_ran : (said : Bool → Type 0) (why : Why) (p q : PollerState) (a b : Own) → StepCut said why p q a b → PollerEnded why a b
+cut_ran said why p q a b (inl same) = inl (subst (λ (o : Own). PollerRan a o) (sym same.own) (ran_none a))
+cut_ran said why p q a b (inr (inl (inl failed))) = inl (made_ran said p q a b failed.made)
+cut_ran said why p q a b (inr (inl (inr worn))) = inr worn
+cut_ran said why p q a b (inr (inr step)) = inl (ran_both a step.between b (made_ran said p step.polled a step.between step.round)
+    (turns_ran (step.turns.count + length (faults_by why)) (faults_by why) step.polled q step.between b step.turns.made))
 
-pub loop_ran : (steps : ℕ) (p r q : PollerState) (a c b : Own) → StepsMade steps p r a c → StepCut r q c b → PollerRan a b
-loop_ran steps p r q a c b before last = ran_both a c b (steps_ran steps p r a c before) (cut_ran r q c b last)
+steps_ran : (said : Bool → Type 0) (steps : ℕ) (p q : PollerState) (a b : Own) → StepsMade said steps p q a b → PollerRan a b
+steps_ran said zero p q a b same = subst (λ (o : Own). PollerRan a o) (sym same.1) (ran_none a)
+steps_ran said (suc steps) p q a b (r, c, before, last) = ran_both a c b (steps_ran said steps p r a c before) (step_ran said r q c b last)
 
-pub step_tickets : (told : Result (Unit {0}) Ended) (p q : PollerState) (a b : Own) → OnOk told (StepMade p q a b)
-    → OnErr told (told ≢ Err (record { fault = Some Worn }) → StepCut p q a b)
-    → told ≢ Err (record { fault = Some Worn }) → PollerRan a b
-step_tickets (Ok done) p q a b made cut well = step_ran p q a b made
-step_tickets (Err ended) p q a b made cut well = cut_ran p q a b (cut well)
+ran_then : (why : Why) (a b c : Own) → PollerRan a b → PollerEnded why b c → PollerEnded why a c
+ran_then why a b c before (inl last) = inl (ran_both a b c before last)
+ran_then why a b c before (inr worn) = inr (record { reason = worn.reason; took = worn.took ∙ before.took })
 
--- which turn was run, if one was
-abbrev ran_of : Result (Option Worked) Ended → Option Worked
-ran_of (Ok o) = o
-ran_of (Err ended) = None
+pub loop_ran : (said : Bool → Type 0) (why : Why) (p q : PollerState) (a b : Own) → LoopMade said why p q a b → PollerEnded why a b
+loop_ran said why p q a b (steps, r, c, before, last) = ran_then why a c b (steps_ran said steps p r a c before) (cut_ran said why r q c b last)
 
-pub some_is : (o : Option Worked) (answer : Result (Option Worked) Ended) → answer ≡ Ok o → is_some o ≡ true → answer ≢ Ok None
-some_is None answer is some none = false≢true some
-some_is (Some worked) answer is some none = absurd (none-some worked (ap (λ (r : Result (Option Worked) Ended). ran_of r) (sym none ∙ is)))
+pub round_steps : (said : Bool → Type 0) (answer : Result (Unit {0}) Ended) (p q : PollerState) (a b : Own) → OnOk answer (StepMade said p q a b) → OnOk answer (PollerRan a b)
+round_steps said (Ok done) p q a b made = step_ran said p q a b made
+round_steps said (Err ended) p q a b made = tt
 
-pub none_is : (o : Option Worked) (answer : Result (Option Worked) Ended) → answer ≡ Ok o → is_some o ≡ false → answer ≡ Ok None
-none_is None answer is none = is
-none_is (Some worked) answer is none = absurd (false≢true (sym none))
+pub round_ends : (said : Bool → Type 0) (answer : Result (Unit {0}) Ended) (p q : PollerState) (a b : Own) → IfErr answer (λ ended. StepCut said ended.why p q a b)
+    → IfErr answer (λ ended. PollerEnded ended.why a b)
+round_ends said (Ok done) p q a b cut = tt
+round_ends said (Err ended) p q a b cut = cut_ran said ended.why p q a b cut
 
--- that no turn was run is told as it was answered
-pub none_answered : (answer : Result (Option Worked) ServerFault) (told : Result (Option Worked) Ended)
-    → IfOk answer (λ value. told ≡ Ok value) → answer ≡ Ok None → told ≡ Ok None
-none_answered answer told good none = subst (λ (r : Result (Option Worked) ServerFault). IfOk r (λ value. told ≡ Ok value)) none good
+-- the last round, by the fault that it answered
+abbrev IsPoll : ServerFault → Type 0
+IsPoll Poll = Unit {0}
+IsPoll Listen = ⊥
+IsPoll Threads = ⊥
+IsPoll Worn = ⊥
+IsPoll NoMemory = ⊥
 
-pub loop_steps : (steps : ℕ) (p q r : PollerState) (a b c : Own) → StepsMade steps p q a b → StepMade q r b c → (more : ℕ) × StepsMade more p r a c
-loop_steps steps p q r a b c before last = (suc steps, (q, b, before, last))
+abbrev fault_at : Result (Unit {0}) ServerFault → ServerFault
+fault_at (Ok done) = Poll
+fault_at (Err fault) = fault
 
--- the fault with which a loop was told to end
-abbrev told : {T : Type 0} → Result T Ended → Option ServerFault
-told (Ok value) = None
-told (Err ended) = ended.fault
+round_cut_by : (said : Bool → Type 0) (why : Why) (fault : ServerFault) (answer : Result (Unit {0}) ServerFault) (p begun q : PollerState) (a b : Own) → answer ≡ Err fault → why ≡ Met fault
+    → ((fault ≡ Poll) × (q.failed ≡ true)) ⊎ OnlyWorn fault b.seat
+    → (answer ≢ Err Worn → RoundDone begun q a b) → Asked said p begun → q.most ≡ begun.most → ListenerKept begun q → NoTicketTaken a b → RoundCut said why p q a b
+round_cut_by said why fault answer p begun q a b is was (inl failed) done asked most listens took = inl (record {
+  reason = was ∙ ap (λ (f : ServerFault). Met f) failed.0;
+  failed = failed.1;
+  made = record {
+    begun = begun;
+    asked = asked;
+    round = done (λ worn. subst IsPoll (sym failed.0 ∙ sym (ap fault_at is) ∙ ap fault_at worn) tt);
+    most = most;
+    listens = listens;
+    took = took;
+  };
+})
+round_cut_by said why fault answer p begun q a b is was (inr worn) done asked most listens took = inr (record {
+  reason = (was ∙ ap (λ (f : ServerFault). Met f) worn.0, worn.1);
+  took = took;
+})
 
-pub told_other : {T : Type 0} (answer : Result T Ended) (ended : Ended) → answer ≡ Err ended → ended.fault ≢ Some Worn → answer ≢ Err (record { fault = Some Worn })
-told_other {T} answer ended is well worn = well (ap (λ (r : Result T Ended). told r) (sym is ∙ worn))
+pub round_cut : (said : Bool → Type 0) (why : Why) (answer : Result (Unit {0}) ServerFault) (p begun q : PollerState) (a c b : Own)
+    → (fault : ServerFault) × (answer ≡ Err fault) × (why ≡ Met fault)
+    → IfErr answer (λ fault. ((fault ≡ Poll) × (q.failed ≡ true)) ⊎ OnlyWorn fault b.seat)
+    → (answer ≢ Err Worn → RoundDone begun q c b) → Asked said p begun → q.most ≡ begun.most → ListenerKept begun q → NoTicketTaken c b → c ≡ a
+    → RoundCut said why p q a b
+round_cut said why answer p begun q a c b (fault, is, was) refused done asked most listens took same =
+    subst (λ (o : Own). RoundCut said why p q o b) same
+    (round_cut_by said why fault answer p begun q c b is was
+    (subst (λ (r : Result (Unit {0}) ServerFault). IfErr r (λ fault. ((fault ≡ Poll) × (q.failed ≡ true)) ⊎ OnlyWorn fault b.seat)) is refused)
+    done asked most listens took)
+
+-- after a round the turns were cut short
+pub turns_cut : (said : Bool → Type 0) (answer : Result (Unit {0}) Ended) (p r q : PollerState) (a c b : Own) → RoundMade said p r a c → EndedEarly (length r.table) c ⊎ ListensToOpen r
+    → IfErr answer (λ ended. TurnsCut ended.why r q c b) → IfErr answer (λ ended. StepCut said ended.why p q a b)
+turns_cut said (Ok done) p r q a c b made closed cut = tt
+turns_cut said (Err ended) p r q a c b made closed cut = inr (inr (record { polled = r; between = c; round = made; closed = closed; turns = cut }))
+
+pub loop_steps : (said : Bool → Type 0) (steps : ℕ) (p q r : PollerState) (a b c : Own) → StepsMade said steps p q a b → StepMade said q r b c → (more : ℕ) × StepsMade said more p r a c
+loop_steps said steps p q r a b c before last = (suc steps, (q, b, before, last))
 
 -- of every number below one, as of every poller that is woken
 pub none_below : (P : ℕ → Type 0) (q : ℕ) → q < 0 → P q

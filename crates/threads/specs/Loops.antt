@@ -1,22 +1,30 @@
 -- What a thread's loop does with tickets, and with free slots. Part of the promises.
-use Rattle.std.specs.Prelude.{◌≡◌, ◌≢◌, ◌⊎◌, ℕ, zero, suc, ◌+◌, ◌<◌, ◌≤◌, ◌==◌, ◌&&◌, nat_lt, if◌then◌else◌, List, [], ◌∷◌, ◌++◌, length, map, Result, Ok, slice_get}
+use Rattle.std.specs.Prelude.{◌≡◌, ◌≢◌, ◌⊎◌, ℕ, zero, suc, ◌+◌, ◌<◌, ◌≤◌, ◌==◌, ◌&&◌, Bool, true, false, nat_lt, if◌then◌else◌, List, [], ◌∷◌, ◌++◌, length, map, Result, Ok, Err, slice_get}
 use Rattle.std.specs.List.{count_by, All}
 use Rattle.claims.specs.declared.view.Exchange.{Exchange}
+use Rattle.claims.specs.declared.view.Exchange.TheVariants.{Adopted}
 use Rattle.claims.specs.Seats.{SeatState}
 use Rattle.ready.specs.declared.ticket.Ticket.{Ticket}
-use Rattle.ready.specs.Steps.{EndState, TookOne}
+use Rattle.ready.specs.Steps.{EndState, HeldOnce, TookOne}
 use Rattle.relay_log.specs.declared.faults.ServerFault.{ServerFault}
+use Rattle.relay_log.specs.declared.faults.ServerFault.TheVariants.{Poll, Worn}
 use Rattle.dispatch.specs.declared.shared.Own.{Own}
 use Rattle.turns.specs.declared.worker.Worked.{Worked}
 use Rattle.turns.specs.declared.worker.Worked.TheVariants as worked
 use Rattle.rounds.specs.Acts.{Act, ActsMade, IsPost, IsTry, due_of}
-use Rattle.dispatch.specs.Outgoing.{tickets_out, slots_out}
-use Rattle.dispatch.specs.Polls.{PollerState, IsIn}
+use Rattle.dispatch.specs.Outgoing.{TookNothing, tickets_out, slots_out}
+use Rattle.dispatch.specs.Polls.{PollerState, HasOpenedAll, IsIn}
+use Rattle.dispatch.specs.Posts.{IsWorn, OnlyWorn}
+use Rattle.rounds.specs.Deliveries.{at_slot}
+use Rattle.rounds.specs.Openings.{slots_in}
 use Rattle.rounds.specs.Rounds.{EndedEarly, ListenerKept, ListensToOpen, RoundDone}
 use Rattle.turns.specs.Shares.{TicketsShared}
 use Rattle.turns.specs.Turns.{IsTurnOf, NoOwnTurn}
 use Rattle.dispatch.specs.declared.split.Split.{Split}
 use Rattle.dispatch.specs.Splits.{part_of}
+use Rattle.threads.specs.declared.ending.Why.{Why}
+use Rattle.threads.specs.declared.ending.Why.TheVariants.{FaultFound, PollerOver, QueueClosed, Met}
+use Rattle.threads.specs.Endings.{faults_by}
 
 -- how often this very ticket, of its slot and its generation, stands in a list
 abbrev pub times_of : Ticket → List Ticket → ℕ
@@ -48,6 +56,15 @@ abbrev pub freed : List Run → List ℕ
 freed [] = []
 freed (run ∷ ran) = freed_by run.ticket run.answer ++ freed ran
 
+-- the faults that turns met, in order
+abbrev pub fault_in : Result Worked ServerFault → List ServerFault
+fault_in (Ok worked) = []
+fault_in (Err fault) = fault ∷ []
+
+abbrev pub faults_of : List Run → List ServerFault
+faults_of [] = []
+faults_of (run ∷ ran) = fault_in run.answer ++ faults_of ran
+
 -- These turns were made by this seat, and nothing else was: each made the exchanges of its answer, in this order, and
 -- the tickets that they made are due
 pub record TurnsMade (ran : List Run) (due : List Ticket) (old new : SeatState) : Type 0 where
@@ -67,20 +84,31 @@ pub record OneRan (ticket : Ticket) (answer : Result Worked ServerFault) (old ne
 abbrev pub tickets_in : Own → List Ticket
 tickets_in own = map (λ (take : ℕ × Ticket). take.1) own.ready.history.taken
 
--- A worker's thread ran each ticket that it took, in order, but for these, which it took last. What it was to put
--- before, the tickets that are due again, and these, are put or in hand
-pub record WorkerRan (left : List Ticket) (old new : Own) : Type 0 where
+-- A worker's thread ran each ticket that it took, in order, but for these, which it took last, and its turns met these
+-- faults. What it was to put before, the tickets that are due again, and these, are put or in hand
+pub record WorkerRan (left : List Ticket) (faults : List ServerFault) (old new : Own) : Type 0 where
   pub ran : List Run
   pub due : List Ticket
   pub turns : TurnsMade ran due old.seat new.seat
+  pub met : faults_of ran ≡ faults
   pub taken : tickets_in new ≡ tickets_in old ++ (tickets_of ran ++ left)
   pub tickets : (t : Ticket) → times_of t (tickets_out new) ≡ times_of t (tickets_out old) + (times_of t due + times_of t left)
 
--- to its end: one ticket at most was taken and not run
-pub record WorkerEnded (old new : Own) : Type 0 where
+-- why a worker's thread ends: a look found a fault recorded, or it found the queue of tickets closed, and empty at one
+-- moment, or its seat is worn
+abbrev pub WorkerMayEnd : Why → Own → Type 0
+WorkerMayEnd FaultFound own = Unit {0}
+WorkerMayEnd PollerOver own = ⊥
+WorkerMayEnd QueueClosed own = HeldOnce 0 own.ready.history
+WorkerMayEnd (Met fault) own = OnlyWorn fault own.seat
+
+-- A worker's thread ran to its end. The fault that a turn met is the one by which it ended. If a look found a fault, one
+-- ticket at most was taken and not run
+pub record WorkerEnded (why : Why) (old new : Own) : Type 0 where
   pub left : List Ticket
-  pub few : length left ≤ 1
-  pub made : WorkerRan left old new
+  pub few : (left ≡ []) ⊎ ((why ≡ FaultFound) × (length left ≡ 1))
+  pub made : WorkerRan left (faults_by why) old new
+  pub reason : WorkerMayEnd why new
 
 -- it took this ticket, and did nothing else
 pub record Took (ticket : Ticket) (old new : Own) : Type 0 where
@@ -89,90 +117,153 @@ pub record Took (ticket : Ticket) (old new : Own) : Type 0 where
   pub free : new.free ≡ old.free
   pub hand : new.hand ≡ old.hand
 
--- A poller's thread ran this many tickets in its hand. What it was to put before, and the tickets that are due again,
+-- A poller's thread ran this many tickets in its hand, and met these faults. What it was to put before, and the tickets that are due again,
 -- were run or are put or in hand, each once. The free slots that it was to give before, and those that the turns freed,
--- are given or in hand, each once
-pub record OwnTurnsRan (count : ℕ) (old new : Own) : Type 0 where
+-- are given or in hand, each once. It took nothing from a queue
+pub record OwnTurnsRan (count : ℕ) (faults : List ServerFault) (old new : Own) : Type 0 where
   pub ran : List Run
   pub due : List Ticket
   pub each : length ran ≡ count
+  pub met : faults_of ran ≡ faults
+  pub took : TookNothing old new
   pub turns : TurnsMade ran due old.seat new.seat
   pub tickets : (t : Ticket) → times_of t (tickets_out new) + times_of t (tickets_of ran) ≡ times_of t (tickets_out old) + times_of t due
   pub slots : (slot : ℕ) → times_in slot (slots_out new) ≡ times_in slot (slots_out old) + times_in slot (freed ran)
 
+-- the thread ended by the fault that its seat is worn, and it is
+abbrev pub WornEnd : Why → Own → Type 0
+WornEnd why own = (why ≡ Met Worn) × IsWorn own.seat
+
 -- The tickets in hand were shared, and the poller's thread ran this many of those that stayed
-pub record SharedAndRan (count : ℕ) (p q : PollerState) (a b : Own) : Type 0 where
+pub record SharedAndRan (count : ℕ) (faults : List ServerFault) (p q : PollerState) (a b : Own) : Type 0 where
   pub heavy : List ℕ
   pub shared : Own
   pub sharing : TicketsShared p.heavy heavy a shared
-  pub turns : OwnTurnsRan count shared b
+  pub turns : OwnTurnsRan count faults shared b
   pub poller : q ≡ record p { heavy = q.heavy }
 
 -- After a round the tickets in hand were shared, and 16 of those that stayed were run, or fewer: then none is left, or
 -- no slot more fits in hand
 pub record TurnsAfter (p q : PollerState) (a b : Own) : Type 0 where
   pub count : ℕ
-  pub made : SharedAndRan count p q a b
+  pub made : SharedAndRan count [] p q a b
   pub most : count ≤ 16
   pub ended : (count ≡ 16) ⊎ NoOwnTurn b
 
--- After a round the tickets in hand were shared, and fewer than 16 of those that stayed were run
-pub record TurnsCut (p q : PollerState) (a b : Own) : Type 0 where
+-- After a round the tickets in hand were shared, and fewer than 16 of those that stayed were run, and then the one, if
+-- it was a turn, that met the fault by which the thread ended
+pub record TurnsCut (why : Why) (p q : PollerState) (a b : Own) : Type 0 where
   pub count : ℕ
-  pub made : SharedAndRan count p q a b
+  pub made : SharedAndRan (count + length (faults_by why)) (faults_by why) p q a b
   pub few : count < 16
+  pub reason : (why ≡ FaultFound) ⊎ WornEnd why b
+
+-- no ticket was taken out of the queue
+abbrev pub NoTicketTaken : Own → Own → Type 0
+NoTicketTaken old new = new.ready.history.taken ≡ old.ready.history.taken
+
+-- A look at the flag that stops openings, of which this much is known, showed this. If the flag was set, the poller has
+-- opened all that it may from now on, and else it is as it was
+pub record Asked (said : Bool → Type 0) (old new : PollerState) : Type 0 where
+  pub found : Bool
+  pub looked : said found
+  pub stopped : found ≡ true → ((new ≡ old) × HasOpenedAll old) ⊎ (new ≡ record old { most = 0 })
+  pub goes_on : found ≡ false → new ≡ old
 
 -- from now on a poller may open no more connections
 abbrev pub MayStop : PollerState → PollerState → Type 0
 MayStop p q = (q ≡ p) ⊎ (q ≡ record p { most = 0 })
 
--- A poller's thread made a round. Before it, the poller may have been stopped; else it may open as many as before
-pub record RoundMade (p q : PollerState) (a b : Own) : Type 0 where
+-- A poller's thread made a round, after a look at the flag that stops openings
+pub record RoundMade (said : Bool → Type 0) (p q : PollerState) (a b : Own) : Type 0 where
   pub begun : PollerState
-  pub stopped : MayStop p begun
+  pub asked : Asked said p begun
   pub round : RoundDone begun q a b
   pub most : q.most ≡ begun.most
   pub listens : ListenerKept begun q
+  pub took : NoTicketTaken a b
 
 -- A round, and what came after it. Once all connections that the poller may open were opened, its front does not
 -- listen, unless the round ended early
-pub record RoundAnd (After : PollerState → PollerState → Own → Own → Type 0) (p q : PollerState) (a b : Own) : Type 0 where
+pub record RoundAnd (said : Bool → Type 0) (After : PollerState → PollerState → Own → Own → Type 0) (p q : PollerState)
+    (a b : Own) : Type 0 where
   pub polled : PollerState
   pub between : Own
-  pub round : RoundMade p polled a between
+  pub round : RoundMade said p polled a between
   pub closed : EndedEarly (length polled.table) between ⊎ ListensToOpen polled
   pub turns : After polled q between b
 
 -- a step of a poller's thread: a round, and the turns after it
-abbrev pub StepMade : PollerState → PollerState → Own → Own → Type 0
-StepMade p q a b = RoundAnd TurnsAfter p q a b
+abbrev pub StepMade : (Bool → Type 0) → PollerState → PollerState → Own → Own → Type 0
+StepMade said p q a b = RoundAnd said TurnsAfter p q a b
 
--- the last step: nothing happened, or a round alone, or a round and fewer turns after it
-abbrev pub StepCut : PollerState → PollerState → Own → Own → Type 0
-StepCut p q a b = ((q ≡ p) × (b ≡ a)) ⊎ (RoundMade p q a b ⊎ RoundAnd TurnsCut p q a b)
+-- the last step was not begun: a look found a fault recorded, or the poller is over
+pub record NotBegun (why : Why) (p q : PollerState) (a b : Own) : Type 0 where
+  pub reason : (why ≡ FaultFound) ⊎ ((why ≡ PollerOver) × (p.over ≡ true))
+  pub poller : q ≡ p
+  pub own : b ≡ a
+
+-- in its round the front could not report
+pub record PollFailed (said : Bool → Type 0) (why : Why) (p q : PollerState) (a b : Own) : Type 0 where
+  pub reason : why ≡ Met Poll
+  pub failed : q.failed ≡ true
+  pub made : RoundMade said p q a b
+
+-- in its round the seat was worn, of which nothing else is known
+pub record RoundWorn (why : Why) (a b : Own) : Type 0 where
+  pub reason : WornEnd why b
+  pub took : NoTicketTaken a b
+
+-- the last round, if its thread ended in it
+abbrev pub RoundCut : (Bool → Type 0) → Why → PollerState → PollerState → Own → Own → Type 0
+RoundCut said why p q a b = PollFailed said why p q a b ⊎ RoundWorn why a b
+
+-- the last step of a poller's thread, by why it ended: it was not begun, or its round was the end, or the turns after it
+abbrev pub StepCut : (Bool → Type 0) → Why → PollerState → PollerState → Own → Own → Type 0
+StepCut said why p q a b = NotBegun why p q a b ⊎ (RoundCut said why p q a b ⊎ RoundAnd said (TurnsCut why) p q a b)
 
 -- this many steps, one after the other
-abbrev pub StepsMade : ℕ → PollerState → PollerState → Own → Own → Type 0
-StepsMade zero p q a b = (q ≡ p) × (b ≡ a)
-StepsMade (suc steps) p q a b = (r : PollerState) × (c : Own) × StepsMade steps p r a c × StepMade r q c b
+abbrev pub StepsMade : (Bool → Type 0) → ℕ → PollerState → PollerState → Own → Own → Type 0
+StepsMade said zero p q a b = (q ≡ p) × (b ≡ a)
+StepsMade said (suc steps) p q a b = (r : PollerState) × (c : Own) × StepsMade said steps p r a c × StepMade said r q c b
 
 -- steps, and the last one
-abbrev pub LoopMade : PollerState → PollerState → Own → Own → Type 0
-LoopMade p q a b = (steps : ℕ) × (r : PollerState) × (c : Own) × StepsMade steps p r a c × StepCut r q c b
+abbrev pub LoopMade : (Bool → Type 0) → Why → PollerState → PollerState → Own → Own → Type 0
+LoopMade said why p q a b = (steps : ℕ) × (r : PollerState) × (c : Own) × StepsMade said steps p r a c × StepCut said why r q c b
 
 -- a note was posted, or a connection opened, or a turn made
 abbrev pub IsPollerAct : ℕ → Act → Type 0
 IsPollerAct words act = IsPost act
     ⊎ (IsTry act ⊎ ((answer : Result Worked ServerFault) × IsTurnOf words act.ticket.slot answer act.exchanges))
 
+-- the connections that acts opened, in order
+abbrev pub opened_by : List Exchange → Ticket → List Ticket
+opened_by (Adopted found ∷ more) ticket = ticket ∷ []
+opened_by exchanges ticket = []
+
+abbrev pub openings_of : List Act → List Ticket
+openings_of [] = []
+openings_of (act ∷ acts) = opened_by act.exchanges act.ticket ++ openings_of acts
+
 -- What a poller's seat did is these acts, in order. By ticket: what its thread was to put before, and what they made,
--- were run by the thread itself or are put or in hand, each once
+-- were run by the thread itself or are put or in hand, each once. No ticket was taken out of the queue. Each free slot
+-- that was taken out of its queue, that it was to give before, or that these turns freed, was opened, or is no longer
+-- used, or is given or in hand
 pub record PollerRan (old new : Own) : Type 0 where
   pub acts : List Act
   pub each : All (IsPollerAct old.seat.table.words) acts
   pub made : ActsMade acts old.seat new.seat
-  pub ran : List Ticket
-  pub tickets : (t : Ticket) → times_of t (tickets_out new) + times_of t ran ≡ times_of t (tickets_out old) + times_of t (due_of acts)
+  pub ran : List Run
+  pub lost : List ℕ
+  pub tickets : (t : Ticket) → times_of t (tickets_out new) + times_of t (tickets_of ran)
+      ≡ times_of t (tickets_out old) + times_of t (due_of acts)
+  pub took : NoTicketTaken old new
+  pub slots : (slot : ℕ) → times_in slot (slots_in new) + (times_in slot (slots_out old) + times_in slot (freed ran))
+      ≡ times_in slot (slots_in old) + (times_in slot (slots_out new) + (at_slot slot (openings_of acts) + times_in slot lost))
+
+-- to its end, unless its seat was worn in its last round
+abbrev pub PollerEnded : Why → Own → Own → Type 0
+PollerEnded why old new = PollerRan old new ⊎ RoundWorn why old new
 
 -- Of a worker's ends of the pollers' queues of free slots, in the pollers' order, none changed but the one of the
 -- poller with this number

@@ -1,9 +1,9 @@
 //! What every thread of a server is handed, and how a fault of one ends the others.
 ghost use Rattle.std.specs.Prelude.{◌≡◌, OnSome, option_map};
-ghost use Rattle.threads.specs.Endings.{AllWoken};
+ghost use Rattle.threads.specs.Endings.{AllWoken, fault_by};
 
-use crate::ended::Ended;
-use crate::ending::{Ending, Recorded};
+use crate::ending::{Ended, Ending};
+use crate::faults::Recorded;
 use dispatch::{Front, Shared, Split, Timing};
 use ready::ReadyQueue;
 use std::alloc::Global;
@@ -12,19 +12,19 @@ use std::sync::atomic::AtomicBool;
 
 /// What every thread of a server is handed at each of its steps.
 #[derive(Drop)]
-pub struct Context<'a, G, C, R> {
+pub struct Context<'a, G, C, R, S = AtomicBool> {
     pub rt: &'a R,
     pub alloc: Global,
     pub gate: &'a G,
     pub timing: Timing<'a, C>,
     pub ending: &'a Ending,
     /// Whether no more connections may be opened.
-    pub is_stopped: &'a AtomicBool,
+    pub is_stopped: &'a S,
     /// Which slots are which poller's.
     pub split: Split,
 }
 
-impl<G, C, R: Wait> Context<'_, G, C, R> {
+impl<G, C, R: Wait, S> Context<'_, G, C, R, S> {
     /// The loop of the thread with this number has ended. A fault is recorded, and ends all others: workers that
     /// sleep are woken, and so are the pollers.
     pub fn end<F: Front>(
@@ -35,11 +35,10 @@ impl<G, C, R: Wait> Context<'_, G, C, R> {
         ended: Ended,
     ) -> Option<Recorded>
         ensures ready { ready.new ≡ ready.old }
-        ensures recorded { result ≡ option_map (λ fault. (number, fault)) ended.fault }
+        ensures recorded { result ≡ option_map (λ fault. (number, fault)) (fault_by ended.why) }
         ensures woken { OnSome result (AllWoken (F.woke shared.now.waker) self.now.split) }
     {
-        let fault = ended.into_fault()?;
-        let recorded = self.ending.record(self.rt, number, fault);
+        let recorded = self.ending.end(self.rt, number, ended)?;
         ready.close();
         self.wake_pollers(shared);
         Some(recorded)

@@ -1,64 +1,112 @@
-//! How the threads of a server come to their end: by a fault of one of them, or after the last poller.
-ghost use Rattle.std.specs.Prelude.{◌≡◌, None, IfOk, IfErr, false};
-ghost use Rattle.threads.specs.Endings.{earliest};
+//! How the threads of a server come to their end: why the loop of each ends, and what becomes of a fault.
+ghost use Rattle.std.specs.Prelude.{◌≡◌, IfOk, IfErr, OnErr, OnOk, option_map, true, false};
+ghost use Rattle.ready.specs.Steps.{HeldOnce};
+ghost use Rattle.relay_log.specs.declared.faults.ServerFault.{ServerFault};
+ghost use Rattle.threads.specs.Endings.{fault_by};
+ghost use Rattle.threads.specs.Loops.{Took};
 
-use crate::ended::Ended;
-use dispatch::ServerFault;
+use crate::faults::{Earliest, Outcome, Recorded};
+use dispatch::{Front, Own, Poller, ServerFault};
 use ready::Ticket;
-use std::marker::Model;
 use std::sync::atomic::Ordering::SeqCst;
 use std::sync::atomic::{AtomicBool, AtomicUsize};
 use std::sync::{Mutex, Wait};
 
-/// Whether a thread met a fault, the fault of the first of these threads in their order, and how many pollers have
-/// not ended.
+/// Why a thread's loop ended.
+#[derive(Clone, Copy)]
+pub enum Why {
+    /// A look found a fault recorded.
+    FaultFound,
+    /// Its poller is over.
+    PollerOver,
+    /// The queue of tickets was found closed and empty.
+    QueueClosed,
+    /// It met this fault.
+    Met(ServerFault),
+}
+
+/// A thread's loop has ended. It cannot be dropped, and only [`Ending::end`] takes it. It is made only by a look that
+/// found a fault, a poller that is over, a queue of tickets that was found closed and empty, and a fault of a round or
+/// a turn: all in this file.
+pub struct Ended {
+    why: Why,
+}
+
+/// Which fault is recorded, if a thread met one, and how many pollers have not ended.
 #[derive(Drop)]
 pub struct Ending {
     recorded: AtomicBool,
-    first: Mutex<Option<(usize, ServerFault)>>,
+    first: Mutex<Earliest>,
     polling: AtomicUsize,
 }
 
-/// A fault is recorded. Nothing but [`Ending::record`] makes one, and it cannot be dropped.
-///
-/// In a clause it is the number of the thread that met the fault, and the fault.
-pub struct Recorded {
-    number: usize,
-    fault: ServerFault,
-}
-
-impl Model for Recorded {
-    ghost use Rattle.std.specs.Prelude.{ℕ};
-    ghost use Rattle.relay_log.specs.declared.faults.ServerFault.{ServerFault};
-
-    ghost Value = { ℕ × ServerFault };
-
-    ghost view = { λ r. (r.number, r.fault) };
-}
-
-/// A look at the record found no fault. Nothing but [`Ending::look`] makes one, and it cannot be copied: each round
-/// and each turn asks for one of its own.
+/// A look found no fault recorded. Nothing but [`Ending::look`] makes one, and it cannot be copied: each round and each
+/// turn asks for one of its own.
 #[derive(Drop)]
 pub(crate) struct NoFault {
     recorded: bool,
     ghost none: { recorded ≡ false },
 }
 
-/// A ticket, and a look that found no fault once it was taken. Nothing but [`Ending::look_after_take`] makes one: a look
-/// from before the sleep for the ticket does not do.
+/// A ticket, and a look that found no fault once it was taken. Nothing but [`Ending::look_after_take`] makes one: a
+/// look from before the sleep for the ticket does not do.
 #[derive(Drop)]
 pub(crate) struct Cleared {
     pub(crate) ticket: Ticket,
     seen: NoFault,
 }
 
-impl Recorded {
-    /// The thread that met the fault has ended, or was not started.
-    pub fn spend(self) {
-        let Recorded {
-            number: _,
-            fault: _,
-        } = self;
+impl Ended {
+    /// A look found a fault.
+    fn fault_found(_recorded: bool) -> Ended
+        requires { _recorded ≡ true }
+        ensures { result.why ≡ Why.FaultFound }
+    {
+        Ended {
+            why: Why::FaultFound,
+        }
+    }
+
+    /// What a round or a turn answered, or the end of the loop if it was a fault.
+    pub(crate) fn on_fault<T: Drop>(answer: Result<T, ServerFault>) -> Result<T, Ended>
+        ensures good { IfOk result (λ value. answer ≡ Ok value) }
+        ensures met { IfErr result (λ ended. (fault : ServerFault) × (answer ≡ Err fault) × (ended.why ≡ Why.Met fault)) }
+    {
+        match answer {
+            Ok(value) => Ok(value),
+            Err(fault) => Err(Ended {
+                why: Why::Met(fault),
+            }),
+        }
+    }
+}
+
+/// Goes on unless the poller is over.
+pub(crate) fn end_if_over<F: Front>(poller: &Poller<F>) -> Result<(), Ended>
+    ensures open { OnOk result (poller.now.over ≡ false) }
+    ensures over { IfErr result (λ ended. (ended.why ≡ Why.PollerOver) × (poller.now.over ≡ true)) }
+{
+    if poller.is_over() {
+        Err(Ended {
+            why: Why::PollerOver,
+        })
+    } else {
+        Ok(())
+    }
+}
+
+/// Takes a ticket, and may sleep until there is one. So it uses up a look for a fault, and a turn asks for another,
+/// after that. It refuses once the queue of tickets is closed and empty.
+pub(crate) fn take(rt: &impl Wait, own: &mut Own, _seen: NoFault) -> Result<Ticket, Ended>
+    ensures taken { IfOk result (λ ticket. Took ticket own.old own.new) }
+    ensures none { OnErr result (own.new ≡ own.old) }
+    ensures closed { IfErr result (λ ended. (ended.why ≡ Why.QueueClosed) × HeldOnce 0 own.new.ready.history) }
+{
+    match own.ready.take(rt) {
+        Some(ticket) => Ok(ticket),
+        None => Err(Ended {
+            why: Why::QueueClosed,
+        }),
     }
 }
 
@@ -67,19 +115,28 @@ impl Ending {
     pub fn new(pollers: usize) -> Ending {
         Ending {
             recorded: AtomicBool::new(false),
-            first: Mutex::new(None),
+            first: Mutex::new(Earliest::new()),
             polling: AtomicUsize::new(pollers),
         }
     }
 
+    /// The loop of the thread with this number has ended. If a fault ended it, that is recorded.
+    pub(crate) fn end(&self, rt: &impl Wait, number: usize, ended: Ended) -> Option<Recorded>
+        ensures { result ≡ option_map (λ fault. (number, fault)) (fault_by ended.why) }
+    {
+        let Ended { why } = ended;
+        match why {
+            Why::Met(fault) => Some(self.record(rt, number, fault)),
+            Why::FaultFound | Why::PollerOver | Why::QueueClosed => None,
+        }
+    }
+
     /// Records the fault of the thread with this number. Of several faults, the lowest-numbered thread's is kept.
-    pub fn record(&self, rt: &impl Wait, number: usize, fault: ServerFault) -> Recorded
+    pub(crate) fn record(&self, rt: &impl Wait, number: usize, fault: ServerFault) -> Recorded
         ensures { result ≡ (number, fault) }
     {
-        let mut first = self.first.lock(rt);
-        *first = Some(earliest(*first, number, fault));
-        self.recorded.store(true, SeqCst);
-        Recorded { number, fault }
+        let kept = self.first.lock(rt).keep(number, fault);
+        kept.announce(&self.recorded)
     }
 
     /// Whether a fault is recorded.
@@ -87,13 +144,13 @@ impl Ending {
         self.recorded.load(SeqCst)
     }
 
-    /// Goes on only if no fault is recorded. If one is, the thread ends well.
+    /// Goes on only if no fault is recorded.
     pub(crate) fn look(&self) -> Result<NoFault, Ended>
-        ensures { IfErr result (λ ended. ended.fault ≡ None) }
+        ensures { IfErr result (λ ended. ended.why ≡ Why.FaultFound) }
     {
         let recorded = self.is_recorded();
         if recorded {
-            Err(Ended::well())
+            Err(Ended::fault_found(recorded))
         } else {
             Ok(NoFault { recorded })
         }
@@ -102,7 +159,7 @@ impl Ending {
     /// The same for the turn of a ticket that was taken, for which the thread may have slept.
     pub(crate) fn look_after_take(&self, ticket: Ticket) -> Result<Cleared, Ended>
         ensures ticket { IfOk result (λ cleared. cleared.ticket ≡ ticket) }
-        ensures well { IfErr result (λ ended. ended.fault ≡ None) }
+        ensures found { IfErr result (λ ended. ended.why ≡ Why.FaultFound) }
     {
         let seen = self.look()?;
         Ok(Cleared { ticket, seen })
@@ -113,22 +170,8 @@ impl Ending {
         self.polling.fetch_sub(1, SeqCst) <= 1
     }
 
-    /// The recorded fault, if any.
-    pub fn into_fault(self) -> Option<ServerFault> {
-        self.first.into_inner().map(|(_, fault)| fault)
-    }
-}
-
-/// Of the fault that is kept and that of the thread with this number, which one is kept from then on.
-fn earliest(
-    kept: Option<(usize, ServerFault)>,
-    number: usize,
-    fault: ServerFault,
-) -> (usize, ServerFault)
-    ensures { result ≡ earliest kept (number, fault) }
-{
-    match kept {
-        Some((other, earlier)) if other <= number => (other, earlier),
-        _ => (number, fault),
+    /// How the server ended, whose threads have all ended: by the recorded fault that was kept, if any.
+    pub(crate) fn outcome(self) -> Outcome {
+        self.first.into_inner().outcome()
     }
 }

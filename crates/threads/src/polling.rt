@@ -1,21 +1,20 @@
 //! The steps of a poller's thread.
-ghost use Rattle.std.specs.Prelude.{◌≡◌, ◌≢◌, ◌⊎◌, ℕ, length, Some, None, Ok, Err, OnOk, OnErr, IfErr};
+ghost use Rattle.std.specs.Prelude.{◌≡◌, ◌⊎◌, ℕ, [], length, None, OnOk, OnSome, IfErr, IfOk};
 ghost use Rattle.std.specs.Arc.{arc_value};
 ghost use Rattle.claims.specs.Seats.{HoldsNothing};
-ghost use Rattle.relay_log.specs.declared.faults.ServerFault.TheVariants.{Worn};
 ghost use Rattle.dispatch.specs.Drops.{no_drops};
-ghost use Rattle.rounds.specs.Rounds.{EndedEarly, ListensToOpen, RoundDone};
+ghost use Rattle.rounds.specs.Rounds.{EndedEarly, ListensToOpen};
 ghost use Rattle.turns.specs.Turns.{NoOwnTurn};
-ghost use Rattle.threads.specs.Endings.{AllWoken};
-ghost use Rattle.threads.specs.Loops.{LoopMade, MayStop, OwnTurnsRan, PollerRan, RoundMade, StepCut, StepMade, TurnsAfter, TurnsCut};
+ghost use Rattle.threads.specs.declared.ending.Why.{Why};
+ghost use Rattle.threads.specs.Endings.{AllWoken, faults_by};
+ghost use Rattle.threads.specs.Loops.{Asked, LoopMade, OwnTurnsRan, PollerEnded, PollerRan, RoundCut, RoundMade, StepCut, StepMade, TurnsAfter, TurnsCut, WornEnd};
 
 use crate::context::Context;
-use crate::ended::Ended;
-use crate::ending::NoFault;
+use crate::ending::{Ended, NoFault, end_if_over};
+use crate::stopping::StopFlag;
 use dispatch::{Clock, Front, Gate, MAX_OWN_TURNS, Own, Poller, Shared};
 use log::Log;
 use rounds::poller_round;
-use std::sync::atomic::Ordering::SeqCst;
 use std::sync::{Arc, Wait};
 use turns::{Worked, own_turn, share_tickets};
 
@@ -37,14 +36,22 @@ where
     F::Waker: Drop,
 {
     /// Makes its steps until one ends the thread.
-    pub fn run<G: Gate, C: Clock, R: Wait + Log>(&mut self, context: &Context<'_, G, C, R>) {
+    pub fn run<G: Gate, C: Clock, R: Wait + Log, S: StopFlag>(
+        &mut self,
+        context: &Context<'_, G, C, R, S>,
+    )
+        ensures ran { (why : Why) × PollerEnded why self.old.own self.new.own }
+    {
         self.begin(context);
         let ended = self.run_rounds(context);
         self.finish(context, ended);
     }
 
     /// The thread begins: sweeps are counted from now on.
-    pub fn begin<G: Gate, C: Clock, R: Wait + Log>(&mut self, context: &Context<'_, G, C, R>)
+    pub fn begin<G: Gate, C: Clock, R: Wait + Log, S: StopFlag>(
+        &mut self,
+        context: &Context<'_, G, C, R, S>,
+    )
         ensures own { self.new.own ≡ self.old.own }
         ensures begun { (second : ℕ) × C.tells context.now.timing.clock.now second
             × (self.new.poller ≡ record self.old.poller { swept = second }) }
@@ -54,9 +61,9 @@ where
 
     /// The thread has ended. A fault of its own is recorded, and ends all other threads. After the last poller the
     /// workers end. All clients that were closed unopened are logged.
-    pub fn finish<G: Gate, C: Clock, R: Wait + Log>(
+    pub fn finish<G: Gate, C: Clock, R: Wait + Log, S: StopFlag>(
         &mut self,
-        context: &Context<'_, G, C, R>,
+        context: &Context<'_, G, C, R, S>,
         ended: Ended,
     )
         ensures own { self.new.own ≡ self.old.own }
@@ -70,126 +77,144 @@ where
     }
 
     /// Makes steps until the poller is over, or a fault is recorded or met.
-    pub fn run_rounds<G: Gate, C: Clock, R: Wait + Log>(
+    pub fn run_rounds<G: Gate, C: Clock, R: Wait + Log, S: StopFlag>(
         &mut self,
-        context: &Context<'_, G, C, R>,
+        context: &Context<'_, G, C, R, S>,
     ) -> Ended
-        ensures made { result.fault ≢ Some Worn → LoopMade self.old.poller self.new.poller self.old.own self.new.own }
-        ensures tickets { result.fault ≢ Some Worn → PollerRan self.old.own self.new.own }
+        ensures made { LoopMade (S.said context.now.is_stopped.now) result.why self.old.poller self.new.poller self.old.own self.new.own }
+        ensures ran { PollerEnded result.why self.old.own self.new.own }
     {
         for _round in context.rt.forever() {
             if let Err(ended) = self.step(context) {
                 return ended;
             }
         }
-        Ended::well()
+        unreachable!()
     }
 
     /// One step of the thread: a round, and the turns of the tickets that it leaves to the poller's own thread, 16 at
-    /// most. It is refused if the thread ends: the poller is over, a fault is recorded before the
-    /// round or before one of the turns, or this step met one.
-    pub fn step<G: Gate, C: Clock, R: Wait + Log>(
+    /// most. It is refused if the thread ends: the poller is over, a fault is recorded before the round or before one
+    /// of the turns, or this step met one.
+    pub fn step<G: Gate, C: Clock, R: Wait + Log, S: StopFlag>(
         &mut self,
-        context: &Context<'_, G, C, R>,
+        context: &Context<'_, G, C, R, S>,
     ) -> Result<(), Ended>
-        ensures made { OnOk result (StepMade self.old.poller self.new.poller self.old.own self.new.own) }
-        ensures cut { OnErr result (result ≢ Err (record { fault = Some Worn })
-            → StepCut self.old.poller self.new.poller self.old.own self.new.own) }
-        ensures tickets { result ≢ Err (record { fault = Some Worn }) → PollerRan self.old.own self.new.own }
+        ensures made { OnOk result (StepMade (S.said context.now.is_stopped.now) self.old.poller self.new.poller self.old.own self.new.own) }
+        ensures cut { IfErr result (λ ended. StepCut (S.said context.now.is_stopped.now) ended.why self.old.poller self.new.poller self.old.own self.new.own) }
+        ensures ran { OnOk result (PollerRan self.old.own self.new.own) }
+        ensures ended { IfErr result (λ ended. PollerEnded ended.why self.old.own self.new.own) }
     {
-        let seen = context.ending.look()?;
-        if self.poller.is_over() {
-            return Err(Ended::well());
+        let seen = match context.ending.look() {
+            Ok(seen) => seen,
+            Err(ended) => return Err(ended),
+        };
+        if let Err(ended) = end_if_over(&self.poller) {
+            return Err(ended);
         }
         self.round(context, seen)
     }
 
     /// If no more connections may be opened, this poller opens none, and all others are woken, so that they find that
     /// out.
-    fn stop_if_asked<G: Gate, C: Clock, R: Wait + Log>(&mut self, context: &Context<'_, G, C, R>)
+    fn stop_if_asked<G: Gate, C: Clock, R: Wait + Log, S: StopFlag>(
+        &mut self,
+        context: &Context<'_, G, C, R, S>,
+    )
         ensures own { self.new.own ≡ self.old.own }
-        ensures stopped { MayStop self.old.poller self.new.poller }
+        ensures asked { Asked (S.said context.now.is_stopped.now) self.old.poller self.new.poller }
         ensures woken { (self.new.poller ≡ self.old.poller) ⊎ AllWoken (F.woke (arc_value self.old.shared).waker) context.now.split }
     {
-        if context.is_stopped.load(SeqCst) && !self.poller.has_opened_all() {
+        if context.is_stopped.is_set() && !self.poller.has_opened_all() {
             self.poller.stop_opening();
             context.wake_pollers(&self.shared);
         }
     }
 
     /// Makes a round, and runs the turns that it left to its own thread.
-    fn round<G: Gate, C: Clock, R: Wait + Log>(
+    fn round<G: Gate, C: Clock, R: Wait + Log, S: StopFlag>(
         &mut self,
-        context: &Context<'_, G, C, R>,
+        context: &Context<'_, G, C, R, S>,
         seen: NoFault,
     ) -> Result<(), Ended>
-        ensures made { OnOk result (StepMade self.old.poller self.new.poller self.old.own self.new.own) }
-        ensures cut { OnErr result (result ≢ Err (record { fault = Some Worn })
-            → StepCut self.old.poller self.new.poller self.old.own self.new.own) }
+        ensures made { OnOk result (StepMade (S.said context.now.is_stopped.now) self.old.poller self.new.poller self.old.own self.new.own) }
+        ensures cut { IfErr result (λ ended. StepCut (S.said context.now.is_stopped.now) ended.why self.old.poller self.new.poller self.old.own self.new.own) }
     {
         match self.poll(context, seen) {
             Ok(()) => self.run_turns(context),
-            polled => polled,
+            Err(ended) => Err(ended),
         }
     }
 
     /// Makes a round, and runs no turn. If no more connections may be opened, the poller opens none in it.
-    fn poll<G: Gate, C: Clock, R: Wait + Log>(
+    fn poll<G: Gate, C: Clock, R: Wait + Log, S: StopFlag>(
         &mut self,
-        context: &Context<'_, G, C, R>,
+        context: &Context<'_, G, C, R, S>,
         _seen: NoFault,
     ) -> Result<(), Ended>
-        ensures round { result ≢ Err (record { fault = Some Worn }) → RoundMade self.old.poller self.new.poller self.old.own self.new.own }
+        ensures made { OnOk result (RoundMade (S.said context.now.is_stopped.now) self.old.poller self.new.poller self.old.own self.new.own) }
         ensures closed { OnOk result (EndedEarly (length self.new.poller.table) self.new.own ⊎ ListensToOpen self.new.poller) }
+        ensures cut { IfErr result (λ ended. RoundCut (S.said context.now.is_stopped.now) ended.why self.old.poller self.new.poller self.old.own self.new.own) }
     {
         self.stop_if_asked(context);
-        Ended::on_fault(poller_round(
+        let polled = poller_round(
             context.rt,
             context.alloc,
             &self.shared,
             &mut self.own,
             &mut self.poller,
             &context.timing,
-        ))
+        );
+        match Ended::on_fault(polled) {
+            Ok(()) => Ok(()),
+            Err(ended) => Err(ended),
+        }
     }
 
     /// Runs the tickets in hand that are for its own thread, until a fault is recorded.
-    fn run_turns<G: Gate, C: Clock, R: Wait + Log>(
+    fn run_turns<G: Gate, C: Clock, R: Wait + Log, S: StopFlag>(
         &mut self,
-        context: &Context<'_, G, C, R>,
+        context: &Context<'_, G, C, R, S>,
     ) -> Result<(), Ended>
         ensures turns { OnOk result (TurnsAfter self.old.poller self.new.poller self.old.own self.new.own) }
-        ensures cut { OnErr result (result ≢ Err (record { fault = Some Worn })
-            → TurnsCut self.old.poller self.new.poller self.old.own self.new.own) }
+        ensures cut { IfErr result (λ ended. TurnsCut ended.why self.old.poller self.new.poller self.old.own self.new.own) }
     {
         share_tickets(context.rt, &mut self.own, &mut self.poller);
         for _turn in 0..MAX_OWN_TURNS {
-            let seen = context.ending.look()?;
-            if self.turn(context, seen)?.is_none() {
-                return Ok(());
+            let seen = match context.ending.look() {
+                Ok(seen) => seen,
+                Err(ended) => return Err(ended),
+            };
+            match self.turn(context, seen) {
+                Ok(Some(_)) => {}
+                Ok(None) => return Ok(()),
+                Err(ended) => return Err(ended),
             }
         }
         Ok(())
     }
 
     /// Runs the turn of the oldest ticket in hand. None if there is no ticket, or no room in hand for a slot.
-    fn turn<G: Gate, C: Clock, R: Wait + Log>(
+    fn turn<G: Gate, C: Clock, R: Wait + Log, S: StopFlag>(
         &mut self,
-        context: &Context<'_, G, C, R>,
+        context: &Context<'_, G, C, R, S>,
         _seen: NoFault,
     ) -> Result<Option<Worked>, Ended>
-        ensures ran { result ≢ Ok None → OwnTurnsRan 1 self.old.own self.new.own }
-        ensures none { result ≡ Ok None → NoOwnTurn self.old.own × (self.new.own ≡ self.old.own) }
+        ensures ran { IfOk result (λ worked. OnSome worked (OwnTurnsRan 1 [] self.old.own self.new.own)) }
+        ensures none { IfOk result (λ worked. worked ≡ None → NoOwnTurn self.old.own × (self.new.own ≡ self.old.own)) }
+        ensures cut { IfErr result (λ ended. OwnTurnsRan 1 (faults_by ended.why) self.old.own self.new.own × WornEnd ended.why self.new.own) }
         ensures poller { self.new.poller ≡ record self.old.poller { heavy = self.new.poller.heavy } }
-        ensures worn { IfErr result (λ ended. ended ≡ record { fault = Some Worn }) }
     {
-        Ended::on_fault(own_turn(
+        let worked = own_turn(
             context.rt,
             &self.shared,
             &mut self.own,
             context.gate,
             &mut self.poller,
             &context.timing,
-        ))
+        );
+        match Ended::on_fault(worked) {
+            Ok(worked) => Ok(worked),
+            Err(ended) => Err(ended),
+        }
     }
 }

@@ -4,6 +4,7 @@ ghost use Rattle.dispatch.specs.Parts.{AreFresh};
 use crate::context::Context;
 use crate::dividing::{Rest, ServerThreads, divide};
 use crate::ending::Ending;
+use crate::faults::Outcome;
 use dispatch::{Clock, Front, Gate, Parts, Poller, ServerFault, Shared, Split, Timing};
 use log::Log;
 use ready::FreeQueue;
@@ -41,7 +42,7 @@ pub fn run_threads<F, G: Gate + Sync, C: Clock + Sync, R: Wait + Threads + Log +
     timing: Timing<'_, C>,
     is_stopped: &AtomicBool,
     server: Server<F>,
-) -> Result<(), ServerFault>
+) -> Outcome
 where
     F: Front + Drop + Send,
     F::Client: Send,
@@ -49,10 +50,9 @@ where
     F::Waker: Send + Sync + Drop,
 {
     let ending = Ending::new(server.pollers.len());
-    run_server(rt, alloc, gate, timing, (&ending, is_stopped), server)?;
-    match ending.into_fault() {
-        Some(fault) => Err(fault),
-        None => Ok(()),
+    match run_server(rt, alloc, gate, timing, (&ending, is_stopped), server) {
+        Ok(()) => ending.outcome(),
+        Err(fault) => Outcome::refused(fault),
     }
 }
 
@@ -112,14 +112,11 @@ where
     F::Waker: Send + Sync + Drop,
 {
     let pollers = startup.context.split.pollers();
+    let started = workers.saturating_add(pollers.saturating_sub(1));
     thread::scope(thread::scope_env(), startup.context.rt, move |scope| {
-        for _worker in 0..workers {
-            if scope.spawn(move || startup.work()).is_err() {
-                not_started(&startup.context);
-            }
-        }
-        for _poller in 1..pollers {
-            if scope.spawn(move || startup.poll()).is_err() {
+        for number in 0..started {
+            let is_worker = number < workers;
+            if scope.spawn(move || startup.run(is_worker)).is_err() {
                 not_started(&startup.context);
             }
         }
@@ -144,6 +141,11 @@ where
         if !self.context.ending.is_recorded() {
             self.context.gate.all_started();
         }
+    }
+
+    /// The next thread of a worker or of a poller that has not begun.
+    fn run(&self, is_worker: bool) {
+        if is_worker { self.work() } else { self.poll() }
     }
 
     /// The thread of a poller: the next that has not begun.

@@ -1,18 +1,18 @@
 //! The steps of a worker's thread.
-ghost use Rattle.std.specs.Prelude.{◌≡◌, ◌≢◌, ◌<◌, ◌-◌, [], ◌∷◌, Result, length, slice_get, slice_set, IfNone, IfSome, OnErr, OnOk};
+ghost use Rattle.std.specs.Prelude.{◌≡◌, ◌≢◌, ◌<◌, ◌-◌, [], ◌∷◌, Ok, Err, slice_get, slice_set, IfErr, IfOk, IfSome, OnOk};
 ghost use Rattle.std.specs.Arc.{arc_value};
 ghost use Rattle.claims.specs.Seats.{HoldsNothing};
 ghost use Rattle.dispatch.specs.Hands.{HasRoom};
 ghost use Rattle.dispatch.specs.Outgoing.{outgoing, slots_out};
-ghost use Rattle.relay_log.specs.declared.faults.ServerFault.{ServerFault};
-ghost use Rattle.threads.specs.Loops.{GivesToOwner, OneRan, Took, WorkerEnded, WorkerRan};
+ghost use Rattle.relay_log.specs.declared.faults.ServerFault.TheVariants.{Worn};
+ghost use Rattle.threads.specs.declared.ending.Why.{Why};
+ghost use Rattle.threads.specs.Loops.{GivesToOwner, OneRan, WorkerEnded, WorkerRan, WornEnd};
 
 use crate::context::Context;
-use crate::ended::Ended;
-use crate::ending::{Cleared, NoFault};
+use crate::ending::{Cleared, Ended, take};
 use dispatch::{Clock, Front, Gate, Hand, Own, Shared, give_slots, put_tickets};
 use log::Log;
-use ready::{FreeQueue, Ticket};
+use ready::FreeQueue;
 use std::sync::{Arc, Wait};
 use std::{mem, thread};
 use turns::{Worked, worker_turn};
@@ -36,17 +36,17 @@ where
     F::Waker: Drop,
 {
     /// Makes its steps until one ends the thread.
-    pub fn run<G: Gate, C: Clock, R: Wait + Log>(&mut self, context: &Context<'_, G, C, R>)
-        ensures ran { WorkerEnded self.old.own self.new.own }
+    pub fn run<G: Gate, C: Clock, R: Wait + Log, S>(&mut self, context: &Context<'_, G, C, R, S>)
+        ensures ran { (why : Why) × WorkerEnded why self.old.own self.new.own }
     {
         let ended = self.run_turns(context);
         self.finish(context, ended);
     }
 
     /// The thread has ended. A fault of its own is recorded, and ends all other threads.
-    pub fn finish<G: Gate, C: Clock, R: Wait + Log>(
+    pub fn finish<G: Gate, C: Clock, R: Wait + Log, S>(
         &mut self,
-        context: &Context<'_, G, C, R>,
+        context: &Context<'_, G, C, R, S>,
         ended: Ended,
     )
         ensures { self.new.own ≡ self.old.own }
@@ -57,43 +57,47 @@ where
     }
 
     /// Makes steps until the queue of tickets is closed and empty, or a fault is recorded or met.
-    fn run_turns<G: Gate, C: Clock, R: Wait + Log>(
+    fn run_turns<G: Gate, C: Clock, R: Wait + Log, S>(
         &mut self,
-        context: &Context<'_, G, C, R>,
+        context: &Context<'_, G, C, R, S>,
     ) -> Ended
-        ensures ran { WorkerEnded self.old.own self.new.own }
+        ensures ran { WorkerEnded result.why self.old.own self.new.own }
     {
         for _turn in context.rt.forever() {
             if let Err(ended) = self.step(context) {
                 return ended;
             }
         }
-        Ended::well()
+        unreachable!()
     }
 
     /// One step of the thread: it takes a ticket, which may mean to wait for one, and runs its turn. It is refused
     /// if the thread ends: the queue of tickets is closed and empty, a fault is recorded before the
     /// ticket is taken or after that, or this step met one. After a fault the ticket that was taken stays in hand.
-    pub fn step<G: Gate, C: Clock, R: Wait + Log>(
+    pub fn step<G: Gate, C: Clock, R: Wait + Log, S>(
         &mut self,
-        context: &Context<'_, G, C, R>,
+        context: &Context<'_, G, C, R, S>,
     ) -> Result<(), Ended>
-        ensures ran { OnOk result (WorkerRan [] self.old.own self.new.own) }
-        ensures cut { OnErr result (WorkerEnded self.old.own self.new.own) }
+        ensures ran { OnOk result (WorkerRan [] [] self.old.own self.new.own) }
+        ensures cut { IfErr result (λ ended. WorkerEnded ended.why self.old.own self.new.own) }
     {
-        let seen = context.ending.look()?;
+        let seen = match context.ending.look() {
+            Ok(seen) => seen,
+            Err(ended) => return Err(ended),
+        };
         if !self.own.hand.has_room() {
             self.empty_hand(context.rt);
             return Ok(());
         }
-        let Some(ticket) = self.take(context.rt, seen) else {
-            return Err(Ended::well());
+        let ticket = match take(context.rt, &mut self.own, seen) {
+            Ok(ticket) => ticket,
+            Err(ended) => return Err(ended),
         };
         match context.ending.look_after_take(ticket) {
-            Ok(cleared) => {
-                self.turn(context, cleared)?;
-                Ok(())
-            }
+            Ok(cleared) => match self.turn(context, cleared) {
+                Ok(_) => Ok(()),
+                Err(ended) => Err(ended),
+            },
             Err(ended) => {
                 self.own.hand.keep_ticket(ticket);
                 Err(ended)
@@ -101,20 +105,9 @@ where
         }
     }
 
-    /// Takes a ticket, and may sleep until there is one. So it uses up a look for a fault, and a turn asks for
-    /// another, after that.
-    fn take(&mut self, rt: &impl Wait, _seen: NoFault) -> Option<Ticket>
-        requires room { HasRoom self.old.own.hand }
-        ensures room { HasRoom self.new.own.hand }
-        ensures taken { IfSome result (λ ticket. Took ticket self.old.own self.new.own) }
-        ensures none { IfNone result (self.new.own ≡ self.old.own) }
-    {
-        self.own.ready.take(rt)
-    }
-
     /// Puts and gives all in hand, as far as the queues have room, and lets other threads go on.
     fn empty_hand(&mut self, rt: &impl Wait)
-        ensures ran { WorkerRan [] self.old.own self.new.own }
+        ensures ran { WorkerRan [] [] self.old.own self.new.own }
     {
         put_tickets(rt, &mut self.own.ready, &mut self.own.hand);
         self.give_all(rt);
@@ -122,13 +115,14 @@ where
     }
 
     /// Runs a turn. If its connection ends, its slot goes back to the poller that has it.
-    fn turn<G: Gate, C: Clock, R: Wait + Log>(
+    fn turn<G: Gate, C: Clock, R: Wait + Log, S>(
         &mut self,
-        context: &Context<'_, G, C, R>,
+        context: &Context<'_, G, C, R, S>,
         cleared: Cleared,
     ) -> Result<Worked, Ended>
         requires { HasRoom self.old.own.hand }
-        ensures ran { (answer : Result Worked ServerFault) × OneRan cleared.ticket answer self.old.own self.new.own }
+        ensures ran { IfOk result (λ worked. OneRan cleared.ticket (Ok worked) self.old.own self.new.own) }
+        ensures cut { IfErr result (λ ended. OneRan cleared.ticket (Err Worn) self.old.own self.new.own × WornEnd ended.why self.new.own) }
         ensures took { self.new.own.ready.history.taken ≡ self.old.own.ready.history.taken }
         ensures given { self.new.own.hand.slots ≡ [] }
         ensures gives { cleared.ticket.slot < context.now.split.slots
@@ -138,17 +132,17 @@ where
         let ticket = cleared.ticket;
         let poller = context.split.poller_of(ticket.slot);
         self.change_queue(poller);
-        let worked = Ended::on_fault(worker_turn(
+        let worked = worker_turn(
             context.rt,
             &self.shared,
             &mut self.own,
             context.gate,
             ticket,
             &context.timing,
-        ));
+        );
         self.give_all(context.rt);
         self.change_queue(poller);
-        worked
+        Ended::on_fault(worked)
     }
 
     /// Exchanges its end of the queue of the first poller and that of this one. Done again, each is in its place.

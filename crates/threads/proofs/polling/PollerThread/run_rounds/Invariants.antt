@@ -3,4 +3,4 @@ use Rattle.threads.specs.Loops.{StepsMade}
 use Rattle.threads.proofs.polling.PollerThread.run_rounds.Given as goal
 
 abbrev pub invariant-loop-round : goal.invariant-loop-round
-invariant-loop-round g l = (steps : ℕ) × StepsMade steps l.fn.self.poller l.self.poller l.fn.self.own l.self.own
+invariant-loop-round g l = (steps : ℕ) × StepsMade (g.S.StopFlag.said l.context.is_stopped.now) steps l.fn.self.poller l.self.poller l.fn.self.own l.self.own

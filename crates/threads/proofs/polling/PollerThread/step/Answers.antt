@@ -1,13 +1,15 @@
-use Rattle.std.proofs.Common.{inl, refl}
-use Rattle.threads.proofs.Loops.{step_tickets, cut_ran}
+use Rattle.std.proofs.Common.{inl}
+use Rattle.threads.proofs.Loops.{ran_none, round_steps, round_ends}
 use Rattle.threads.proofs.polling.PollerThread.step.Goals as goal
 
-pub returns-in_err-seen-clause-tickets : goal.returns-in_err-seen-clause-tickets
-returns-in_err-seen-clause-tickets g c = λ well. cut_ran c.args.self.now.poller c.args.self.now.poller c.args.self.now.own c.args.self.now.own (inl (refl, refl))
+pub returns-clause-ran : goal.returns-clause-ran
+returns-clause-ran g c = round_steps (g.S.StopFlag.said c.args.context.now.is_stopped.now) c.round.result c.args.self.now.poller c.round.new.self.poller c.args.self.now.own c.round.new.self.own c.round.ensures.made
 
-pub returns-then-is_over-clause-tickets : goal.returns-then-is_over-clause-tickets
-returns-then-is_over-clause-tickets g c = λ well. cut_ran c.args.self.now.poller c.args.self.now.poller c.args.self.now.own c.args.self.now.own (inl (refl, refl))
+pub returns-clause-ended : goal.returns-clause-ended
+returns-clause-ended g c = round_ends (g.S.StopFlag.said c.args.context.now.is_stopped.now) c.round.result c.args.self.now.poller c.round.new.self.poller c.args.self.now.own c.round.new.self.own c.round.ensures.cut
 
-pub returns-clause-tickets : goal.returns-clause-tickets
-returns-clause-tickets g c = step_tickets c.round.result c.args.self.now.poller c.round.new.self.poller c.args.self.now.own c.round.new.self.own c.round.ensures.made
-    c.round.ensures.cut
+pub returns-in-Err-clause-ended : goal.returns-in-Err-clause-ended
+returns-in-Err-clause-ended g c = inl (ran_none c.args.self.now.own)
+
+pub returns-in-Err-end_if_over-clause-ended : goal.returns-in-Err-end_if_over-clause-ended
+returns-in-Err-end_if_over-clause-ended g c = inl (ran_none c.args.self.now.own)

@@ -1,0 +1,118 @@
+//! What becomes of a fault: it is kept, if no thread before the one that met it has met one, and a flag is set that
+//! every thread looks at.
+ghost use Rattle.std.specs.Prelude.{◌≡◌, ◌↔◌, IfErr, IsOk, None, Some, option_map};
+ghost use Rattle.threads.specs.Endings.{earliest};
+
+use dispatch::ServerFault;
+use std::marker::Model;
+use std::sync::atomic::AtomicBool;
+use std::sync::atomic::Ordering::SeqCst;
+
+/// The fault of the first thread, in the order of their numbers, that met one, with that number.
+#[derive(Drop)]
+pub(crate) struct Earliest {
+    kept: Option<(usize, ServerFault)>,
+}
+
+/// A fault was compared with the one that is kept. Nothing but [`Earliest::keep`] makes one, and it cannot be dropped.
+pub(crate) struct Kept {
+    number: usize,
+    fault: ServerFault,
+}
+
+/// A fault is recorded. Nothing but [`Kept::announce`] makes one, and it cannot be dropped.
+///
+/// In a clause it is the number of the thread that met the fault, and the fault.
+pub struct Recorded {
+    number: usize,
+    fault: ServerFault,
+}
+
+impl Model for Recorded {
+    ghost use Rattle.std.specs.Prelude.{ℕ};
+    ghost use Rattle.relay_log.specs.declared.faults.ServerFault.{ServerFault};
+
+    ghost Value = { ℕ × ServerFault };
+
+    ghost view = { λ r. (r.number, r.fault) };
+}
+
+/// How a server ended: well, or by the fault of the first thread that met one, or by what refused it before it served.
+/// Only [`Earliest::outcome`] makes one of a server whose threads ran, and it cannot be dropped: who serves passes it
+/// on.
+pub struct Outcome {
+    fault: Option<ServerFault>,
+}
+
+impl Earliest {
+    /// No fault was met yet.
+    pub(crate) const fn new() -> Earliest
+        ensures { result.kept ≡ None }
+    {
+        Earliest { kept: None }
+    }
+
+    /// Of the fault that is kept and that of the thread with this number, keeps the one of the first thread.
+    pub(crate) fn keep(&mut self, number: usize, fault: ServerFault) -> Kept
+        ensures kept { self.new.kept ≡ Some (earliest self.old.kept (number, fault)) }
+        ensures same { result ≡ record { number = number; fault = fault } }
+    {
+        let first = match self.kept {
+            Some((other, earlier)) if other <= number => (other, earlier),
+            _ => (number, fault),
+        };
+        self.kept = Some(first);
+        Kept { number, fault }
+    }
+
+    /// How the server ended, whose threads have all ended: by the fault that was kept, if any.
+    pub(crate) fn outcome(self) -> Outcome
+        ensures { result.fault ≡ option_map (λ first. first.1) self.kept }
+    {
+        Outcome {
+            fault: self.kept.map(|(_, fault)| fault),
+        }
+    }
+}
+
+impl Kept {
+    /// The fault is recorded: each thread that looks at the flag finds that from now on.
+    pub(crate) fn announce(self, flag: &AtomicBool) -> Recorded
+        ensures { result ≡ (self.number, self.fault) }
+    {
+        let Kept { number, fault } = self;
+        flag.store(true, SeqCst);
+        Recorded { number, fault }
+    }
+}
+
+impl Outcome {
+    /// Of a server that was refused before it served.
+    pub fn refused(fault: ServerFault) -> Outcome
+        ensures { result.fault ≡ Some fault }
+    {
+        Outcome { fault: Some(fault) }
+    }
+
+    /// The fault by which the server ended, if it did not end well.
+    pub fn into_result(self) -> Result<(), ServerFault>
+        ensures well { IsOk result ↔ self.fault ≡ None }
+        ensures fault { IfErr result (λ fault. self.fault ≡ Some fault) }
+    {
+        let Outcome { fault } = self;
+        match fault {
+            Some(fault) => Err(fault),
+            None => Ok(()),
+        }
+    }
+}
+
+impl Recorded {
+    /// The thread that met the fault has ended, or was not started.
+    pub fn spend(self) {
+        let Recorded {
+            number: _,
+            fault: _,
+        } = self;
+    }
+}
