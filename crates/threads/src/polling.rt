@@ -99,8 +99,10 @@ where
         &mut self,
         context: &Context<'_, G, C, R, S>,
     ) -> Result<(), Ended>
-        ensures made { OnOk result (StepMade (S.said context.now.is_stopped.now) self.old.poller self.new.poller self.old.own self.new.own) }
-        ensures cut { IfErr result (λ ended. StepCut (S.said context.now.is_stopped.now) ended.why self.old.poller self.new.poller self.old.own self.new.own) }
+        ensures made { OnOk result (StepMade (S.said context.now.is_stopped.now) self.old.poller self.new.poller
+            self.old.own self.new.own) }
+        ensures cut { IfErr result (λ ended. StepCut (S.said context.now.is_stopped.now) ended.why self.old.poller self.new.poller
+            self.old.own self.new.own) }
         ensures ran { OnOk result (PollerRan self.old.own self.new.own) }
         ensures ended { IfErr result (λ ended. PollerEnded ended.why self.old.own self.new.own) }
     {
@@ -136,8 +138,10 @@ where
         context: &Context<'_, G, C, R, S>,
         seen: NoFault,
     ) -> Result<(), Ended>
-        ensures made { OnOk result (StepMade (S.said context.now.is_stopped.now) self.old.poller self.new.poller self.old.own self.new.own) }
-        ensures cut { IfErr result (λ ended. StepCut (S.said context.now.is_stopped.now) ended.why self.old.poller self.new.poller self.old.own self.new.own) }
+        ensures made { OnOk result (StepMade (S.said context.now.is_stopped.now) self.old.poller self.new.poller
+            self.old.own self.new.own) }
+        ensures cut { IfErr result (λ ended. StepCut (S.said context.now.is_stopped.now) ended.why self.old.poller self.new.poller
+            self.old.own self.new.own) }
     {
         match self.poll(context, seen) {
             Ok(()) => self.run_turns(context),
@@ -151,9 +155,11 @@ where
         context: &Context<'_, G, C, R, S>,
         _seen: NoFault,
     ) -> Result<(), Ended>
-        ensures made { OnOk result (RoundMade (S.said context.now.is_stopped.now) self.old.poller self.new.poller self.old.own self.new.own) }
+        ensures made { OnOk result (RoundMade (S.said context.now.is_stopped.now) self.old.poller self.new.poller
+            self.old.own self.new.own) }
         ensures closed { OnOk result (EndedEarly (length self.new.poller.table) self.new.own ⊎ ListensToOpen self.new.poller) }
-        ensures cut { IfErr result (λ ended. RoundCut (S.said context.now.is_stopped.now) ended.why self.old.poller self.new.poller self.old.own self.new.own) }
+        ensures cut { IfErr result (λ ended. RoundCut (S.said context.now.is_stopped.now) ended.why self.old.poller self.new.poller
+            self.old.own self.new.own) }
     {
         self.stop_if_asked(context);
         let polled = poller_round(
@@ -201,7 +207,8 @@ where
     ) -> Result<Option<Worked>, Ended>
         ensures ran { IfOk result (λ worked. OnSome worked (OwnTurnsRan 1 [] self.old.own self.new.own)) }
         ensures none { IfOk result (λ worked. worked ≡ None → NoOwnTurn self.old.own × (self.new.own ≡ self.old.own)) }
-        ensures cut { IfErr result (λ ended. OwnTurnsRan 1 (faults_by ended.why) self.old.own self.new.own × WornEnd ended.why self.new.own) }
+        ensures cut { IfErr result (λ ended. OwnTurnsRan 1 (faults_by ended.why) self.old.own self.new.own
+            × WornEnd ended.why self.new.own) }
         ensures poller { self.new.poller ≡ record self.old.poller { heavy = self.new.poller.heavy } }
     {
         let worked = own_turn(
