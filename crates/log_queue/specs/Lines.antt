@@ -2,6 +2,10 @@
 use Rattle.std.specs.Prelude.{◌≡◌, ℕ, ◌+◌, ◌-◌, ◌<◌, ◌≤◌, Bool, true, false, List, [], ◌++◌, length, take, codes}
 use Rattle.std.specs.Fmt.{decimal}
 use Rattle.std.specs.Str.{IsCharBoundary}
+use Rattle.log.specs.declared.level.Level.{Level}
+use Rattle.log.specs.declared.level.Level.TheVariants.{Error, Warn, Info}
+use Rattle.log_queue.specs.declared.sink.Form.{Form}
+use Rattle.log_queue.specs.declared.sink.Form.TheVariants.{Plain, Journal}
 
 -- a line's text, and whether more was to follow that did not fit
 pub record LineState : Type 0 where
@@ -46,3 +50,14 @@ left_out_text count = codes "log: " ++ (decimal count ++ codes " lines left out"
 pub data CountStep : Type 0 where
   Added : CountStep
   Taken : ℕ → CountStep
+
+-- the priority of a line, as syslog(3) counts them: err, warning, info and debug
+abbrev pub priority_of : Level → List ℕ
+priority_of Error = codes "<3>"
+priority_of Warn = codes "<4>"
+priority_of Info = codes "<6>"
+priority_of _ = codes "<7>"
+
+abbrev pub mark_of : Form → Level → List ℕ
+mark_of Plain level = []
+mark_of Journal level = priority_of level

@@ -12,22 +12,23 @@
 //!
 //! # Inside
 //!
-//! Lines left out are counted and taken by a type that has no step but these (`Missing`). The writer ends only after
-//! a look at the queue that found it closed, and takes lines after that look (`write_waiting` requires the look by
-//! its type); it sleeps only after a look that it had announced, and that found the queue open and no line (`sleep`).
+//! [`ParkedQueue`] is what the log and a recording have in common: bounded queues for a thread that writes, which
+//! sleeps only after it has announced that and then found them open and empty, and ends only with a value that it gets
+//! once they were closed and then empty ([`Drained`]). A line that was taken cannot be dropped unwritten
+//! (`Unwritten`). Lines left out are counted and taken by a type that has no step but these (`Missing`).
 #![tactic(auto)]
 
-mod form;
 mod left_out;
 mod limits;
 mod line;
+mod parked;
 mod queue;
 mod sink;
 mod writing;
 
-pub use form::Form;
 pub use limits::{MAX_LINE, MAX_LINES};
 pub use line::{LeftOut, LogLine};
-pub use queue::LogQueue;
-pub use sink::{Direct, Queued};
+pub use parked::{Drain, Drained, ParkedQueue};
+pub use queue::{LogQueue, Written};
+pub use sink::{Direct, Form, Queued};
 pub use writing::write_lines;

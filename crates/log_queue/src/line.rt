@@ -5,6 +5,7 @@ ghost use Rattle.log_queue.specs.Lines.{LineState, IsFirst, IsCut, IsAdded, show
 use crate::limits::MAX_LINE;
 use arrayvec::ArrayString;
 use std::fmt::{self, Display, Write};
+use std::io::Eprint;
 use std::marker::Model;
 
 /// The text of one line, without its line feed. A text of over [`MAX_LINE`] bytes is cut, between two characters, and
@@ -54,6 +55,21 @@ fn first_of(text: &str, most: usize) -> &str
     ensures { IsFirst most text.now result.now }
 {
     &text[..text.floor_char_boundary(most)]
+}
+
+/// A line that was taken to be written. It can be neither copied nor dropped, so it is.
+pub(crate) struct Unwritten(LogLine);
+
+impl Unwritten {
+    pub(crate) fn new(line: LogLine) -> Unwritten {
+        Unwritten(line)
+    }
+
+    /// Writes the line to standard error, by one write. One that cannot be written is lost.
+    pub(crate) fn write(self, rt: &impl Eprint) {
+        let Unwritten(line) = self;
+        let _ = rt.eprintln(line);
+    }
 }
 
 impl Write for LogLine {

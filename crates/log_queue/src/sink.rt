@@ -1,15 +1,39 @@
-// The sink that threads log to.
-ghost use Rattle.std.specs.Prelude.{Some, true, []};
+// How lines begin, and the sinks that they are logged to.
+ghost use Rattle.std.specs.Prelude.{◌≡◌, Some, true, []};
+ghost use Rattle.log_queue.specs.Lines.{mark_of};
 
-use crate::form::Form;
 use crate::line::LogLine;
 use crate::queue::LogQueue;
 use log::kv::Source;
 use log::span::Spans;
-use log::{Line, Log, Metadata, Record};
+use log::{Level, Line, Log, Metadata, Record};
 use std::fmt::{Display, Write};
 use std::io::Eprint;
 use std::sync::Wait;
+
+/// How the lines of the log begin.
+#[derive(Clone, Copy)]
+pub enum Form {
+    /// With the level.
+    Plain,
+    /// With the priority before that, by which the journal of systemd files a line (sd-daemon(3)).
+    Journal,
+}
+
+impl Form {
+    /// What stands before a line of this level.
+    fn mark(self, level: Level) -> &'static str
+        ensures { result.now ≡ mark_of self level }
+    {
+        match (self, level) {
+            (Form::Plain, _) => "",
+            (Form::Journal, Level::Error) => "<3>",
+            (Form::Journal, Level::Warn) => "<4>",
+            (Form::Journal, Level::Info) => "<6>",
+            (Form::Journal, _) => "<7>",
+        }
+    }
+}
 
 /// Puts each record into the queue as the line that a console would show. It takes no memory, and no system call
 /// unless the writer sleeps.

@@ -1,0 +1,173 @@
+// Items that wait for the thread that writes them, and how it sleeps and ends.
+ghost use Rattle.std.specs.Prelude.{◌≡◌, ◌<◌, IfSome, map, true, false};
+ghost use Rattle.crossbeam_queue.specs.Passes.{queue_capacity};
+
+use crossbeam_queue::ArrayQueue;
+use std::marker::Model;
+use std::sync::Wait;
+use std::sync::atomic::{AtomicBool, Ordering};
+use std::thread::Parker;
+use std::time::Duration;
+
+/// A look at the marks before the queues are looked at. If it shows that they were closed, every item that was put
+/// before the close is found after it.
+#[derive(Drop)]
+struct Look {
+    is_closed: bool,
+    /// Whether the writer had announced before that it goes to sleep. An item that is put after such a look wakes it.
+    is_last: bool,
+}
+
+/// All queues were found empty after a look. It cannot be copied.
+#[derive(Drop)]
+struct FoundEmpty(Look);
+
+/// The queues were closed, and then found empty. Only [`ParkedQueue::drain`] makes one, and it cannot be copied.
+#[derive(Drop)]
+pub struct Drained {
+    empty: FoundEmpty,
+    ghost closed: { empty.0.is_closed ≡ true },
+}
+
+/// Bounded queues of items, each oldest first, between the threads that put them and one that writes them. That one
+/// sleeps while there are none, and ends only after it found them closed and then empty.
+///
+/// In a clause it is the capacities of the queues.
+#[derive(Drop)]
+pub struct ParkedQueue<T: Drop, const QUEUES: usize> {
+    queues: [ArrayQueue<T>; QUEUES],
+    is_closed: AtomicBool,
+    /// The writer sleeps, or looks for the last time before it does, and nobody has woken it yet.
+    is_asleep: AtomicBool,
+    /// Where the writer waits.
+    writer: Parker,
+}
+
+/// What a writer does with the items.
+pub trait Drain {
+    type Error;
+
+    /// Writes items until it finds none. Returns whether there was one.
+    fn drain(&mut self) -> Result<bool, Self::Error>;
+}
+
+impl<T: Drop, const QUEUES: usize> Model for ParkedQueue<T, QUEUES> {
+    ghost use Rattle.std.specs.Prelude.{ℕ, List, map};
+    ghost use Rattle.crossbeam_queue.specs.Passes.{queue_capacity};
+
+    ghost Value = { List ℕ };
+
+    ghost view = { λ parked. map queue_capacity parked.queues };
+}
+
+impl<T: Drop, const QUEUES: usize> ParkedQueue<T, QUEUES> {
+    /// Queues that nothing else uses.
+    pub fn new(queues: [ArrayQueue<T>; QUEUES]) -> ParkedQueue<T, QUEUES>
+        ensures { result ≡ map queue_capacity queues }
+    {
+        ParkedQueue {
+            queues,
+            is_closed: AtomicBool::new(false),
+            is_asleep: AtomicBool::new(false),
+            writer: Parker::new(),
+        }
+    }
+
+    /// Puts an item into a queue after the others, and wakes a writer that sleeps. A writer that has found items a
+    /// moment ago looks by itself, so that most items cost no system call. Returns whether there was room.
+    pub fn put(&self, rt: &impl Wait, at: usize, item: T) -> bool
+        requires { at < QUEUES }
+    {
+        let is_put = self.queues[at].push(rt, item).is_ok();
+        if is_put {
+            self.wake();
+        }
+        is_put
+    }
+
+    /// Wakes the writer if it sleeps. Only one of those who put items meanwhile does.
+    pub(crate) fn wake(&self) {
+        // Pairs with `announce`. A put pushes and then reads the mark; the writer sets it and then looks. So one of
+        // the two sees the other's step.
+        if self.is_asleep.load(Ordering::SeqCst) && self.is_asleep.swap(false, Ordering::SeqCst) {
+            self.writer.unpark();
+        }
+    }
+
+    /// The oldest item of a queue.
+    pub fn take(&self, rt: &impl Wait, at: usize) -> Option<T>
+        requires { at < QUEUES }
+    {
+        self.queues[at].pop(rt)
+    }
+
+    /// Lets the writer end once every item is written, and wakes it. What is put later may not be written.
+    pub fn close(&self) {
+        self.is_closed.store(true, Ordering::SeqCst);
+        self.writer.unpark();
+    }
+
+    /// Has a writer drain the queues until they are closed and then empty. After it found items it rests for so long,
+    /// so that those who put items meanwhile need not wake it.
+    pub fn drain<R: Wait, W: Drain>(
+        &self,
+        rt: &R,
+        writer: &mut W,
+        rest: Duration,
+    ) -> Result<Drained, W::Error> {
+        let mut is_idle = false;
+        for _look in rt.forever() {
+            let look = self.look(is_idle);
+            let some = writer.drain()?;
+            if let Some(empty) = self.found_empty(look) {
+                if empty.0.is_closed {
+                    return Ok(Drained { empty });
+                }
+                if empty.0.is_last {
+                    self.sleep(rt, empty);
+                }
+            }
+            if some {
+                self.writer.park_timeout(rt, rest);
+            }
+            is_idle = !is_idle && !some;
+        }
+        unreachable!()
+    }
+
+    /// Looks whether the queues were closed, after the writer has announced that it goes to sleep, if it does.
+    fn look(&self, is_last: bool) -> Look
+        ensures { result.is_last ≡ is_last }
+    {
+        if is_last {
+            self.is_asleep.store(true, Ordering::SeqCst);
+        }
+        Look {
+            is_closed: self.is_closed.load(Ordering::SeqCst),
+            is_last,
+        }
+    }
+
+    /// Whether all queues are empty, after a look.
+    fn found_empty(&self, look: Look) -> Option<FoundEmpty>
+        ensures { IfSome result (λ empty. empty.0 ≡ look) }
+    {
+        for queue in &self.queues {
+            if !queue.is_empty() {
+                return None;
+            }
+        }
+        Some(FoundEmpty(look))
+    }
+
+    /// The writer sleeps until an item is put or the queues are closed. It may only once it has announced that and
+    /// then found them open and empty: else it could sleep beside an item.
+    fn sleep(&self, rt: &impl Wait, empty: FoundEmpty)
+        requires last { empty.0.is_last ≡ true }
+        requires open { empty.0.is_closed ≡ false }
+    {
+        let _empty = empty;
+        self.writer.park(rt);
+        self.is_asleep.store(false, Ordering::SeqCst);
+    }
+}
