@@ -1,43 +1,57 @@
 // A clock that records what it tells.
-use crate::recorder::Recorder;
+ghost use Rattle.std.specs.Prelude.{◌≡◌, IsTrue, [], ◌∷◌};
+ghost use Rattle.records.specs.declared.act.Act.TheVariants.{Second};
+ghost use Rattle.recording.specs.Records.{Beside, Records};
+
+use crate::recorder::{Begun, Inner, Recorder, Sink};
 use dispatch::Clock;
-use log::Log;
 use records::Act;
-use std::sync::Wait;
 
 /// A clock that tells what the one in it tells, and records it if there is an idle limit: for nothing else does a
 /// replay need it.
-#[derive(Drop)]
-pub struct RecordedClock<'r, C, R> {
-    inner: &'r C,
-    recorder: Recorder<'r, R>,
+pub struct RecordedClock<'r, C, S: Sink> {
+    inner: Inner<&'r C>,
+    recorder: Recorder<S>,
     has_limit: bool,
 }
 
-impl<'r, C, R> RecordedClock<'r, C, R> {
-    pub fn new(
-        inner: &'r C,
-        recorder: Recorder<'r, R>,
-        has_limit: bool,
-    ) -> RecordedClock<'r, C, R> {
+impl<'r, C, S: Sink> RecordedClock<'r, C, S> {
+    pub fn new(inner: &'r C, recorder: Recorder<S>, has_limit: bool) -> RecordedClock<'r, C, S> {
         RecordedClock {
-            inner,
+            inner: Inner::new(inner),
             recorder,
             has_limit,
         }
     }
 }
 
-impl<C: Clock, R: Wait + Log> Clock for RecordedClock<'_, C, R> {
-    ghost tells = { λ clock second. C.tells clock.inner.now second };
+impl<C, S: Sink> Drop for RecordedClock<'_, C, S> {
+    fn drop(self) {
+        let RecordedClock {
+            inner,
+            recorder,
+            has_limit: _,
+        } = self;
+        let begun = Begun::unrecorded();
+        inner.end(&begun);
+        begun.skip();
+        drop(recorder);
+    }
+}
+
+impl<C: Clock, S: Sink> Clock for RecordedClock<'_, C, S> {
+    ghost tells = { λ clock second. C.tells clock.inner.now second
+        × (IsTrue clock.has_limit → Beside S.did (Records S.did (Second second ∷ [])) clock.recorder.sink) };
 
     fn second(&self) -> u64 {
-        if !self.has_limit {
-            return self.inner.second();
-        }
-        let before = self.recorder.before();
-        let second = self.inner.second();
-        self.recorder.record(before, Act::Second(second));
+        let mut recorder = self.recorder.another();
+        let begun = if self.has_limit {
+            recorder.begin()
+        } else {
+            Begun::unrecorded()
+        };
+        let second = self.inner.shown(&begun).second();
+        recorder.record(begun, Act::Second(second));
         second
     }
 }

@@ -1,33 +1,35 @@
 // A front that records what comes from it.
-ghost use Rattle.std.specs.Prelude.{◌≡◌, IfOk, vec_len};
+ghost use Rattle.std.specs.Prelude.{◌≡◌, ◌≢◌, ◌≤◌, Some, None, true, false, [], ◌∷◌, IfOk, IfErr, OnErr, vec_len, vec_capacity};
+ghost use Rattle.std.specs.IoError.{error_kind};
+ghost use Rattle.std.specs.declared.io.ErrorKind.TheVariants.{Interrupted};
+ghost use Rattle.records.specs.declared.act.Act.TheVariants as act;
+ghost use Rattle.records.specs.declared.act.Polling.TheVariants as polling;
+ghost use Rattle.recording.specs.Records.{accept_answer, accepted, not_waited, opened as opened_of, polled, Records};
 
-use crate::answers::not_accepted;
-use crate::recorder::Recorder;
+use crate::recorder::{Begun, Inner, Recorder, Sink};
 use crate::wire::RecordedWire;
-use dispatch::{Front, Opened, Unopened};
+use dispatch::{Front, MAX_BATCH, Opened, Unopened};
 use log::Log;
 use records::{Accepted, Act, Opening, Polling};
 use std::alloc::{AllocError, Global};
 use std::io::{self, ErrorKind};
 use std::net::SocketAddr;
-use std::sync::Wait;
 use token::Token;
 
 /// A poller's front that does and promises what the one in it does and promises, and records it.
-#[derive(Drop)]
-pub struct RecordedFront<'r, F, R> {
-    inner: F,
+pub struct RecordedFront<F: Drop, S: Sink> {
+    inner: Inner<F>,
     /// The poller's number.
     poller: usize,
-    recorder: Recorder<'r, R>,
+    recorder: Recorder<S>,
 }
 
 /// A front that records for each of these, in order. Their pollers are numbered from 0.
-pub fn record_all<'r, F: Drop, R>(
+pub fn record_all<F: Drop, S: Sink>(
     alloc: Global,
     mut fronts: Vec<F>,
-    recorder: &Recorder<'r, R>,
-) -> Result<Vec<RecordedFront<'r, F, R>>, AllocError>
+    recorder: &Recorder<S>,
+) -> Result<Vec<RecordedFront<F, S>>, AllocError>
     ensures { IfOk result (λ all. vec_len all ≡ vec_len fronts) }
 {
     let count = fronts.len();
@@ -43,30 +45,72 @@ pub fn record_all<'r, F: Drop, R>(
 }
 
 /// A front that records for this one, as that of a poller's number.
-fn recorded<'r, F, R>(
+fn recorded<F: Drop, S: Sink>(
     inner: F,
     poller: usize,
-    recorder: &Recorder<'r, R>,
-) -> RecordedFront<'r, F, R>
+    recorder: &Recorder<S>,
+) -> RecordedFront<F, S>
     ensures inner { result.inner ≡ inner }
     ensures number { result.poller ≡ poller }
 {
     RecordedFront {
-        inner,
+        inner: Inner::new(inner),
         poller,
-        recorder: recorder.again(),
+        recorder: recorder.another(),
+    }
+}
+
+impl<F: Drop, S: Sink> Drop for RecordedFront<F, S> {
+    fn drop(self) {
+        let RecordedFront {
+            inner,
+            poller: _,
+            recorder,
+        } = self;
+        let begun = Begun::unrecorded();
+        inner.end(&begun);
+        begun.skip();
+        drop(recorder);
     }
 }
 
 /// What is recorded of an opening.
-fn told(refusal: Unopened) -> Opening {
-    match refusal {
-        Unopened::Connect => Opening::Connect,
-        Unopened::Register => Opening::Register,
+fn told<T>(opened: &Result<T, Unopened>) -> Opening
+    ensures { result ≡ opened_of opened.now }
+{
+    match opened {
+        Ok(_) => Opening::Opened,
+        Err(Unopened::Connect) => Opening::Connect,
+        Err(Unopened::Register) => Opening::Register,
     }
 }
 
-impl<'r, F: Front, R: Wait + Log> Front for RecordedFront<'r, F, R> {
+/// What an error of accept(2) means.
+fn not_accepted(kind: ErrorKind) -> Accepted
+    ensures { result ≡ accept_answer kind }
+{
+    match kind {
+        ErrorKind::Interrupted
+        | ErrorKind::ConnectionAborted
+        | ErrorKind::NetworkDown
+        | ErrorKind::NetworkUnreachable
+        | ErrorKind::HostUnreachable => Accepted::Again,
+        ErrorKind::WouldBlock => Accepted::Blocked,
+        _ => Accepted::Starved,
+    }
+}
+
+/// What an error of a wait for reports means.
+fn not_waited(kind: ErrorKind) -> Polling
+    ensures { result ≡ not_waited kind }
+{
+    match kind {
+        ErrorKind::Interrupted => Polling::Interrupted,
+        _ => Polling::Failed,
+    }
+}
+
+impl<F: Front + Drop, S: Sink> Front for RecordedFront<F, S> {
     ghost reported = { λ f. F.reported f.inner };
 
     ghost failed = { λ f. F.failed f.inner };
@@ -79,85 +123,105 @@ impl<'r, F: Front, R: Wait + Log> Front for RecordedFront<'r, F, R> {
 
     ghost woke = { λ waker slot. F.woke waker slot };
 
-    type Client = RecordedWire<'r, F::Client, R>;
+    type Client = RecordedWire<F::Client, S>;
 
-    type Target = RecordedWire<'r, F::Target, R>;
+    type Target = RecordedWire<F::Target, S>;
 
     type Waker = F::Waker;
 
-    fn poll(&mut self, batch: &mut Vec<u64>, wait: bool) -> io::Result<()> {
-        let before = self.recorder.before();
-        let result = self.inner.poll(batch, wait);
+    fn poll(&mut self, batch: &mut Vec<u64>, wait: bool) -> io::Result<()>
+        requires room { MAX_BATCH ≤ vec_capacity batch.old }
+        ensures most { vec_len batch.new ≤ MAX_BATCH }
+        ensures capacity { vec_capacity batch.new ≡ vec_capacity batch.old }
+        ensures reported { batch.new.items ≡ F.reported self.new.inner }
+        ensures listens { F.listens self.new.inner ≡ F.listens self.old.inner }
+        ensures failed { OnErr result (batch.new.items ≡ []) }
+        ensures fault { IfErr result (λ error. error_kind error ≢ Interrupted → F.failed self.new.inner ≡ true) }
+        ensures recorded { Records S.did (polled self.old.poller result batch.new.items) self.old.recorder.sink self.new.recorder.sink }
+    {
         let poller = self.poller;
-        match &result {
-            Ok(()) => self
-                .recorder
-                .record_reports(before, poller, batch.as_slice()),
-            Err(error) if error.kind() == ErrorKind::Interrupted => {
+        let begun = self.recorder.begin();
+        let result = self.inner.during(&begun).poll(batch, wait);
+        let failed = match &result {
+            Ok(()) => {
                 self.recorder
-                    .record(before, Act::Poller(poller, Polling::Interrupted));
+                    .record_reports(begun, poller, batch.as_slice());
+                return result;
             }
-            Err(_) => self
-                .recorder
-                .record(before, Act::Poller(poller, Polling::Failed)),
-        }
+            Err(error) => not_waited(error.kind()),
+        };
+        self.recorder.record(begun, Act::Poller(poller, failed));
         result
     }
 
-    fn accept(&mut self) -> io::Result<RecordedWire<'r, F::Client, R>> {
-        let before = self.recorder.before();
-        let result = self.inner.accept();
+    fn accept(&mut self) -> io::Result<RecordedWire<F::Client, S>>
+        ensures reported { F.reported self.new.inner ≡ F.reported self.old.inner }
+        ensures failed { F.failed self.new.inner ≡ F.failed self.old.inner }
+        ensures listens { F.listens self.new.inner ≡ F.listens self.old.inner }
+        ensures unnamed { IfOk result (λ client. client.name ≡ None) }
+        ensures recorded { Records S.did (act.Poller self.old.poller (polling.Accept (accepted result)) ∷ [])
+            self.old.recorder.sink self.new.recorder.sink }
+    {
+        let begun = self.recorder.begin();
+        let result = self.inner.during(&begun).accept();
         let answer = match &result {
             Ok(_) => Accepted::Taken,
             Err(error) => not_accepted(error.kind()),
         };
         self.recorder
-            .record(before, Act::Poller(self.poller, Polling::Accept(answer)));
+            .record(begun, Act::Poller(self.poller, Polling::Accept(answer)));
         match result {
-            Ok(client) => Ok(RecordedWire::new(client, None, self.recorder.again())),
+            Ok(client) => Ok(RecordedWire::new(client, None, self.recorder.another())),
             Err(error) => Err(error),
         }
     }
 
     fn stop_listening(&mut self) {
-        self.inner.stop_listening();
+        let begun = Begun::unrecorded();
+        self.inner.during(&begun).stop_listening();
+        begun.skip();
     }
 
     fn open<N: Log>(
         &mut self,
         rt: &N,
-        client: &mut RecordedWire<'r, F::Client, R>,
+        client: &mut RecordedWire<F::Client, S>,
         client_token: Token,
         target_token: Token,
-    ) -> Result<Opened<RecordedWire<'r, F::Target, R>>, Unopened> {
+    ) -> Result<Opened<RecordedWire<F::Target, S>>, Unopened>
+        ensures told { IfOk result (λ opened. F.may_tell client.old.inner opened.route) }
+        ensures refused { IfErr result (λ why. F.may_refuse client.old.inner why) }
+        ensures same { F.Client.told client.new.inner ≡ F.Client.told client.old.inner }
+        ensures reported { F.reported self.new.inner ≡ F.reported self.old.inner }
+        ensures failed { F.failed self.new.inner ≡ F.failed self.old.inner }
+        ensures listens { F.listens self.new.inner ≡ F.listens self.old.inner }
+        ensures named { IfOk result (λ opened. (client.new.name ≡ Some client_token) × (opened.target.name ≡ Some target_token)) }
+        ensures recorded { Records S.did
+            (act.Poller self.old.poller (polling.Open client_token.slot client_token.generation (opened_of result)) ∷ [])
+            self.old.recorder.sink self.new.recorder.sink }
+    {
         let (slot, generation) = (client_token.slot(), client_token.generation());
-        let before = self.recorder.before();
-        match self
-            .inner
-            .open(rt, &mut client.inner, client_token, target_token)
-        {
-            Ok(Opened { target, route }) => {
-                client.name = Some(client_token);
-                let polling = Polling::Open(slot, generation, Opening::Opened);
-                self.recorder
-                    .record(before, Act::Poller(self.poller, polling));
-                let target = RecordedWire::new(target, Some(target_token), self.recorder.again());
-                Ok(Opened { target, route })
-            }
-            Err(refusal) => {
-                let polling = Polling::Open(slot, generation, told(refusal));
-                self.recorder
-                    .record(before, Act::Poller(self.poller, polling));
-                Err(refusal)
-            }
-        }
+        let begun = self.recorder.begin();
+        let opened = self.inner.during(&begun).open(
+            rt,
+            client.inner.during(&begun),
+            client_token,
+            target_token,
+        );
+        let polling = Polling::Open(slot, generation, told(&opened));
+        self.recorder
+            .record(begun, Act::Poller(self.poller, polling));
+        let Opened { target, route } = opened?;
+        client.name = Some(client_token);
+        let target = RecordedWire::new(target, Some(target_token), self.recorder.another());
+        Ok(Opened { target, route })
     }
 
     fn wake(waker: &F::Waker, slot: usize) {
         F::wake(waker, slot);
     }
 
-    fn peer(client: &RecordedWire<'r, F::Client, R>) -> Option<SocketAddr> {
-        F::peer(&client.inner)
+    fn peer(client: &RecordedWire<F::Client, S>) -> Option<SocketAddr> {
+        F::peer(client.inner.wire())
     }
 }

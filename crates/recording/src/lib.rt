@@ -13,12 +13,11 @@
 //!
 //! # Inside
 //!
-//! The writer ends only after a look at the queue that found the recording ended, and takes records after that look;
-//! it sleeps as the log's does (`sleep`). A wrapper records the act that it does between two counts (`Before`); the
-//! kind of an error is that by which a turn takes it (`kind_of`).
+//! Only a [`Recorder`] takes counts and makes records, over any [`Sink`]. The count before an act is a value that the
+//! wrapped part asks for and that cannot be dropped (`Begun`, `Inner`), so each act is made after it and recorded. The
+//! writer sleeps and ends as the log's does ([`log_queue::ParkedQueue`]).
 #![tactic(auto)]
 
-mod answers;
 mod clock;
 mod front;
 mod gate;
@@ -32,7 +31,7 @@ pub use clock::RecordedClock;
 pub use front::{RecordedFront, record_all};
 pub use gate::RecordedGate;
 pub use limits::{MAX_RECORDS, QUEUES};
-pub use queue::RecordQueue;
-pub use recorder::Recorder;
+pub use queue::{QueueSink, RecordQueue};
+pub use recorder::{Recorder, Sink};
 pub use wire::RecordedWire;
 pub use writing::write_records;

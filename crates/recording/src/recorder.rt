@@ -1,86 +1,182 @@
-// What a thread records by.
-use crate::queue::RecordQueue;
-use log::{Log, warn};
+// What a thread records by. Only here is a record made, and a wrapped part reached.
+ghost use Rattle.std.specs.Prelude.{◌≡◌, None, [], ◌∷◌};
+ghost use Rattle.std.specs.Borrow.{sem};
+ghost use Rattle.recording.specs.Lending.{LendsInner};
+ghost use Rattle.recording.specs.Records.{reports, Step, Began, Ended, AtOnce, Put, Another, Ends, RecordsAtOnce};
+
+use engine::Wire;
 use records::{Act, Polling, Record};
-use std::sync::Wait;
+use std::marker::Model;
 use token::unpack;
 
-/// Where threads put their records. `rt` is for the queue and for the log.
-#[derive(Drop)]
-pub struct Recorder<'r, R> {
-    rt: &'r R,
-    queue: &'r RecordQueue,
+/// A count that all threads of a relay share, and a queue of records. Each thread has handles of its own.
+///
+/// No clause can name what threads share, so the trait leaves open what a step does. What is proved of a wrapper over
+/// any such sink says which steps it makes on it, in which order, and no other ones.
+pub trait Sink: Drop {
+    // What a step may do: the step with its answer, and the sink before and after.
+    ghost did: { Step → Self → Self → Type 0 };
+
+    /// The count before an act that is about to begin. None: nothing is recorded any more.
+    fn begin(&mut self) -> Option<u64>
+        ensures { did (Began result) self.old self.new };
+
+    /// The count after an act that has ended.
+    fn end(&mut self) -> u64
+        ensures { did (Ended result) self.old self.new };
+
+    /// The counts before and after an act that took no time. None: nothing is recorded any more.
+    fn at_once(&mut self) -> Option<(u64, u64)>
+        ensures { did (AtOnce result) self.old self.new };
+
+    /// Puts a record after the others. If there is no room for it, the recording ends, which is logged once.
+    fn put(&mut self, item: Record)
+        ensures { did (Put item) self.old self.new };
+
+    /// Another handle.
+    fn another(&self) -> Self
+        ensures { did Another self.now result };
 }
 
-/// The count before an act. None if the act is not recorded any more.
-#[derive(Clone, Copy)]
-pub(crate) struct Before(Option<u64>);
+/// What puts a thread's records.
+#[derive(Drop)]
+pub struct Recorder<S> {
+    sink: S,
+}
 
-impl<'r, R> Recorder<'r, R> {
-    /// What records into this queue.
-    pub fn new(rt: &'r R, queue: &'r RecordQueue) -> Recorder<'r, R> {
-        Recorder { rt, queue }
+/// An act has begun, and this was the count before it, if it is recorded. It can be neither copied nor dropped: so
+/// each count before an act is taken for one record.
+pub(crate) struct Begun(Option<u64>);
+
+/// A part that is wrapped. What is done with it is done after the count before it was taken. It cannot be dropped
+/// before that either.
+pub(crate) struct Inner<T>(T);
+
+impl<S: Sink> Recorder<S> {
+    /// What records into this sink.
+    pub fn new(sink: S) -> Recorder<S>
+        ensures { result.sink ≡ sink }
+    {
+        Recorder { sink }
     }
 
-    /// Another one for the same queue.
-    pub fn again(&self) -> Recorder<'r, R> {
+    /// Another one for the same records.
+    pub fn another(&self) -> Recorder<S>
+        ensures { S.did Another self.now.sink result.sink }
+    {
         Recorder {
-            rt: self.rt,
-            queue: self.queue,
+            sink: self.sink.another(),
         }
     }
 
     /// An act is about to begin.
-    pub(crate) fn before(&self) -> Before {
-        if self.queue.is_over() {
-            return Before(None);
-        }
-        Before(Some(self.queue.next()))
+    pub(crate) fn begin(&mut self) -> Begun
+        ensures { S.did (Began result.0) self.old.sink self.new.sink }
+    {
+        Begun(self.sink.begin())
     }
-}
 
-impl<R: Wait + Log> Recorder<'_, R> {
     /// An act that began then has ended.
-    pub(crate) fn record(&self, before: Before, act: Act) {
-        if let Before(Some(before)) = before {
-            let after = self.queue.next();
-            self.put(Record { before, after, act });
+    pub(crate) fn record(&mut self, begun: Begun, act: Act)
+        ensures { Ends S.did begun.0 (act ∷ []) self.old.sink self.new.sink }
+    {
+        let Begun(before) = begun;
+        if let Some(before) = before {
+            let after = self.sink.end();
+            self.sink.put(Record { before, after, act });
         }
     }
 
     /// An act has ended just now that could have no other order than it has: it is recorded as taking no time.
-    pub(crate) fn record_now(&self, act: Act) {
-        if !self.queue.is_over() {
-            let before = self.queue.next_two();
-            let after = before.wrapping_add(1);
-            self.put(Record { before, after, act });
+    pub(crate) fn record_at_once(&mut self, act: Act)
+        ensures { RecordsAtOnce S.did act self.old.sink self.new.sink }
+    {
+        if let Some((before, after)) = self.sink.at_once() {
+            self.sink.put(Record { before, after, act });
         }
     }
 
     /// A wait for reports that began then has given these numbers. Each report has the counts of the wait.
-    pub(crate) fn record_reports(&self, before: Before, poller: usize, numbers: &[u64]) {
-        let Before(Some(before)) = before else {
+    pub(crate) fn record_reports(&mut self, begun: Begun, poller: usize, numbers: &[u64])
+        ensures { Ends S.did begun.0 (reports poller numbers.now) self.old.sink self.new.sink }
+    {
+        let Begun(before) = begun;
+        let Some(before) = before else {
             return;
         };
-        let after = self.queue.next();
-        let gave = Act::Poller(poller, Polling::Gave(numbers.len()));
-        self.put(Record {
-            before,
-            after,
-            act: gave,
-        });
+        let after = self.sink.end();
+        let act = Act::Poller(poller, Polling::Gave(numbers.len()));
+        self.sink.put(Record { before, after, act });
         for number in numbers {
             if let Some(name) = unpack(*number) {
                 let act = Act::Poller(poller, Polling::Reported(name));
-                self.put(Record { before, after, act });
+                self.sink.put(Record { before, after, act });
             }
         }
     }
+}
 
-    /// Puts a record into the queue. If there is no room, the recording ends, which is logged once.
-    pub(crate) fn put(&self, record: Record) {
-        if !self.queue.put(self.rt, record) && self.queue.stop() {
-            warn!(self.rt; target: "relayd", "record: records came faster than they were written, so the recording ends here");
-        }
+impl Begun {
+    /// Of an act that is not recorded.
+    pub(crate) fn unrecorded() -> Begun
+        ensures { result.0 ≡ None }
+    {
+        Begun(None)
+    }
+
+    /// An act that is not recorded has ended.
+    pub(crate) fn skip(self)
+        requires { self.0 ≡ None }
+    {
+        let Begun(_) = self;
+    }
+}
+
+impl<T> Model for Inner<T> {
+    ghost use Rattle.std.specs.Prelude.{◌≡◌};
+
+    ghost Value = { T };
+
+    ghost view = { λ inner. inner.0 };
+}
+
+impl<W: Wire> Inner<W> {
+    /// The wire, for what is not recorded of it.
+    pub(crate) fn wire(&self) -> &W
+        ensures { result.now ≡ self.now }
+    {
+        &self.0
+    }
+}
+
+impl<T> Inner<T> {
+    pub(crate) fn new(part: T) -> Inner<T>
+        ensures { result ≡ part }
+    {
+        Inner(part)
+    }
+
+    /// The part, for an act that has begun.
+    pub(crate) fn during(&mut self, _begun: &Begun) -> &mut T
+        ensures* lends { sem 𝓛 (LendsInner T.row self.entry result) }
+        ensures value { result.now ≡ self.old }
+    {
+        &mut self.0
+    }
+
+    /// The part, for an act that has begun and does not change it.
+    pub(crate) fn shown(&self, _begun: &Begun) -> &T
+        ensures { result.now ≡ self.now }
+    {
+        &self.0
+    }
+
+    /// Drops the part, for an end that has begun.
+    pub(crate) fn end(self, _begun: &Begun)
+    where
+        T: Drop,
+    {
+        let Inner(part) = self;
+        drop(part);
     }
 }

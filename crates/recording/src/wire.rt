@@ -1,148 +1,228 @@
 // A wire that records what is done with it.
-ghost use Rattle.std.specs.Prelude.{◌≡◌};
+ghost use Rattle.std.specs.Prelude.{◌≡◌, None};
+ghost use Rattle.records.specs.declared.act.Made.TheVariants.{Drop};
+ghost use Rattle.std.specs.IoError.{error_kind};
+ghost use Rattle.engine.specs.Classes.{kind_of_error};
+ghost use Rattle.engine.specs.Wires.{counts_alone};
+ghost use Rattle.recording.specs.Records.{answered, made_of, refused, BegunBy, EndedBy, WireRecords, Settled};
 
-use crate::answers::Counts;
-use crate::recorder::{Before, Recorder};
+use crate::recorder::{Begun, Inner, Recorder, Sink};
 use dispatch::Settle;
-use engine::Wire;
-use log::Log;
+use engine::{Class, Wire, class_of};
 use records::{Act, Answer, Made};
-use relay_core::{Kind, Side};
-use std::io;
-use std::sync::Wait;
+use relay_core::{Call, Kind, Side};
+use std::io::{self, ErrorKind};
 use token::Token;
 
-/// A wire that does and promises what the one in it does and promises, and records each call, and its end. It is
-/// recorded from when it has a name on.
-pub struct RecordedWire<'r, W: Drop, R: Wait + Log> {
-    pub(crate) inner: W,
+/// A wire that does and promises what the one in it does and promises, and records each call, and its end. Recording
+/// starts once it has a name.
+pub struct RecordedWire<W: Drop, S: Sink> {
+    pub(crate) inner: Inner<W>,
     /// The name of its end, once its connection is open.
     pub(crate) name: Option<Token>,
-    pub(crate) recorder: Recorder<'r, R>,
+    pub(crate) recorder: Recorder<S>,
 }
 
-impl<'r, W: Drop, R: Wait + Log> RecordedWire<'r, W, R> {
+impl<W: Drop, S: Sink> RecordedWire<W, S> {
     /// A wire that has this name, if any.
-    pub fn new(inner: W, name: Option<Token>, recorder: Recorder<'r, R>) -> RecordedWire<'r, W, R>
-        ensures { result.inner ≡ inner }
+    pub fn new(inner: W, name: Option<Token>, recorder: Recorder<S>) -> RecordedWire<W, S>
+        ensures inner { result.inner ≡ inner }
+        ensures name { result.name ≡ name }
+        ensures recorder { result.recorder ≡ recorder }
     {
         RecordedWire {
-            inner,
+            inner: Inner::new(inner),
             name,
             recorder,
         }
     }
+}
 
-    /// What was done since then.
-    fn record(&self, before: Before, made: Made) {
-        if let Some(name) = self.name {
-            self.recorder.record(before, Act::Wire(name, made));
+/// A wire's counts before a call.
+#[derive(Clone, Copy)]
+struct Counts {
+    faults: u64,
+    blocks: u64,
+}
+
+impl Counts {
+    /// The counts of a wire now.
+    fn of<W: Wire>(wire: &W) -> Counts
+        ensures faults { result.faults ≡ (W.told wire.now).faults }
+        ensures blocks { result.blocks ≡ (W.told wire.now).blocks }
+    {
+        Counts {
+            faults: wire.faults(),
+            blocks: wire.blocks(),
+        }
+    }
+
+    /// What the error of a call means, by which count has risen since then: the rule by which a turn tells the pair.
+    fn refused<W: Wire>(self, wire: &W, error: &io::Error) -> Answer
+        ensures { result ≡ refused (counts_alone self.faults self.blocks) (W.told wire.now) (error_kind error.now) }
+    {
+        if wire.faults() != self.faults {
+            Answer::Failed(kind_of(error.kind()))
+        } else if wire.blocks() != self.blocks {
+            Answer::Blocked
+        } else {
+            Answer::Interrupted
         }
     }
 }
 
-impl<W: Drop, R: Wait + Log> Drop for RecordedWire<'_, W, R> {
+/// How a call failed, by the kind of its error.
+fn kind_of(kind: ErrorKind) -> Kind
+    ensures { result ≡ kind_of_error kind }
+{
+    match class_of(&Call::Shut(Side::Target), kind, true) {
+        Class::Failed(kind) => kind,
+        Class::Interrupted | Class::Blocked => Kind::Other,
+    }
+}
+
+/// An act at the end of this name is about to begin. A count is taken only for what is recorded.
+fn begin<S: Sink>(name: &Option<Token>, recorder: &mut Recorder<S>) -> Begun
+    ensures { BegunBy S.did name.now result.0 recorder.old.sink recorder.new.sink }
+{
+    match name {
+        Some(_) => recorder.begin(),
+        None => Begun::unrecorded(),
+    }
+}
+
+/// It has ended.
+fn end<S: Sink>(name: Option<Token>, recorder: &mut Recorder<S>, begun: Begun, made: Made)
+    requires { name ≡ None → begun.0 ≡ None }
+    ensures { EndedBy S.did name begun.0 made recorder.old.sink recorder.new.sink }
+{
+    match name {
+        Some(name) => recorder.record(begun, Act::Wire(name, made)),
+        None => begun.skip(),
+    }
+}
+
+impl<W: Drop, S: Sink> Drop for RecordedWire<W, S> {
     fn drop(self) {
         let RecordedWire {
             inner,
             name,
-            recorder,
+            mut recorder,
         } = self;
-        // A count is taken only for what is recorded.
-        match name {
-            Some(name) => {
-                let before = recorder.before();
-                drop(inner);
-                recorder.record(before, Act::Wire(name, Made::Drop));
-            }
-            None => drop(inner),
-        }
+        close(inner, name, &mut recorder);
     }
 }
 
-impl<W: Wire + Drop, R: Wait + Log> Wire for RecordedWire<'_, W, R> {
+/// Drops a wire, and records that.
+fn close<W: Drop, S: Sink>(inner: Inner<W>, name: Option<Token>, recorder: &mut Recorder<S>)
+    ensures { WireRecords S.did name Drop recorder.old.sink recorder.new.sink }
+{
+    let begun = begin(&name, recorder);
+    inner.end(&begun);
+    end(name, recorder, begun, Made::Drop);
+}
+
+impl<W: Wire + Drop, S: Sink> Wire for RecordedWire<W, S> {
     ghost told = { λ w. W.told w.inner };
 
-    ghost does = { λ asked given old new. W.does asked given old.inner new.inner };
+    ghost does = { λ asked given old new. W.does asked given old.inner new.inner
+        × WireRecords S.did old.name (made_of asked (answered (W.told old.inner) (W.told new.inner) asked given))
+        old.recorder.sink new.recorder.sink };
 
     fn read(&mut self, buffer: &mut [u8]) -> io::Result<usize> {
         let most = buffer.len();
-        let counts = Counts::of(&self.inner);
-        let before = self.recorder.before();
-        let result = self.inner.read(buffer);
+        let counts = Counts::of(self.inner.wire());
+        let begun = begin(&self.name, &mut self.recorder);
+        let result = self.inner.during(&begun).read(buffer);
         let answer = match &result {
             Ok(0) => Answer::End,
             Ok(count) => Answer::Moved(*count),
-            Err(error) => counts.refused(&self.inner, error),
+            Err(error) => counts.refused(self.inner.wire(), error),
         };
-        self.record(before, Made::Read(most, answer));
+        end(
+            self.name,
+            &mut self.recorder,
+            begun,
+            Made::Read(most, answer),
+        );
         result
     }
 
     fn write(&mut self, offer: &[u8]) -> io::Result<usize> {
-        let counts = Counts::of(&self.inner);
-        let before = self.recorder.before();
-        let result = self.inner.write(offer);
+        let counts = Counts::of(self.inner.wire());
+        let begun = begin(&self.name, &mut self.recorder);
+        let result = self.inner.during(&begun).write(offer);
         let answer = match &result {
             Ok(0) => Answer::Failed(Kind::Zero),
             Ok(count) => Answer::Moved(*count),
-            Err(error) => counts.refused(&self.inner, error),
+            Err(error) => counts.refused(self.inner.wire(), error),
         };
-        self.record(before, Made::Write(offer.len(), answer));
+        end(
+            self.name,
+            &mut self.recorder,
+            begun,
+            Made::Write(offer.len(), answer),
+        );
         result
     }
 
     fn shut_write(&mut self) -> io::Result<()> {
-        let counts = Counts::of(&self.inner);
-        let before = self.recorder.before();
-        let result = self.inner.shut_write();
+        let counts = Counts::of(self.inner.wire());
+        let begun = begin(&self.name, &mut self.recorder);
+        let result = self.inner.during(&begun).shut_write();
         let answer = match &result {
             Ok(()) => Answer::Shut,
-            Err(error) => counts.refused(&self.inner, error),
+            Err(error) => counts.refused(self.inner.wire(), error),
         };
-        self.record(before, Made::Shut(answer));
+        end(self.name, &mut self.recorder, begun, Made::Shut(answer));
         result
     }
 
     fn joined(&mut self) -> io::Result<()> {
-        let counts = Counts::of(&self.inner);
-        let before = self.recorder.before();
-        let result = self.inner.joined();
+        let counts = Counts::of(self.inner.wire());
+        let begun = begin(&self.name, &mut self.recorder);
+        let result = self.inner.during(&begun).joined();
         let answer = match &result {
             Ok(()) => Answer::Joined,
-            Err(error) => counts.refused(&self.inner, error),
+            Err(error) => counts.refused(self.inner.wire(), error),
         };
-        self.record(before, Made::Join(answer));
+        end(self.name, &mut self.recorder, begun, Made::Join(answer));
         result
     }
 
     fn faults(&self) -> u64 {
-        self.inner.faults()
+        self.inner.wire().faults()
     }
 
     fn blocks(&self) -> u64 {
-        self.inner.blocks()
+        self.inner.wire().blocks()
     }
 }
 
-impl<W: Settle + Drop, R: Wait + Log> Settle for RecordedWire<'_, W, R> {
+impl<W: Settle + Drop, S: Sink> Settle for RecordedWire<W, S> {
     ghost settled = { λ w. W.settled w.inner };
 
     /// Both ends are told, the target's last, which alone is recorded.
-    fn settle(&mut self) {
-        self.inner.settle();
+    fn settle(&mut self)
+        ensures same { W.told self.new.inner ≡ W.told self.old.inner }
+        ensures settled { W.settled self.new.inner }
+        ensures recorded { Settled S.did self.old.name self.old.recorder.sink self.new.recorder.sink }
+    {
+        let begun = Begun::unrecorded();
+        self.inner.during(&begun).settle();
+        begun.skip();
         if let Some(name) = self.name {
             if name.side() == Side::Target {
-                self.recorder.record_now(Act::Wire(name, Made::Settle));
+                self.recorder.record_at_once(Act::Wire(name, Made::Settle));
             }
         }
     }
 
     fn error(&self) -> Option<i32> {
-        self.inner.error()
+        self.inner.wire().error()
     }
 
     fn is_connected(&self) -> Option<bool> {
-        self.inner.is_connected()
+        self.inner.wire().is_connected()
     }
 }

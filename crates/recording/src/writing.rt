@@ -1,10 +1,11 @@
 // The thread that writes.
-ghost use Rattle.std.specs.Prelude.{◌≡◌, ◌<◌, IfOk, true};
+ghost use Rattle.std.specs.Prelude.{◌<◌};
 
-use crate::limits::{MAX_RUN, MAX_WRITE, QUEUES};
-use crate::queue::{Found, Look, RecordQueue};
+use crate::limits::{MAX_RUN, MAX_WRITE, QUEUES, soon};
+use crate::queue::RecordQueue;
 use arrayvec::ArrayString;
 use log::{Log, warn};
+use log_queue::Drain;
 use records::{Act, Header, MAX_RECORD, Record};
 use std::alloc::Global;
 use std::fmt::Write as _;
@@ -39,58 +40,47 @@ fn write_recording<R: Wait, W: Write + Drop>(
 ) -> io::Result<()> {
     let mut file = BufWriter::with_capacity(alloc, MAX_WRITE, file)?;
     writeln!(file, "{header}")?;
-    for _look in rt.forever() {
-        let found = write_waiting(rt, queue, queue.look(), &mut file)?;
-        if let Some(last) = found.look.last {
-            return write_last(queue, last, &mut file);
-        }
-        if found.some {
-            queue.rest(rt);
-        } else {
-            let found = write_waiting(rt, queue, queue.look_last(), &mut file)?;
-            sleep_unless_found(rt, queue, found);
-        }
-    }
-    unreachable!()
+    Writer { rt, queue, file }.write()
 }
 
-/// Sleeps where nothing was found by the last look.
-fn sleep_unless_found(rt: &impl Wait, queue: &RecordQueue, found: Found)
-    requires { found.look.is_asleep ≡ true }
-{
-    if found.look.last.is_none() && !found.some {
-        queue.sleep(rt, found);
+/// What writes the records of a queue.
+#[derive(Drop)]
+struct Writer<'a, R, W> {
+    rt: &'a R,
+    queue: &'a RecordQueue,
+    file: W,
+}
+
+impl<R: Wait, W: Write> Writer<'_, R, W> {
+    /// Writes all records, and then the last one.
+    fn write(&mut self) -> io::Result<()> {
+        let (rt, queue) = (self.rt, self.queue);
+        let drained = queue.waiting.drain(rt, self, soon())?;
+        let (before, after, act) = (queue.next(1), queue.next(1), queue.last(drained));
+        write_line(&Record { before, after, act }, &mut self.file)?;
+        self.file.flush()
     }
 }
 
-/// Writes the records that wait, after a look at the queue.
-fn write_waiting<R: Wait, W: Write>(
-    rt: &R,
-    queue: &RecordQueue,
-    look: Look,
-    file: &mut W,
-) -> io::Result<Found>
-    ensures { IfOk result (λ found. found.look ≡ look) }
-{
-    let some = write_all(rt, queue, file)?;
-    file.flush()?;
-    Ok(Found { look, some })
-}
+impl<R: Wait, W: Write> Drain for Writer<'_, R, W> {
+    type Error = io::Error;
 
-/// Writes records until a look at each queue finds none, and answers whether there was one.
-fn write_all<R: Wait, W: Write>(rt: &R, queue: &RecordQueue, file: &mut W) -> io::Result<bool> {
-    let mut found = false;
-    for _look in rt.forever() {
-        let mut some = false;
-        for at in 0..QUEUES {
-            some = write_run(rt, queue, at, file)? || some;
+    /// Writes records until a look at each queue finds none.
+    fn drain(&mut self) -> io::Result<bool> {
+        let mut found = false;
+        for _look in self.rt.forever() {
+            let mut some = false;
+            for at in 0..QUEUES {
+                some = write_run(self.rt, self.queue, at, &mut self.file)? || some;
+            }
+            if !some {
+                break;
+            }
+            found = true;
         }
-        if !some {
-            return Ok(found);
-        }
-        found = true;
+        self.file.flush()?;
+        Ok(found)
     }
-    Ok(found)
 }
 
 /// Writes records of one queue, and answers whether there was one. This many at most, since threads may put them
@@ -104,19 +94,12 @@ fn write_run<R: Wait, W: Write>(
     requires { at < 4 }
 {
     for written in 0..MAX_RUN {
-        let Some(record) = queue.take(rt, at) else {
+        let Some(record) = queue.waiting.take(rt, at) else {
             return Ok(written > 0);
         };
         write_line(&record, file)?;
     }
     Ok(true)
-}
-
-/// Writes the last record.
-fn write_last<W: Write>(queue: &RecordQueue, act: Act, file: &mut W) -> io::Result<()> {
-    let (before, after) = (queue.next(), queue.next());
-    write_line(&Record { before, after, act }, file)?;
-    file.flush()
 }
 
 /// Writes the line of a record.

@@ -6,7 +6,9 @@ use crate::making::split_of;
 use crate::serving::{Lent, run_on};
 use dispatch::{Clock, Front, Gate, ServerFault, Split};
 use log::Log;
-use recording::{RecordQueue, RecordedClock, RecordedGate, Recorder, record_all, write_records};
+use recording::{
+    QueueSink, RecordQueue, RecordedClock, RecordedGate, Recorder, record_all, write_records,
+};
 use records::Header;
 use relay_log::log_no_thread;
 use settings::Settings;
@@ -133,14 +135,14 @@ where
     F::Waker: Send + Sync + Drop,
     requires { length fronts.items ≡ pollers_for settings.now.slots settings.now.workers }
 {
-    let recorder = Recorder::new(rt, queue);
+    let recorder = Recorder::new(QueueSink { rt, queue });
     let fronts = match record_all(alloc, fronts, &recorder) {
         Ok(fronts) => fronts,
         Err(AllocError) => return Outcome::refused(ServerFault::NoMemory),
     };
     let lent = Lent {
-        gate: &RecordedGate::new(lent.gate, recorder.again()),
-        clock: &RecordedClock::new(lent.clock, recorder.again(), settings.idle > 0),
+        gate: &RecordedGate::new(lent.gate, recorder.another()),
+        clock: &RecordedClock::new(lent.clock, recorder.another(), settings.idle > 0),
         is_stopped: lent.is_stopped,
         statistics: lent.statistics,
         patience: lent.patience,

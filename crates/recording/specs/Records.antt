@@ -1,0 +1,154 @@
+-- What is put into a recording: what a call is recorded as, and which steps that takes. Part of the promises.
+use Rattle.std.specs.Prelude.{ℕ, ◌==◌, if◌then◌else◌, List, [], ◌∷◌, ◌++◌, length, Option, Some, None, Result, Ok, Err, ◌≡◌}
+use Rattle.std.specs.declared.io.Error.{Error}
+use Rattle.std.specs.IoError.{error_kind}
+use Rattle.std.specs.declared.io.ErrorKind.{ErrorKind}
+use Rattle.std.specs.declared.io.ErrorKind.TheVariants.{Interrupted, ConnectionAborted, NetworkDown, NetworkUnreachable, HostUnreachable, WouldBlock}
+use Rattle.token.specs.Names.{EndName}
+use Rattle.token.specs.Numbers.{name_of}
+use Rattle.token.specs.declared.name.Name.{Name}
+use Rattle.relay_core.specs.declared.Kind.TheVariants as kind
+use Rattle.engine.specs.Asked.{Asked, Given, Brought, Took, Done, Refused}
+use Rattle.engine.specs.Asked as ask
+use Rattle.engine.specs.Classes.{kind_of_error}
+use Rattle.engine.specs.Wires.{WireView}
+use Rattle.dispatch.specs.declared.front.Unopened.{Unopened}
+use Rattle.dispatch.specs.declared.front.Unopened.TheVariants as unopened
+use Rattle.records.specs.declared.act.Accepted.{Accepted}
+use Rattle.records.specs.declared.act.Accepted.TheVariants.{Taken, Again, Blocked, Starved}
+use Rattle.records.specs.declared.act.Act.{Act}
+use Rattle.records.specs.declared.act.Answer.{Answer}
+use Rattle.records.specs.declared.act.Answer.TheVariants as answer
+use Rattle.records.specs.declared.act.Made.{Made}
+use Rattle.records.specs.declared.act.Made.TheVariants as made
+use Rattle.records.specs.declared.act.Opening.{Opening}
+use Rattle.records.specs.declared.act.Opening.TheVariants as opening
+use Rattle.records.specs.declared.act.Polling.{Polling}
+use Rattle.records.specs.declared.act.Polling.TheVariants as polling
+use Rattle.records.specs.declared.act.Record.{Record}
+use Rattle.token.specs.declared.side.Side.{Side}
+use Rattle.token.specs.declared.side.Side.TheVariants.{Client, Target}
+use Rattle.records.specs.declared.act.Act.TheVariants.{Poller, Wire}
+
+-- the classes of `dispatch`, which a poller goes by: a signal, a connection that was given up before it was accepted,
+-- or a network error that the new socket had pending; that none waits; anything else
+abbrev pub accept_answer : ErrorKind → Accepted
+accept_answer Interrupted = Again
+accept_answer ConnectionAborted = Again
+accept_answer NetworkDown = Again
+accept_answer NetworkUnreachable = Again
+accept_answer HostUnreachable = Again
+accept_answer WouldBlock = Blocked
+accept_answer error = Starved
+
+abbrev pub accepted : {T : Type 0} → Result T Error → Accepted
+accepted (Ok client) = Taken
+accepted (Err error) = accept_answer (error_kind error)
+
+abbrev pub opened : {T : Type 0} → Result T Unopened → Opening
+opened (Ok target) = opening.Opened
+opened (Err unopened.Connect) = opening.Connect
+opened (Err unopened.Register) = opening.Register
+
+-- a number of a wait for reports, if it is one's name
+abbrev pub report : ℕ → Option Name → List Act
+report poller (Some name) = Poller poller (polling.Reported name) ∷ []
+report poller None = []
+
+abbrev pub each_report : ℕ → List ℕ → List Act
+each_report poller [] = []
+each_report poller (number ∷ numbers) = report poller (name_of number) ++ each_report poller numbers
+
+-- a wait that gave these numbers
+abbrev pub reports : ℕ → List ℕ → List Act
+reports poller numbers = Poller poller (polling.Gave (length numbers)) ∷ each_report poller numbers
+
+abbrev pub not_waited : ErrorKind → Polling
+not_waited Interrupted = polling.Interrupted
+not_waited error = polling.Failed
+
+-- a wait for reports, and what is in the batch after it
+abbrev pub polled : {T : Type 0} → ℕ → Result T Error → List ℕ → List Act
+polled poller (Ok done) numbers = reports poller numbers
+polled poller (Err error) numbers = Poller poller (not_waited (error_kind error)) ∷ []
+
+-- an error of a wire, by which of its counts has risen
+abbrev pub refused : WireView → WireView → ErrorKind → Answer
+refused old new error =
+    if new.faults == old.faults then (if new.blocks == old.blocks then answer.Interrupted else answer.Blocked)
+    else answer.Failed (kind_of_error error)
+
+-- what a wire answered: a read of no bytes is the end, and a write of none a failure
+abbrev pub answered : WireView → WireView → Asked → Given → Answer
+answered old new asked (Refused error) = refused old new error
+answered old new asked (Brought bytes) = if length bytes == 0 then answer.End else answer.Moved (length bytes)
+answered old new asked (Took n) = if n == 0 then answer.Failed kind.Zero else answer.Moved n
+answered old new ask.Join Done = answer.Joined
+answered old new asked Done = answer.Shut
+
+-- a call of a wire, and its answer
+abbrev pub made_of : Asked → Answer → Made
+made_of (ask.Read most) answer = made.Read most answer
+made_of (ask.Write offer) answer = made.Write (length offer) answer
+made_of ask.Join answer = made.Join answer
+made_of ask.Shut answer = made.Shut answer
+
+-- a step on a thread's handle of the recording, `S`: the count before an act, if anything is recorded still; the count
+-- after it; both, of an act that takes no time; a record that was put; another handle. `did` is what a step makes of `S`
+pub data Step : Type 0 where
+  Began : Option ℕ → Step
+  Ended : ℕ → Step
+  AtOnce : Option (ℕ × ℕ) → Step
+  Put : Record → Step
+  Another : Step
+
+-- these acts were put, in order and nothing else, with these counts
+abbrev pub Puts : {S : Type 0} → (Step → S → S → Type 0) → ℕ → ℕ → List Act → S → S → Type 0
+Puts did before after [] old new = new ≡ old
+Puts did before after (act ∷ acts) old new =
+    (put : _) × did (Put (record { before = before; after = after; act = act })) old put × Puts did before after acts put new
+
+-- acts that began at a count were put with it and with one that was taken then; without it nothing was done
+abbrev pub Ends : {S : Type 0} → (Step → S → S → Type 0) → Option ℕ → List Act → S → S → Type 0
+Ends did None acts old new = new ≡ old
+Ends did (Some before) acts old new = (after : ℕ) × (ended : _) × did (Ended after) old ended × Puts did before after acts ended new
+
+-- a count was taken, and then these acts were put, if anything is recorded still
+abbrev pub Records : {S : Type 0} → (Step → S → S → Type 0) → List Act → S → S → Type 0
+Records did acts old new = (before : Option ℕ) × (begun : _) × did (Began before) old begun × Ends did before acts begun new
+
+-- an act was put with two counts that were taken in one step
+abbrev pub PutsAtOnce : {S : Type 0} → (Step → S → S → Type 0) → Option (ℕ × ℕ) → Act → S → S → Type 0
+PutsAtOnce did None act old new = new ≡ old
+PutsAtOnce did (Some counts) act old new = did (Put (record { before = counts.0; after = counts.1; act = act })) old new
+
+abbrev pub RecordsAtOnce : {S : Type 0} → (Step → S → S → Type 0) → Act → S → S → Type 0
+RecordsAtOnce did act old new = (counts : Option (ℕ × ℕ)) × (at : _) × did (AtOnce counts) old at × PutsAtOnce did counts act at new
+
+-- it was done by another handle
+abbrev pub Beside : {S : Type 0} → (Step → S → S → Type 0) → (S → S → Type 0) → S → Type 0
+Beside did done sink = (other : _) × (new : _) × did Another sink other × done other new
+
+-- an act at an end begins; nothing is counted for one that has no name yet
+abbrev pub BegunBy : {S : Type 0} → (Step → S → S → Type 0) → Option EndName → Option ℕ → S → S → Type 0
+BegunBy did None before old new = (before ≡ None) × (new ≡ old)
+BegunBy did (Some name) before old new = did (Began before) old new
+
+-- it has ended
+abbrev pub EndedBy : {S : Type 0} → (Step → S → S → Type 0) → Option EndName → Option ℕ → Made → S → S → Type 0
+EndedBy did None before made old new = new ≡ old
+EndedBy did (Some name) before made old new = Ends did before (Wire name made ∷ []) old new
+
+-- what was done with the wire of an end; nothing is put of one that has no name yet
+abbrev pub WireRecords : {S : Type 0} → (Step → S → S → Type 0) → Option EndName → Made → S → S → Type 0
+WireRecords did None made old new = new ≡ old
+WireRecords did (Some name) made old new = Records did (Wire name made ∷ []) old new
+
+-- the end of a turn is put by the target's wire alone
+abbrev pub SettledAt : {S : Type 0} → (Step → S → S → Type 0) → EndName → Side → S → S → Type 0
+SettledAt did name Client old new = new ≡ old
+SettledAt did name Target old new = RecordsAtOnce did (Wire name made.Settle) old new
+
+abbrev pub Settled : {S : Type 0} → (Step → S → S → Type 0) → Option EndName → S → S → Type 0
+Settled did None old new = new ≡ old
+Settled did (Some name) old new = SettledAt did name name.side old new
