@@ -1,3 +1,5 @@
 -- The crate's definitions.
 pub mod Counts
+pub mod Histories
 pub mod Sequences
+pub mod Traces

@@ -1,5 +1,6 @@
 //! The calls of a turn, and what the network did before them. That is told as late as can be: bytes and ends arrive
 //! just before the call that shows them, and room comes just before the write that takes it.
+use crate::action::offered;
 use crate::flaw::Flaw;
 use crate::player::{Phase, Player};
 use crate::recording::Numbered;
@@ -112,7 +113,7 @@ impl Stage {
         let call = pair.next()?;
         let bytes = match call {
             Call::Read(_, most) => most,
-            Call::Write(_) => offer_of(pair, call),
+            Call::Write(_) => offered(pair, call),
             Call::Join(_) | Call::Shut(_) => 0,
         };
         Some(Asked { call, bytes })
@@ -174,15 +175,6 @@ fn missing(end: &End, reply: Reply) -> Option<Change> {
         Reply::Wrote(_, _) | Reply::Joined if !end.has_room() => Some(Change::Room),
         Reply::Failed(kind) if kind != Kind::Zero && !end.has_err() => Some(Change::Reset),
         _ => None,
-    }
-}
-
-/// How many bytes a write offers: those of the lead, or else all in the ring.
-fn offer_of(pair: &Pair, call: Call) -> usize {
-    let direction = call.direction();
-    match pair.lead_len(direction) {
-        0 => pair.ring_len(direction),
-        length => length,
     }
 }
 

@@ -7,10 +7,12 @@
 //! listener, both on the world of `stage`. `told` gathers what came of it, and `telling` writes it.
 #![tactic(auto)]
 
+mod action;
 mod calls;
 mod clock;
 mod crew;
 mod flaw;
+mod history;
 mod listener;
 mod opening;
 mod order;
@@ -26,6 +28,7 @@ mod stage;
 mod swept;
 mod telling;
 mod told;
+mod trace;
 mod turns;
 
 pub use replaying::OnMachine;

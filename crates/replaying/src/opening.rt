@@ -3,6 +3,7 @@ ghost use Rattle.std.specs.Prelude.{◌≤◌, IfSome};
 ghost use Rattle.world.specs.States.{IsWithinLimits};
 
 use crate::flaw::Flaw;
+use crate::history::History;
 use crate::player::{Phase, Player, State};
 use crate::recording::Numbered;
 use crate::rounds::polled;
@@ -10,7 +11,7 @@ use crate::told::Told;
 use records::{Act, Header, Made, Opening, Record};
 use std::mem;
 use token::{MAX_GENERATION, Side};
-use world::{Event, Lead, Limits, Polling as Polled, Tape};
+use world::{Event, Lead, Limits, Polling as Polled};
 
 /// The lengths that a line about a client has.
 const LEAST_LEAD: usize = 32;
@@ -44,7 +45,7 @@ impl Player<'_> {
         ) else {
             return Err(Flaw::Because("no connection has such a generation"));
         };
-        let tape = Tape::new(self.stage.alloc, limits)?;
+        let tape = History::new(self.stage.alloc, limits)?;
         told.take(self.slot, mem::replace(&mut self.stage.tape, tape))?;
         self.enter(record, generation);
         self.stage.come_in()?;

@@ -1,10 +1,14 @@
 //! One slot is played, act by act.
+ghost use Rattle.std.specs.Prelude.{OnOk};
+ghost use Rattle.replaying.specs.Traces.{AreRuns, IsConnection};
+
 use crate::clock::Clock;
 use crate::flaw::Flaw;
 use crate::posts::{Post, Posts, posts_at};
 use crate::recording::{Last, Numbered, Recording};
 use crate::stage::Stage;
 use crate::told::Told;
+use crate::trace::{connection_len, is_connection};
 use records::{Act, Made, Opening, Polling, Record};
 use token::{Side, Token};
 
@@ -129,9 +133,47 @@ impl<'a> Player<'a> {
         }
     }
 
-    /// Plays all acts of the slot.
-    pub(crate) fn play(&mut self, told: &mut Told) -> Result<(), Flaw> {
-        for _act in 0..self.next.len() {
+    /// Plays all records of the slot.
+    pub(crate) fn play(
+        &mut self,
+        recording: &Recording,
+        records: &'a [Numbered],
+        told: &mut Told,
+    ) -> Result<(), Flaw>
+        ensures runs { OnOk result (AreRuns recording.now.header recording.now.failed records.now) }
+    {
+        self.play_connections(recording, records, told)?;
+        self.end_all()
+    }
+
+    fn play_connections(
+        &mut self,
+        recording: &Recording,
+        records: &'a [Numbered],
+        told: &mut Told,
+    ) -> Result<(), Flaw>
+        ensures runs { OnOk result (AreRuns recording.now.header recording.now.failed records.now) }
+    {
+        let mut rest = records;
+        while !rest.is_empty() {
+            let (connection, next) = rest.split_at(connection_len(rest));
+            self.play_connection(recording, connection, told)?;
+            rest = next;
+        }
+        Ok(())
+    }
+
+    /// Plays the records of one connection, and compares them with what happened in its world.
+    fn play_connection(
+        &mut self,
+        recording: &Recording,
+        records: &'a [Numbered],
+        told: &mut Told,
+    ) -> Result<(), Flaw>
+        ensures runs { OnOk result (IsConnection recording.now.header recording.now.failed records.now) }
+    {
+        self.next = records;
+        for _act in 0..records.len() {
             let Some((first, next)) = self.next.split_first() else {
                 break;
             };
@@ -139,6 +181,15 @@ impl<'a> Player<'a> {
             self.next = next;
             self.act(first.record, told)?;
         }
+        if is_connection(self.stage.alloc, recording, &self.stage.tape, records)? {
+            Ok(())
+        } else {
+            Err(Flaw::Because("the records are not those of the run"))
+        }
+    }
+
+    /// Nothing more happens in the slot.
+    fn end_all(&mut self) -> Result<(), Flaw> {
         if self.score.rests {
             self.rest()?;
         }

@@ -1,4 +1,7 @@
 //! A recording, as it is read.
+ghost use Rattle.std.specs.Prelude.{◌≡◌};
+ghost use Rattle.replaying.specs.Traces.{records_at, records_of};
+
 use dispatch::Split;
 use records::{Act, Header, Polling, Record};
 use settings::pollers_for;
@@ -125,7 +128,9 @@ impl Recording {
     }
 
     /// What happened at a slot.
-    pub(crate) fn slot(&self, slot: usize) -> &[Numbered] {
+    pub(crate) fn slot(&self, slot: usize) -> &[Numbered]
+        ensures { result.now ≡ records_of self.now slot }
+    {
         if slot < self.header.slots {
             self.list(slot)
         } else {
@@ -148,7 +153,9 @@ impl Recording {
         self.poller(self.header.pollers)
     }
 
-    pub(crate) fn list(&self, at: usize) -> &[Numbered] {
+    pub(crate) fn list(&self, at: usize) -> &[Numbered]
+        ensures { result.now ≡ records_at self.now at }
+    {
         match self.lists.get(at) {
             Some(list) => list.as_slice(),
             None => &[],

@@ -1,5 +1,7 @@
 //! A whole recording.
+ghost use Rattle.std.specs.Prelude.{OnOk};
 ghost use Rattle.world.specs.States.{IsWithinLimits};
+ghost use Rattle.replaying.specs.Traces.{AreRuns, records_of};
 
 use crate::clock::Clock;
 use crate::crew::check_crew;
@@ -152,20 +154,25 @@ fn play_poller(
     let mut stage = Stage::new(alloc, Stage::LIMITS)?;
     for numbered in score.recording.poller(poller) {
         if let Err(flaw) = stage.listen(&numbered.record.act) {
-            return told.end(flaw, Whose::Poller(poller), *numbered, stage);
+            told.end(Whose::Poller(poller), *numbered, stage);
+            return Err(flaw);
         }
     }
     told.take(0, stage.tape)
 }
 
 /// Plays what happened at a slot.
-fn play_slot(alloc: Global, score: Score<'_>, told: &mut Told, slot: usize) -> Result<(), Flaw> {
-    let Some(first) = score.recording.slot(slot).first() else {
+fn play_slot(alloc: Global, score: Score<'_>, told: &mut Told, slot: usize) -> Result<(), Flaw>
+    ensures runs { OnOk result (AreRuns score.entry.recording.now.header score.entry.recording.now.failed
+        (records_of score.entry.recording.now slot)) }
+{
+    let records = score.recording.slot(slot);
+    let Some(first) = records.first() else {
         return Ok(());
     };
     let stage = Stage::new(alloc, limits_at_first(&score.recording.header))?;
     let mut player = Player::new(score, slot, *first, stage);
-    let result = player.play(told);
+    let result = player.play(score.recording, records, told);
     let Player {
         state,
         last,
@@ -174,7 +181,10 @@ fn play_slot(alloc: Global, score: Score<'_>, told: &mut Told, slot: usize) -> R
     } = player;
     match result {
         Ok(()) => told.take(slot, stage.tape),
-        Err(flaw) => told.end(flaw, Whose::Slot(slot, state.generation), last, stage),
+        Err(flaw) => {
+            told.end(Whose::Slot(slot, state.generation), last, stage);
+            Err(flaw)
+        }
     }
 }
 

@@ -2,17 +2,18 @@
 ghost use Rattle.world.specs.States.{IsWithinLimits};
 
 use crate::flaw::Flaw;
+use crate::history::History;
 use kernel_model::{End, Refusal};
 use relay_core::{Pair, Verdict};
 use std::alloc::{AllocError, Global};
 use token::{Name, Side};
-use world::{Act, Change, Event, Lead, Limits, Polling, Reported, Tape, World};
+use world::{Act, Change, Event, Lead, Limits, Polling, Reported, World};
 
 /// A world, with each event that has happened there, and the one that it refused.
 #[derive(Drop)]
 pub(crate) struct Stage {
     pub alloc: Global,
-    pub tape: Tape,
+    pub tape: History,
     pub refused: Option<Event>,
 }
 
@@ -34,7 +35,7 @@ impl Stage {
     {
         Ok(Stage {
             alloc,
-            tape: Tape::new(alloc, limits)?,
+            tape: History::new(alloc, limits)?,
             refused: None,
         })
     }

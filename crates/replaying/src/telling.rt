@@ -1,5 +1,6 @@
 //! What is written of a recording.
 use crate::flaw::Flaw;
+use crate::history::History;
 use crate::recording::Recording;
 use crate::stage::Stage;
 use crate::told::{Flawed, Told, Whose};
@@ -7,7 +8,7 @@ use records::{Record, ReplayFault, Wanted};
 use script_text::{Page, Piece, event_reason, put_event, put_header};
 use std::alloc::{AllocError, Global};
 use std::io::Write;
-use world::{Event, Tape};
+use world::Event;
 
 /// How many events are written at once.
 const AT_ONCE: usize = 256;
@@ -42,7 +43,7 @@ pub(crate) fn tell_flaw<W: Write>(
 }
 
 /// Writes the script of a world: its header, and a line for each event.
-fn tell_script<W: Write>(alloc: Global, output: &mut W, tape: &Tape) -> Result<(), ReplayFault> {
+fn tell_script<W: Write>(alloc: Global, output: &mut W, tape: &History) -> Result<(), ReplayFault> {
     write(output, header(alloc, tape))?;
     for events in tape.events().chunks(AT_ONCE) {
         write(output, script_of(alloc, events))?;
@@ -112,7 +113,7 @@ fn put_left_out(page: &mut Page, cut: Option<u64>, left_out: usize) {
 }
 
 /// The header of a world's script.
-fn header(alloc: Global, tape: &Tape) -> Page {
+fn header(alloc: Global, tape: &History) -> Page {
     let mut page = Page::new(alloc);
     put_header(&mut page, &tape.limits());
     page

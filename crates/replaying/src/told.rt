@@ -1,5 +1,6 @@
 //! What is told of the worlds that were played.
 use crate::flaw::Flaw;
+use crate::history::History;
 use crate::recording::Numbered;
 use crate::stage::Stage;
 use kernel_model::End;
@@ -8,7 +9,7 @@ use relay_core::Verdict;
 use relay_log::{Done, Failed};
 use script_text::Counts;
 use std::alloc::{AllocError, Global};
-use world::{Tape, World};
+use world::World;
 
 /// Bytes that were read at clients and at targets, and bytes that were written there.
 pub(crate) type Moved = [u64; 4];
@@ -48,7 +49,7 @@ pub(crate) struct Told {
     /// A line for each connection: what became of it, as the log says that, or that it is open.
     pub ends: String,
     /// The world of the connection whose script is wanted.
-    pub script: Option<Tape>,
+    pub script: Option<History>,
     /// Where a play did not go on.
     pub flawed: Option<Flawed>,
 }
@@ -97,23 +98,16 @@ impl Told {
     }
 
     /// A play does not go on from this record.
-    pub(crate) fn end(
-        &mut self,
-        flaw: Flaw,
-        whose: Whose,
-        numbered: Numbered,
-        stage: Stage,
-    ) -> Result<(), Flaw> {
+    pub(crate) fn end(&mut self, whose: Whose, numbered: Numbered, stage: Stage) {
         self.flawed = Some(Flawed {
             whose,
             numbered,
             stage,
         });
-        Err(flaw)
     }
 
     /// The world of a slot or of a listener was played to its end, or as far as the recording goes.
-    pub(crate) fn take(&mut self, slot: usize, tape: Tape) -> Result<(), Flaw> {
+    pub(crate) fn take(&mut self, slot: usize, tape: History) -> Result<(), Flaw> {
         for event in tape.events() {
             self.counts.count(event);
         }

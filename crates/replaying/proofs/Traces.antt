@@ -1,0 +1,101 @@
+-- A run with one event more, and the connections of records with one more.
+use Rattle.std.proofs.Common.{◌≡◌, ℕ, List, [], ◌∷◌, ◌++◌, drop, take, Option, Some, None, refl, sym, ◌∙◌, ap, arith, option_and_then}
+use Rattle.std.proofs.lemmas.List.{append-nil, append_assoc, take-append-drop}
+use Rattle.std.proofs.lemmas.List.Elements.{All-append, All-cons}
+use Rattle.std.specs.Prelude.{All}
+use Rattle.world.specs.declared.event.Event.{Event}
+use Rattle.world.specs.declared.limits.Limits.{Limits}
+use Rattle.world.specs.States.{State, opening}
+use Rattle.world.specs.Steps.{step}
+use Rattle.world.specs.Runs.{run}
+use Rattle.replaying.specs.declared.action.Action.{Action}
+use Rattle.replaying.specs.declared.recording.Numbered.{Numbered}
+use Rattle.replaying.specs.Histories.{IsHistory}
+use Rattle.replaying.specs.Traces.{action_in, and_then, joined, trace_next, trace_of_run}
+
+one_step : (o : Option State) → option_and_then (λ (p : State). Some p) o ≡ o
+one_step None = refl
+one_step (Some p) = refl
+
+further_by : (q r : State) (events : List Event) (e : Event)
+    → ((p : State) → run p events ≡ Some q → run p (events ++ e ∷ []) ≡ Some r)
+    → (o : Option State) → option_and_then (λ (p : State). run p events) o ≡ Some q
+    → option_and_then (λ (p : State). run p (events ++ e ∷ [])) o ≡ Some r
+further_by q r events e more None ran = absurd (cc)
+further_by q r events e more (Some p) ran = more p ran
+
+-- where the events lead to a world in which one more can happen
+run_and : (st q r : State) (events : List Event) (e : Event)
+    → run st events ≡ Some q → step q e ≡ Some r → run st (events ++ e ∷ []) ≡ Some r
+run_and st q r [] e ran one =
+    let same : st ≡ q = cc in
+    rw same (one_step (step q e) ∙ one)
+run_and st q r (f ∷ events) e ran one =
+    further_by q r events e (λ p ran'. run_and p q r events e ran' one) (step st f) ran
+
+nothing_more : (o : Option State) → trace_next o (λ (q : State). []) ≡ []
+nothing_more None = refl
+nothing_more (Some p) = refl
+
+and_then_append : (o : Option Action) (xs ys : List Action) → and_then o (xs ++ ys) ≡ and_then o xs ++ ys
+and_then_append None xs ys = refl
+and_then_append (Some action) xs ys = refl
+
+trace_by : (q : State) (events : List Event) (e : Event) (last : List Action)
+    → ((p : State) → run p events ≡ Some q → trace_of_run p (events ++ e ∷ []) ≡ trace_of_run p events ++ last)
+    → (o : Option State) → option_and_then (λ (p : State). run p events) o ≡ Some q
+    → trace_next o (λ (p : State). trace_of_run p (events ++ e ∷ [])) ≡ trace_next o (λ (p : State). trace_of_run p events) ++ last
+trace_by q events e last more None ran = absurd (cc)
+trace_by q events e last more (Some p) ran = more p ran
+
+-- what one event more is, is added
+trace_and : (st q : State) (events : List Event) (e : Event)
+    → run st events ≡ Some q → trace_of_run st (events ++ e ∷ []) ≡ trace_of_run st events ++ and_then (action_in q e) []
+trace_and st q [] e ran =
+    let same : st ≡ q = cc in
+    rw same (ap (λ xs. and_then (action_in q e) xs) (nothing_more (step q e)))
+trace_and st q (f ∷ events) e ran =
+    ap (λ xs. and_then (action_in st f) xs)
+    (trace_by q events e (and_then (action_in q e) []) (λ p ran'. trace_and p q events e ran') (step st f) ran)
+    ∙ and_then_append (action_in st f) (trace_next (step st f) (λ (p : State). trace_of_run p events)) (and_then (action_in q e) [])
+
+-- A history with one event more
+
+-- it is an action
+pub with_action : (l : Limits) (events next : List Event) (q r : State) (trace more : List Action) (e : Event) (a : Action)
+    → IsHistory (record { limits = l; events = events; world = q; trace = trace }) → step q e ≡ Some r → action_in q e ≡ Some a
+    → next ≡ events ++ e ∷ [] → more ≡ trace ++ a ∷ []
+    → IsHistory (record { limits = l; events = next; world = r; trace = more })
+with_action l events next q r trace more e a before stepped is next_is more_is = record {
+  runs = ap (λ es. run (opening l) es) next_is ∙ run_and (opening l) q r events e before.runs stepped;
+  trace = ap (λ es. trace_of_run (opening l) es) next_is ∙ trace_and (opening l) q events e before.runs
+      ∙ ap (λ xs. xs ++ and_then (action_in q e) []) before.trace ∙ ap (λ o. trace ++ and_then o []) is ∙ sym more_is;
+}
+
+-- it is none
+pub without : (l : Limits) (events next : List Event) (q r : State) (trace same : List Action) (e : Event)
+    → IsHistory (record { limits = l; events = events; world = q; trace = trace }) → step q e ≡ Some r → action_in q e ≡ None
+    → next ≡ events ++ e ∷ [] → same ≡ trace
+    → IsHistory (record { limits = l; events = next; world = r; trace = same })
+without l events next q r trace same e before stepped is next_is same_is = record {
+  runs = ap (λ es. run (opening l) es) next_is ∙ run_and (opening l) q r events e before.runs stepped;
+  trace = ap (λ es. trace_of_run (opening l) es) next_is ∙ trace_and (opening l) q events e before.runs
+      ∙ ap (λ xs. xs ++ and_then (action_in q e) []) before.trace ∙ ap (λ o. trace ++ and_then o []) is ∙ append-nil trace ∙ sym same_is;
+}
+
+joined_append : (xs : List (List Numbered)) (x : List Numbered) → joined (xs ++ x ∷ []) ≡ joined xs ++ x
+joined_append [] x = append-nil x
+joined_append (y ∷ ys) x = ap (λ zs. y ++ zs) (joined_append ys x) ∙ sym (append_assoc y (joined ys) x)
+
+-- the first n records of the rest are those of one connection more
+pub one_more : (P : List Numbered → Type 0) (records rest : List Numbered) (n : ℕ)
+    → ((done : List (List Numbered)) × (joined done ++ rest ≡ records) × All P done) → P (take n rest)
+    → (done : List (List Numbered)) × (joined done ++ drop n rest ≡ records) × All P done
+one_more P records rest n before is =
+    let done : List (List Numbered) = before.0 in
+    let connection : List Numbered = take n rest in (
+      done ++ connection ∷ [],
+      ap (λ xs. xs ++ drop n rest) (joined_append done connection) ∙ append_assoc (joined done) connection (drop n rest)
+          ∙ ap (λ xs. joined done ++ xs) (take-append-drop n rest) ∙ before.1,
+      All-append P done (connection ∷ []) before.2 (All-cons P connection [] is (λ k d below. absurd (omega arith))),
+    )

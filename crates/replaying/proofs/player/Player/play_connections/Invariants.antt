@@ -1,0 +1,13 @@
+-- The records before the rest are those of connections that were played.
+use Rattle.std.proofs.Common.{◌≡◌, ◌++◌, List, length}
+use Rattle.std.specs.Prelude.{All}
+use Rattle.replaying.specs.declared.recording.Numbered.{Numbered}
+use Rattle.replaying.specs.Traces.{IsConnection, joined}
+use Rattle.replaying.proofs.player.Player.play_connections.Given as goal
+
+abbrev pub invariant-loop-rest : goal.invariant-loop-rest
+invariant-loop-rest l =
+    (done : List (List Numbered)) × (joined done ++ l.rest ≡ l.fn.records) × All (IsConnection l.fn.recording.header l.fn.recording.failed) done
+
+abbrev pub decreases-loop-rest : goal.decreases-loop-rest
+decreases-loop-rest l = length l.rest

@@ -1,0 +1,194 @@
+-- What records and runs of the machine have in common: openings, turns, calls with their answers, turns that end quiet,
+-- and closings. What else a run has, nobody recorded. Part of the promises.
+use Rattle.std.specs.Prelude.{◌≡◌, ◌⊎◌, ◌+◌, ◌==◌, ◌&&◌, ℕ, Bool, true, false, if◌then◌else◌, List, [], ◌∷◌, ◌++◌, length, All, Option, Some, None, IsSome, slice_get, nat_lt, Vec}
+use Rattle.std.specs.Global.{Global}
+use Rattle.std.specs.Option.{is_none}
+use Rattle.token.specs.Names.{EndName}
+use Rattle.token.specs.declared.side.Side.{Side}
+use Rattle.token.specs.declared.side.Side.TheVariants.{Client, Target}
+use Rattle.token.specs.declared.kind.Kind.TheVariants.{Zero}
+use Rattle.kernel_model.specs.declared.reply.Reply.{Reply}
+use Rattle.kernel_model.specs.declared.reply.Reply.TheVariants as reply
+use Rattle.relay_core.specs.Order.{next_call, offer}
+use Rattle.relay_core.specs.Pairs.{PairState}
+use Rattle.relay_core.specs.declared.call.Call.{Call}
+use Rattle.relay_core.specs.declared.call.Call.TheVariants.{Write, Join, Shut, Read}
+use Rattle.world.specs.States.{State, opening}
+use Rattle.world.specs.Slots.{SlotState}
+use Rattle.world.specs.Steps.{step, connection_at, is_worn}
+use Rattle.world.specs.Runs.{run}
+use Rattle.world.specs.declared.connection.Connection.{Connection}
+use Rattle.world.specs.declared.limits.Limits.{Limits}
+use Rattle.world.specs.declared.event.Event.{Event}
+use Rattle.world.specs.declared.event.Event.TheVariants as event
+use Rattle.world.specs.declared.event.Polling.TheVariants as poll
+use Rattle.world.specs.declared.event.Act.TheVariants as work
+use Rattle.records.specs.declared.act.Act.{Act}
+use Rattle.records.specs.declared.act.Act.TheVariants as act
+use Rattle.records.specs.declared.act.Made.{Made}
+use Rattle.records.specs.declared.act.Made.TheVariants as made
+use Rattle.records.specs.declared.act.Polling.TheVariants as polling
+use Rattle.records.specs.declared.act.Opening.TheVariants.{Opened as IsOpened}
+use Rattle.records.specs.declared.act.Answer.{Answer}
+use Rattle.records.specs.declared.act.Answer.TheVariants as answer
+use Rattle.records.specs.declared.header.Header.{Header}
+use Rattle.replaying.specs.declared.recording.Numbered.{Numbered}
+use Rattle.replaying.specs.declared.recording.Recording.{Recording}
+use Rattle.replaying.specs.declared.action.Action.{Action}
+use Rattle.replaying.specs.declared.action.Action.TheVariants.{Opened, Began, Called, Quiet, Closed}
+
+-- A record
+
+-- a write that took nothing has failed
+abbrev pub written : Answer → Answer
+written (answer.Moved n) = if n == 0 then answer.Failed Zero else answer.Moved n
+written answer = answer
+
+-- what was done with an end. Both ends are dropped: the second drop closes the connection
+abbrev pub action_of_wire : Bool → EndName → Made → Option Action
+action_of_wire second n (made.Read most answer) = Some (Called n.generation (Read n.side most) 0 answer)
+action_of_wire second n (made.Write length answer) = Some (Called n.generation (Write n.side) length (written answer))
+action_of_wire second n (made.Join answer) = Some (Called n.generation (Join n.side) 0 answer)
+action_of_wire second n (made.Shut answer) = Some (Called n.generation (Shut n.side) 0 answer)
+action_of_wire second n made.Settle = Some (Quiet n.generation)
+action_of_wire true n made.Drop = Some (Closed n.generation)
+action_of_wire false n made.Drop = None
+
+abbrev pub are_both : Side → Side → Bool
+are_both Client Target = true
+are_both Target Client = true
+are_both a b = false
+
+-- the other end of this connection was dropped
+abbrev pub drops_other : Act → EndName → Bool
+drops_other (act.Wire m made.Drop) n = m.generation == n.generation && are_both m.side n.side
+drops_other last n = false
+
+-- what a record is, by the act before it
+abbrev pub action_of : Act → Act → Option Action
+action_of last (act.Poller number (polling.Open slot generation IsOpened)) = Some (Opened generation)
+action_of last (act.Begin slot) = Some Began
+action_of last (act.Wire n made) = action_of_wire (drops_other last n) n made
+action_of last act = None
+
+abbrev pub and_then : Option Action → List Action → List Action
+and_then (Some action) more = action ∷ more
+and_then None more = more
+
+abbrev pub trace_after : Act → List Numbered → List Action
+trace_after last [] = []
+trace_after last (r ∷ records) = and_then (action_of last r.record.act) (trace_after r.record.act records)
+
+-- what records are, of which the first is no drop that follows another one
+abbrev pub trace_of_records : List Numbered → List Action
+trace_of_records records = trace_after act.Ended records
+
+-- A run
+
+-- how the record of a call has this reply
+abbrev pub answer_of : Reply → Answer
+answer_of (reply.Bytes n) = answer.Moved n
+answer_of reply.End = answer.End
+answer_of (reply.Wrote n full) = answer.Moved n
+answer_of reply.Joined = answer.Joined
+answer_of reply.Shut = answer.Shut
+answer_of reply.Blocked = answer.Blocked
+answer_of reply.Interrupted = answer.Interrupted
+answer_of (reply.Failed kind) = answer.Failed kind
+
+-- how many bytes a call offers
+abbrev pub offered : PairState → Call → ℕ
+offered pair (Write side) = length (offer pair side)
+offered pair call = 0
+
+-- the connection's next call gets this reply
+abbrev pub action_of_call : PairState → Option Call → Reply → Option Action
+action_of_call pair (Some call) r = Some (Called pair.generation call (offered pair call) (answer_of r))
+action_of_call pair None r = None
+
+-- a slot is released: its turn has ended quiet if no call is left
+abbrev pub action_of_release : PairState → Option Action
+action_of_release pair = if is_none (next_call pair) then Some (Quiet pair.generation) else None
+
+abbrev pub of_pair : Option Connection → (PairState → Option Action) → Option Action
+of_pair (Some c) action = action c.pair
+of_pair None action = None
+
+abbrev pub opened_next : Option SlotState → Option Action
+opened_next (Some place) = if is_worn place.generation then None else Some (Opened (place.generation + 1))
+opened_next None = None
+
+-- what an event is in this state of the first slot
+abbrev pub action_in : State → Event → Option Action
+action_in st (event.Poll poll.Open) = opened_next (slice_get st.slots 0)
+action_in st (event.Work w work.Claim) = Some Began
+action_in st (event.Work w (work.Call r)) = of_pair (connection_at st 0) (λ pair. action_of_call pair (next_call pair) r)
+action_in st (event.Work w work.Release) = of_pair (connection_at st 0) action_of_release
+action_in st (event.Work w work.Close) = of_pair (connection_at st 0) (λ pair. Some (Closed pair.generation))
+action_in st e = None
+
+abbrev pub trace_next : Option State → (State → List Action) → List Action
+trace_next (Some st) f = f st
+trace_next None f = []
+
+-- what the events of a run are
+abbrev pub trace_of_run : State → List Event → List Action
+trace_of_run st [] = []
+trace_of_run st (e ∷ events) = and_then (action_in st e) (trace_next (step st e) (λ q. trace_of_run q events))
+
+-- What a recording shows
+
+-- the sizes of a machine of one slot in a relay of these sizes
+pub record HasSizes (header : Header) (limits : Limits) : Type 0 where
+  pub slots : limits.slots ≡ 1
+  pub workers : limits.workers ≡ 1
+  pub ring : limits.ring ≡ header.ring
+  pub budget : limits.budget ≡ header.budget
+  pub idle : limits.idle ≡ header.idle
+
+-- it was opened at most, and closed: no turn was made
+abbrev pub HasNoTurn : List Action → Type 0
+HasNoTurn [] = Unit {0}
+HasNoTurn (Opened g ∷ []) = Unit {0}
+HasNoTurn (Opened g ∷ Closed h ∷ []) = g ≡ h
+HasNoTurn trace = ⊥
+
+-- after a wait for reports has failed the relay closes a connection that has not ended
+abbrev pub MayClose : Option ℕ → List Action → List Action → Type 0
+MayClose failed run records = (run ≡ records) ⊎ (IsSome failed × ((g : ℕ) × (run ++ Closed g ∷ [] ≡ records)))
+
+-- these records are those of one run of the machine
+pub record IsOneRun (header : Header) (failed : Option ℕ) (records : List Numbered) : Type 0 where
+  pub limits : Limits
+  pub events : List Event
+  pub sizes : HasSizes header limits
+  pub runs : IsSome (run (opening limits) events)
+  pub trace : MayClose failed (trace_of_run (opening limits) events) (trace_of_records records)
+
+abbrev pub IsConnection : Header → Option ℕ → List Numbered → Type 0
+IsConnection header failed records = HasNoTurn (trace_of_records records) ⊎ IsOneRun header failed records
+
+abbrev pub joined : List (List Numbered) → List Numbered
+joined [] = []
+joined (records ∷ more) = records ++ joined more
+
+-- the records of a slot are those of its connections, one after the other, each of which is a run of the machine or
+-- had no turn
+pub record AreRuns (header : Header) (failed : Option ℕ) (records : List Numbered) : Type 0 where
+  pub connections : List (List Numbered)
+  pub all : joined connections ≡ records
+  pub each : All (IsConnection header failed) connections
+
+-- The records of a slot
+
+abbrev pub items_of : Option (Vec Numbered Global) → List Numbered
+items_of (Some list) = list.items
+items_of None = []
+
+-- the list with this number, where there is one
+abbrev pub records_at : Recording → ℕ → List Numbered
+records_at r at = items_of (slice_get r.lists.items at)
+
+-- the lists of the slots come first
+abbrev pub records_of : Recording → ℕ → List Numbered
+records_of r slot = if nat_lt slot r.header.slots then records_at r slot else []

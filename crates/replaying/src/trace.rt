@@ -1,0 +1,95 @@
+//! What the records of a slot are, and whether runs of the machine are the same.
+ghost use Rattle.std.specs.Prelude.{◌≡◌, ◌<◌, ◌≤◌, IfOk, IsTrue, length};
+ghost use Rattle.replaying.specs.Traces.{HasNoTurn, HasSizes, IsConnection, MayClose, trace_of_records};
+
+use crate::action::{Action, action_of, are_same};
+use crate::history::History;
+use crate::recording::{Numbered, Recording};
+use records::{Act, Header, Polling};
+use std::alloc::{AllocError, Global};
+use world::Limits;
+
+/// What records are.
+fn trace_of_records(alloc: Global, records: &[Numbered]) -> Result<Vec<Action>, AllocError>
+    ensures { IfOk result (λ trace. trace.items ≡ trace_of_records records.now) }
+{
+    let mut trace = Vec::new(alloc);
+    let mut last = Act::Ended;
+    for place in 0..records.len() {
+        let act = records[place].record.act;
+        if let Some(action) = action_of(&last, &act) {
+            trace.push(action)?;
+        }
+        last = act;
+    }
+    Ok(trace)
+}
+
+/// Whether these records, which are those of one connection, are those of this run, or had no turn, so that no run is
+/// asked of them.
+pub(crate) fn is_connection(
+    alloc: Global,
+    recording: &Recording,
+    run: &History,
+    records: &[Numbered],
+) -> Result<bool, AllocError>
+    ensures { IfOk result (λ so. IsTrue so → IsConnection recording.now.header recording.now.failed records.now) }
+{
+    let trace = trace_of_records(alloc, records)?;
+    if has_no_turn(trace.as_slice()) {
+        return Ok(true);
+    }
+    Ok(
+        has_sizes(&recording.header, &run.limits())
+            && may_close(recording.failed, run.trace(), trace.as_slice()),
+    )
+}
+
+/// Whether a connection was opened at most, and closed.
+fn has_no_turn(trace: &[Action]) -> bool
+    ensures { IsTrue result → HasNoTurn trace.now }
+{
+    match trace {
+        [] | [Action::Opened(_)] => true,
+        [Action::Opened(opened), Action::Closed(closed)] => *opened == *closed,
+        _ => false,
+    }
+}
+
+/// Whether these are the sizes of a machine of one slot in such a relay.
+fn has_sizes(header: &Header, limits: &Limits) -> bool
+    ensures { IsTrue result → HasSizes header.now limits.now }
+{
+    limits.slots == 1
+        && limits.workers == 1
+        && limits.ring == header.ring
+        && limits.budget == header.budget
+        && limits.idle == header.idle
+}
+
+/// Whether a run is the same as records, or lacks the closing of a relay that has failed.
+fn may_close(failed: Option<u64>, run: &[Action], records: &[Action]) -> bool
+    ensures { IsTrue result → MayClose failed run.now records.now }
+{
+    if are_same(run, records) {
+        return true;
+    }
+    match records {
+        [before @ .., Action::Closed(_)] => failed.is_some() && are_same(run, before),
+        _ => false,
+    }
+}
+
+/// How many records belong to the connection that the first of these opened: those before the next opening.
+pub(crate) fn connection_len(records: &[Numbered]) -> usize
+    requires { 0 < length records.now }
+    ensures some { 0 < result }
+    ensures within { result ≤ length records.now }
+{
+    for place in 1..records.len() {
+        if let Act::Poller(_, Polling::Open(_, _, _)) = records[place].record.act {
+            return place;
+        }
+    }
+    records.len()
+}
