@@ -8,7 +8,6 @@ use crate::stage::Stage;
 use kernel_model::{End, Reply};
 use records::{Act as Recorded, Answer, Made};
 use relay_core::{Call, Pair};
-use std::alloc::{AllocError, Global};
 use token::{Kind, Side};
 use world::{Act, Change};
 
@@ -151,12 +150,11 @@ impl Stage {
     }
 
     fn arrive_at_once(&mut self, side: Side, length: usize) -> Result<(), Flaw> {
-        let first = match self.end(side) {
-            Some(end) if length > 0 => end.arrived().len(),
-            _ => return Ok(()),
-        };
-        let bytes = stand_ins(self.alloc, first, length)?;
-        self.change(side, Change::Arrive(bytes))
+        if length == 0 {
+            return Ok(());
+        }
+        let stand_ins = vec![in self.alloc; 0u8; length]?;
+        self.change(side, Change::Arrive(stand_ins))
     }
 }
 
@@ -176,13 +174,4 @@ fn missing(end: &End, reply: Reply) -> Option<Change> {
         Reply::Failed(kind) if kind != Kind::Zero && !end.has_err() => Some(Change::Reset),
         _ => None,
     }
-}
-
-/// Bytes that stand for those of a place, each told by that.
-fn stand_ins(alloc: Global, first: usize, length: usize) -> Result<Vec<u8>, AllocError> {
-    let mut bytes = Vec::with_capacity(alloc, length)?;
-    for index in 0..length {
-        bytes.push((first.saturating_add(index) % 251) as u8)?;
-    }
-    Ok(bytes)
 }

@@ -6,7 +6,6 @@ use crate::flaw::Flaw;
 use crate::history::History;
 use crate::player::{Phase, Player, State};
 use crate::recording::Numbered;
-use crate::rounds::polled;
 use crate::told::Told;
 use records::{Act, Header, Made, Opening, Record};
 use std::mem;
@@ -71,20 +70,16 @@ impl Player<'_> {
     }
 
     /// The count when the poll before the last one of the slot's poller had ended, both before this count. The round
-    /// has read its second since then, before its poll or after it. A round has few acts, so the search is short.
+    /// has read its second since then, before its poll or after it.
     fn second_last_poll(&self, count: u64) -> u64 {
-        let acts = self.score.recording.poller(self.poller);
-        let place = acts.partition_point(|own| own.record.before < count);
-        let mut is_last = true;
-        for own in acts.get(..place).unwrap_or(&[]).iter().rev() {
-            if polled(&own.record.act).is_some() {
-                if !is_last {
-                    return own.record.after;
-                }
-                is_last = false;
-            }
+        let Some(polls) = self.score.polls.get(self.poller) else {
+            return 0;
+        };
+        let place = polls.partition_point(|poll| poll.record.before < count);
+        match polls.get(..place) {
+            Some([.., poll, _]) => poll.record.after,
+            _ => 0,
         }
-        0
     }
 
     /// Stand-ins for what the target of a connection is sent first. Its length shows by the first write there.

@@ -12,7 +12,7 @@ use crate::player::{Player, Score};
 use crate::reading::{broken, read, wanted};
 use crate::recording::{Last, Recording};
 use crate::round::check_rounds;
-use crate::rounds::play_rounds;
+use crate::rounds::{play_rounds, polls};
 use crate::stage::Stage;
 use crate::telling::{tell, tell_flaw};
 use crate::told::{Flawed, Told, Whose};
@@ -68,10 +68,12 @@ fn deal<W: Write>(
     check_rounds(alloc, recording, &clock)?;
     check_crew(alloc, recording)?;
     let posts = play_rounds(alloc, recording, &clock)?;
+    let polls = polls(alloc, recording)?;
     let score = Score {
         recording,
         clock: &clock,
         posts: posts.as_slice(),
+        polls: polls.as_slice(),
         rests,
     };
     play_and_tell(alloc, score, wanted, left_out, output)

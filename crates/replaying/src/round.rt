@@ -3,6 +3,7 @@
 use crate::clock::Clock;
 use crate::reading::{broken, wanted};
 use crate::recording::{Last, Recording};
+use crate::rounds::MAX_REPORTS;
 use records::{Accepted, Act, Opening, Polling, Record, ReplayFault};
 use std::alloc::{AllocError, Global};
 use token::Name;
@@ -126,6 +127,9 @@ impl Round<'_> {
                 Some(opened) if token.generation() <= *opened => {}
                 _ => return Ok(Some("what is reported was not opened before")),
             }
+        }
+        if self.reported.len() == MAX_REPORTS {
+            return Ok(Some("a poll gives 256 reports at most"));
         }
         if self.reported.contains(&name) {
             return Ok(Some("a wait reports each end once"));

@@ -9,7 +9,7 @@ use std::alloc::{AllocError, Global};
 use token::Name;
 
 /// The most reports of a poll.
-const MAX_REPORTS: usize = 256;
+pub(crate) const MAX_REPORTS: usize = 256;
 
 /// The rounds of a poller, one after the other.
 #[derive(Clone, Copy)]
@@ -167,12 +167,28 @@ fn reported(act: &Act) -> Option<Name> {
 }
 
 /// How many reports a poll gave.
-pub(crate) fn polled(act: &Act) -> Option<usize> {
+fn polled(act: &Act) -> Option<usize> {
     match act {
         Act::Poller(_, Polling::Gave(count)) => Some(*count),
         Act::Poller(_, Polling::Interrupted) => Some(0),
         _ => None,
     }
+}
+
+/// The polls of each poller, in order.
+pub(crate) fn polls(
+    alloc: Global,
+    recording: &Recording,
+) -> Result<Vec<Vec<Numbered>>, AllocError> {
+    let mut polls = lists(alloc, recording.header.pollers)?;
+    for (poller, list) in polls.iter_mut().enumerate() {
+        for numbered in recording.poller(poller) {
+            if polled(&numbered.record.act).is_some() {
+                list.push(*numbered)?;
+            }
+        }
+    }
+    Ok(polls)
 }
 
 fn add(lists: &mut Vec<Vec<Post>>, at: usize, post: Post) -> Result<(), AllocError> {
