@@ -44,7 +44,7 @@ test:
 ## make test-program  tests the built program as its users run it; part of the gate
 test-program: build
 	@tests/program/run $(PROGRAM)
-	@tests/relay $(PROGRAM)
+	@tests/relay/run $(PROGRAM)
 	@tests/packages $(PROGRAM)
 
 ## make test-drill    plays the server beside the modelled machine; part of the gate

@@ -1,0 +1,196 @@
+"""What a relay does without descriptors, threads or memory, and how a fault ends it."""
+
+import contextlib
+import functools
+import itertools
+import os
+import resource
+import socket
+import sys
+import tempfile
+import time
+
+from loopback import Relay, echo, port_of, target, unheard, until
+from shared import (
+    answers_soon, asked, at_once, drops_in, few, having, is_closed_soon, leave_one_descriptor, left_out, reset, served, too_few,
+)
+
+
+# refuses recording_is_no_descriptor: the file of a recording is not counted among the descriptors
+def waits_where_descriptors_are_few():
+    # The limit covers 17 connections, or 18, with a descriptor to spare or none, and one less in every other case with a
+    # recording. Nobody is accepted only to be closed.
+    for most, recorded in (40, 0), (41, 0), (42, 0), (43, 0), (41, 1), (42, 1):
+        relay = Relay(target(echo), descriptors=most, recorded=recorded)
+        recorded = int(bool(relay.record))
+        clients = [relay.connect() for _ in range(40)]
+        for client in clients:
+            client.sendall(b"?")
+        for client in clients:
+            # One client after another gives up its place.
+            assert client.recv(1) == b"?"
+            client.close()
+        # Whether a client comes when all slots are taken, or before the last one is, is left to the schedule.
+        first, *lines = [line for line in relay.end() if "] slots: all " not in line]
+        assert first == few((most - 6 - recorded) // 2, most, 2060 + recorded)
+        assert not any("WARN" in line or "ERROR" in line for line in lines)
+
+
+# refuses one_connection_without_descriptors: a relay begins that has not the descriptors for one connection
+def needs_descriptors_for_one_connection():
+    # Three streams, the listening socket, a poller's two, a connection's two; one for a recording, and one that is inherited.
+    with open(os.devnull) as file:
+        for recorded in {False, bool(Relay.records)}:
+            for inherited in (), (file.fileno(),):
+                needed = 8 + recorded + len(inherited)
+                how = {"recorded": recorded, "inherited": inherited, "log": "off"}
+                with Relay(target(echo), descriptors=needed, **how).connect() as client:
+                    assert asked(client)
+                assert Relay(descriptors=needed - 1, **how).ended(1) == [too_few(needed - 1, needed)]
+
+
+# refuses cause_is_off: at level off nothing says why a relay could not start
+def nothing_to_poll_with():
+    # Beside the three standard streams there is a descriptor for the listening socket, and none for epoll(7), or to read the
+    # limit by. The cause is logged at each level.
+    fault = ["[ERROR relayd] poll: Too many open files (os error 24)", "relayd: poll: failed"]
+    for level in "info", "off":
+        assert Relay(descriptors=4, recorded=False, log=level).ended(1, within=10) == fault
+
+
+# refuses off_is_error: at level off a relay that serves logs what it logs at level error
+def logs_nothing_at_level_off_while_it_serves():
+    relay = Relay(target(echo), slots=64, log="off")
+    served(relay, 1)
+    relay.limit(resource.RLIMIT_NOFILE, max(relay.descriptors()) + 1)
+    waiting = relay.connect()
+    waiting.sendall(b"?")
+    assert not answers_soon(waiting) and relay.end() == []
+
+
+# refuses unstarted_thread_is_no_fault: a thread that cannot be started is logged, and the others go on
+# refuses leave_ignores_a_fault: a poller that ends for a fault does not end the workers while another was to poll
+# refuses fault_leaves_the_recording_open: behind a fault the thread that records is waited for without end
+def no_thread_for_some():
+    if not Relay.library:
+        return left_out("cc")
+    # One thread writes the log, without which no other is started, two are workers, and one more polls.
+    for most, level in itertools.product(range(4), ["info", "off"]):
+        relay = Relay(preload={"MOST_THREADS": str(most)}, slots=128, workers=2, recorded=False, log=level)
+        cause = "[ERROR relayd] threads: Resource temporarily unavailable (os error 11)"
+        logged = [cause] * (4 - most if most > 0 else 1) + ["relayd: threads: failed"]
+        assert relay.ended(1, within=10) == logged and relay.port is None
+    # One that records, too, and it has all but the last.
+    relay = Relay(preload={"MOST_THREADS": "4"}, slots=128, workers=2)
+    assert not relay.record or relay.ended(1, within=10) == logged[-2:]
+
+
+# refuses failed_poll_is_swallowed: a relay whose poller cannot poll goes on, or ends well
+def a_poll_that_fails():
+    if not Relay.library:
+        return left_out("cc")
+    # Two threads poll, which call epoll_wait(2) at least five times a second each, and two more are workers.
+    relay = Relay(target(echo), preload={"POLL_FAILS": "20"}, slots=128, workers=2)
+    clients = served(relay, 2)
+    assert relay.ended(1, within=10) == ["[ERROR relayd] poll: Input/output error (os error 5)", "relayd: poll: failed"]
+    assert all([is_closed_soon(client) for client in clients])
+
+
+def out_of_descriptors():
+    # With one poller: each logs by itself that it lacks descriptors.
+    relay = Relay(target(echo), slots=100)
+    clients = served(relay, 1)
+    # Two connections more take the last descriptors, two each, so the fourth is not accepted.
+    relay.limit(resource.RLIMIT_NOFILE, max(relay.descriptors()) + 1 + 2 * 2)
+    clients += served(relay, 2)
+    waiting = [relay.connect() for _ in range(2)]
+    for client in waiting:
+        client.sendall(b"?")
+    assert not any([answers_soon(client) for client in waiting])
+    before = relay.run_time(relay.tasks())
+    time.sleep(2)
+    assert relay.run_time(relay.tasks()) - before <= 0.1 and all([asked(client) for client in clients])
+    # Each of the two is served when another has gone. Then there are no descriptors again, and that is logged again.
+    for client in waiting:
+        clients.pop().close()
+        assert answers_soon(client)
+    lines = relay.end()
+    assert len(having(lines, "] open s=")) == 5 and len(having(lines, "accept: ")) == 3 and not having(lines, "] drop ")
+
+
+# refuses target_is_never_closed: the socket to the target is forgotten, and not closed
+def closes_what_it_has_opened():
+    def ask_and_reset(client):
+        assert asked(client)
+        reset(client)
+
+    server, nobody, closing = target(echo), unheard(), target(socket.socket.close)
+    acts = (server, asked), (server, ask_and_reset), (port_of(nobody), is_closed_soon), (closing, is_closed_soon)
+    for port, act in acts:
+        relay = Relay(port, slots=64, log="off")
+        # It has no more descriptors behind 40 connections than behind one.
+        for number in range(41):
+            with relay.connect() as client:
+                act(client)
+            if number == 0:
+                time.sleep(0.5)
+                before = len(relay.descriptors())
+        assert until(lambda: len(relay.descriptors()) <= before)
+
+
+def floods_nothing_without_descriptors():
+    # Each of four pollers tells what goes on, and a count once a second.
+    relay = Relay(target(echo), log="warn")
+    leave_one_descriptor(relay)
+    ended = time.monotonic() + 3
+
+    def connect_again_and_again():
+        while time.monotonic() < ended:
+            with contextlib.suppress(ConnectionError), relay.connect() as client:
+                client.recv(1)
+
+    at_once(*[connect_again_and_again] * 8)
+    lines = relay.end()
+    assert len(having(lines, "] accept: ")) <= 4 and len(lines) <= 32 and drops_in(lines) > 100
+
+
+def out_of_memory():
+    def is_served(client):
+        with contextlib.suppress(ConnectionError):
+            return asked(client)
+
+    # The queues of a recording leave holes in the heap.
+    relay = Relay(target(echo), recorded=False, ring=65536, slots=8)
+    clients = served(relay, 1)
+    relay.limit(resource.RLIMIT_AS, 1024 * relay.status("VmSize") + 500_000)
+    tries = [relay.connect() for _ in range(8)]
+    clients += [client for client in tries if is_served(client)]
+    without = 1 + len(tries) - len(clients)
+    assert len(clients) < 8 and all([asked(client) for client in clients])
+    # With memory again each slot is used, those of the refused too.
+    relay.limit(resource.RLIMIT_AS, None)
+    clients += served(relay, 8 - len(clients))
+    assert all([asked(client) for client in clients])
+    lines = relay.end()
+    opened, refused = having(lines, "] open s="), having(lines, "] drop")
+    # A refused connection is told, unless there is no memory for that either.
+    assert sorted(line.split("] open ")[1] for line in opened) == [f"s={slot} g=1" for slot in range(8)]
+    assert refused[0] == "[WARN  relayd] drop kind=memory"
+    assert 0 < drops_in(refused) <= without and len(opened) + len(refused) == len(lines)
+
+
+def requests_take_no_memory():
+    def ask(client):
+        assert all(asked(client, b"a request of some bytes") for _ in range(2_500))
+
+    def count():
+        return int.from_bytes(os.pread(file.fileno(), 8, 0), sys.byteorder)
+
+    if not Relay.library:
+        return left_out("cc")
+    with tempfile.NamedTemporaryFile() as file:
+        file.truncate(8)
+        relay = Relay(target(echo), preload={"GROWTHS_COUNT": file.name, "GROWTHS_OF_ALL": ""})
+        clients, before = served(relay, 4), count()
+        at_once(*[functools.partial(ask, client) for client in clients])
+        assert 0 < before == count()

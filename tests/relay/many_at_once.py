@@ -1,0 +1,223 @@
+"""Many connections at once: slots, pollers, workers, and what they do while nothing comes."""
+
+import resource
+import socket
+import tempfile
+import threading
+import time
+
+from loopback import WAIT, Relay, echo, in_thread, port_of, target, unheard, until
+from shared import answer_and_read, asked, having, is_silent, left_out, move_much, served
+
+
+def send_at_once(pairs):
+    """Has both ends of each connection send."""
+    for client, end in pairs:
+        client.sendall(b"u")
+        end.sendall(b"d")
+
+
+def have_it(pairs):
+    """Whether all have what the others sent."""
+    return all([end.recv(1) == b"u" and client.recv(1) == b"d" for client, end in pairs])
+
+
+# refuses half_of_a_batch_told: of 256 reports only the first 128 are told to the wires
+def answers_a_full_batch_and_a_client():
+    # With one poller: as many reports as one wait gives, of both ends of each connection, and a client that comes with them.
+    relay = Relay(slots=300, workers=1, log="off")
+    pairs = [relay.pair() for _ in range(128)]
+    send_at_once(pairs)
+    assert have_it(pairs)
+    for _ in range(3):
+        with relay.stopped():
+            send_at_once(pairs)
+            late = relay.connect()
+        assert have_it(pairs)
+        pairs.append((late, relay.listener.accept()[0]))
+
+
+def uses_each_of_4096_slots():
+    if resource.getrlimit(resource.RLIMIT_NOFILE)[0] < 8_300:
+        return left_out("8,300 descriptors")
+    relay = Relay(slots=4096, log="off")
+    pairs = [relay.pair() for _ in range(4096)]
+    # In the second round each wire has to be told of a report.
+    for _ in range(2):
+        send_at_once(pairs)
+        assert have_it(pairs)
+
+
+def serves_all_slots_of_several_pollers():
+    # Four pollers with 64 slots each. One client more waits, and is served whichever slot comes free.
+    relay = Relay(target(echo), slots=256)
+    clients = [served(relay, 1)[0] for _ in range(256)]
+    for freed in (0, 63, 64, 100, 191, 200, 255, 1, 128, 254, 7, 77):
+        waiting = relay.connect()
+        waiting.sendall(b"?")
+        assert is_silent(waiting, 0.1)
+        clients[freed].close()
+        clients[freed] = waiting
+        assert waiting.recv(1) == b"?"
+    slots = [int(line.split("s=")[1].split(" ")[0]) for line in having(relay.end(), "] open ")]
+    # Several pollers are told of the first clients, while each has slots for all of them.
+    assert len({slot // 64 for slot in slots[:64]}) > 1 and sorted(slots[:256]) == list(range(256)) and len(slots) == 268
+
+
+# refuses late_generations_are_not_told: a wire is told of no report whose number has over 32 bits
+# refuses numbers_of_32_bits: a socket is registered under the lowest 32 bits of its number
+def serves_65539_in_one_slot():
+    # Numbers have over 32 bits from generation 65,536 on. All clients but the last four find their target out of reach.
+    listener = unheard()
+    with tempfile.TemporaryFile("w+") as errors:
+        relay = Relay(port_of(listener), errors=errors, slots=1)
+        for _ in range(302):
+            for client in [relay.connect() for _ in range(217)]:
+                client.close()
+        with relay.connect() as last:
+            assert last.recv(1) == b""
+        target(echo, listener)
+        for _ in range(4):
+            with relay.connect() as client:
+                assert asked(client) and asked(client)
+        time.sleep(0.3)
+        errors.seek(0)
+        opened = [line for line in errors if "] open s=" in line]
+    assert opened[-5:] == [f"[INFO  relayd] open s=0 g={g}\n" for g in range(65535, 65540)]
+
+
+# refuses fronts_in_reverse: the pollers have their fronts in reverse, so a worker wakes another poller than the slot's
+def wakes_the_poller_of_a_freed_slot():
+    relay = Relay(target(answer_and_read), slots=128, workers=2)
+    clients, slow = served(relay, 128), 0
+    for _ in range(20):
+        with clients.pop(0) as client:
+            waiting = relay.connect()
+            waiting.sendall(b"?")
+            move_much(relay, client)
+            before = time.monotonic()
+            client.shutdown(socket.SHUT_WR)
+            assert waiting.recv(1) == b"?"
+            slow += time.monotonic() - before > 0.1
+        clients.append(waiting)
+    # A poller that nobody wakes waits for 200 ms, unless the slot is free before it begins to wait, as about half of these are.
+    assert slow < 4
+
+
+def burst(relay, clients):
+    """Has each of these clients send a byte while the relay is stopped, so that it finds all at once. How long it takes until
+    the last of them has its answer."""
+    with relay.stopped():
+        for client in clients:
+            client.sendall(b"!")
+    before = time.monotonic()
+    assert all([client.recv(1) == b"!" for client in clients])
+    return time.monotonic() - before
+
+
+def echo_or_read(connection):
+    """Only reads where the first byte says so."""
+    first = connection.recv(1)
+    connection.sendall(first)
+    if first == b"?":
+        return echo(connection)
+    buffer = bytearray(1 << 20)
+    while connection.recv_into(buffer):
+        pass
+
+
+# refuses light_tickets_put_while_all_work: light tickets behind the first 16 of a round are put while all workers work on bulk
+def small_messages_wait_for_no_bulk():
+    relay = Relay(target(echo_or_read), recorded=False, slots=64, workers=1, budget=1024, ring=65536, log="off")
+    bulk = [relay.connect() for _ in range(4)]
+    assert all([asked(client, b"!") for client in bulk])
+    clients = served(relay, 48)
+    data, is_over = bytes(1 << 20), threading.Event()
+
+    def flood(client):
+        while not is_over.is_set():
+            client.sendall(data)
+
+    floods = [in_thread(flood, client) for client in bulk]
+    times = {16: [], 48: []}
+    for _ in range(15):
+        for many, taken in times.items():
+            time.sleep(0.05)
+            taken.append(burst(relay, clients[:many]))
+    is_over.set()
+    assert not any(each.result(WAIT) for each in floods)
+    few, many = (sorted(taken)[len(taken) // 2] for taken in times.values())
+    # Behind the workers' turns a burst of 48 takes 30 times as long as one of 16.
+    assert many < 5 * few + 0.008
+
+
+# refuses light_ticket_kept_beside_a_sleeper: a poller keeps all its light tickets, though a worker sleeps
+def wakes_workers_for_what_is_over_16():
+    relay = Relay(target(echo), recorded=False, slots=64, workers=1, log="off")
+    clients = served(relay, 48)
+    others = [task for task in relay.tasks() if task != str(relay.process.pid)]
+
+    def worked(many):
+        """How long other threads than the poller's run, by a burst of so many."""
+        time.sleep(0.1)
+        before = relay.run_time(others)
+        burst(relay, clients[:many])
+        time.sleep(0.1)
+        return relay.run_time(others) - before
+
+    # That the relay is stopped wakes each thread as often by either.
+    few, many = [worked(16) for _ in range(5)], [worked(48) for _ in range(5)]
+    assert sum(many) > 2 * sum(few)
+
+
+def runs_as_many_threads_as_are_set():
+    # As many poll as there are workers, but at most one for each 64 slots, and at least one.
+    for workers, slots, pollers in (1, 1024, 1), (5, 1024, 5), (5, 200, 3), (5, 63, 1):
+        relay = Relay(workers=workers, slots=slots, recorded=False)
+        # One more writes the log. The last thread may still be about to start.
+        threads = workers + pollers + 1
+        until(lambda: relay.status("Threads") >= threads)
+        time.sleep(0.1)
+        assert relay.status("Threads") == threads
+
+
+def rings_are_as_large_as_is_set():
+    def grown(ring):
+        """How many bytes more it has by 32 connections, with a ring each way."""
+        # With one poller, whose thread is the first. The queues of a recording leave holes in the heap.
+        relay = Relay(target(echo), recorded=False, ring=ring, slots=64)
+        first, before = served(relay, 1), relay.status("VmData")
+        others = served(relay, 32)
+        return 1024 * (relay.status("VmData") - before)
+
+    most = 32 * 2 * 65536
+    assert 0 <= grown(1) < 500_000 and most - 500_000 < grown(65536) < most + 500_000
+
+
+# refuses waits_with_work_in_hand: a poller that may accept more clients waits 100 ms for a report
+def accepts_without_waiting():
+    # Nothing is reported of clients who are closed at once, and four are accepted in a round.
+    relay = Relay(target="255.255.255.255:1", workers=1, log="off")
+    with relay.stopped():
+        clients = [relay.connect() for _ in range(80)]
+    before = time.monotonic()
+    assert all([client.recv(1) == b"" for client in clients]) and time.monotonic() - before < 1
+
+
+# refuses waits_two_seconds: a poller waits two seconds for a report
+def sleeps_while_idle():
+    # One thread that polls wakes five times a second, and several together ten times. The log's writer does not, before and
+    # after it has written.
+    def sleeps():
+        return sum(relay.status("voluntary_ctxt_switches", task) for task in relay.tasks())
+
+    for pollers, least, most in (1, 10, 20), (4, 20, 40), (16, 20, 40):
+        relay = Relay(target(echo), slots=64 * pollers, workers=pollers, recorded=False)
+        for _ in range(2):
+            time.sleep(0.5)
+            before = sleeps()
+            time.sleep(4)
+            assert least <= sleeps() - before <= most + pollers + 2
+            with relay.connect() as client:
+                assert asked(client)
+        assert len(having(relay.end(), "] done ")) == 2

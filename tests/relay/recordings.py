@@ -1,0 +1,92 @@
+"""What a relay records, beside the comparison that is made of each check."""
+
+import os
+import pathlib
+import tempfile
+import threading
+import time
+
+from loopback import Relay, echo, in_thread, read_all, replay, send_and_shut, target
+from shared import LONGEST, asked, having, left_out, line_of, reset, told
+
+
+# refuses forward_overlooks_record: `forward` takes the option for a recording, and records nothing
+def serves_on_where_nothing_can_be_recorded():
+    # A disk that is full ends the recording, and not the relay.
+    lost = "[WARN  relayd] record: No space left on device (os error 28), so the recording ends here"
+    assert told("--record", "/dev/full", typed=True, log="warn") == [lost]
+
+
+# refuses recorder_swallows_reports: a relay that records is told of no report
+# refuses recorder_calls_twice: a relay that records reads twice, and passes on what the second read gave
+# refuses reports_not_recorded: a recording tells how many reports came, and not which
+# refuses blocked_as_moved: a read that would block is recorded as one of no byte
+# refuses header_without_proxy: a recording says that targets get no line, although they do
+# refuses header_counts_workers_as_pollers: a recording says that as many threads poll as there are workers
+def records_what_it_did():
+    if not Relay.records:
+        return left_out("recording")
+    # Two of these end well, and one by a reset. The replay says that what is recorded is a run, up to the end of each.
+    relay = Relay(slots=130, workers=3, ring=1000, idle=30, stop_after=3, proxy=True)
+    pairs = [relay.pair() for _ in range(3)]
+    lines = [line_of(client) for client, _ in pairs]
+    for (client, end), line in zip(pairs[:2], lines):
+        send_and_shut(client, b"a" * 2000)
+        assert read_all(end) == line + b"a" * 2000
+        send_and_shut(end, b"z" * 3000)
+        assert read_all(client) == b"z" * 3000
+    assert pairs[2][1].recv(100) == lines[2]
+    reset(pairs[2][0])
+    relay.ended()
+    with open(relay.record) as file:
+        assert file.readline() == "relayd recording 1 slots=130 pollers=2 workers=3 ring=1000 budget=64 idle=30 proxy=yes\n"
+    sent = 4000 + sum(map(len, lines))
+    assert f"\nread client=4000 target=6000 written client=6000 target={sent}" in replay(relay.record)
+
+
+# refuses record_empties_a_file: a file that is there is emptied to record into it
+def keeps_what_was_there():
+    # A recording gets the first free name behind its own, an empty file is used, and any other file is left as it is.
+    with tempfile.TemporaryDirectory() as folder:
+        path = pathlib.Path(folder, "relay.record")
+        path.touch()
+        texts, told = [], []
+        for _ in range(3):
+            relay = Relay(target(echo), options=("--record", str(path)), stop_after=1)
+            relay.connect().close()
+            told.append([line.replace(folder, "") for line in having(relay.ended(), "record: ")])
+            texts.append(path.read_text())
+        assert told == [[], *([f"[INFO  relayd] record: /relay.record: was there, and is /relay.record.{n} now"] for n in (1, 2))]
+        assert [pathlib.Path(f"{path}.{n}").read_text() for n in (1, 2)] == texts[:2] and len(os.listdir(folder)) == 3
+        for text in "relayd recording", "relayd recordings are kept here", "listen = 1\n", "\0" * 100_000:
+            path.write_text(text)
+            fault = [f"[ERROR relayd] record: {path}: is there, and is no recording", "relayd: record: cannot be created"]
+            assert Relay(1, options=("--record", str(path)), log="off").ended(1) == fault and path.read_text() == text
+        assert len(os.listdir(folder)) == 3
+
+
+# refuses full_is_not_told: a recording that lacks records ends as a whole one
+def stops_recording_when_nobody_reads_it():
+    # Nobody reads the pipe until a queue of records is full. The relay serves on, and warns once.
+    is_over = threading.Event()
+
+    def ask():
+        with relay.connect() as client:
+            while not is_over.is_set():
+                assert asked(client)
+
+    with tempfile.TemporaryDirectory() as folder:
+        path = os.path.join(folder, "record")
+        os.mkfifo(path)
+        reader = os.open(path, os.O_RDONLY | os.O_NONBLOCK)
+        relay = Relay(target(echo), options=("--record", path), log="warn", stop_after=8)
+        asking = [in_thread(ask) for _ in range(8)]
+        full = "record: records came faster than they were written, so the recording ends here"
+        assert relay.process.stderr.readline() == f"[WARN  relayd] {full}\n"
+        time.sleep(0.2)
+        is_over.set()
+        assert not any(each.result(LONGEST) for each in asking)
+        os.set_blocking(reader, True)
+        with open(reader) as file:
+            text = file.read()
+    assert relay.ended() == [] and text.endswith(" full\n") and text.count("\n") > 131_072

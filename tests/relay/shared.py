@@ -1,0 +1,143 @@
+"""What the checks of several topics use."""
+
+import re
+import resource
+import select
+import socket
+import struct
+import time
+
+from loopback import WAIT, Relay, echo, in_thread, port_of, read_all, target, until
+
+LONGEST = 100  # the longest that a check may take, in seconds
+OWN = "[WARN  relayd] target: the relay itself listens there, so a connection would go round without end"
+IDLE = "[WARN  relayd] fail s=0 g=1 idle"
+
+
+def few(served, limit, needed=2060):
+    """The warning of too few descriptors."""
+    most = f"at most {served} of 1024 connections are served at a time"
+    return f"[WARN  relayd] slots: {most}, since the limit is {limit} descriptors and {needed} are needed (ulimit -n)"
+
+
+def too_few(limit, needed):
+    """The fault of descriptors that are not enough for one connection."""
+    return f"relayd: descriptors: the limit is {limit}, and {needed} are needed for one connection (ulimit -n)"
+
+
+def at_once(*works):
+    """Does all of these at once, and waits for the last."""
+    for result in [in_thread(work) for work in works]:
+        result.result(LONGEST)
+
+
+def asked(client, data=b"?"):
+    """Whether a client reads what it sends."""
+    client.sendall(data)
+    return client.recv(len(data)) == data
+
+
+def served(relay, many):
+    """So many clients, of which each has had an answer."""
+    clients = [relay.connect() for _ in range(many)]
+    assert all([asked(client) for client in clients])
+    return clients
+
+
+def reset(connection):
+    connection.setsockopt(socket.SOL_SOCKET, socket.SO_LINGER, struct.pack("ii", 1, 0))
+    connection.close()
+
+
+def is_silent(client, seconds):
+    """Whether a client is told nothing for so long, not even an end."""
+    waiting = select.poll()
+    waiting.register(client, select.POLLIN)
+    return not waiting.poll(1000 * seconds)
+
+
+def answers_soon(client):
+    """Whether a client that sent a byte before reads it within a second."""
+    return not is_silent(client, 1) and client.recv(1) == b"?"
+
+
+def is_closed_soon(client, seconds=3):
+    """Whether a silent client is closed within so many seconds."""
+    try:
+        return not is_silent(client, seconds) and client.recv(1) == b""
+    except ConnectionResetError:
+        return True
+
+
+def is_open(port):
+    try:
+        socket.create_connection(("127.0.0.1", port), timeout=WAIT).close()
+        return True
+    except OSError:
+        return False
+
+
+def name_of(client):
+    """Its own address and port."""
+    return "%s:%d" % client.getsockname()
+
+
+def having(lines, *words):
+    """The lines that have all of these."""
+    return [line for line in lines if all(word in line for word in words)]
+
+
+def left_out(needed):
+    print(f"no {needed}: not tried")
+
+
+def unused_port():
+    """A port at which a relay or another server may listen."""
+    with socket.create_server(("127.0.0.1", 0)) as unused:
+        return port_of(unused)
+
+
+def answer_and_read(connection):
+    """Answers the first byte, and then only reads."""
+    connection.sendall(connection.recv(1))
+    read_all(connection)
+    connection.close()
+
+
+def move_much(relay, *clients):
+    """Has each connection move so much in one turn that the workers get its next turns, and that of its end."""
+    with relay.stopped():
+        for client in clients:
+            client.sendall(bytes(200_000))
+    time.sleep(0.1)
+
+
+def told(*options, **settings):
+    """The log of a relay that serves one connection of three bytes."""
+    relay = Relay(target(echo), options=options, stop_after=1, **settings)
+    with relay.connect() as client:
+        assert asked(client, b"one")
+    return relay.ended()
+
+
+def numbers_in(line):
+    """The numbers of a log line, by their names."""
+    return {name: int(number) for name, number in re.findall(r"(\w+)=(\d+)", line)}
+
+
+def drops_in(lines):
+    """How many clients were closed unopened, by these lines."""
+    return sum(numbers_in(line).get("more", 1) for line in having(lines, "] drop"))
+
+
+def leave_one_descriptor(relay):
+    """Leaves one for a client, and none for its target."""
+    # Four pollers have two each, beside the listener's, three streams and the recording's.
+    assert until(lambda: len(relay.descriptors()) == 12 + bool(relay.record))
+    relay.limit(resource.RLIMIT_NOFILE, max(relay.descriptors()) + 2)
+
+
+def line_of(client):
+    """The line that a target is sent first for a client that is connected."""
+    (source, source_port), (dest, dest_port) = client.getsockname(), client.getpeername()
+    return f"PROXY TCP4 {source} {dest} {source_port} {dest_port}\r\n".encode()

@@ -1,0 +1,169 @@
+"""Peers that are silent, and peers that are gone."""
+
+import contextlib
+import ctypes
+import os
+import shutil
+import socket
+import subprocess
+import sys
+import time
+
+from loopback import TESTS, WAIT, Relay, echo, in_thread, port_of, read_all, send_and_shut, target, unanswered, until
+from shared import IDLE, answers_soon, asked, having, is_closed_soon, is_silent, left_out, served
+
+PIDFD_GETFD = 438  # pidfd_getfd(2)
+TCP_WAITS = [socket.TCP_USER_TIMEOUT, socket.TCP_KEEPIDLE, socket.TCP_KEEPINTVL, socket.TCP_KEEPCNT]
+
+
+def ends_connections_once_they_are_silent():
+    # Seconds are counted whole, so a limit of 2 leaves a client at least one. A sweep finds it within another limit.
+    relay = Relay(target(echo), slots=1, idle=2)
+    client = relay.connect()
+    for _ in range(10):
+        time.sleep(0.5)
+        assert asked(client)
+    waiting, _other = relay.connect(), relay.connect()
+    waiting.sendall(b"?")
+    assert is_closed_soon(client, 5) and answers_soon(waiting)
+    taken = "[WARN  relayd] slots: all 1 are taken; further clients wait"
+    assert relay.end()[:4] == ["[INFO  relayd] open s=0 g=1", taken, IDLE, "[INFO  relayd] open s=0 g=2"]
+
+
+def answers_after_a_stop(seconds):
+    """Whether a relay that was stopped for so long answers all clients that sent something meanwhile."""
+    relay = Relay(target(echo), slots=256, idle=2)
+    clients = served(relay, 16)
+    # Each poller waits for reports by then, and that wait ends without any.
+    time.sleep(0.5)
+    with relay.stopped():
+        for client in clients:
+            client.sendall(b"?")
+        time.sleep(seconds)
+    with contextlib.suppress(ConnectionResetError):
+        return all([client.recv(1) == b"?" for client in clients])
+
+
+# refuses sweeps_before_it_polls: a sweep goes by a second that was read after the reports of its round
+def answers_what_came_while_it_was_stopped():
+    # For longer than the idle limit, as a container or a machine may be. Of three relays one at most is stopped between the
+    # poll of a sweep and the turns for it, by which connections are cut.
+    assert sum(answers_after_a_stop(3.2) or 0 for _ in range(3)) >= 2
+
+
+# refuses idle_limit_of_a_byte: an idle limit over 255 seconds is cut
+def keeps_to_the_longest_idle_limit():
+    if not Relay.library:
+        return left_out("cc")
+    # A day passes within 2.16 seconds.
+    relay = Relay(target(echo), preload={"TIMES_FASTER": "40000"}, slots=1, idle=86400)
+    with relay.connect() as client:
+        assert is_silent(client, 1) and is_closed_soon(client) and relay.end()[-1] == IDLE
+
+
+# refuses joined_without_a_peer: a socket that is still connecting is told as connected
+def ends_a_connect_that_nobody_answers():
+    with unanswered() as port:
+        for act in (lambda client: client.sendall(b"is anybody there?")), (lambda client: client.shutdown(socket.SHUT_WR)):
+            relay = Relay(port, slots=1, idle=1)
+            with relay.connect() as client:
+                act(client)
+                assert is_closed_soon(client) and relay.end()[-1] == IDLE
+
+
+def gives_up_a_target_that_does_not_answer():
+    with unanswered() as port:
+        relay, patient = Relay(port, slots=1, options=["--connect-timeout", "1"], typed=True), Relay(port)
+        client, waiting = relay.connect(), patient.connect()
+        assert is_silent(client, 0.8) and is_closed_soon(client) and is_silent(waiting, 1)
+        assert relay.end()[-1] == "[WARN  relayd] fail s=0 g=1 side=target call=read kind=timedout"
+
+
+# refuses limit_stays: the limit for connecting stays when the target is connected
+def keeps_a_target_that_takes_nothing():
+    # The system asks it again and again whether it has room, and ends a connection that has a limit by the next time behind it.
+    relay = Relay(ring=4096, options=["--connect-timeout", "1"])
+    client, end = relay.pair()
+    sending = in_thread(send_and_shut, client, bytes(12_000_000))
+    assert is_silent(client, 3) and len(read_all(end)) == 12_000_000 and not sending.result(WAIT)
+    end.close()
+    assert relay.end()[-1].endswith("up=12000000 down=0")
+
+
+def waits_of(relay):
+    """For how long the client's socket and the target's wait for their peers: SO_KEEPALIVE, and TCP_WAITS. Nothing where the
+    sockets of another process can't be had."""
+    process, found = os.pidfd_open(relay.process.pid), {}
+    options = [(socket.SOL_SOCKET, socket.SO_KEEPALIVE), *((socket.IPPROTO_TCP, option) for option in TCP_WAITS)]
+    for number in relay.descriptors():
+        if os.readlink(f"/proc/{relay.process.pid}/fd/{number}").startswith("socket:"):
+            copied = ctypes.CDLL(None).syscall(PIDFD_GETFD, process, number, 0)
+            if copied < 0:
+                break
+            with socket.socket(fileno=copied) as copy:
+                if not copy.getsockopt(socket.SOL_SOCKET, socket.SO_ACCEPTCONN):
+                    side = "client" if copy.getsockname()[1] == relay.port else "target"
+                    found[side] = [copy.getsockopt(*option) for option in options]
+    os.close(process)
+    return found
+
+
+# refuses client_with_a_limit: a client's socket has the limit for connecting
+# refuses probes_by_the_systems_numbers: the system's own numbers say when a socket probes its peer
+def has_its_sockets_wait_as_is_asked():
+    def found(port, *options):
+        relay = Relay(port, options=options)
+        with relay.connect() as client:
+            if port == echoing:
+                assert asked(client)
+            return until(lambda: len(waits_of(relay)) == 2) and waits_of(relay)
+
+    most, echoing = ("--connect-timeout", "3600", "--keepalive", "32767"), target(echo)
+    with unanswered() as port:
+        started = found(port, *most)
+    if not started:
+        return left_out("pidfd_getfd")
+    numbers = [32767, 6553, 5]
+    assert started == {"client": [1, 0, *numbers], "target": [1, 3_600_000, *numbers]}
+    assert found(echoing, *most) == {"client": [1, 0, *numbers], "target": [1, 0, *numbers]}
+    assert found(echoing, "--keepalive", "1") == dict.fromkeys(["client", "target"], [1, 0, 1, 1, 5])
+    assert [each[:2] for each in found(echoing).values()] == [[0, 0], [0, 0]]
+
+
+# refuses peers_are_never_probed: nobody probes a peer that is silent
+def gives_up_peers_that_are_gone():
+    # In a network of its own, where the system allows one: an address there can be cut off.
+    if "CUT_OFF" not in os.environ:
+        words = ["unshare", "--user", "--map-root-user", "--net"]
+        if not shutil.which("unshare") or subprocess.run([*words, "ip", "link"], capture_output=True).returncode:
+            return left_out("network of its own")
+        words += [sys.executable, f"{TESTS}/relay/run", Relay.program, "gives_up_peers_that_are_gone"]
+        done = subprocess.run(words, stdout=subprocess.PIPE, text=True, env={**os.environ, "CUT_OFF": "127.0.0.2"})
+        assert done.returncode == 0, done.stdout
+        return
+    subprocess.run(["ip", "link", "set", "lo", "up"], check=True)
+    listener, options = socket.create_server(("127.0.0.2", 0)), ["--keepalive", "1"]
+    there = f"127.0.0.2:{port_of(listener)}"
+    relay, other, patient = Relay(target(echo), slots=1, options=options), Relay(target=there, options=options), Relay(target=there)
+    gone, client, waiting, next_one = relay.connect(own="127.0.0.2"), other.connect(), patient.connect(), relay.connect()
+    _ends = listener.accept(), listener.accept()
+    assert asked(gone)
+    next_one.sendall(b"?")
+    subprocess.run(["ip", "route", "add", "blackhole", "127.0.0.2", "table", "local"], check=True)
+    begun = time.monotonic()
+    # A second, and five probes a second apart. Then the next client has the slot, and it is kept, since its peers are there.
+    assert next_one.recv(1) == b"?" and 5 < time.monotonic() - begun < 9 and is_closed_soon(client)
+    assert is_silent(waiting, 1) and is_silent(next_one, 7) and asked(next_one)
+    assert having(relay.end(), "side=client call=read kind=timedout") and having(other.end(), "side=target call=read kind=timedout")
+
+
+def ends_a_receiver_that_stalls():
+    relay = Relay(slots=1, ring=4096, idle=1)
+    client, _end = relay.pair()
+    client.settimeout(0.5)
+    with contextlib.suppress(ConnectionError):
+        with contextlib.suppress(TimeoutError):
+            while client.send(bytes(65536)):
+                pass
+        assert is_closed_soon(client)
+    assert relay.end()[-1] == IDLE

@@ -1,0 +1,341 @@
+"""How a relay starts, stops listening, ends, and is replaced by another one."""
+
+import collections
+import contextlib
+import functools
+import os
+import pathlib
+import re
+import shutil
+import signal
+import socket
+import subprocess
+import tempfile
+import threading
+import time
+
+from loopback import (
+    TESTS, WAIT, Relay, allowed, echo, in_thread, port_of, read_all, send_and_shut, settings_file, start, target, until,
+)
+from shared import (
+    OWN, answer_and_read, asked, at_once, few, having, is_open, is_silent, left_out, line_of, move_much, served, unused_port,
+)
+
+
+# refuses first_poller_ends_the_workers: the first poller that has ended closes the queue of tickets
+def goes_on_behind_its_first_poller():
+    # Each of two pollers opens one connection. The first one has ended when the second begins to move much.
+    relay = Relay(target(echo), slots=128, workers=2, stop_after=2)
+    first, second = served(relay, 2)
+    first.close()
+    time.sleep(0.5)
+    data = os.urandom(4_000_000)
+    second.settimeout(10)
+    sending = in_thread(send_and_shut, second, data)
+    assert read_all(second) == data and not sending.result(WAIT)
+    relay.ended(within=10)
+
+
+# refuses no_wake_behind_the_last: nobody wakes a poller whose last connection a worker has ended
+# refuses pollers_behind_the_eighth_are_not_woken: of 16 pollers, those behind the eighth have the eighth's waker
+def ends_soon_behind_its_last():
+    # Each poller has one connection. A poller that nobody wakes waits for 200 ms, and for 1.6 s if it is one of 16.
+    def taken(pollers):
+        relay = Relay(target(answer_and_read), slots=64 * pollers, workers=pollers, stop_after=pollers, log="off")
+        clients = served(relay, pollers)
+        move_much(relay, *clients)
+        before = time.monotonic()
+        for client in clients:
+            client.shutdown(socket.SHUT_WR)
+        relay.process.wait(WAIT)
+        return time.monotonic() - before
+
+    for pollers, most in (1, 0.15), (16, 0.7):
+        assert sorted(taken(pollers) for _ in range(7))[3] < most
+
+
+def gives_up_its_port(relay, clients):
+    """Clients are refused and another relay listens there, while these go on, each of which echoes. Answers the log."""
+    assert until(lambda: not is_open(relay.port))
+    with Relay(target(echo), listen=f"127.0.0.1:{relay.port}", log="off").connect() as client:
+        assert asked(client)
+    for client in clients:
+        assert asked(client) and relay.process.poll() is None
+        client.close()
+    return relay.ended()
+
+
+def closes_its_socket_behind_its_last():
+    # One poller; and four, of which each has its share of the connections, 3, 3, 2 and 2.
+    for most, settings in (4, {"workers": 1, "slots": 4}), (10, {"slots": 256}):
+        relay = Relay(target(echo), stop_after=most, **settings)
+        lines = gives_up_its_port(relay, served(relay, most))
+        assert len(having(lines, "] open ")) == most
+
+
+# refuses waits_while_it_listens: a poller that may open nothing waits for reports with the listening socket open
+def refuses_who_comes_behind_its_last():
+    # Of sixteen pollers fifteen may open none, and wait for 1.6 seconds at a time. A client would wake them.
+    relay = Relay(target(echo), slots=1024, workers=16, stop_after=1)
+    (client,) = served(relay, 1)
+    time.sleep(0.3)
+    with contextlib.suppress(ConnectionRefusedError):
+        relay.connect().close()
+        assert False, "it listens for nobody"
+    client.close()
+    relay.ended()
+
+
+# refuses end_of_input_overlooked: a relay with --until-eof goes on to accept clients behind the end of its standard input
+def ends_behind_its_standard_input():
+    # What it reads there is thrown away. With 4 pollers and 16, from a file and on the command line.
+    for settings in {}, {"workers": 16}, {"typed": True}:
+        relay = Relay(target(echo), options=["--until-eof"], stdin=subprocess.PIPE, **settings)
+        relay.process.stdin.write("x" * 1_000_000)
+        relay.process.stdin.flush()
+        clients = served(relay, 20)
+        assert relay.process.poll() is None
+        relay.process.stdin.close()
+        relay.process.stdin = None
+        told = "[INFO  relayd] input: has ended, so no more clients are accepted"
+        assert told in gives_up_its_port(relay, clients)
+
+
+def ends_where_there_is_no_input():
+    # Standard input has ended before it begins, or can't be read, as a folder.
+    for path, level, why in (os.devnull, "INFO", "has ended"), ("/", "WARN", "Is a directory (os error 21)"):
+        file = os.open(path, os.O_RDONLY)
+        relay = Relay(options=["--until-eof"], stdin=file)
+        os.close(file)
+        assert relay.ended() == [f"[{level:5} relayd] input: {why}, so no more clients are accepted"]
+
+
+# refuses closed_streams_are_not_held: a socket or a file gets the number of a standard stream that is closed
+def gives_no_closed_stream_to_another():
+    # With each set of streams closed: every client has its own bytes alone, and a recording none of another. Without an output
+    # nobody can be told where it listens.
+    bad = "Bad file descriptor (os error 9)"
+
+    def ask(client):
+        for number in range(30):
+            assert asked(client, b"%d;" % number)
+        client.close()
+
+    for number in range(8):
+        closed = [stream for stream in range(3) if number >> stream & 1]
+        for settings in {"stop_after": 8}, {"options": ["--until-eof"]}:
+            relay = Relay(target(echo), closed=closed, stdin=subprocess.PIPE, typed=True, workers=16, **settings)
+            unread = [f"[WARN  relayd] input: {bad}, so no more clients are accepted"] if 0 in closed and "options" in settings else []
+            if 1 in closed:
+                # Two threads log, and its input may end sooner than it does.
+                lines = [line for line in relay.ended(1) if "input: has ended" not in line]
+                failed = [*unread, f"[ERROR relayd] output: {bad}", "relayd: output: cannot be written"]
+                assert sorted(lines) == ([] if 2 in closed else sorted(failed))
+                assert not relay.record or bad not in pathlib.Path(relay.record).read_text()
+                continue
+            if unread:
+                assert relay.ended() == ([] if 2 in closed else unread)
+                continue
+            at_once(*[functools.partial(ask, relay.connect()) for _ in range(8)])
+            lines = relay.ended()
+            assert len(having(lines, "] done ")) == (0 if 2 in closed else 8)
+    if not shutil.which("unshare") or subprocess.run(["unshare", "--mount", "true"], stderr=subprocess.DEVNULL).returncode:
+        return left_out("namespace of mounts")
+    # Where nothing can stand in for a closed stream, it says so on another.
+    for stream, other in (0, "stderr"), (2, "stdout"):
+        script = f'mount -t tmpfs none /dev && exec "$0" --version {stream}>&-'
+        words = ["unshare", "--mount", "sh", "-c", script, os.path.abspath(Relay.program)]
+        done = subprocess.run(words, stdin=subprocess.PIPE, stdout=subprocess.PIPE, stderr=subprocess.PIPE, text=True)
+        name = "input" if stream == 0 else "errors"
+        cause = "No such file or directory (os error 2)"
+        told = f"relayd: {name}: is closed, and /dev/null cannot be opened in its place: {cause}\n"
+        assert (done.returncode, getattr(done, other)) == (1, told)
+
+
+@contextlib.contextmanager
+def replaceable():
+    """A folder with the settings of a relay that listens at a port, and a program that is the relay, and where that serves
+    records what it does. The folder, the port, the settings' path and the program's."""
+    with tempfile.TemporaryDirectory() as folder:
+        port, settings, program = unused_port(), f"{folder}/relay.toml", f"{folder}/relayd"
+        pathlib.Path(settings).write_text(f'listen = "127.0.0.1:{port}"\ntarget = "127.0.0.1:{target(echo)}"\n')
+        relayd = f'exec "{os.path.abspath(Relay.program)}" "$@"'
+        record = f'--record "$(mktemp -p "{Relay.records}")"' if Relay.records else ""
+        pathlib.Path(program).write_text(f'#!/bin/sh\n[ "$1" = run ] || {relayd}\n{relayd} {record}\n')
+        os.chmod(program, 0o755)
+        yield folder, port, settings, program
+
+
+def replace(folder, settings, program):
+    """What the script of the examples did."""
+    words = [f"{TESTS}/../examples/replace.sh", folder, settings]
+    env = {**os.environ, "RELAYD": program}
+    return subprocess.run(words, stdout=subprocess.PIPE, stderr=subprocess.PIPE, text=True, timeout=WAIT, env=env)
+
+
+def is_replaced_at_another_address():
+    # One that cannot start leaves the other as it is, with its log and no other; one that listens elsewhere starts beside it.
+    with replaceable() as (folder, port, settings, program), socket.create_server(("127.0.0.1", 0)) as taken:
+        text, names = pathlib.Path(settings).read_text(), lambda: {path.name for path in pathlib.Path(folder).glob("log*")}
+        assert replace(folder, settings, program).stdout == f"listening 127.0.0.1:{port}\n"
+        with socket.create_connection(("127.0.0.1", port)) as client:
+            before, other = names(), unused_port()
+            pathlib.Path(settings).write_text(text.replace(f":{port}", f":{port_of(taken)}"))
+            failed = replace(folder, settings, program)
+            assert failed.returncode == 1 and "relayd: listen: failed\n" in failed.stderr and names() == before
+            assert asked(client) and is_open(port)
+            pathlib.Path(settings).write_text(text.replace(f"127.0.0.1:{port}", f"0.0.0.0:{other}"))
+            assert replace(folder, settings, program).stdout == f"listening 0.0.0.0:{other}\n"
+            assert until(lambda: not is_open(port)) and is_open(other) and asked(client) and len(names()) == 3
+            pathlib.Path(settings).write_text(text.replace(f":{port}", f":{other}"))
+            assert replace(folder, settings, program).stdout == f"listening 127.0.0.1:{other}\n" and asked(client)
+        os.kill(int(pathlib.Path(folder, "holder").read_text()), signal.SIGTERM)
+        assert until(lambda: not is_open(other))
+
+
+def is_replaced_under_load():
+    # By the script of the examples, twice, beside clients that ask one after the other, each time on a connection of its own,
+    # and clients that keep theirs. No client that was accepted is cut: each has its line `done`.
+    counts, is_over = collections.Counter(), threading.Event()
+
+    def come_and_go():
+        while not is_over.is_set():
+            try:
+                with socket.create_connection(("127.0.0.1", port), timeout=WAIT) as client:
+                    assert asked(client, b"?" * 100)
+                counts["answered"] += 1
+            except ConnectionRefusedError:
+                time.sleep(0.002)
+            except (ConnectionResetError, BrokenPipeError):
+                # It came between two listeners, and was reset in the backlog.
+                counts["reset"] += 1
+
+    def stay():
+        with socket.create_connection(("127.0.0.1", port), timeout=WAIT) as client:
+            while not is_over.is_set():
+                assert asked(client, b"!" * 100)
+                time.sleep(0.01)
+
+    with replaceable() as (folder, port, settings, program):
+
+        def begin():
+            assert replace(folder, settings, program).stdout == f"listening 127.0.0.1:{port}\n"
+
+        def lines(word):
+            return [path.read_text().count(word) for path in pathlib.Path(folder).glob("log.*")]
+
+        begin()
+        load = [in_thread(work) for work in [come_and_go] * 4 + [stay] * 4]
+        for _ in range(2):
+            time.sleep(1)
+            begin()
+        time.sleep(1)
+        is_over.set()
+        assert not any(each.result(WAIT) for each in load)
+        os.kill(int(pathlib.Path(folder, "holder").read_text()), signal.SIGTERM)
+        assert until(lambda: not is_open(port) and lines("] open ") == lines("] done "))
+        assert lines("] fail ") == lines("] drop ") == [0] * 3 and counts["answered"] > 100 and counts["reset"] <= 8
+
+
+def is_replaced_by_systemd():
+    # What the drop-in says is done, one command after the other, as systemd makes it for an instance whose folder this is: to
+    # stop waits for the last connection, and fails no more where the relay has ended.
+    with replaceable() as (folder, port, settings, program):
+        text = pathlib.Path(TESTS, "../packaging/replace.conf").read_text().replace("\\\n", "").replace("$$", "$")
+        text = text.replace("%t/relayd-%i", folder).replace("/usr/local/bin/relayd", program).replace("/etc/relayd.toml", settings)
+        make, begin, stop = re.findall(r"^Exec\w+=(.+)$", text, re.M)
+        subprocess.run(make, shell=True, check=True)
+        relay = start(["/bin/sh", "-c", "exec " + begin], stdout=subprocess.PIPE, stderr=subprocess.DEVNULL)
+        assert relay.stdout.readline() == f"listening 127.0.0.1:{port}\n"
+        with socket.create_connection(("127.0.0.1", port)) as client:
+            assert asked(client)
+            stopping = start(["/bin/sh", "-c", stop.replace("${MAINPID}", str(relay.pid))])
+            assert until(lambda: not is_open(port))
+            time.sleep(1.5)
+            assert not is_open(port) and asked(client) and relay.poll() is None and stopping.poll() is None
+        assert relay.wait(WAIT) == 0 and stopping.wait(WAIT) == 0
+        stopped = subprocess.run(["/bin/sh", "-c", stop.replace("${MAINPID}", "")], stderr=subprocess.PIPE, text=True)
+        assert "tail" not in stopped.stderr
+
+
+def forwards_by_its_command_line():
+    settings = {"ring": 1, "budget": 2, "workers": 3, "slots": 1, "stop_after": 2, "log": "error", "proxy": True}
+    relay = Relay(target(echo), typed=True, recorded=False, **settings)
+    # The second client waits for the only slot, of which a warning is logged if it comes behind the first one's opening.
+    first, second = relay.connect(), relay.connect()
+    lines = [line_of(first), line_of(second)]
+    send_and_shut(second, b"two")
+    # The polling thread, three workers, and the log's.
+    assert is_silent(second, 0.5) and relay.status("Threads") == 5
+    send_and_shut(first, b"three")
+    assert read_all(first) == lines[0] + b"three" and read_all(second) == lines[1] + b"two"
+    assert relay.ended() == []
+
+
+# refuses start_is_not_logged: nothing is logged when a relay begins to serve
+def says_how_it_serves():
+    for settings, sizes in ({}, "1024 slots, 4 workers, 4 pollers"), ({"slots": 130, "workers": 3}, "130 slots, 3 workers, 2 pollers"):
+        relay = Relay(7, **settings)
+        relay.end()
+        assert relay.begun_with == [f"[INFO  relayd] relayd 0.1.0: 127.0.0.1:{relay.port} to 127.0.0.1:7, {sizes}"]
+    relay = Relay(7, log="warn")
+    assert relay.end() == relay.begun_with == []
+
+
+# refuses warnings_filtered_as_errors: at the level of warnings only errors are logged
+# refuses descriptors_of_one_poller: descriptors are counted for one poller, whatever the number of pollers is
+def warns_before_it_runs():
+    port = unused_port()
+    assert Relay(port, listen=f"127.0.0.1:{port}", log="warn").end() == [OWN]
+
+    # `check` warns as `run` does, whatever the file says of `log`, and prints the settings.
+    def warned(listen, target, most=2060):
+        with settings_file({"listen": f"{listen}:7000", "target": f"{target}:7000", "log": "off"}) as path:
+            words = [Relay.program, "check", "--config", path]
+            checked = subprocess.run(words, capture_output=True, text=True, preexec_fn=allowed(most))
+        assert checked.returncode == 0 and checked.stdout.count("\n") == 10
+        return checked.stderr.splitlines()
+
+    own = [("127.0.0.1", "127.0.0.1"), ("0.0.0.0", "127.0.0.9"), ("0.0.0.0", "0.0.0.0"), ("127.0.0.1", "0.0.0.0")]
+    # The address from which this machine reaches others, if it has one.
+    with socket.socket(socket.AF_INET, socket.SOCK_DGRAM) as reaching, contextlib.suppress(OSError):
+        reaching.connect(("192.0.2.1", 9))
+        own.append(("0.0.0.0", reaching.getsockname()[0]))
+    others = [("127.0.0.1", "127.0.0.2"), ("127.0.0.2", "0.0.0.0"), ("0.0.0.0", "192.0.2.1")]
+    assert all(warned(*pair) == [OWN] for pair in own) and not any(warned(*pair) for pair in others)
+    # With 64 slots or more for each there are four pollers, with 128 two, and else one.
+    for most, served in (40, 17), (262, 127), (263, 127), (264, 128), (1024, 506), (2059, 1023):
+        assert warned("127.0.0.1", "127.0.0.2", most) == [few(served, most)]
+
+
+def listens_on_its_address_alone():
+    relay = Relay(target(echo))
+    # The port at other addresses of loopback is left to others, and nobody is there.
+    socket.create_server(("127.0.0.3", relay.port)).close()
+    with contextlib.suppress(ConnectionRefusedError):
+        relay.connect(to="127.0.0.2").close()
+        raise AssertionError("it listens at 127.0.0.2")
+    taken = f"127.0.0.1:{relay.port}"
+    cause = f"[ERROR relayd] listen: {taken}: Address already in use (os error 98)"
+    assert Relay(1, listen=taken).ended(1) == [cause, "relayd: listen: failed"]
+    with relay.connect() as client:
+        assert asked(client)
+
+
+def stops_as_the_first_process():
+    # In a process namespace of its own, as in a container, by the signal that the Containerfile names.
+    (stop,) = re.findall(r"^STOPSIGNAL (\w+)$", pathlib.Path(TESTS, "../packaging/Containerfile").read_text(), re.M)
+    unshare = ["unshare", "--pid", "--fork", "--kill-child"]
+    if not shutil.which("unshare") or subprocess.run([*unshare, "true"], stderr=subprocess.DEVNULL).returncode != 0:
+        return left_out("namespace of processes")
+    words = [Relay.program, "forward", "127.0.0.1:0", "127.0.0.1:1"]
+    process = start([*unshare, *words], stdout=subprocess.PIPE, stderr=subprocess.DEVNULL)
+    assert process.stdout.readline().startswith("listening ")
+    first = int(pathlib.Path(f"/proc/{process.pid}/task/{process.pid}/children").read_text())
+    # While it starts its threads it blocks signals for moments, and one that comes then may end it.
+    time.sleep(0.5)
+    os.kill(first, signal.SIGTERM)
+    time.sleep(0.5)
+    assert process.poll() is None
+    os.kill(first, signal.Signals[stop])
+    process.wait(1)
