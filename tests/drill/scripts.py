@@ -1,8 +1,11 @@
 """Random scripts for the program `drill`, each made from a seed."""
 
+import pathlib
 import random
+import re
 
-KINDS = ["reset", "pipe", "aborted", "refused", "notconnected", "timedout", "zero", "other"]
+SOURCE = pathlib.Path(__file__).resolve().parents[2] / "crates/token/src/kind.rt"
+KINDS = re.findall(r'Kind::\w+ => "(\w+)"', SOURCE.read_text(encoding="utf-8"))
 LAST_GENERATION = 2**47 - 1
 
 

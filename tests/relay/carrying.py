@@ -40,7 +40,7 @@ def client_resets_behind_bytes():
     assert relay.end()[-1].endswith("side=client call=read kind=reset")
 
 
-# refuses failed_shutdown_told_as_made: a shutdown that fails is told as made
+# refuses failed_shutdown_told_as_made: a shutdown that fails is returned as made
 def target_resets_behind_its_end():
     relay = Relay()
     client, end = relay.pair()
@@ -54,9 +54,9 @@ def target_resets_behind_its_end():
 
 
 # refuses long_offer_told_as_whole: of an offer over 16,384 bytes only these are written, and all of it is counted
-# refuses whole_ring_told_as_none: a write of 65,536 bytes is told as one of none
+# refuses whole_ring_told_as_none: a write of 65,536 bytes is returned as one of none
 def both_sides_stall():
-    # All bytes arrive both ways, where neither end reads at first.
+    # All bytes arrive both ways, although neither end reads at first.
     for settings in {}, {"ring": 65536}, {"budget": 1, "workers": 2}, {"budget": 1024, "workers": 2}:
         up, down = os.urandom(12_000_000), os.urandom(12_000_000)
         relay = Relay(**settings)

@@ -61,7 +61,7 @@ def nothing_to_poll_with():
 # refuses off_is_error: at level off a relay that serves logs what it logs at level error
 def logs_nothing_at_level_off_while_it_serves():
     relay = Relay(target(echo), slots=64, log="off")
-    served(relay, 1)
+    (_client,) = served(relay, 1)
     relay.limit(resource.RLIMIT_NOFILE, max(relay.descriptors()) + 1)
     waiting = relay.connect()
     waiting.sendall(b"?")
@@ -70,7 +70,7 @@ def logs_nothing_at_level_off_while_it_serves():
 
 # refuses unstarted_thread_is_no_fault: a thread that cannot be started is logged, and the others go on
 # refuses leave_ignores_a_fault: a poller that ends for a fault does not end the workers while another was to poll
-# refuses fault_leaves_the_recording_open: behind a fault the thread that records is waited for without end
+# refuses fault_leaves_the_recording_open: after a fault the relay waits without end for the thread that records
 def no_thread_for_some():
     if not Relay.library:
         return left_out("cc")
@@ -128,7 +128,7 @@ def closes_what_it_has_opened():
     acts = (server, asked), (server, ask_and_reset), (port_of(nobody), is_closed_soon), (closing, is_closed_soon)
     for port, act in acts:
         relay = Relay(port, slots=64, log="off")
-        # It has no more descriptors behind 40 connections than behind one.
+        # It has no more descriptors after 40 connections than after one.
         for number in range(41):
             with relay.connect() as client:
                 act(client)
@@ -139,7 +139,7 @@ def closes_what_it_has_opened():
 
 
 def floods_nothing_without_descriptors():
-    # Each of four pollers tells what goes on, and a count once a second.
+    # Each of four pollers logs the first of each kind, and a count once a second.
     relay = Relay(target(echo), log="warn")
     leave_one_descriptor(relay)
     ended = time.monotonic() + 3
@@ -173,7 +173,7 @@ def out_of_memory():
     assert all([asked(client) for client in clients])
     lines = relay.end()
     opened, refused = having(lines, "] open s="), having(lines, "] drop")
-    # A refused connection is told, unless there is no memory for that either.
+    # A refused connection is logged, unless there is no memory for that either.
     assert sorted(line.split("] open ")[1] for line in opened) == [f"s={slot} g=1" for slot in range(8)]
     assert refused[0] == "[WARN  relayd] drop kind=memory"
     assert 0 < drops_in(refused) <= without and len(opened) + len(refused) == len(lines)

@@ -25,7 +25,7 @@ def logs_as_is_set():
 
 # refuses line_without_its_priority: a line in the journal of systemd has no priority
 def marks_its_lines_for_the_journal():
-    # Of a stream that is not the one that is named, and where none is named, lines begin with their level.
+    # If the stream that is named is another one, or none is named, lines begin with their level.
     priorities = {"ERROR": "<3>", "WARN ": "<4>", "INFO ": "<6>", "DEBUG": "<7>"}
     for how in "{0}:{1}", "{0}:{1}0", "{0}", "":
         with tempfile.TemporaryFile("w+") as errors:
@@ -125,7 +125,7 @@ def end_as_asked(connection):
 # refuses ended_bytes_are_forgotten: the bytes of a slot's earlier connections are not in the statistics
 # refuses idle_ones_have_not_failed: those that the idle limit ended are not counted as failed
 def statistics_add_up():
-    # Of 1,000 connections that end in every way, several in each slot, behind 20 clients that are dropped.
+    # Of 1,000 connections that end in every way, several in each slot, after 20 clients that are dropped.
     def sends(word, last=read_all, times=1):
         def work():
             for number in range(times):
@@ -207,7 +207,7 @@ def serves_on_when_nobody_reads_its_log():
                 assert asked(client)
 
     at_once(*[serve_some] * 4)
-    # Somebody reads again: each connection has its two lines, but for those that are told to be left out.
+    # Somebody reads again: each connection has its two lines, but for those that were counted as left out.
     with os.fdopen(reader) as log:
         time.sleep(0.1)
         in_thread(lambda: (time.sleep(2), relay.process.terminate()))
@@ -231,7 +231,7 @@ def unread(port=1, **settings):
     return relay, os.fdopen(reader)
 
 
-# refuses fault_waits_for_a_reader: a fault of serving is told by a write that may not end
+# refuses fault_waits_for_a_reader: a fault of serving is printed by a write that may not end
 def ends_by_a_fault_that_nobody_reads():
     relay, log = unread(descriptors=4, recorded=False)
     with log:
@@ -240,7 +240,7 @@ def ends_by_a_fault_that_nobody_reads():
 
 # refuses last_wait_of_ten_milliseconds: a relay that ends waits for its log's reader for 10 ms, and not for a second
 def tells_its_last_lines_to_a_late_reader():
-    # It ends soon behind its last connection, and then waits, but not for a reader that never comes.
+    # It ends soon after its last connection, and then waits, but not for a reader that never comes.
     for is_late in True, False:
         relay, log = unread(target(echo), stop_after=1)
         with relay.connect() as client:

@@ -22,7 +22,7 @@ def have_it(pairs):
     return all([end.recv(1) == b"u" and client.recv(1) == b"d" for client, end in pairs])
 
 
-# refuses half_of_a_batch_told: of 256 reports only the first 128 are told to the wires
+# refuses half_of_a_batch_told: of 256 reports only the first 128 reach the wires
 def answers_a_full_batch_and_a_client():
     # With one poller: as many reports as one wait gives, of both ends of each connection, and a client that comes with them.
     relay = Relay(slots=300, workers=1, log="off")
@@ -42,7 +42,7 @@ def uses_each_of_4096_slots():
         return left_out("8,300 descriptors")
     relay = Relay(slots=4096, log="off")
     pairs = [relay.pair() for _ in range(4096)]
-    # In the second round each wire has to be told of a report.
+    # In the second round a report has to reach each wire.
     for _ in range(2):
         send_at_once(pairs)
         assert have_it(pairs)
@@ -60,11 +60,11 @@ def serves_all_slots_of_several_pollers():
         clients[freed] = waiting
         assert waiting.recv(1) == b"?"
     slots = [int(line.split("s=")[1].split(" ")[0]) for line in having(relay.end(), "] open ")]
-    # Several pollers are told of the first clients, while each has slots for all of them.
+    # The first clients are reported to several pollers, while each has slots for all of them.
     assert len({slot // 64 for slot in slots[:64]}) > 1 and sorted(slots[:256]) == list(range(256)) and len(slots) == 268
 
 
-# refuses late_generations_are_not_told: a wire is told of no report whose number has over 32 bits
+# refuses late_generations_are_not_told: no report whose number has over 32 bits reaches its wire
 # refuses numbers_of_32_bits: a socket is registered under the lowest 32 bits of its number
 def serves_65539_in_one_slot():
     # Numbers have over 32 bits from generation 65,536 on. All clients but the last four find their target out of reach.
@@ -116,7 +116,7 @@ def burst(relay, clients):
 
 
 def echo_or_read(connection):
-    """Only reads where the first byte says so."""
+    """Echoes, or only reads if the first byte is no question mark."""
     first = connection.recv(1)
     connection.sendall(first)
     if first == b"?":
@@ -126,7 +126,7 @@ def echo_or_read(connection):
         pass
 
 
-# refuses light_tickets_put_while_all_work: light tickets behind the first 16 of a round are put while all workers work on bulk
+# refuses light_tickets_put_while_all_work: light tickets after the first 16 of a round are put while all workers work on bulk
 def small_messages_wait_for_no_bulk():
     relay = Relay(target(echo_or_read), recorded=False, slots=64, workers=1, budget=1024, ring=65536, log="off")
     bulk = [relay.connect() for _ in range(4)]
@@ -158,7 +158,7 @@ def wakes_workers_for_what_is_over_16():
     others = [task for task in relay.tasks() if task != str(relay.process.pid)]
 
     def worked(many):
-        """How long other threads than the poller's run, by a burst of so many."""
+        """How long other threads than the poller's run, by a burst of this many."""
         time.sleep(0.1)
         before = relay.run_time(others)
         burst(relay, clients[:many])

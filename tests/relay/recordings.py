@@ -17,9 +17,9 @@ def serves_on_where_nothing_can_be_recorded():
     assert told("--record", "/dev/full", typed=True, log="warn") == [lost]
 
 
-# refuses recorder_swallows_reports: a relay that records is told of no report
+# refuses recorder_swallows_reports: no report reaches a relay that records
 # refuses recorder_calls_twice: a relay that records reads twice, and passes on what the second read gave
-# refuses reports_not_recorded: a recording tells how many reports came, and not which
+# refuses reports_not_recorded: a recording has how many reports came, and not which
 # refuses blocked_as_moved: a read that would block is recorded as one of no byte
 # refuses header_without_proxy: a recording says that targets get no line, although they do
 # refuses header_counts_workers_as_pollers: a recording says that as many threads poll as there are workers
@@ -46,7 +46,7 @@ def records_what_it_did():
 
 # refuses record_empties_a_file: a file that is there is emptied to record into it
 def keeps_what_was_there():
-    # A recording gets the first free name behind its own, an empty file is used, and any other file is left as it is.
+    # A recording that is there gets the first free name after its own, an empty file is used, and any other is left as it is.
     with tempfile.TemporaryDirectory() as folder:
         path = pathlib.Path(folder, "relay.record")
         path.touch()

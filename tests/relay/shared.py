@@ -38,7 +38,7 @@ def asked(client, data=b"?"):
 
 
 def served(relay, many):
-    """So many clients, of which each has had an answer."""
+    """This many clients, each of which has had an answer."""
     clients = [relay.connect() for _ in range(many)]
     assert all([asked(client) for client in clients])
     return clients
@@ -50,7 +50,7 @@ def reset(connection):
 
 
 def is_silent(client, seconds):
-    """Whether a client is told nothing for so long, not even an end."""
+    """Whether a client gets nothing for this many seconds, not even an end."""
     waiting = select.poll()
     waiting.register(client, select.POLLIN)
     return not waiting.poll(1000 * seconds)
@@ -62,7 +62,7 @@ def answers_soon(client):
 
 
 def is_closed_soon(client, seconds=3):
-    """Whether a silent client is closed within so many seconds."""
+    """Whether a silent client is closed within this many seconds."""
     try:
         return not is_silent(client, seconds) and client.recv(1) == b""
     except ConnectionResetError:

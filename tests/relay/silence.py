@@ -31,15 +31,16 @@ def ends_connections_once_they_are_silent():
 
 
 def answers_after_a_stop(seconds):
-    """Whether a relay that was stopped for so long answers all clients that sent something meanwhile."""
+    """Whether a relay that was stopped for this many seconds answers all clients that sent something meanwhile."""
     relay = Relay(target(echo), slots=256, idle=2)
     clients = served(relay, 16)
-    # Each poller waits for reports by then, and that wait ends without any.
+    # Each poller waits for reports, and its wait has ended without any before the bytes come.
     time.sleep(0.5)
     with relay.stopped():
+        time.sleep(0.5)
         for client in clients:
             client.sendall(b"?")
-        time.sleep(seconds)
+        time.sleep(seconds - 0.5)
     with contextlib.suppress(ConnectionResetError):
         return all([client.recv(1) == b"?" for client in clients])
 
@@ -61,7 +62,7 @@ def keeps_to_the_longest_idle_limit():
         assert is_silent(client, 1) and is_closed_soon(client) and relay.end()[-1] == IDLE
 
 
-# refuses joined_without_a_peer: a socket that is still connecting is told as connected
+# refuses joined_without_a_peer: a socket that is still connecting is logged as connected
 def ends_a_connect_that_nobody_answers():
     with unanswered() as port:
         for act in (lambda client: client.sendall(b"is anybody there?")), (lambda client: client.shutdown(socket.SHUT_WR)):
@@ -81,7 +82,7 @@ def gives_up_a_target_that_does_not_answer():
 
 # refuses limit_stays: the limit for connecting stays when the target is connected
 def keeps_a_target_that_takes_nothing():
-    # The system asks it again and again whether it has room, and ends a connection that has a limit by the next time behind it.
+    # The system asks it again and again whether it has room, and ends a connection whose limit has passed at one of these times.
     relay = Relay(ring=4096, options=["--connect-timeout", "1"])
     client, end = relay.pair()
     sending = in_thread(send_and_shut, client, bytes(12_000_000))
@@ -91,7 +92,7 @@ def keeps_a_target_that_takes_nothing():
 
 
 def waits_of(relay):
-    """For how long the client's socket and the target's wait for their peers: SO_KEEPALIVE, and TCP_WAITS. Nothing where the
+    """For how long the client's socket and the target's wait for their peers: SO_KEEPALIVE, and TCP_WAITS. Nothing if the
     sockets of another process can't be had."""
     process, found = os.pidfd_open(relay.process.pid), {}
     options = [(socket.SOL_SOCKET, socket.SO_KEEPALIVE), *((socket.IPPROTO_TCP, option) for option in TCP_WAITS)]
@@ -132,7 +133,7 @@ def has_its_sockets_wait_as_is_asked():
 
 # refuses peers_are_never_probed: nobody probes a peer that is silent
 def gives_up_peers_that_are_gone():
-    # In a network of its own, where the system allows one: an address there can be cut off.
+    # In a network of its own, if the system allows one: an address there can be cut off.
     if "CUT_OFF" not in os.environ:
         words = ["unshare", "--user", "--map-root-user", "--net"]
         if not shutil.which("unshare") or subprocess.run([*words, "ip", "link"], capture_output=True).returncode:

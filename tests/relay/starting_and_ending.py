@@ -37,7 +37,7 @@ def goes_on_behind_its_first_poller():
 
 
 # refuses no_wake_behind_the_last: nobody wakes a poller whose last connection a worker has ended
-# refuses pollers_behind_the_eighth_are_not_woken: of 16 pollers, those behind the eighth have the eighth's waker
+# refuses pollers_behind_the_eighth_are_not_woken: of 16 pollers, those after the eighth have the eighth's waker
 def ends_soon_behind_its_last():
     # Each poller has one connection. A poller that nobody wakes waits for 200 ms, and for 1.6 s if it is one of 16.
     def taken(pollers):
@@ -86,7 +86,7 @@ def refuses_who_comes_behind_its_last():
     relay.ended()
 
 
-# refuses end_of_input_overlooked: a relay with --until-eof goes on to accept clients behind the end of its standard input
+# refuses end_of_input_overlooked: a relay with --until-eof goes on to accept clients after the end of its standard input
 def ends_behind_its_standard_input():
     # What it reads there is thrown away. With 4 pollers and 16, from a file and on the command line.
     for settings in {}, {"workers": 16}, {"typed": True}:
@@ -113,7 +113,7 @@ def ends_where_there_is_no_input():
 # refuses closed_streams_are_not_held: a socket or a file gets the number of a standard stream that is closed
 def gives_no_closed_stream_to_another():
     # With each set of streams closed: every client has its own bytes alone, and a recording none of another. Without an output
-    # nobody can be told where it listens.
+    # nobody can read where it listens.
     bad = "Bad file descriptor (os error 9)"
 
     def ask(client):
@@ -261,7 +261,7 @@ def is_replaced_by_systemd():
 def forwards_by_its_command_line():
     settings = {"ring": 1, "budget": 2, "workers": 3, "slots": 1, "stop_after": 2, "log": "error", "proxy": True}
     relay = Relay(target(echo), typed=True, recorded=False, **settings)
-    # The second client waits for the only slot, of which a warning is logged if it comes behind the first one's opening.
+    # The second client waits for the only slot, of which a warning is logged if it comes after the first one's opening.
     first, second = relay.connect(), relay.connect()
     lines = [line_of(first), line_of(second)]
     send_and_shut(second, b"two")

@@ -6,9 +6,8 @@ ghost use Rattle.program.specs.Files.{FileSets, HasFault};
 
 use crate::constants::MAX_CONFIG_BYTES;
 use crate::faults::ConfigFault;
-use crate::file_names::Unopened;
 use crate::forwarding::setting_text;
-use crate::streams::{Stream, log_error};
+use crate::streams::{Stream, Unopened, log_error};
 use input::{InputFault, read_at_most};
 use log::{Log, error};
 use settings::{EndOfLine, Key, LogLevel, Settings, SettingsFault};

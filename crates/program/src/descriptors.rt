@@ -1,7 +1,7 @@
 //! How many connections the descriptors of the process are enough for. A client beyond them waits in the backlog, as
 //! it does if all slots are taken, and is not accepted only to be closed.
 ghost use Rattle.std.specs.Prelude.{◌≡◌, ◌≤◌, ◌<◌, ◌+◌};
-ghost use Rattle.program.specs.Descriptors.{HasFor, needed};
+ghost use Rattle.program.specs.Starting.{HasFor, needed};
 
 use settings::pollers_for;
 use std::fs;

@@ -6,13 +6,13 @@
 //!
 //! - `command_line` finds the command in them; `forwarding` has the settings that they may give, and `extras` the other options.
 //! - `usage` prints help, and why words are refused; `tips` what to type instead.
-//! - [`config`] reads the settings, and `starting` looks at what they need before a relay serves by them.
-//! - `recording_file` makes the file of a recording, and `replaying_file` replays one; `file_names` is how the log calls them.
+//! - [`config`] reads the settings, and `starting` looks at what they need before a relay serves by them, and prints where it
+//!   listens ([`print_listening`]).
+//! - `recording_file` makes the file of a recording, and `replaying_file` replays one.
 //! - [`hold_closed`] keeps the numbers of closed standard streams from whatever is opened.
 //! - [`until_eof`] waits for the end of standard input.
-//! - [`print_listening`] prints where a relay listens.
-//! - [`logging`] is the log of a relay that serves, and [`level_filter`] its level; [`telling`] its statistics; `streams` logs
-//!   what is wrong with an input or an output.
+//! - [`logging`] is the log of a relay that serves, and [`level_filter`] its level, [`starting_filter`] that before it serves;
+//!   [`telling`] its statistics; `streams` logs what is wrong with an input, an output, a file or a script.
 //!
 //! # Inside
 //!
@@ -22,20 +22,14 @@
 #![tactic(auto)]
 
 mod acting;
-mod causes;
 mod command_line;
 pub mod config;
 mod constants;
 mod descriptors;
 mod extras;
 mod faults;
-mod file_names;
 mod forwarding;
-mod journal;
-mod level;
-mod listening;
 pub mod logging;
-mod meeting;
 mod process_arguments;
 mod recording_file;
 mod replaying_file;
@@ -50,8 +44,7 @@ mod usage;
 pub use acting::{act, report_arguments_fault};
 pub use extras::{Extras, SecondsOption};
 pub use faults::{ConfigFault, ProgramFault};
-pub use level::level_filter;
-pub use listening::print_listening;
+pub use logging::{level_filter, starting_filter};
 pub use process_arguments::{ArgumentsFault, arguments};
 pub use standard_streams::{hold_closed, report_unheld};
-pub use starting::{foresee, log_start, prepare};
+pub use starting::{foresee, log_start, prepare, print_listening};

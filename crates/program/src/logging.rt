@@ -2,22 +2,86 @@
 //!
 //! The thread is never waited for but at the end, and then for a second: a write to a pipe that nobody reads may not
 //! end.
-ghost use Rattle.std.specs.Prelude.{◌≡◌, ◌⊎◌, IfErr};
+ghost use Rattle.std.specs.Prelude.{◌≡◌, ◌≢◌, ◌⊎◌, IfErr, map};
+ghost use Rattle.std.specs.Char.{to_ascii_lowercase};
+ghost use Rattle.log.specs.Level.{filter_name};
+ghost use Rattle.settings.specs.Names.{level_name};
 
-use crate::journal::log_form;
-use log_queue::{Direct, LogQueue, write_lines};
+use log::kv::Source;
+use log::span::Spans;
+use log::{LevelFilter, Log, Metadata, Record};
+use log_queue::{Direct, Form, LogQueue, write_lines};
 use relay_log::{ServerFault, log_no_thread};
+use settings::LogLevel;
 use std::alloc::AllocGlobal;
 use std::cell::Cell;
-use std::env::Env;
+use std::env::{self, Env};
+use std::fmt::Display;
+use std::fs;
 use std::io::{self, Eprint, Write};
+use std::os::unix::fs::MetadataExt;
 use std::rt::Files;
+use std::sync::atomic::AtomicBool;
+use std::sync::atomic::Ordering::SeqCst;
 use std::sync::{Arc, Wait};
 use std::thread::{Builder, Parker, Threads};
 use std::time::Duration;
 
 /// How many milliseconds the end of the program waits for the log.
 const LAST_WAIT: u64 = 1_000;
+
+/// Where systemd says which stream goes to the journal, as `DEVICE:INODE` (systemd.exec(5)).
+const STREAM: &str = "JOURNAL_STREAM";
+
+/// Standard error.
+const ERRORS: &str = "/proc/self/fd/2";
+
+/// How the lines of the log begin: with their priority if systemd says that standard error goes to the journal.
+pub(crate) fn log_form<R: AllocGlobal + Env + Files>(rt: &R) -> Form {
+    let Ok(named) = env::var(rt, STREAM) else {
+        return Form::Plain;
+    };
+    match fs::metadata(rt, ERRORS) {
+        Ok(found) if is_named(named.as_str(), found.dev(), found.ino()) => Form::Journal,
+        _ => Form::Plain,
+    }
+}
+
+/// Whether the stream of this device and inode is named so.
+fn is_named(name: &str, device: u64, inode: u64) -> bool {
+    match name.split_once(':') {
+        Some((first, second)) => {
+            first.parse::<u64>() == Ok(device) && second.parse::<u64>() == Ok(inode)
+        }
+        None => false,
+    }
+}
+
+/// The filter with the same name as a level of the settings.
+pub fn level_filter(level: LogLevel) -> LevelFilter
+    ensures { map to_ascii_lowercase (filter_name result) ≡ level_name level }
+{
+    match level {
+        LogLevel::Off => LevelFilter::Off,
+        LogLevel::Error => LevelFilter::Error,
+        LogLevel::Warn => LevelFilter::Warn,
+        LogLevel::Info => LevelFilter::Info,
+        LogLevel::Debug => LevelFilter::Debug,
+        LogLevel::Trace => LevelFilter::Trace,
+    }
+}
+
+/// The filter of the log before the relay serves: that of the level, but at `off` the cause of a fault is still
+/// logged, since nothing else says why there is no relay.
+pub fn starting_filter(level: LogLevel) -> LevelFilter
+    ensures off { level ≡ LogLevel.Off → result ≡ LevelFilter.Error }
+    ensures others { level ≢ LogLevel.Off → map to_ascii_lowercase (filter_name result) ≡ level_name level }
+{
+    match level {
+        LogLevel::Off => LevelFilter::Error,
+        level => level_filter(level),
+    }
+}
 
 /// Starts the thread that writes the queue. It runs until the queue is closed, or the program ends.
 ///
@@ -51,6 +115,33 @@ pub fn finish(rt: &impl Wait, queue: &LogQueue) -> bool {
         clock.park_timeout(rt, Duration::from_millis(1));
     }
     queue.is_written()
+}
+
+/// A log, until this is set. From then on nothing is logged.
+#[derive(Drop)]
+pub struct Until<'a, L> {
+    pub inner: L,
+    pub is_off: &'a AtomicBool,
+}
+
+impl<L: Log> Log for Until<'_, L> {
+    fn enabled(&self, metadata: &Metadata<'_>) -> bool {
+        !self.is_off.load(SeqCst) && self.inner.enabled(metadata)
+    }
+
+    fn log<D: Display, K: Source, S: Spans>(&self, record: &Record<'_, D, K, S>) {
+        if !self.is_off.load(SeqCst) {
+            self.inner.log(record);
+        }
+    }
+
+    fn flush(&self) {
+        self.inner.flush();
+    }
+
+    fn target(&self) -> &str {
+        self.inner.target()
+    }
 }
 
 /// Standard error, until it is known that a write to it may not end. From then on nothing is written.

@@ -5,8 +5,7 @@ ghost use Rattle.std.specs.Fs.{asks_read, asks_write, asks_append, asks_truncate
 ghost use Rattle.program.specs.Statuses.{status_of};
 
 use crate::faults::ProgramFault;
-use crate::file_names::Unopened;
-use crate::streams::log_error;
+use crate::streams::{Unopened, log_error};
 use log::{Log, error, info};
 use settings::EndOfLine;
 use std::alloc::{AllocError, Global};

@@ -1,15 +1,27 @@
-//! What is looked at once before a relay serves, and logged if it cannot work as it is set.
-ghost use Rattle.std.specs.Prelude.{◌≡◌, ◌≤◌, IfOk, IfErr};
+//! What is looked at once before a relay serves, and logged if it cannot work as it is set; and that it listens.
+ghost use Rattle.std.specs.Prelude.{◌≡◌, ◌≤◌, ◌↔◌, IsTrue, IfOk, IfErr};
 ghost use Rattle.program.specs.Statuses.{status_of};
+ghost use Rattle.program.specs.Starting.{Meets};
 
+use crate::acting::{stream, write};
 use crate::constants::VERSION;
 use crate::descriptors::{covered, needed, read_descriptors};
 use crate::faults::ProgramFault;
-use crate::meeting::{is_here, meets};
-use log::{Log, info, warn};
+use crate::logging::log_form;
+use log::{LevelFilter, Log, Logged, info, warn};
+use log_queue::Direct;
 use settings::{Address, Settings, pollers_for};
-use std::net::{Net, SocketAddr};
+use std::alloc::AllocGlobal;
+use std::env::Env;
+use std::io::{self, Eprint, Write};
+use std::net::{Net, SocketAddr, UdpSocket};
 use std::rt::Files;
+
+/// The address that stands for every address of the machine.
+const EVERY: [u8; 4] = [0, 0, 0, 0];
+
+/// The address that a connection to [`EVERY`] goes to.
+const LOOPBACK: [u8; 4] = [127, 0, 0, 1];
 
 /// The descriptor of the listening socket.
 const LISTENER: u64 = 1;
@@ -107,4 +119,51 @@ pub fn log_start(log: &impl Log, listen: SocketAddr, settings: &Settings) {
     );
     let pollers = pollers_for(slots, workers);
     info!(log; target: "relayd", "relayd {VERSION}: {listen} to {target}, {slots} slots, {workers} workers, {pollers} pollers");
+}
+
+/// Whether connections to the target reach the relay itself. `is_here` says whether the target's address is one of
+/// this machine.
+fn meets(listen: Address, target: Address, is_here: bool) -> bool
+    ensures { IsTrue result ↔ Meets listen target is_here }
+{
+    listen.1 == target.1
+        && (listen.0 == target.0
+            || (listen.0 == EVERY && (target.0[0] == 127 || is_here))
+            || (listen.0 == LOOPBACK && target.0 == EVERY))
+}
+
+/// Whether an address is one of this machine: to such a one the system sends from the address itself.
+fn is_here(rt: &impl Net, address: Address) -> bool {
+    match source_for(rt, SocketAddr::from(address)) {
+        Ok(source) => source.ip() == SocketAddr::from(address).ip(),
+        Err(_) => false,
+    }
+}
+
+/// The address from which the system would send to this one. Nothing is sent, and the socket is closed at once.
+fn source_for(rt: &impl Net, address: SocketAddr) -> io::Result<SocketAddr> {
+    let socket = UdpSocket::bind(rt, SocketAddr::from((EVERY, 0)))?;
+    socket.connect(address)?;
+    socket.local_addr()
+}
+
+/// Prints `listening A.B.C.D:PORT`. Answers whether it was printed; if not, the cause is logged.
+pub fn print_listening<R>(rt: &R, address: SocketAddr, output: &mut impl Write) -> bool
+where
+    R: AllocGlobal + Env + Files + Eprint + Copy + Drop,
+{
+    let form = log_form(rt);
+    let log = Logged::new(*rt, LevelFilter::Error, Direct { rt: *rt, form });
+    let mut output = stream("output", output, &log);
+    print_line(rt, address, &mut output).is_ok()
+}
+
+/// Writes the line.
+fn print_line<R: AllocGlobal>(
+    rt: &R,
+    address: SocketAddr,
+    output: &mut impl Write,
+) -> Result<(), ProgramFault> {
+    let line = format!(in rt.alloc(); "listening {address}\n")?;
+    write(output, line.as_str())
 }

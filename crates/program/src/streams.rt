@@ -1,6 +1,9 @@
-//! Streams whose errors are logged.
+//! What the log says of streams, of files and of scripts.
 
 use log::{Log, error};
+use script::{Explain, Fault};
+use settings::EndOfLine;
+use std::alloc::Global;
 use std::fmt;
 use std::io::{self, Read, Write};
 
@@ -51,4 +54,38 @@ impl<W: Write, N: fmt::Display, L: Log> Write for Stream<'_, W, N, L> {
 /// Logs what is wrong with a stream, or with what was read from it.
 pub fn log_error<N: fmt::Display, E: fmt::Display>(log: &impl Log, name: &N, error: &E) {
     error!(log; target: "relayd", "{name}: {error}");
+}
+
+/// A file that could not be opened, and why.
+#[derive(Drop)]
+pub(crate) struct Unopened<'a> {
+    pub(crate) path: &'a str,
+    pub(crate) error: io::Error,
+}
+
+impl fmt::Display for Unopened<'_> {
+    fn fmt<W: fmt::Write>(&self, f: &mut fmt::Formatter<W>) -> fmt::Result {
+        if self.path.is_empty() {
+            return f.write_str("a file's name is empty");
+        }
+        let (name, error) = (EndOfLine(self.path), &self.error);
+        write!(f, "{name}: {error}")
+    }
+}
+
+/// Logs the cause of each fault, if one is known and there is memory for it.
+#[derive(Drop)]
+pub struct LoggedCauses<'a, L> {
+    /// The memory for the text of a cause.
+    pub alloc: Global,
+    /// Where causes are logged.
+    pub log: &'a L,
+}
+
+impl<L: Log> Explain for LoggedCauses<'_, L> {
+    fn explain(&self, text: &[u8], fault: Fault) {
+        if let Some(cause) = script::cause(self.alloc, text, fault) {
+            error!(self.log; target: "relayd", "{cause}");
+        }
+    }
 }

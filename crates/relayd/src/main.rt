@@ -2,14 +2,12 @@
 //! [`program::act`] the process's own arguments, streams and handle, with a closure that serves and the machine.
 #![tactic(auto)]
 
-mod announcing;
-mod clock;
+mod lent;
 
-use announcing::Announcing;
-use clock::MonotonicClock;
+use lent::{Announcing, MonotonicClock};
 use log::Logged;
 use log_queue::Queued;
-use program::logging::{self, Errors};
+use program::logging::{self, Errors, Until};
 use program::{Extras, report_unheld, telling, until_eof};
 use replaying::OnMachine;
 use server::{Bound, Lent, ServerFault};
@@ -39,7 +37,13 @@ fn main(rt: HostRuntime) -> ExitCode {
     > {
         let queue = logging::start(rt)?;
         let level = program::level_filter(settings.log);
-        let logged = Logged::new(rt, level, Queued { rt, queue: &queue });
+        // Until its threads have been started the cause of a fault is logged at each level.
+        let is_off = AtomicBool::new(false);
+        let lines = Until {
+            inner: Queued { rt, queue: &queue },
+            is_off: &is_off,
+        };
+        let logged = Logged::new(rt, program::starting_filter(settings.log), lines);
         program::log_start(&logged, bound.text(), &settings);
         let is_stopped = until_eof::watch(rt, rt.stdin(), level, extras, &queue)?;
         let statistics = telling::start(rt, &settings, extras, &queue)?;
@@ -47,6 +51,8 @@ fn main(rt: HostRuntime) -> ExitCode {
         let gate = Announcing {
             rt,
             address: bound.text(),
+            level: settings.log,
+            is_off: &is_off,
             is_stopped: &is_stopped,
             is_unprinted: AtomicBool::new(false),
         };

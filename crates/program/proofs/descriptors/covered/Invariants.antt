@@ -1,5 +1,5 @@
 use Rattle.std.proofs.Common.{◌+◌, ◌<◌, ◌≤◌}
-use Rattle.program.specs.Descriptors.{HasFor}
+use Rattle.program.specs.Starting.{HasFor}
 use Rattle.program.proofs.descriptors.covered.Given as goal
 
 -- this many slots are left to try, and one more has no descriptors

@@ -1,0 +1,48 @@
+//! What the program lends the server: the gate by which it says that clients can connect, and the clock by which it counts the
+//! idle limit.
+use server::{Clock, Gate};
+use settings::LogLevel;
+use std::net::SocketAddr;
+use std::sync::atomic::AtomicBool;
+use std::sync::atomic::Ordering::SeqCst;
+use std::time;
+
+/// Prints where the relay listens once all of its threads have been started. If that cannot be printed, no connection is
+/// opened from then on. At level `off` nothing more is logged.
+#[derive(Drop)]
+pub struct Announcing<'a> {
+    pub rt: HostRuntime,
+    pub address: SocketAddr,
+    pub level: LogLevel,
+    pub is_off: &'a AtomicBool,
+    pub is_stopped: &'a AtomicBool,
+    pub is_unprinted: AtomicBool,
+}
+
+impl Gate for Announcing<'_> {
+    fn all_started(&self) {
+        self.is_off.store(self.level == LogLevel::Off, SeqCst);
+        if !program::print_listening(&self.rt, self.address, &mut self.rt.stdout()) {
+            self.is_unprinted.store(true, SeqCst);
+            self.is_stopped.store(true, SeqCst);
+        }
+    }
+
+    fn before_turn(&self, _slot: usize) {}
+
+    fn after_turn(&self, _slot: usize) {}
+}
+
+/// The system's monotonic clock (clock_gettime(2)) in whole seconds, from some moment before the program began. It
+/// shows 0 while it cannot be read.
+#[derive(Clone, Copy)]
+pub struct MonotonicClock<R>(pub R);
+
+impl<R: time::Clock> Clock for MonotonicClock<R> {
+    fn second(&self) -> u64 {
+        match self.0.monotonic() {
+            Ok(time) => time.as_secs(),
+            Err(_) => 0,
+        }
+    }
+}
