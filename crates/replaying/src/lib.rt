@@ -4,7 +4,8 @@
 //! `crew` refuse what no thread does: two acts at once, what does not follow in a round, more turns at once than
 //! there are threads. `rounds` finds what was posted when, by the seconds of `clock` and what `swept` makes of them.
 //! `player` plays a slot, with `opening`, `turns`, `calls` and `posts`, and `listener` what a poller did at its
-//! listener, both on the world of `stage`. `told` gathers what came of it, and `telling` writes it.
+//! listener, both on the world of `stage`, whose `history` is kept. `trace` compares the records of a connection with its
+//! run, by what each record and each event is (`action`). `told` gathers what came of it, and `telling` writes it.
 #![tactic(auto)]
 
 mod action;

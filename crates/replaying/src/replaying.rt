@@ -22,7 +22,7 @@ use std::io::{Read, Write};
 use world::{Lead, Limits};
 
 /// The machine on which recordings are played: what each slot and each poller's listener did, on a world of its own,
-/// event by event. What is told of a slot is read off that world, whose events all happened there ([`world::Tape`]).
+/// event by event. What is told of a slot is read off that world, whose events all happened there (`History`).
 pub struct OnMachine;
 
 impl Replay for OnMachine {
