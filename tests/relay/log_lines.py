@@ -97,7 +97,8 @@ def shows_whose_it_was(port, sent, end, idle, failed):
 # refuses peer_names_slot_0: the line with the client's address names slot 0, whichever it is
 def says_whose_a_connection_was_and_how_it_ended():
     refused = "connected=no up=0 down=0 seconds=0 cause=Connection refused (os error 111)", "side=target call=read kind=refused"
-    broken = "connected=yes up=3 down=3 seconds=0 cause=Connection reset by peer (os error 104)", "side=client call=read kind=reset"
+    cause = "cause=Connection reset by peer (os error 104)"
+    broken = f"connected=yes up=3 down=3 seconds=0 {cause}", "side=client call=read kind=reset"
     # No call has shown whether the target is connected: one accepted and says nothing, and the other does not answer.
     silent, absent = [(f"connected={word} up=0 down=0 seconds=N cause=idle", "idle") for word in ("yes", "no")]
     nobody, server = unheard(), target(echo)

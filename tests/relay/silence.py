@@ -145,7 +145,8 @@ def gives_up_peers_that_are_gone():
     subprocess.run(["ip", "link", "set", "lo", "up"], check=True)
     listener, options = socket.create_server(("127.0.0.2", 0)), ["--keepalive", "1"]
     there = f"127.0.0.2:{port_of(listener)}"
-    relay, other, patient = Relay(target(echo), slots=1, options=options), Relay(target=there, options=options), Relay(target=there)
+    relay = Relay(target(echo), slots=1, options=options)
+    other, patient = Relay(target=there, options=options), Relay(target=there)
     gone, client, waiting, next_one = relay.connect(own="127.0.0.2"), other.connect(), patient.connect(), relay.connect()
     _ends = listener.accept(), listener.accept()
     assert asked(gone)
@@ -155,7 +156,8 @@ def gives_up_peers_that_are_gone():
     # A second, and five probes a second apart. Then the next client has the slot, and it is kept, since its peers are there.
     assert next_one.recv(1) == b"?" and 5 < time.monotonic() - begun < 9 and is_closed_soon(client)
     assert is_silent(waiting, 1) and is_silent(next_one, 7) and asked(next_one)
-    assert having(relay.end(), "side=client call=read kind=timedout") and having(other.end(), "side=target call=read kind=timedout")
+    for each, side in (relay, "client"), (other, "target"):
+        assert having(each.end(), f"side={side} call=read kind=timedout")
 
 
 def ends_a_receiver_that_stalls():

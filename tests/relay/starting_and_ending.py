@@ -125,7 +125,8 @@ def gives_no_closed_stream_to_another():
         closed = [stream for stream in range(3) if number >> stream & 1]
         for settings in {"stop_after": 8}, {"options": ["--until-eof"]}:
             relay = Relay(target(echo), closed=closed, stdin=subprocess.PIPE, typed=True, workers=16, **settings)
-            unread = [f"[WARN  relayd] input: {bad}, so no more clients are accepted"] if 0 in closed and "options" in settings else []
+            is_unread = 0 in closed and "options" in settings
+            unread = [f"[WARN  relayd] input: {bad}, so no more clients are accepted"] * is_unread
             if 1 in closed:
                 # Two threads log, and its input may end sooner than it does.
                 lines = [line for line in relay.ended(1) if "input: has ended" not in line]
@@ -242,7 +243,8 @@ def is_replaced_by_systemd():
     # stop waits for the last connection, and fails no more where the relay has ended.
     with replaceable() as (folder, port, settings, program):
         text = pathlib.Path(TESTS, "../packaging/replace.conf").read_text().replace("\\\n", "").replace("$$", "$")
-        text = text.replace("%t/relayd-%i", folder).replace("/usr/local/bin/relayd", program).replace("/etc/relayd.toml", settings)
+        text = text.replace("%t/relayd-%i", folder).replace("/usr/local/bin/relayd", program)
+        text = text.replace("/etc/relayd.toml", settings)
         make, begin, stop = re.findall(r"^Exec\w+=(.+)$", text, re.M)
         subprocess.run(make, shell=True, check=True)
         relay = start(["/bin/sh", "-c", "exec " + begin], stdout=subprocess.PIPE, stderr=subprocess.DEVNULL)
@@ -274,7 +276,10 @@ def forwards_by_its_command_line():
 
 # refuses start_is_not_logged: nothing is logged when a relay begins to serve
 def says_how_it_serves():
-    for settings, sizes in ({}, "1024 slots, 4 workers, 4 pollers"), ({"slots": 130, "workers": 3}, "130 slots, 3 workers, 2 pollers"):
+    for settings, sizes in (
+        ({}, "1024 slots, 4 workers, 4 pollers"),
+        ({"slots": 130, "workers": 3}, "130 slots, 3 workers, 2 pollers"),
+    ):
         relay = Relay(7, **settings)
         relay.end()
         assert relay.begun_with == [f"[INFO  relayd] relayd 0.1.0: 127.0.0.1:{relay.port} to 127.0.0.1:7, {sizes}"]
