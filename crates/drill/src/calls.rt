@@ -1,4 +1,4 @@
-// The calls of a turn on the modelled kernel.
+// Makes the calls of a turn on the modelled kernel.
 use crate::outside::Outside;
 use crate::step::{Call, Inner, Planned, Wanted};
 use engine::error_of;
@@ -7,24 +7,24 @@ use std::io::ErrorKind;
 use token::Kind;
 use world::Act;
 
-/// A call at an end.
+/// A call on an end.
 #[derive(Clone, Copy)]
 pub struct Asked<'a> {
     /// The poller that opened the end.
     pub poller: usize,
-    /// The end in that poller's kernel.
+    /// The end's descriptor in that poller's kernel.
     pub descriptor: usize,
     /// Whether the end is known to be connected.
     pub joined: bool,
     pub call: Asking<'a>,
 }
 
-/// What is called.
+/// The call that is made.
 #[derive(Clone, Copy)]
 pub enum Asking<'a> {
     /// A read into the buffer that comes with it.
     Read,
-    /// A write of this offer.
+    /// A write of these bytes.
     Write(&'a [u8]),
     /// Whether a connect has completed.
     Join,
@@ -33,15 +33,15 @@ pub enum Asking<'a> {
 }
 
 impl Outside {
-    /// Makes a call, after what happens before it. Answers how many bytes it moved. A read fills the front of the
-    /// buffer.
+    /// Makes a call, after the events that are planned before it. Returns how many bytes it moved. A read puts its
+    /// bytes at the front of the buffer.
     pub fn call(&mut self, asked: Asked<'_>, buffer: &mut [u8]) -> Result<usize, ErrorKind> {
         let wanted = self.next_wanted();
-        let Some(station) = self.stations.get_mut(asked.poller) else {
+        let Some(model) = self.pollers.get_mut(asked.poller) else {
             return Err(ErrorKind::Other);
         };
-        let Some(reply) = make(&mut station.kernel, asked, wanted, buffer) else {
-            station.standing.is_refused = true;
+        let Some(reply) = make(&mut model.kernel, asked, wanted, buffer) else {
+            model.expected.is_refused = true;
             return Err(ErrorKind::Other);
         };
         self.act(Act::Call(reply));
@@ -49,7 +49,7 @@ impl Outside {
         given(reply, wanted)
     }
 
-    /// What happens before the next call of a turn, and then what that call gets.
+    /// Makes the events that are planned before the next call of a turn, and returns what that call gets.
     fn next_wanted(&mut self) -> Wanted {
         for _event in 0..MAX_POLLED {
             match self.plan.next(Call::InTurn) {
@@ -62,9 +62,18 @@ impl Outside {
     }
 }
 
-/// Makes a call in the kernel, and answers its reply. None if the kernel refuses it, which it may not.
+/// Makes a call in the kernel. Returns its reply, or None if the kernel refuses it, which is a difference.
 fn make(kernel: &mut Kernel, asked: Asked<'_>, wanted: Wanted, buffer: &mut [u8]) -> Option<Reply> {
-    let end = &kernel.end(asked.descriptor)?.socket;
+    let open = kernel.end(asked.descriptor)?;
+    let reply = answer(&open.socket, asked, wanted, buffer);
+    match change(kernel, asked, buffer.len(), reply) {
+        Ok(()) => Some(reply),
+        Err(_) => None,
+    }
+}
+
+/// The reply to a call on an end. A read puts its bytes at the front of the buffer.
+fn answer(end: &End, asked: Asked<'_>, wanted: Wanted, buffer: &mut [u8]) -> Reply {
     let own = own_reply(end, asked.call, buffer.len(), wanted);
     let reply = reply_of(wanted, own, asked);
     if let Reply::Bytes(count) = reply {
@@ -72,11 +81,10 @@ fn make(kernel: &mut Kernel, asked: Asked<'_>, wanted: Wanted, buffer: &mut [u8]
             fill(buffer, bytes);
         }
     }
-    change(kernel, asked, buffer.len(), reply).ok()?;
-    Some(reply)
+    reply
 }
 
-/// The call has got this reply.
+/// Has the kernel make a call with this reply.
 fn change(kernel: &mut Kernel, asked: Asked<'_>, most: usize, reply: Reply) -> Result<(), Refusal> {
     match asked.call {
         Asking::Read => kernel.read(asked.descriptor, most, reply),
@@ -86,7 +94,7 @@ fn change(kernel: &mut Kernel, asked: Asked<'_>, most: usize, reply: Reply) -> R
     }
 }
 
-/// What the kernel has for a call. A read gives at most `most` bytes.
+/// The kernel's own reply to a call. A read gives at most `most` bytes.
 fn own_reply(end: &End, call: Asking<'_>, most: usize, wanted: Wanted) -> Reply {
     match call {
         Asking::Read => read_of(end, most, wanted),
@@ -116,7 +124,7 @@ fn wrote(most: usize, wanted: Wanted) -> Reply {
     Reply::Wrote(limited(most, wanted), matches!(wanted, Wanted::Full(_)))
 }
 
-/// At most as many bytes as are wanted, but at least one of them.
+/// The count, or the wanted limit of it, if that is less. The limit is at least 1.
 fn limited(count: usize, wanted: Wanted) -> usize {
     match wanted {
         Wanted::Short(most) | Wanted::Full(most) => count.min(most.max(1)),
@@ -124,7 +132,7 @@ fn limited(count: usize, wanted: Wanted) -> usize {
     }
 }
 
-/// What a call gets: what is wanted, if the call may get that, and otherwise what the kernel has.
+/// The reply to a call: the planned one, if the call may get that, and else the kernel's own.
 fn reply_of(wanted: Wanted, own: Reply, asked: Asked<'_>) -> Reply {
     match wanted {
         Wanted::Interrupted => Reply::Interrupted,
@@ -136,12 +144,12 @@ fn reply_of(wanted: Wanted, own: Reply, asked: Asked<'_>) -> Reply {
     }
 }
 
-/// Whether a call is answered as one before the connect has completed.
+/// Whether a call is made before the connect has completed.
 fn waits_for_connect(asked: Asked<'_>) -> bool {
     !asked.joined && !matches!(asked.call, Asking::Shut)
 }
 
-/// What the caller is given.
+/// What the caller gets for a reply.
 fn given(reply: Reply, wanted: Wanted) -> Result<usize, ErrorKind> {
     match reply {
         Reply::Bytes(count) | Reply::Wrote(count, _) => Ok(count),

@@ -1,4 +1,4 @@
-// The front over the modelled kernel.
+// A poller's front over the modelled kernel.
 ghost use Rattle.std.specs.Prelude.{◌≡◌, ◌≤◌, [], OnErr, length, vec_len, vec_capacity};
 
 use crate::outside::OutsideCell;
@@ -24,7 +24,7 @@ pub struct KernelFront {
 }
 
 impl KernelFront {
-    /// A front that has reported nothing.
+    /// Makes a front that has reported nothing.
     pub fn new(
         alloc: Global,
         outside: OutsideCell,
@@ -95,7 +95,7 @@ impl Front for KernelFront {
 
     type Waker = OutsideCell;
 
-    /// Nothing comes while it would wait, so it never does.
+    /// Never waits: no report could come while the only thread waits.
     fn poll(&mut self, batch: &mut Vec<u64>, _wait: bool) -> io::Result<()> {
         batch.clear();
         self.reported.clear();

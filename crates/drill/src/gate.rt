@@ -1,13 +1,13 @@
-// What happens inside a turn.
+// What happens inside of a turn.
+use crate::driver::Driver;
 use crate::outside::OutsideCell;
-use crate::stage::Stage;
 use crate::step::Call;
 use dispatch::Gate;
 use kernel_model::MAX_POLLED;
 use log::Log;
 use std::sync::Wait;
 
-/// The gate of a turn inside another. Nothing happens inside of it but its calls.
+/// The gate of a turn inside of another one, in which no planned step is made.
 #[derive(Drop)]
 pub struct Nested<'a> {
     pub outside: &'a OutsideCell,
@@ -23,32 +23,32 @@ impl Gate for Nested<'_> {
     }
 }
 
-/// The gate of a turn inside of which happens what is planned for it.
+/// The gate of a turn in which planned steps are made.
 #[derive(Drop)]
 pub struct Open<'c, R> {
     pub rt: &'c R,
-    pub stage: &'c Stage,
+    pub driver: &'c Driver,
 }
 
 impl<R: Wait + Log> Gate for Open<'_, R> {
     fn before_turn(&self, slot: usize) {
-        self.stage.nested().before_turn(slot);
+        self.driver.nested().before_turn(slot);
         self.make_planned(Call::BeforeTurn);
     }
 
     fn after_turn(&self, slot: usize) {
-        self.stage.nested().after_turn(slot);
+        self.driver.nested().after_turn(slot);
         self.make_planned(Call::AfterTurn);
     }
 }
 
 impl<R: Wait + Log> Open<'_, R> {
-    /// Makes what is planned before a turn's first call, or after its last one.
+    /// Makes the steps that are planned before a turn's first call, or after its last one.
     fn make_planned(&self, call: Call) {
-        let (outside, nested) = (&self.stage.outside, self.stage.nested());
+        let (outside, nested) = (&self.driver.outside, self.driver.nested());
         for _step in 0..MAX_POLLED {
             match outside.with(None, |outside| outside.plan.next_step(call)) {
-                Some(step) => self.stage.make(self.rt, step, &nested),
+                Some(step) => self.driver.make(self.rt, step, &nested),
                 None => return,
             }
         }

@@ -1,45 +1,45 @@
 //! Compares a server with the machine of `world`.
 //!
-//! The program owns a server in memory, made from its settings as the product makes it, over modelled kernels. It
-//! reads scripts of large steps from standard input, has the server's own threads make them, and writes down the
-//! events to which that amounts: for each slot in a world of its own, and for each poller's listener. The worlds make
-//! the same events. After every step what the server has at each slot and at each poller has to be what its world
-//! has.
+//! The program owns a server in memory, which is made from its settings as the product makes it, over modelled
+//! kernels. The program reads scripts from standard input and has the server's own threads make their steps. It
+//! records the events to which each step amounts: for each slot and for each poller's listener there is a machine
+//! that makes these events at once. After every step, what the server has at each slot and at each poller must equal
+//! what the machine there has.
 //!
-//! `session.rt` plays the scripts, `reading.rt` reads their steps (`step.rt`), `casting.rt` makes the server,
-//! `stage.rt` makes its threads' steps, with `gate.rt` inside of turns, and `compare.rt` and `likeness.rt` compare.
-//! `tests/drill` has scripts, and makes random ones.
+//! `session.rt` runs the scripts and `line.rt` one line of them. `reading.rt` reads their steps (`step.rt`, `sizes.rt`
+//! for the header), `making.rt` makes the server, and `driver.rt` makes its threads' steps, with `gate.rt` for those
+//! inside of turns. `compare.rt` and `difference.rt` compare; `contents.rt` lists what queues hold.
 //!
-//! What the server's calls get in place of a system is in `outside.rt`: for each poller a station (`station.rt`,
-//! `standing.rt`), with a modelled kernel and what its next calls get (`plan.rt`), and for each slot and each
-//! listener a `tape.rt`, the world with its events. `front.rt` is a poller's front over its kernel, `wire.rt` one end
-//! of a connection, `ticks.rt` the clock, and `diary.rt` the log. `round.rt` says to which events a poller's round
-//! amounts, `calls.rt` the calls of a turn, `turn.rt` what has to be of turns, and `book.rt` what the log has to say.
+//! `outside.rt` has what the server's calls reach in place of a system: a `poller_model.rt` for each poller, with a
+//! modelled kernel and the poller's expected state (`expected.rt`), a `machine.rt` for each slot and each listener,
+//! and what the next calls get (`plan.rt`). `front.rt` is a poller's front over its kernel, `wire.rt` one end of a
+//! connection, `clock.rt` the clock, and `logger.rt` the log. `round.rt` says to which events a poller's round
+//! amounts, `calls.rt` the calls of a turn, `turn.rt` what must hold of turns, and `checks.rt` what must be logged.
 #![tactic(auto)]
 
 mod addresses;
-mod book;
 mod calls;
-mod casting;
+mod checks;
+mod clock;
 mod compare;
-mod diary;
+mod contents;
+mod difference;
+mod driver;
+mod expected;
 mod front;
 mod gate;
-mod likeness;
-mod looking;
+mod line;
+mod logger;
+mod machine;
+mod making;
 mod outside;
 mod plan;
-mod play;
+mod poller_model;
 mod reading;
 mod round;
 mod session;
 mod sizes;
-mod stage;
-mod standing;
-mod station;
 mod step;
-mod tape;
-mod ticks;
 mod totals;
 mod turn;
 mod wire;
@@ -48,6 +48,6 @@ use std::process::ExitCode;
 
 fn main(rt: HostRuntime) -> std::io::Result<ExitCode> {
     let text = std::io::read_to_string(rt.alloc(), rt.reader())?;
-    let agreed = session::play_all(&rt, text.as_str())?;
+    let agreed = session::run_all(&rt, text.as_str())?;
     Ok(ExitCode::from(if agreed { 0 } else { 1 }))
 }

@@ -1,15 +1,15 @@
-// What is outside of the server: for each poller a station, for each slot a tape, the clients that no poller has
+// What is outside of the server: a model of each poller, a machine for each slot, the clients that no poller has
 // accepted yet, what the next calls get, and the log.
 ghost use Rattle.drill.specs.Sizes.{IsServerSize};
 
-use crate::book::Book;
+use crate::checks::Checks;
+use crate::clock::ScriptClock;
+use crate::machine::Machine;
 use crate::plan::Plan;
+use crate::poller_model::PollerModel;
 use crate::sizes::Sizes;
-use crate::station::Station;
 use crate::step::Outer;
-use crate::tape::Tape;
-use crate::ticks::Ticks;
-use crate::turn::Acting;
+use crate::turn::InProgress;
 use kernel_model::MAX_BACKLOG;
 use log::Level;
 use std::alloc::{AllocError, Global};
@@ -22,31 +22,31 @@ use world::{Event, Listening, Reported};
 pub struct Outside {
     pub alloc: Global,
     pub sizes: Sizes,
-    pub clock: Rc<Ticks>,
-    /// What is each poller's.
-    pub stations: Vec<Station>,
-    /// What is each slot's.
-    pub tapes: Vec<Tape>,
+    pub clock: Rc<ScriptClock>,
+    /// One for each poller.
+    pub pollers: Vec<PollerModel>,
+    /// One for each slot.
+    pub machines: Vec<Machine>,
     pub plan: Plan,
-    pub acting: Acting,
-    pub book: Book,
+    pub in_progress: InProgress,
+    pub checks: Checks,
     pub state: State,
 }
 
-/// How things stand.
+/// What is expected of the whole server.
 #[derive(Clone, Copy)]
 pub struct State {
     /// How many clients wait outside of all kernels.
     pub waiting: usize,
     /// How many turns have read the clock and may still make calls.
     pub calling: usize,
-    /// Whether a thread has met a fault.
+    /// Whether a thread has recorded a fault.
     pub is_faulty: bool,
     /// Whether no more connections may be opened.
     pub is_stopped: bool,
 }
 
-/// What is outside, for all who change it, one after the other.
+/// A shared handle of what is outside. One holder at a time can change it.
 #[derive(Drop)]
 pub struct OutsideCell {
     cell: Rc<RefCell<Outside>>,
@@ -59,14 +59,14 @@ impl OutsideCell {
         })
     }
 
-    /// The same, for another.
+    /// Another handle of the same.
     pub fn share(&self) -> Result<OutsideCell, AllocError> {
         Ok(OutsideCell {
             cell: self.cell.clone()?,
         })
     }
 
-    /// Changes it so. Inside of such a change the answer is this other one.
+    /// Applies a change. From within another change it does nothing, and returns `otherwise`.
     pub fn with<T: Drop, F: FnOnce(&mut Outside) -> T + Drop>(&self, otherwise: T, change: F) -> T
         requires { F.IsAlwaysCallable change }
     {
@@ -78,18 +78,18 @@ impl OutsideCell {
 }
 
 impl Outside {
-    pub fn new(alloc: Global, sizes: Sizes, clock: Rc<Ticks>) -> Result<Outside, AllocError>
+    pub fn new(alloc: Global, sizes: Sizes, clock: Rc<ScriptClock>) -> Result<Outside, AllocError>
         requires { IsServerSize sizes }
     {
         Ok(Outside {
             alloc,
             sizes,
             clock,
-            stations: stations_of(alloc, sizes)?,
-            tapes: tapes_of(alloc, sizes)?,
+            pollers: models_of(alloc, sizes)?,
+            machines: machines_of(alloc, sizes)?,
             plan: Plan::new(alloc),
-            acting: Acting::NONE,
-            book: Book::new(alloc),
+            in_progress: InProgress::NONE,
+            checks: Checks::new(alloc),
             state: State {
                 waiting: 0,
                 calling: 0,
@@ -99,52 +99,54 @@ impl Outside {
         })
     }
 
-    /// An event has happened in the world of this slot.
+    /// Makes an event in this slot's machine.
     pub fn record(&mut self, slot: usize, event: Event) {
-        if let Some(tape) = self.tapes.get_mut(slot) {
-            tape.put(event);
+        if let Some(machine) = self.machines.get_mut(slot) {
+            machine.put(event);
         }
     }
 
-    /// An event has happened in the world of this poller's listener.
+    /// Makes an event in the machine of this poller's listener.
     pub fn record_at_poller(&mut self, poller: usize, event: Event) {
-        if let Some(station) = self.stations.get_mut(poller) {
-            station.tape.put(event);
+        if let Some(model) = self.pollers.get_mut(poller) {
+            model.machine.put(event);
         }
     }
 
-    /// The station of the poller that has this slot.
-    pub fn station_of(&mut self, slot: usize) -> Option<&mut Station> {
-        self.stations.get_mut(self.sizes.split.poller_of(slot))
+    /// The model of the poller that has this slot.
+    pub fn model_of(&mut self, slot: usize) -> Option<&mut PollerModel> {
+        self.pollers.get_mut(self.sizes.split.poller_of(slot))
     }
 
     /// Whether the connection in this slot was taken away.
     pub fn is_lost(&self, slot: usize) -> bool {
-        matches!(self.tapes.get(slot), Some(tape) if tape.lost.is_some())
+        matches!(self.machines.get(slot), Some(machine) if machine.lost.is_some())
     }
 
     /// How many connections this slot has had.
     pub fn generation(&self, slot: usize) -> u64 {
-        self.tapes.get(slot).map_or(0, |tape| tape.generation())
+        self.machines
+            .get(slot)
+            .map_or(0, |machine| machine.generation())
     }
 
-    /// The log gets this line. Whose connection it was that did not end well, and why, is compared by `tests/relay`
-    /// alone: here no error has a number. What a poller tells of itself is shown by rows.
+    /// Compares a line that was logged. `tests/relay` alone compares the lines `gone`, since no error has a number
+    /// here, and `rows` those that a poller logs of itself.
     pub fn log(&mut self, level: Level, text: &str) {
         if text.starts_with("gone ") {
             return;
         }
         if !text.contains(" s=") {
-            return self.book.add(text);
+            return self.checks.add(text);
         }
-        if self.book.is_complete() {
+        if self.checks.is_complete() {
             self.expect_ended();
         }
-        self.book.write(level, text);
+        self.checks.write(level, text);
     }
 
-    /// Something happens outside. Where neither the kernel nor the world allows it, nothing does. While a client
-    /// waits, no report of the listener vanishes.
+    /// Makes an event outside of the server. If neither the kernel nor the machine allows it, nothing happens. While a
+    /// client waits, no report of the listener vanishes.
     pub fn happen(&mut self, outer: Outer) {
         let Outer { poller, event } = outer;
         match &event {
@@ -161,99 +163,100 @@ impl Outside {
         }
     }
 
-    /// Something happens to an end of this slot.
+    /// Makes an event of an end of this slot.
     fn change(&mut self, slot: usize, event: Event) {
-        let station = self.stations.get_mut(self.sizes.split.poller_of(slot));
-        if let (Some(station), Some(tape)) = (station, self.tapes.get_mut(slot)) {
-            station.change(tape, event);
-        }
-    }
-
-    /// Something happens to a report of a poller itself.
-    fn report(&mut self, poller: usize, event: Event) {
-        if let Some(station) = self.stations.get_mut(poller) {
-            if station.standing.listens || !matches!(&event, Event::Spurious(Reported::Listener)) {
-                station.happen(event);
+        let poller = self.sizes.split.poller_of(slot);
+        if let Some(model) = self.pollers.get_mut(poller) {
+            if let Some(machine) = self.machines.get_mut(slot) {
+                model.change(machine, event);
             }
         }
     }
 
-    /// The clock goes on, and so does the second of each world, if there is an idle limit. Nothing happens while a
-    /// turn that has read the clock may still make calls: the server makes them at the second that it read.
+    /// Makes an event of a poller's listener or waker.
+    fn report(&mut self, poller: usize, event: Event) {
+        if let Some(model) = self.pollers.get_mut(poller) {
+            if model.expected.listens || !matches!(&event, Event::Spurious(Reported::Listener)) {
+                model.happen(event);
+            }
+        }
+    }
+
+    /// Advances the clock and, if there is an idle limit, the second of each machine. Nothing happens while a turn that
+    /// has read the clock may still make calls: the server makes these at the second that it has read.
     fn tick(&mut self, seconds: u64) {
-        if self.state.calling > 0 || !self.clock.go_on(seconds) || self.sizes.limits.idle == 0 {
+        if self.state.calling > 0 || !self.clock.advance(seconds) || self.sizes.limits.idle == 0 {
             return;
         }
-        for station in self.stations.iter_mut() {
-            station.tape.put(Event::Tick(seconds));
+        for model in self.pollers.iter_mut() {
+            model.machine.put(Event::Tick(seconds));
         }
-        for tape in self.tapes.iter_mut() {
-            tape.put(Event::Tick(seconds));
+        for machine in self.machines.iter_mut() {
+            machine.put(Event::Tick(seconds));
         }
     }
 
-    /// Whether a poller listens.
+    /// Whether any poller listens.
     pub fn is_listening(&self) -> bool {
-        self.stations.iter().any(|station| station.standing.listens)
+        self.pollers.iter().any(|model| model.expected.listens)
     }
 
-    /// A client connects. It waits outside of the kernels, and is reported to each poller that listens and was told
-    /// at its last try that nobody waits. The others are going to try again in any case. It is refused where none
-    /// listens.
+    /// A client connects. It waits outside of the kernels, and is reported to each poller whose last accept(2) would
+    /// have blocked; the others will call accept(2) again anyway. If no poller listens, the client is refused.
     fn connect(&mut self) {
         if self.state.waiting >= MAX_BACKLOG || !self.is_listening() {
             return;
         }
         self.state.waiting += 1;
-        for station in self.stations.iter_mut() {
-            if station.standing.listens && station.kernel.is_armed() {
-                station.happen(Event::Spurious(Reported::Listener));
+        for model in self.pollers.iter_mut() {
+            if model.expected.listens && model.kernel.is_armed() {
+                model.happen(Event::Spurious(Reported::Listener));
             }
         }
     }
 
-    /// The poller that has this slot is woken.
+    /// Wakes the poller that has this slot.
     pub fn wake(&mut self, slot: usize) {
-        if let Some(station) = self.station_of(slot) {
-            station.wake();
+        if let Some(model) = self.model_of(slot) {
+            model.wake();
         }
     }
 
-    /// All pollers have been woken.
+    /// Has all pollers' machines be woken.
     pub fn expect_wakes(&mut self) {
-        for station in self.stations.iter_mut() {
-            station.tape.put(Event::Spurious(Reported::Waker));
+        for model in self.pollers.iter_mut() {
+            model.machine.put(Event::Spurious(Reported::Waker));
         }
     }
 
-    /// The connection in this slot, which has this claim word, is taken away from its place. From now on there is
-    /// nothing to compare at the slot but its word.
+    /// Notes that the connection in this slot, which has this claim word, is taken away. After that only the slot's
+    /// word is compared.
     pub fn lose(&mut self, slot: usize, word: u64) {
-        if let Some(tape) = self.tapes.get_mut(slot) {
-            tape.lost = Some(word);
+        if let Some(machine) = self.machines.get_mut(slot) {
+            machine.lost = Some(word);
         }
     }
 }
 
-/// A station for each poller of a server of these sizes.
-fn stations_of(alloc: Global, sizes: Sizes) -> Result<Vec<Station>, AllocError>
+/// A model of each poller of a server of these sizes.
+fn models_of(alloc: Global, sizes: Sizes) -> Result<Vec<PollerModel>, AllocError>
     requires { IsServerSize sizes }
 {
     let pollers = sizes.split.pollers();
-    let mut stations = Vec::with_capacity(alloc, pollers)?;
+    let mut models = Vec::with_capacity(alloc, pollers)?;
     for poller in 0..pollers {
-        stations.push(Station::new(alloc, sizes, poller)?)?;
+        models.push(PollerModel::new(alloc, sizes, poller)?)?;
     }
-    Ok(stations)
+    Ok(models)
 }
 
-/// A tape for each slot of a server of these sizes.
-fn tapes_of(alloc: Global, sizes: Sizes) -> Result<Vec<Tape>, AllocError>
+/// A machine for each slot of a server of these sizes.
+fn machines_of(alloc: Global, sizes: Sizes) -> Result<Vec<Machine>, AllocError>
     requires { IsServerSize sizes }
 {
-    let mut tapes = Vec::with_capacity(alloc, sizes.limits.slots)?;
+    let mut machines = Vec::with_capacity(alloc, sizes.limits.slots)?;
     for slot in 0..sizes.limits.slots {
-        tapes.push(Tape::of_slot(alloc, sizes, slot)?)?;
+        machines.push(Machine::of_slot(alloc, sizes, slot)?)?;
     }
-    Ok(tapes)
+    Ok(machines)
 }

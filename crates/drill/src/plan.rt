@@ -1,4 +1,4 @@
-// What the next calls get. Each kind of call takes what is meant for it in order, and without that it gets what the
+// What the next calls get. Each kind of call gets what is planned for it, in order. If nothing is, it gets what the
 // kernel has.
 use crate::step::{Call, Inner, Planned};
 use std::alloc::{AllocError, Global};
@@ -17,20 +17,20 @@ impl Plan {
         }
     }
 
-    /// Adds what a later call gets.
+    /// Plans what a later call gets.
     pub fn add(&mut self, call: Call, planned: Planned) -> Result<(), AllocError> {
         self.planned.push_back((call, planned))?;
         Ok(())
     }
 
-    /// What is planned next for such a call.
+    /// Removes what is planned next for a kind of call.
     pub fn next(&mut self, call: Call) -> Option<Planned> {
         let index = self.planned.iter().position(|(of, _)| *of == call)?;
         let (_, planned) = self.planned.remove(index)?;
         Some(planned)
     }
 
-    /// The step that is planned next there.
+    /// Removes the step that is planned next for a kind of call.
     pub fn next_step(&mut self, call: Call) -> Option<Inner> {
         match self.next(call)? {
             Planned::Step(step) => Some(step),

@@ -1,4 +1,4 @@
-// The steps of a script, from its lines.
+// Reads the steps of a script from its lines.
 use crate::step::{Call, Inner, Opening, Outer, Planned, Polled, Wanted};
 use kernel_model::Accepting;
 use ready::Ticket;
@@ -12,27 +12,27 @@ use world::{Event, Listening};
 pub enum Step {
     /// A step that is made at once.
     Now(Inner),
-    /// What one of the next calls gets, or what happens between two of them.
+    /// What one of the next calls gets, or what happens between two calls.
     Later(Call, Planned),
-    /// A worker takes this ticket, which nobody made.
+    /// A worker takes this invented ticket.
     Ticket(Ticket),
     /// The connection in this slot is taken away.
     Lose(usize),
-    /// This happens in the world of this slot alone.
+    /// An event of this slot's machine alone.
     Machine(usize, Event),
-    /// This happens in the world of this poller's listener alone.
+    /// An event of the machine of this poller's listener alone.
     Listener(usize, Event),
-    /// The log has to get this line.
+    /// This line is expected in the log.
     Line(String),
-    /// What is reckoned forgets a free slot of this poller.
+    /// The expected state of this poller loses a free slot.
     ForgetSlot(usize),
-    /// From now on no more connections may be opened.
+    /// No more connections may be opened.
     Stop,
-    /// The world's script and the report are printed.
+    /// The scripts and the reports of the slots' machines are printed, and the log.
     Show,
 }
 
-/// The step that a line stands for. None if it is no step, or if memory for it ran out.
+/// Reads a line. None if it is no step, or if memory for the step ran out.
 pub fn read_step(alloc: Global, line: &str) -> Option<Step> {
     let (word, rest) = cut(line);
     match word {
@@ -42,6 +42,14 @@ pub fn read_step(alloc: Global, line: &str) -> Option<Step> {
         "ticket" => Some(Step::Ticket(ticket(rest)?)),
         "lose" => Some(Step::Lose(number(rest)?)),
         "machine" | "listener" | "forget" => wrong(alloc, word, rest),
+        _ => read_planned(alloc, line),
+    }
+}
+
+/// Reads a step that is made at once or planned.
+fn read_planned(alloc: Global, line: &str) -> Option<Step> {
+    let (word, rest) = cut(line);
+    match word {
         "call" => Some(Step::Later(Call::InTurn, Planned::Call(wanted(rest)?))),
         "meanwhile" => later(Call::InTurn, Inner::Outside(outside(alloc, rest)?)),
         "before" => later(Call::BeforeTurn, inner(alloc, rest)?),
@@ -51,7 +59,7 @@ pub fn read_step(alloc: Global, line: &str) -> Option<Step> {
     }
 }
 
-/// The first word of a text, and what follows the space after it.
+/// Cuts a text after its first word. The second part begins after the space.
 fn cut(text: &str) -> (&str, &str) {
     text.split_once(' ').unwrap_or((text, ""))
 }
@@ -70,14 +78,20 @@ fn named<T: Copy>(table: &[(&str, T)], word: &str) -> Option<T> {
     None
 }
 
-/// A step by which the machine's side alone is changed, so that the comparison has to tell it.
+/// Reads a step that changes the machines or the expected state alone, so that the next comparison must fail.
 fn wrong(alloc: Global, word: &str, rest: &str) -> Option<Step> {
     let (first, last) = cut(rest);
+    if word == "forget" {
+        return match first {
+            "slot" => Some(Step::ForgetSlot(number(last)?)),
+            _ => None,
+        };
+    }
+    let place = number(first)?;
+    let event = event(alloc, last)?;
     match word {
-        "machine" => Some(Step::Machine(number(first)?, event(alloc, last)?)),
-        "listener" => Some(Step::Listener(number(first)?, event(alloc, last)?)),
-        _ if first == "slot" => Some(Step::ForgetSlot(number(last)?)),
-        _ => None,
+        "machine" => Some(Step::Machine(place, event)),
+        _ => Some(Step::Listener(place, event)),
     }
 }
 
@@ -85,23 +99,25 @@ fn later(call: Call, step: Inner) -> Option<Step> {
     Some(Step::Later(call, Planned::Step(step)))
 }
 
-/// What a round gets of the poller whose number stands in front of that, or of the first one.
+/// Reads what a call of a round gets. The poller's number may come first; without it the poller is 0.
 fn in_round(alloc: Global, word: &str, rest: &str) -> Option<Step> {
-    let (first, behind) = cut(rest);
-    let (poller, rest) = number(first).map_or((0, rest), |poller| (poller, behind));
-    let (call, planned) = match word {
-        "accept" => (
-            Call::Accept(poller),
-            Planned::Accept(named(&ACCEPTS, rest)?),
-        ),
-        "open" => (Call::Open(poller), Planned::Open(named(&OPENINGS, rest)?)),
-        "poll" => (Call::Poll(poller), Planned::Poll(polled(rest)?)),
-        _ => return later(Call::Polled(poller), Inner::Outside(outside(alloc, rest)?)),
-    };
-    Some(Step::Later(call, planned))
+    let (first, last) = cut(rest);
+    let (poller, rest) = number(first).map_or((0, rest), |poller| (poller, last));
+    match word {
+        "accept" => {
+            let reply = named(&ACCEPTS, rest)?;
+            Some(Step::Later(Call::Accept(poller), Planned::Accept(reply)))
+        }
+        "open" => {
+            let opening = named(&OPENINGS, rest)?;
+            Some(Step::Later(Call::Open(poller), Planned::Open(opening)))
+        }
+        "poll" => Some(Step::Later(Call::Poll(poller), Planned::Poll(polled(rest)?))),
+        _ => later(Call::Polled(poller), Inner::Outside(outside(alloc, rest)?)),
+    }
 }
 
-/// A step that may be made inside a turn.
+/// Reads a step that may also be made inside of a turn.
 fn inner(alloc: Global, text: &str) -> Option<Inner> {
     let (word, rest) = cut(text);
     match word {
@@ -112,8 +128,8 @@ fn inner(alloc: Global, text: &str) -> Option<Inner> {
     }
 }
 
-/// What happens outside of the server, as a world's scripts have it. Behind the listener and the waker the number of
-/// their poller may stand.
+/// Reads an event outside of the server, as a world's scripts have it. The number of the poller may follow `listener`
+/// and `waker`.
 fn outside(alloc: Global, text: &str) -> Option<Outer> {
     let (poller, text) = match text.rsplit_once(' ') {
         Some((text, last)) if text.ends_with("listener") || text.ends_with("waker") => {
@@ -129,12 +145,12 @@ fn outside(alloc: Global, text: &str) -> Option<Outer> {
     }
 }
 
-/// An event of a world.
+/// Reads an event of a world.
 fn event(alloc: Global, text: &str) -> Option<Event> {
     read_event(alloc, text.as_bytes()).ok()
 }
 
-/// A ticket, as SLOT.GEN.
+/// Reads a ticket, as SLOT.GEN.
 fn ticket(text: &str) -> Option<Ticket> {
     let (slot, generation) = text.split_once('.').unwrap_or((text, ""));
     Some(Ticket {

@@ -1,102 +1,102 @@
-// The scripts of the input, one after the other.
-use crate::casting::stage_of;
-use crate::diary::Diary;
-use crate::play::{Played, play_line};
+// Runs the scripts of the input, one after the other.
+use crate::driver::Driver;
+use crate::line::{Outcome, run_line};
+use crate::logger::Logger;
+use crate::making::driver_of;
 use crate::sizes::read_sizes;
-use crate::stage::Stage;
 use crate::totals::Totals;
 use log::{Level, Logged};
 use std::io::{self, ErrorKind};
 use std::sync::Wait;
 
-/// What was played, and the server of the script in progress.
+/// The counts of what was run, and the server of the script in progress.
 #[derive(Drop)]
 struct Session {
     totals: Totals,
-    stage: Option<Stage>,
+    driver: Option<Driver>,
 }
 
-/// Plays all scripts, and prints what was played. Answers whether the server and the world agreed throughout.
-pub fn play_all<R: Wait + AllocGlobal + Print>(rt: &R, text: &str) -> io::Result<bool> {
+/// Runs all scripts, and prints how much was run. Returns whether the server and the machines agreed throughout.
+pub fn run_all<R: Wait + AllocGlobal + Print>(rt: &R, text: &str) -> io::Result<bool> {
     let mut session = Session {
         totals: Totals::NONE,
-        stage: None,
+        driver: None,
     };
-    session.play(rt, text)
+    session.run(rt, text)
 }
 
 impl Session {
-    fn play<R: Wait + AllocGlobal + Print>(&mut self, rt: &R, text: &str) -> io::Result<bool> {
+    fn run<R: Wait + AllocGlobal + Print>(&mut self, rt: &R, text: &str) -> io::Result<bool> {
         for (index, line) in text.lines().enumerate() {
             if line.starts_with("world ") {
                 self.begin(rt, line)?;
             }
-            if let Some(fault) = self.play_on(rt, line.trim_end())? {
+            if let Some(fault) = self.run_next(rt, line.trim_end())? {
                 return stop(rt, index, fault, line);
             }
         }
-        self.totals.add(&self.stage);
+        self.totals.add(&self.driver);
         self.totals.print(rt)?;
         Ok(true)
     }
 
-    /// A script begins.
+    /// Begins the script of this header.
     fn begin<R: Wait + AllocGlobal>(&mut self, rt: &R, header: &str) -> io::Result<()> {
-        self.totals.add(&self.stage);
-        self.stage = begin(rt, header)?;
+        self.totals.add(&self.driver);
+        self.driver = begin(rt, header)?;
         Ok(())
     }
 
-    /// Plays a line. Answers why no more is played after it, if that is so.
-    fn play_on<R: Wait + AllocGlobal + Print>(
+    /// Runs a line. Returns why no more lines are run after it, or None if they are.
+    fn run_next<R: Wait + AllocGlobal + Print>(
         &mut self,
         rt: &R,
         line: &str,
     ) -> io::Result<Option<&'static str>> {
-        match play_on(rt, &self.stage, line)? {
-            Played::Nothing => return Ok(None),
-            Played::Agreed => {}
-            Played::Differs => return Ok(Some("they differ after")),
-            Played::Malformed => return Ok(Some("malformed")),
+        match run_on(rt, &self.driver, line)? {
+            Outcome::Nothing => return Ok(None),
+            Outcome::Agreed => {}
+            Outcome::Differs => return Ok(Some("they differ after")),
+            Outcome::Malformed => return Ok(Some("malformed")),
         }
         self.totals.steps = self.totals.steps.saturating_add(1);
         Ok(None)
     }
 }
 
-/// No more is played after this line.
+/// Prints the line after which no more lines are run, and why. Returns false.
 fn stop<R: Print>(rt: &R, index: usize, fault: &str, line: &str) -> io::Result<bool> {
     let number = (index as u64).saturating_add(1);
     println!(rt; "line {number}: {fault}: {line}")?;
     Ok(false)
 }
 
-/// The server of the script that begins with this header. None if it is no header.
-fn begin<R: Wait + AllocGlobal>(rt: &R, header: &str) -> io::Result<Option<Stage>> {
+/// Makes the server of the script that begins with this header. None if it is no header.
+fn begin<R: Wait + AllocGlobal>(rt: &R, header: &str) -> io::Result<Option<Driver>> {
     let Some(sizes) = read_sizes(header) else {
         return Ok(None);
     };
-    match stage_of(rt, rt.alloc(), sizes) {
-        Ok(stage) => Ok(Some(stage)),
+    match driver_of(rt, rt.alloc(), sizes) {
+        Ok(driver) => Ok(Some(driver)),
         Err(_) => Err(io::Error::from(ErrorKind::OutOfMemory)),
     }
 }
 
-/// Plays a line of a script on its server.
-fn play_on<R: Wait + AllocGlobal + Print>(
+/// Runs a line of a script on its server.
+fn run_on<R: Wait + AllocGlobal + Print>(
     rt: &R,
-    stage: &Option<Stage>,
+    driver: &Option<Driver>,
     line: &str,
-) -> io::Result<Played> {
+) -> io::Result<Outcome> {
     if line.is_empty() || line.starts_with('#') {
-        return Ok(Played::Nothing);
+        return Ok(Outcome::Nothing);
     }
-    let Some(stage) = stage else {
-        return Ok(Played::Malformed);
+    let Some(driver) = driver else {
+        return Ok(Outcome::Malformed);
     };
-    let diary = Diary {
+    let logger = Logger {
         alloc: rt.alloc(),
-        outside: &stage.outside,
+        outside: &driver.outside,
     };
-    play_line(&Logged::new(rt, Level::Debug, diary), stage, line)
+    run_line(&Logged::new(rt, Level::Debug, logger), driver, line)
 }

@@ -1,4 +1,4 @@
-// The header of a script: the sizes of the server that it plays, and which slots are whose.
+// Reads the header of a script, which has the sizes of its server.
 ghost use Rattle.std.specs.Prelude.{IfSome};
 ghost use Rattle.drill.specs.Sizes.{IsServerSize};
 
@@ -12,11 +12,11 @@ const MAX_POLLERS: usize = 16;
 /// The sizes of the server of a script.
 #[derive(Clone, Copy)]
 pub struct Sizes {
-    /// Those of the whole server, without a lead.
+    /// The limits of the whole server, without a lead.
     pub limits: Limits,
-    /// Which slots are which poller's.
+    /// Which poller has which slots.
     pub split: Split,
-    /// After how many connections the server ends, 0 for never.
+    /// After how many connections the server ends. 0 means never.
     pub stop_after: u64,
     /// Whether targets get a PROXY line.
     pub proxy: bool,
@@ -34,9 +34,9 @@ impl Sizes {
     }
 }
 
-/// The sizes of a header: that of a world without a lead, and after it perhaps ` with`, ` pollers=P`, ` stop=N` and `
-/// proxy`. There are P pollers, or as many as the split makes of them. The server ends after N connections. Targets
-/// get a PROXY line if the last word says so.
+/// Reads a header: that of a world without a lead, and then perhaps ` with` and any of ` pollers=P`, ` stop=N` and
+/// ` proxy`. There are P pollers, or as many as the split allows. The server ends after N connections. With `proxy`
+/// targets get a PROXY line.
 pub fn read_sizes(line: &str) -> Option<Sizes>
     ensures { IfSome result IsServerSize }
 {
@@ -44,16 +44,8 @@ pub fn read_sizes(line: &str) -> Option<Sizes>
     let Ok(Header::World(limits)) = read_header(world.as_bytes()) else {
         return None;
     };
-    let (mut pollers, mut stop_after, mut proxy) = (1, 0, false);
-    for word in extras.split_whitespace() {
-        match word.split_once('=').unwrap_or((word, "")) {
-            ("pollers", number) => pollers = number.parse::<usize>().ok()?,
-            ("stop", number) => stop_after = number.parse::<u64>().ok()?,
-            ("proxy", "") => proxy = true,
-            _ => return None,
-        }
-    }
-    if pollers == 0 || pollers > MAX_POLLERS {
+    let extras = read_extras(extras)?;
+    if extras.pollers == 0 || extras.pollers > MAX_POLLERS {
         return None;
     }
     Some(Sizes {
@@ -61,8 +53,38 @@ pub fn read_sizes(line: &str) -> Option<Sizes>
             lead: Lead::NONE,
             ..limits
         },
-        split: Split::new(limits.slots, pollers),
-        stop_after,
-        proxy,
+        split: Split::new(limits.slots, extras.pollers),
+        stop_after: extras.stop_after,
+        proxy: extras.proxy,
     })
+}
+
+/// What may follow the header of a world.
+#[derive(Clone, Copy)]
+struct Extras {
+    pollers: usize,
+    stop_after: u64,
+    proxy: bool,
+}
+
+fn read_extras(text: &str) -> Option<Extras> {
+    let mut extras = Extras {
+        pollers: 1,
+        stop_after: 0,
+        proxy: false,
+    };
+    for word in text.split_whitespace() {
+        read_extra(&mut extras, word)?;
+    }
+    Some(extras)
+}
+
+fn read_extra(extras: &mut Extras, word: &str) -> Option<()> {
+    match word.split_once('=').unwrap_or((word, "")) {
+        ("pollers", number) => extras.pollers = number.parse::<usize>().ok()?,
+        ("stop", number) => extras.stop_after = number.parse::<u64>().ok()?,
+        ("proxy", "") => extras.proxy = true,
+        _ => return None,
+    }
+    Some(())
 }

@@ -1,4 +1,4 @@
-// What a script may tell, but for the steps that its program makes alone.
+// The steps of a script that may also be planned.
 use kernel_model::Accepting;
 use token::Kind;
 use world::Event;
@@ -6,7 +6,7 @@ use world::Event;
 /// A step that may also be made inside a turn.
 #[derive(Drop)]
 pub enum Inner {
-    /// Something happens outside of the server.
+    /// An event outside of the server.
     Outside(Outer),
     /// One round of this poller.
     Round(usize),
@@ -14,8 +14,8 @@ pub enum Inner {
     Turn(usize),
 }
 
-/// An event outside of the server: at the network, to a report, or of the clock. It happens to the poller that has
-/// the event's slot, and if it has none, to the one that it is told. The clock is that of all.
+/// An event outside of the server: of the network, of a report, or of the clock. One of a slot concerns the poller that
+/// has the slot, one of the listener or the waker this poller, and the others all pollers.
 #[derive(Drop)]
 pub struct Outer {
     pub poller: usize,
@@ -25,9 +25,11 @@ pub struct Outer {
 /// A call of the server, or a place between two of them.
 #[derive(Clone, Copy, PartialEq, Eq)]
 pub enum Call {
-    /// A call of a turn, before its first one, and after its last one.
+    /// A call of a turn.
     InTurn,
+    /// Before the first call of a turn.
     BeforeTurn,
+    /// After the last call of a turn.
     AfterTurn,
     /// Calls of this poller's round.
     Accept(usize),
@@ -37,12 +39,12 @@ pub enum Call {
     Polled(usize),
 }
 
-/// What a call gets, as far as it may, or what happens before it.
+/// What a call gets, if it may get that, or what happens before it.
 #[derive(Drop)]
 pub enum Planned {
     Step(Inner),
     Call(Wanted),
-    /// `Accepted` and `Blocked` stand for what the kernel has.
+    /// `Accepted` and `Blocked` mean what the kernel has.
     Accept(Accepting),
     Open(Opening),
     Poll(Polled),
@@ -55,35 +57,37 @@ pub enum Wanted {
     Plain,
     /// At most this many bytes are moved.
     Short(usize),
-    /// The same, and a write leaves no room.
+    /// At most this many bytes are moved, and a write leaves no room.
     Full(usize),
-    /// A signal came first.
+    /// A signal interrupts it.
     Interrupted,
     /// It fails.
     Failed(Kind),
 }
 
-/// What becomes of a connection that was accepted.
+/// The outcome of opening a connection that was accepted.
 #[derive(Clone, Copy)]
 pub enum Opening {
     /// It is opened.
     Plain,
-    /// The target cannot be connected to, or an end cannot be registered.
+    /// The target cannot be connected to.
     Connect,
+    /// An end cannot be registered.
     Register,
-    /// The client's own address cannot be told, or that on which it was accepted.
+    /// The client's address is unknown.
     NoClient,
+    /// The address on which the client was accepted is unknown.
     NoAccepted,
 }
 
 /// How a poll gives the names that are queued.
 #[derive(Clone, Copy)]
 pub enum Polled {
-    /// Not at all, since a signal came first.
+    /// It gives none, since a signal interrupts it.
     Interrupted,
     /// At most this many of them.
     First(usize),
-    /// All, newest first.
+    /// All of them, newest first.
     Backwards,
     /// It fails, which is a fault of the poller's thread.
     Failed,

@@ -1,10 +1,10 @@
-// What was played in all.
+// Counts what was run.
+use crate::driver::Driver;
 use crate::outside::Outside;
-use crate::stage::Stage;
 use script_text::{Counts, Page};
 use std::io;
 
-/// How many scripts and steps were played, and the events of each kind to which that came.
+/// How many scripts and steps were run, and how many events of each kind they made.
 #[derive(Clone, Copy)]
 pub struct Totals {
     scripts: u64,
@@ -13,24 +13,24 @@ pub struct Totals {
 }
 
 impl Totals {
-    /// Nothing was played.
+    /// Nothing was run.
     pub const NONE: Totals = Totals {
         scripts: 0,
         steps: 0,
         counts: Counts::NONE,
     };
 
-    /// Adds a script that was played.
-    pub fn add(&mut self, stage: &Option<Stage>) {
-        if let Some(stage) = stage {
+    /// Adds a script that was run.
+    pub fn add(&mut self, driver: &Option<Driver>) {
+        if let Some(driver) = driver {
             self.scripts = self.scripts.saturating_add(1);
-            stage
+            driver
                 .outside
                 .with((), |outside| count(&mut self.counts, outside));
         }
     }
 
-    /// A line for each kind of event, and one for the scripts and the steps.
+    /// Prints a line for each kind of event, and one for the scripts and the steps.
     pub fn print<R: Print + AllocGlobal>(&self, rt: &R) -> io::Result<()> {
         let mut page = Page::new(rt.alloc());
         self.counts.put_lines(&mut page);
@@ -41,10 +41,10 @@ impl Totals {
 
 /// Counts the events of a script.
 fn count(counts: &mut Counts, outside: &Outside) {
-    for station in &outside.stations {
-        station.tape.count(counts);
+    for model in &outside.pollers {
+        model.machine.count(counts);
     }
-    for tape in &outside.tapes {
-        tape.count(counts);
+    for machine in &outside.machines {
+        machine.count(counts);
     }
 }

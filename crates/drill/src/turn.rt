@@ -1,4 +1,4 @@
-// Whose step it is, and what has to be of its turns.
+// The step in progress, and what must hold of its turns.
 use crate::outside::Outside;
 use token::{MAX_GENERATION, Token};
 use world::{Act, Event, Reported};
@@ -6,10 +6,10 @@ use world::{Act, Event, Reported};
 /// The most calls of a turn of a poller's own thread.
 const OWN_BUDGET: usize = 8;
 
-/// A step of a thread.
+/// The step of a thread that is in progress.
 #[derive(Clone, Copy)]
-pub struct Acting {
-    /// The poller whose step it is. None for a worker's.
+pub struct InProgress {
+    /// The poller whose thread makes the step. None for a worker.
     poller: Option<usize>,
     /// The turn in progress.
     turn: Option<Turn>,
@@ -19,23 +19,23 @@ pub struct Acting {
 #[derive(Clone, Copy)]
 struct Turn {
     slot: usize,
-    /// How many calls it has made.
+    /// How many calls the turn has made.
     calls: usize,
-    /// Whether it may still make calls.
+    /// Whether the turn may still make calls.
     calling: bool,
-    /// Whether it left its connection due.
+    /// Whether the turn left its connection due.
     again: bool,
-    /// Whether the log has told what became of its connection.
+    /// Whether the end of its connection was logged, or need not be.
     logged: bool,
-    /// How many of its ends were told to send what they held back.
+    /// How many ends of its connection were settled: they send what they held back.
     settled: usize,
-    /// How many of its ends were closed.
+    /// How many ends of its connection were closed.
     closed: usize,
 }
 
-impl Acting {
-    /// Nothing has been done.
-    pub const NONE: Acting = Acting {
+impl InProgress {
+    /// No step is in progress.
+    pub const NONE: InProgress = InProgress {
         poller: None,
         turn: None,
     };
@@ -54,174 +54,180 @@ impl Turn {
         }
     }
 
-    /// Whether a turn that has made its last call was as long as it may be, and as it has to be where it left its
-    /// connection due.
+    /// Whether the turn has made at most its budget of calls, and exactly that many if it left its connection due.
     fn is_of(&self, budget: usize) -> bool {
         self.calls == budget || self.calls < budget && !self.again
     }
 }
 
 impl Outside {
-    /// A step of this poller's thread begins, or of a worker. Answers what goes on after it.
-    pub fn enter(&mut self, poller: Option<usize>) -> Acting {
-        let former = self.acting;
-        self.acting = Acting { poller, turn: None };
+    /// Begins a step of this poller's thread, or of a worker if it is None. Returns the step that goes on after it.
+    pub fn enter(&mut self, poller: Option<usize>) -> InProgress {
+        let former = self.in_progress;
+        self.in_progress = InProgress { poller, turn: None };
         former
     }
 
-    /// The step is over, and what was before it goes on.
-    pub fn leave(&mut self, former: Acting) {
+    /// Ends the step, after which the former one goes on.
+    pub fn leave(&mut self, former: InProgress) {
         self.settle();
         self.end_round();
-        self.acting = former;
+        self.in_progress = former;
     }
 
-    /// The slot of a turn was claimed, and its notes were taken, which happens only while no fault is recorded. Its
-    /// world refuses that where no ticket was made.
+    /// Begins a turn: its slot was claimed, and its notes were taken. No turn may begin once a fault is recorded. The
+    /// slot's machine refuses a turn for which no ticket was made.
     pub fn begin_turn(&mut self, slot: usize) {
         self.settle();
         self.end_round();
         if self.state.is_faulty {
-            self.book.blame("a turn behind a fault");
+            self.checks.fail("a turn after a fault");
         }
         self.state.calling = self.state.calling.saturating_add(1);
-        if let Some(tape) = self.tapes.get_mut(slot) {
-            tape.begin();
+        if let Some(machine) = self.machines.get_mut(slot) {
+            machine.begin();
         }
-        self.acting.turn = Some(Turn::at(slot));
+        self.in_progress.turn = Some(Turn::at(slot));
     }
 
-    /// The thread of the turn in progress has done this.
+    /// Makes an act of the thread of the turn in progress, in the slot's machine.
     pub fn act(&mut self, act: Act) {
-        if let Some(turn) = self.acting.turn {
+        if let Some(turn) = self.in_progress.turn {
             self.record(turn.slot, Event::Work(0, act));
         }
     }
 
-    /// A call of the turn in progress was made.
+    /// Counts a call of the turn in progress.
     pub fn count_call(&mut self) {
-        if let Some(turn) = &mut self.acting.turn {
+        if let Some(turn) = &mut self.in_progress.turn {
             turn.calls = turn.calls.saturating_add(1);
         }
     }
 
-    /// The turn in progress has made its last call. If that left its connection due, it has spent its whole budget,
-    /// and none has spent more.
+    /// Ends the calls of the turn in progress. It must have made as many as its budget if its connection is due, and
+    /// never more.
     pub fn end_calls(&mut self) {
-        let Some(turn) = &mut self.acting.turn else {
+        let Some(turn) = &mut self.in_progress.turn else {
             return;
         };
         turn.calling = false;
         self.state.calling = self.state.calling.saturating_sub(1);
-        let Some(tape) = self.tapes.get_mut(turn.slot) else {
+        let Some(machine) = self.machines.get_mut(turn.slot) else {
             return;
         };
-        tape.expire();
-        turn.again = tape.is_due_again();
-        let budget = match self.acting.poller {
+        machine.expire();
+        turn.again = machine.is_due_again();
+        let budget = match self.in_progress.poller {
             Some(_) => self.sizes.limits.budget.min(OWN_BUDGET),
             None => self.sizes.limits.budget,
         };
         if !turn.is_of(budget) {
-            self.book.blame("a turn with too few or too many calls");
+            self.checks.fail("a turn with too few or too many calls");
         }
     }
 
-    /// The log has to tell next what became of the connection of the turn in progress, if that has ended.
+    /// Expects the line about the end of the turn's connection, if that has ended.
     pub fn expect_ended(&mut self) {
-        let Some(turn) = &mut self.acting.turn else {
+        let Some(turn) = &mut self.in_progress.turn else {
             return;
         };
         if turn.calling || turn.logged {
             return;
         }
         turn.logged = true;
-        if let Some(tape) = self.tapes.get(turn.slot) {
-            if let Some((generation, verdict, counts)) = tape.verdict() {
-                self.book.expect_end(turn.slot, generation, verdict, counts);
+        if let Some(machine) = self.machines.get(turn.slot) {
+            if let Some((generation, verdict, counts)) = machine.verdict() {
+                self.checks
+                    .expect_end(turn.slot, generation, verdict, counts);
             }
         }
     }
 
-    /// An end of a poller's kernel is closed.
+    /// Ends a step of a worker's thread, which must have ended if it had to, and only then.
+    pub fn end_turn(&mut self, is_due: bool, has_ended: bool) {
+        if has_ended != is_due {
+            self.checks
+                .fail("a worker's thread goes on or ends when it has not to");
+        }
+    }
+
+    /// Closes an end of a poller's kernel.
     pub fn close(&mut self, poller: usize, descriptor: usize, token: Token) {
-        if let Some(station) = self.stations.get_mut(poller) {
-            station.close(descriptor);
+        if let Some(model) = self.pollers.get_mut(poller) {
+            model.close(descriptor);
         }
         if self.is_lost(token.slot()) {
             return;
         }
-        match &mut self.acting.turn {
+        match &mut self.in_progress.turn {
             Some(turn) if turn.slot == token.slot() && turn.logged => {
                 turn.closed = turn.closed.saturating_add(1);
                 if turn.closed == 2 {
                     self.act(Act::Close);
                 }
             }
-            _ => self.book.blame(
-                "an end is closed outside of its turn, or before the log tells of it",
-            ),
+            _ => self.checks.fail("an end is closed outside of its turn, or before that is logged"),
         }
     }
 
-    /// An end of the turn in progress is told to send what it held back.
+    /// Counts an end of the turn in progress that is settled.
     pub fn settle_end(&mut self) {
-        if let Some(turn) = &mut self.acting.turn {
+        if let Some(turn) = &mut self.in_progress.turn {
             turn.settled = turn.settled.saturating_add(1);
         }
     }
 
-    /// The turn before is over: the slot is released or given back.
+    /// Ends the turn in progress: its slot is released or given back.
     fn settle(&mut self) {
-        match self.acting.turn {
+        match self.in_progress.turn {
             Some(turn) if turn.closed == 2 => self.give_back(turn.slot),
             Some(turn) => self.release(turn),
             None => {}
         }
-        self.acting.turn = None;
+        self.in_progress.turn = None;
     }
 
-    /// The slot of a turn is released, which may make a ticket. Where the turn did not spend its budget, both ends
-    /// were told to send what they held back.
+    /// Releases the slot of a turn, which may make a ticket. Both ends must have been settled, unless the turn left its
+    /// connection due.
     fn release(&mut self, turn: Turn) {
         if turn.again {
             self.act(Act::Post);
         }
         if turn.settled != if turn.again { 0 } else { 2 } {
-            self.book
-                .blame("a turn without a call has not settled both ends");
+            self.checks
+                .fail("a turn without a call has not settled both ends");
         }
         self.act(Act::Release);
     }
 
-    /// The slot of a turn whose connection was closed is given back, and its poller is woken: by a worker, and by its
-    /// own thread only if no more connections may be opened.
+    /// Gives back the slot of a turn whose connection was closed. A worker must wake the slot's poller; the poller's
+    /// own thread must wake it only if it may open no more connections.
     fn give_back(&mut self, slot: usize) {
         self.act(Act::Retire);
         self.act(Act::Free);
         let is_worn = self.generation(slot) == MAX_GENERATION;
-        let by_worker = self.acting.poller.is_none();
-        if let Some(station) = self.station_of(slot) {
+        let by_worker = self.in_progress.poller.is_none();
+        if let Some(model) = self.model_of(slot) {
             if !is_worn {
-                station.give(slot);
+                model.give(slot);
             }
-            if by_worker || station.standing.has_opened_all() {
-                station.tape.put(Event::Spurious(Reported::Waker));
+            if by_worker || model.expected.has_opened_all() {
+                model.machine.put(Event::Spurious(Reported::Waker));
             }
         }
     }
 
-    /// A poller's round has ended, which its step began with.
+    /// Ends the round with which a poller's step began.
     fn end_round(&mut self) {
-        let Some(poller) = self.acting.poller else {
+        let Some(poller) = self.in_progress.poller else {
             return;
         };
-        match self.stations.get_mut(poller) {
-            Some(station) if station.standing.in_round => {
-                station.end_round();
-                if station.standing.has_accepted {
-                    self.book
-                        .blame("an accepted client is neither opened nor told of");
+        match self.pollers.get_mut(poller) {
+            Some(model) if model.expected.in_round => {
+                model.end_round();
+                if model.expected.has_accepted {
+                    self.checks
+                        .fail("an accepted client is neither opened nor closed");
                 }
             }
             _ => {}

@@ -1,4 +1,4 @@
-// A wire whose calls are those of the modelled kernel.
+// A wire whose calls the modelled kernel answers.
 ghost use Rattle.std.specs.Prelude.{◌≡◌, true};
 ghost use Rattle.relay_core.specs.Calls.{side_of};
 ghost use Rattle.engine.specs.Classes.{class_of};
@@ -14,20 +14,19 @@ use std::io::{self, ErrorKind};
 use std::net::SocketAddr;
 use token::{Side, Token};
 
-/// A wire over an end of the modelled kernel, which is closed with it.
+/// A wire over an end of the modelled kernel. Dropping the wire closes the end.
 pub struct EndWire {
     outside: OutsideCell,
     /// The poller that accepted or opened it.
     poller: usize,
-    /// The name under which it is reported, and its descriptor in the poller's kernel. None for a connection that was
-    /// accepted and is not open yet, and for a target whose connection has to be given up at once: closing these
-    /// changes nothing.
+    /// The token by which the end is reported, and its descriptor in the poller's kernel. None for a client that was
+    /// accepted and is not open yet, and for a target that must be closed at once: closing these changes nothing.
     end: Option<(Token, usize)>,
     tally: Tally,
 }
 
 impl EndWire {
-    /// A poller's wire over this end. A client's is joined, a target's is connecting.
+    /// A poller's wire over this end. A client's wire is joined, and a target's is not yet.
     pub fn new(
         outside: OutsideCell,
         poller: usize,
@@ -42,14 +41,14 @@ impl EndWire {
         }
     }
 
-    /// An accepted connection is opened as this end.
+    /// Opens the client's wire: it is over this end from now on.
     pub fn open(&mut self, token: Token, descriptor: usize)
         ensures { self.new.tally ≡ self.old.tally }
     {
         self.end = Some((token, descriptor));
     }
 
-    /// Its descriptor. None if it is not open.
+    /// The descriptor of its end. None if it is not open.
     pub fn descriptor(&self) -> Option<usize> {
         let (_, descriptor) = self.end?;
         Some(descriptor)
@@ -72,7 +71,7 @@ impl EndWire {
         self.outside.with(Err(ErrorKind::Other), |outside| outside.call(asked, buffer))
     }
 
-    /// Counts an error of a call by its class, and gives it.
+    /// Counts an error of a call by its class, and returns it.
     fn refuse(&mut self, call: Call, kind: ErrorKind) -> io::Error
         requires { side_of call ≡ Side.Target }
         ensures { self.new.tally ≡ counted (class_of call self.old.tally.joined kind) self.old.tally }

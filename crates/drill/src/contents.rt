@@ -1,10 +1,10 @@
-// What queues and hands contain: everything is taken out and put back in the same order.
+// Lists what queues and hands hold, by taking each item out and putting it back in the same order.
 use dispatch::Hand;
 use ready::{FreeQueue, ReadyQueue, Ticket};
 use std::alloc::{AllocError, Global};
 use std::sync::Wait;
 
-/// More than a queue ever has.
+/// More items than a queue ever holds.
 const MOST: usize = 1_024;
 
 /// The tickets in the ready queue, in order.
@@ -26,7 +26,7 @@ pub fn tickets_of(
     Ok(tickets)
 }
 
-/// The tickets in the ready queue, and after them those in a poller's hand.
+/// The tickets in the ready queue, and then those in a poller's hand.
 pub fn all_tickets(
     rt: &impl Wait,
     alloc: Global,
@@ -48,7 +48,7 @@ fn add_held(tickets: &mut Vec<Ticket>, hand: &mut Hand) -> Result<(), AllocError
     Ok(())
 }
 
-/// The free slots of a poller, in order: those in hand, and those in its queue.
+/// The free slots of a poller, in order: those in hand, and then those in its queue.
 pub fn free_slots(
     rt: &impl Wait,
     alloc: Global,

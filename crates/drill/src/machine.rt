@@ -1,4 +1,5 @@
-// The events to which the server's steps amount at one slot, and the world that they lead to.
+// The machine beside one slot or one listener: the events to which the server's steps amount, and the world that they
+// lead to.
 ghost use Rattle.drill.specs.Sizes.{IsServerSize};
 
 use crate::addresses::lead_of;
@@ -8,22 +9,23 @@ use script_text::{Counts, Page, Piece, put_event, put_header};
 use std::alloc::{AllocError, Global};
 use world::{Act, Event, Lead, Limits, Polling, Reported, World};
 
-/// A world of one slot that makes each event at once.
+/// A machine of one slot, which makes each event at once.
 #[derive(Drop)]
-pub struct Tape {
+pub struct Machine {
     pub alloc: Global,
     made: world::Tape,
-    /// Whether the world refused an event, or made one that the kernel did not allow. From then on none is made.
+    /// Whether the machine refused an event, or made one that the kernel did not allow. After that it makes no events.
     pub is_wrong: bool,
-    /// The event that the world refused.
+    /// The event that the machine refused.
     refused: Option<Event>,
-    /// The claim word of the slot when its connection was taken away. From then on no event is made.
+    /// The slot's claim word when its connection was taken away. After that the machine makes no events.
     pub lost: Option<u64>,
 }
 
-impl Tape {
-    /// The opening world of a slot in a server of these sizes. Its target gets the lead of the slot's poller.
-    pub fn of_slot(alloc: Global, sizes: Sizes, slot: usize) -> Result<Tape, AllocError>
+impl Machine {
+    /// The machine of a slot in a server of these sizes, at its beginning. Its targets get the lead of the slot's
+    /// poller.
+    pub fn of_slot(alloc: Global, sizes: Sizes, slot: usize) -> Result<Machine, AllocError>
         requires { IsServerSize sizes }
     {
         let lead = if sizes.proxy {
@@ -31,11 +33,11 @@ impl Tape {
         } else {
             Lead::NONE
         };
-        Tape::new(alloc, sizes, lead)
+        Machine::new(alloc, sizes, lead)
     }
 
-    /// The opening world of one slot, with one worker.
-    pub fn new(alloc: Global, sizes: Sizes, lead: Lead) -> Result<Tape, AllocError>
+    /// A machine of one slot and one worker, at its beginning.
+    pub fn new(alloc: Global, sizes: Sizes, lead: Lead) -> Result<Machine, AllocError>
         requires { IsServerSize sizes }
     {
         let limits = Limits {
@@ -44,7 +46,7 @@ impl Tape {
             lead,
             ..sizes.limits
         };
-        Ok(Tape {
+        Ok(Machine {
             alloc,
             made: world::Tape::new(alloc, limits)?,
             is_wrong: false,
@@ -62,7 +64,7 @@ impl Tape {
         self.is_wrong || self.lost.is_some()
     }
 
-    /// An event has happened. The slot of an event is that of the world.
+    /// Makes an event. The slot that it names must be 0.
     pub fn put(&mut self, event: Event) {
         if self.has_ended() {
             return;
@@ -73,21 +75,21 @@ impl Tape {
         }
     }
 
-    /// An event that the kernel did not allow is none of the world either.
+    /// Tries an event that the kernel did not allow. If the machine allows it, that is a difference.
     pub fn put_not_allowed(&mut self, event: Event) {
         if !self.has_ended() && self.made.put(event).is_ok() {
             self.is_wrong = true;
         }
     }
 
-    /// The connection of the turn in progress expires, if the world has it past the idle limit.
+    /// Has the connection of the turn in progress expire, if the machine has it past the idle limit.
     pub fn expire(&mut self) {
         if !self.has_ended() {
             let _ = self.made.put(Event::Work(0, Act::Expire));
         }
     }
 
-    /// A turn begins: the ticket is put, wherever it is, and taken.
+    /// Begins a turn: the ticket is put, if it is not yet in the ready queue, and taken.
     pub fn begin(&mut self) {
         if !self.world().poller_hand().is_empty() {
             self.put(Event::Poll(Polling::Put));
@@ -99,7 +101,7 @@ impl Tape {
         }
     }
 
-    /// How many tickets of the slot were made and not taken, wherever they are.
+    /// How many tickets of the slot were made and not taken.
     pub fn tickets(&self) -> usize {
         let world = self.made.world();
         let hand = world
@@ -118,7 +120,7 @@ impl Tape {
         self.made.world().table_entry(0).unwrap_or(0)
     }
 
-    /// Whether the connection has a call to make.
+    /// Whether the connection has a call to make next.
     pub fn is_due_again(&self) -> bool {
         match self.made.world().connection(0) {
             Some(connection) => connection.pair.next().is_some(),
@@ -126,7 +128,7 @@ impl Tape {
         }
     }
 
-    /// The generation of the connection, what has become of it, and how many bytes went up and down.
+    /// The connection's generation and verdict, and how many bytes went up and down.
     pub fn verdict(&self) -> Option<(u64, Verdict, (u64, u64))> {
         let pair = &self.made.world().connection(0)?.pair;
         Some((pair.generation(), pair.verdict(), pair.counts()))
@@ -139,7 +141,7 @@ impl Tape {
         }
     }
 
-    /// The script of the events. Behind them stands the one that the world refused.
+    /// The script of the events, and then the one that the machine refused.
     pub fn script(&self) -> Result<String, AllocError> {
         let mut page = Page::new(self.alloc);
         put_header(&mut page, &self.made.limits());
@@ -158,7 +160,7 @@ fn put_line(page: &mut Page, event: &Event) {
     page.put(&[Piece::Text("\n")]);
 }
 
-/// The same event at the only slot of a world.
+/// The same event at slot 0.
 pub fn at_first(event: Event) -> Event {
     match event {
         Event::Network(_, side, change) => Event::Network(0, side, change),

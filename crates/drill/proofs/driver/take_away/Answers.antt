@@ -1,6 +1,6 @@
 use Rattle.std.proofs.Common.{◌≡◌, ◌∙◌}
 use Rattle.drill.proofs.SeatAfter.{busy, held, released, same_table}
-use Rattle.drill.proofs.stage.take_away.Goals as goal
+use Rattle.drill.proofs.driver.take_away.Goals as goal
 
 pub invariant_of-thread-in-Busy : goal.invariant_of-thread-in-Busy
 invariant_of-thread-in-Busy g c = record {

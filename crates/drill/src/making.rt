@@ -1,12 +1,12 @@
-// The threads of the server of a script, made from its settings as the product makes them.
+// Makes the server of a script and its threads from settings, as the product makes them.
 ghost use Rattle.std.specs.Prelude.{◌≤◌, ◌≡◌, length};
 ghost use Rattle.drill.specs.Sizes.{IsServerSize};
 
+use crate::clock::ScriptClock;
+use crate::driver::{Driver, ThreadCell};
 use crate::front::KernelFront;
 use crate::outside::{Outside, OutsideCell};
 use crate::sizes::Sizes;
-use crate::stage::{Player, Stage};
-use crate::ticks::Ticks;
 use dispatch::{Poller, ServerFault};
 use server::build;
 use settings::{Settings, parse};
@@ -17,17 +17,17 @@ use std::sync::atomic::AtomicBool;
 use std::sync::{Arc, Wait};
 use threads::{Ending, PollerThread, Rest, Server, ServerThreads, Worker, divide};
 
-/// A server of these sizes.
-pub fn stage_of<R: Wait>(rt: &R, alloc: Global, sizes: Sizes) -> Result<Stage, ServerFault>
+/// Makes the driver of a server of these sizes.
+pub fn driver_of<R: Wait>(rt: &R, alloc: Global, sizes: Sizes) -> Result<Driver, ServerFault>
     requires { IsServerSize sizes }
 {
-    let clock = Rc::new(alloc, Ticks::new())?;
+    let clock = Rc::new(alloc, ScriptClock::new())?;
     let outside = OutsideCell::new(alloc, Outside::new(alloc, sizes, clock.clone()?)?)?;
     let settings = settings_of(alloc, sizes)?;
     let cast = cast_of(rt, alloc, &outside, &settings, sizes)?;
     let ending = Ending::new(cast.pollers.len());
-    let (pollers, workers) = players_of(alloc, cast)?;
-    Ok(Stage {
+    let (pollers, workers) = cells_of(alloc, cast)?;
+    Ok(Driver {
         alloc,
         sizes,
         outside,
@@ -39,36 +39,36 @@ pub fn stage_of<R: Wait>(rt: &R, alloc: Global, sizes: Sizes) -> Result<Stage, S
     })
 }
 
-/// The threads of a server, which have not begun.
-type Players = (
-    Vec<Player<PollerThread<KernelFront>>>,
-    Vec<Player<Worker<KernelFront>>>,
+/// The threads of a server that has not begun.
+type ThreadCells = (
+    Vec<ThreadCell<PollerThread<KernelFront>>>,
+    Vec<ThreadCell<Worker<KernelFront>>>,
 );
 
-fn players_of(alloc: Global, cast: ServerThreads<KernelFront>) -> Result<Players, AllocError> {
+fn cells_of(alloc: Global, cast: ServerThreads<KernelFront>) -> Result<ThreadCells, AllocError> {
     let ServerThreads {
         pollers,
         mut workers,
     } = cast;
     workers.reverse();
-    Ok((players(alloc, pollers)?, players(alloc, workers)?))
+    Ok((cells(alloc, pollers)?, cells(alloc, workers)?))
 }
 
-/// These threads, the last one first.
-fn players<T: Drop>(alloc: Global, mut threads: Vec<T>) -> Result<Vec<Player<T>>, AllocError> {
-    let mut players = Vec::with_capacity(alloc, threads.len())?;
+/// Puts each thread in a cell, the last one first.
+fn cells<T: Drop>(alloc: Global, mut threads: Vec<T>) -> Result<Vec<ThreadCell<T>>, AllocError> {
+    let mut cells = Vec::with_capacity(alloc, threads.len())?;
     for _thread in 0..threads.len() {
         if let Some(thread) = threads.pop() {
-            players.push(Player {
+            cells.push(ThreadCell {
                 thread: RefCell::new(thread),
                 has_ended: Cell::new(false),
             })?;
         }
     }
-    Ok(players)
+    Ok(cells)
 }
 
-/// The settings that a server of these sizes is made from.
+/// The settings of a server of these sizes.
 fn settings_of(alloc: Global, sizes: Sizes) -> Result<Settings, AllocError> {
     let (slots, workers) = (sizes.limits.slots, sizes.limits.workers);
     let (ring, budget) = (sizes.limits.ring, sizes.limits.budget);
@@ -79,7 +79,7 @@ fn settings_of(alloc: Global, sizes: Sizes) -> Result<Settings, AllocError> {
     parse(alloc, text.as_bytes()).or(Err(AllocError))
 }
 
-/// The threads of such a server.
+/// Makes the threads of such a server.
 fn cast_of<R: Wait>(
     rt: &R,
     alloc: Global,
@@ -108,7 +108,7 @@ fn cast_of<R: Wait>(
     divide(alloc, &shared, Rest { parts, free }, pollers, workers)
 }
 
-/// This many fronts.
+/// Makes a front for each poller.
 fn fronts_of(
     alloc: Global,
     outside: &OutsideCell,
@@ -121,7 +121,7 @@ fn fronts_of(
     Ok(fronts)
 }
 
-/// Each slot counts as having had this many connections.
+/// Has each slot begin at this generation.
 fn start_each(pollers: &mut Vec<Poller<KernelFront>>, generation: u64)
     requires { generation ≤ 140737488355327 }
 {
@@ -130,7 +130,7 @@ fn start_each(pollers: &mut Vec<Poller<KernelFront>>, generation: u64)
     }
 }
 
-/// Each of the poller's slots counts as having had this many connections.
+/// Has each of a poller's slots begin at this generation.
 fn start_all(poller: &mut Poller<KernelFront>, generation: u64)
     requires { generation ≤ 140737488355327 }
 {

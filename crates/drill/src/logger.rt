@@ -1,4 +1,4 @@
-// What the server logs.
+// The logger of the server.
 use crate::outside::OutsideCell;
 use log::kv::Source;
 use log::span::Spans;
@@ -6,14 +6,14 @@ use log::{Log, Metadata, Record};
 use std::alloc::Global;
 use std::fmt::Display;
 
-/// Passes each line on.
+/// A logger that has each line compared with what is expected.
 #[derive(Drop)]
-pub struct Diary<'a> {
+pub struct Logger<'a> {
     pub alloc: Global,
     pub outside: &'a OutsideCell,
 }
 
-impl Log for Diary<'_> {
+impl Log for Logger<'_> {
     fn enabled(&self, _metadata: &Metadata<'_>) -> bool {
         true
     }

@@ -1,13 +1,12 @@
-// One poller's share of what is outside: the kernel as its epoll instance shows it, the world beside it, and its free
-// slots.
+// What stands beside one poller of the server: the kernel that its calls reach, its machine, and its expected state.
 ghost use Rattle.std.specs.Prelude.{◌<◌};
 ghost use Rattle.dispatch.specs.Splits.{parts_of};
 ghost use Rattle.drill.specs.Sizes.{IsServerSize};
 
+use crate::expected::Expected;
+use crate::machine::{Machine, at_first};
 use crate::sizes::Sizes;
-use crate::standing::Standing;
 use crate::step::Polled;
-use crate::tape::{Tape, at_first};
 use dispatch::Part;
 use kernel_model::{Accepting, Descriptors, Kernel, MAX_POLLED, Refusal, Watched};
 use std::alloc::{AllocError, Global};
@@ -18,84 +17,87 @@ use world::{Change, Event, Lead, Listening, Polling, Reported};
 /// The most descriptors that a kernel has: two for each slot.
 const MOST: usize = 128;
 
-/// One poller's share of what is outside of the server.
+/// The kernel of one poller, its machine, and its expected state.
 #[derive(Drop)]
-pub struct Station {
-    /// The ends of this poller's connections, and its reports.
+pub struct PollerModel {
+    /// The modelled kernel, which is also the poller's epoll instance.
     pub kernel: Kernel,
-    /// The world of its listener and its waker, in which nothing is ever opened.
-    pub tape: Tape,
-    /// Its slots, and which of them are free, in the order in which they are to be used.
+    /// The machine of its listener and its waker, in which no connection is ever opened.
+    pub machine: Machine,
+    /// The poller's slots.
     pub part: Part,
+    /// The slots that must be free, in the order in which the poller must use them.
     pub free: VecDeque<usize>,
-    pub standing: Standing,
+    pub expected: Expected,
 }
 
-impl Station {
-    pub fn new(alloc: Global, sizes: Sizes, poller: usize) -> Result<Station, AllocError>
+impl PollerModel {
+    pub fn new(alloc: Global, sizes: Sizes, poller: usize) -> Result<PollerModel, AllocError>
         requires sizes { IsServerSize sizes }
         requires poller { poller < parts_of sizes.split.slots sizes.split.size }
     {
         let part = sizes.split.part(poller);
-        Ok(Station {
+        let free = slots_of(alloc, part)?;
+        let machine = Machine::new(alloc, sizes, Lead::NONE)?;
+        Ok(PollerModel {
             kernel: Kernel::new(alloc),
-            tape: Tape::new(alloc, sizes, Lead::NONE)?,
+            machine,
             part,
-            free: slots_of(alloc, part)?,
-            standing: Standing::at_first(sizes.share_of(poller)),
+            free,
+            expected: Expected::at_first(sizes.share_of(poller)),
         })
     }
 
-    /// Something happens to the listener or the waker.
+    /// Makes an event of the listener or the waker.
     pub fn happen(&mut self, event: Event) {
         let made = make(&mut self.kernel, &event);
-        if follow(&mut self.tape, made, event) {
-            self.standing.is_refused = true;
+        if follow(&mut self.machine, made, event) {
+            self.expected.is_refused = true;
         }
     }
 
-    /// Something happens to an end of this slot, which has this tape.
-    pub fn change(&mut self, tape: &mut Tape, event: Event) {
+    /// Makes an event of an end of a slot, which has this machine.
+    pub fn change(&mut self, machine: &mut Machine, event: Event) {
         let made = make(&mut self.kernel, &event);
-        if follow(tape, made, at_first(event)) {
-            self.standing.is_refused = true;
+        if follow(machine, made, at_first(event)) {
+            self.expected.is_refused = true;
         }
     }
 
-    /// The poller is woken.
+    /// Wakes the poller.
     pub fn wake(&mut self) {
         let woken = self.kernel.spurious(Watched::Waker);
-        self.standing.must(woken);
+        self.expected.must(woken);
     }
 
-    /// A poll takes these names.
+    /// Makes a poll. Returns the names that it gives.
     pub fn poll(&mut self, alloc: Global, polled: Option<Polled>) -> Result<Vec<Name>, AllocError> {
         let names = chosen(alloc, self.kernel.queue(), polled)?;
         let taken = self.kernel.poll(names.as_slice());
-        self.standing.must(taken);
-        self.standing.in_round = true;
+        self.expected.must(taken);
+        self.expected.in_round = true;
         let own = own_names(alloc, names.as_slice(), None)?;
-        self.tape.put(Event::Poll(Polling::Poll(own)));
+        self.machine.put(Event::Poll(Polling::Poll(own)));
         Ok(names)
     }
 
-    /// accept(2) gets this.
+    /// Has accept(2) get this reply.
     pub fn accept(&mut self, reply: Accepting) {
-        self.standing.has_accepted = reply == Accepting::Accepted;
-        if self.standing.has_accepted {
-            self.let_in();
+        self.expected.has_accepted = reply == Accepting::Accepted;
+        if self.expected.has_accepted {
+            self.accept_client();
         } else {
             self.answer(reply);
         }
     }
 
-    /// A client that waited outside of the kernel comes in and is accepted at once. If it is reported on the way, the
-    /// report is withdrawn: this poller was told of it when it came, or did not have to be.
-    fn let_in(&mut self) {
+    /// Moves a client that waited outside of the kernel into it, and accepts it at once. If that queues a report, the
+    /// report is withdrawn: the client was reported when it connected, if this poller's listener was armed then.
+    fn accept_client(&mut self) {
         let was_queued = self.kernel.is_queued(&Name::Listener);
         self.happen(Event::Listen(Listening::Connect));
         self.answer(Accepting::Accepted);
-        self.tape.put(Event::Listen(Listening::Drop));
+        self.machine.put(Event::Listen(Listening::Drop));
         if !was_queued {
             self.happen(Event::Vanish(Reported::Listener));
         }
@@ -103,64 +105,64 @@ impl Station {
 
     fn answer(&mut self, reply: Accepting) {
         let answered = self.kernel.accept(reply);
-        self.standing.must(answered);
-        self.tape.put(Event::Listen(Listening::Accept(reply)));
+        self.expected.must(answered);
+        self.machine.put(Event::Listen(Listening::Accept(reply)));
     }
 
-    /// Its front no longer listens. A report of the listener goes with it.
+    /// Closes the listener. A report of it that is queued is withdrawn.
     pub fn stop_listening(&mut self) {
-        if self.standing.listens && self.kernel.is_queued(&Name::Listener) {
+        if self.expected.listens && self.kernel.is_queued(&Name::Listener) {
             self.happen(Event::Vanish(Reported::Listener));
         }
-        self.standing.listens = false;
+        self.expected.listens = false;
     }
 
-    /// Both ends of an accepted connection are opened. None if the kernel refuses that, which it may not.
+    /// Opens both ends of an accepted connection. None if the kernel refuses that, which is a difference.
     pub fn open(&mut self, client: Token, target: Token) -> Option<Descriptors> {
         let ends = self.kernel.open_both(client, target).ok();
         if ends.is_none() {
-            self.standing.is_refused = true;
+            self.expected.is_refused = true;
         }
         ends
     }
 
-    /// It has opened a connection in its first free slot.
+    /// Counts a connection that the poller has opened, and returns the slot in which it must have opened it.
     pub fn take_free(&mut self) -> Option<usize> {
-        self.standing.open();
+        self.expected.open();
         self.free.pop_front()
     }
 
-    /// A slot that can be used again is given back to it.
+    /// Gives back a slot that can be used again.
     pub fn give(&mut self, slot: usize) {
         let given = self.free.push_back(slot);
-        self.standing.must(given);
+        self.expected.must(given);
     }
 
-    /// An end is closed.
+    /// Closes an end.
     pub fn close(&mut self, descriptor: usize) {
         let closed = self.kernel.close(descriptor);
-        self.standing.must(closed);
+        self.expected.must(closed);
     }
 
-    /// Its round has ended.
+    /// Ends the poller's round.
     pub fn end_round(&mut self) {
         let all_free = self.free.len() >= self.part.slots;
-        self.standing.end_round(all_free);
+        self.expected.end_round(all_free);
     }
 }
 
-/// An event follows in the world what the kernel made of it. What the kernel does not allow, the world may not allow
-/// either. Answers whether the kernel lacked memory.
-fn follow(tape: &mut Tape, made: Result<(), Refusal>, event: Event) -> bool {
+/// Makes an event in the machine if the kernel has made it. If the kernel did not allow the event, the machine must not
+/// allow it either. Returns whether the kernel lacked memory.
+fn follow(machine: &mut Machine, made: Result<(), Refusal>, event: Event) -> bool {
     match made {
-        Ok(()) => tape.put(event),
-        Err(Refusal::NotAllowed) => tape.put_not_allowed(event),
+        Ok(()) => machine.put(event),
+        Err(Refusal::NotAllowed) => machine.put_not_allowed(event),
         Err(Refusal::NoMemory) => return true,
     }
     false
 }
 
-/// An event happens in a kernel.
+/// Makes an event in a kernel.
 fn make(kernel: &mut Kernel, event: &Event) -> Result<(), Refusal> {
     match event {
         Event::Listen(Listening::Connect) => kernel.connect_in(),
@@ -197,7 +199,7 @@ fn watched(kernel: &Kernel, who: Reported) -> Result<Watched, Refusal> {
     }
 }
 
-/// The descriptor of the open end of this slot and side.
+/// The descriptor of the open end of a slot and a side.
 fn descriptor(kernel: &Kernel, slot: usize, side: Side) -> Result<usize, Refusal> {
     for descriptor in 0..MOST {
         if let Some(open) = kernel.end(descriptor) {
@@ -209,7 +211,7 @@ fn descriptor(kernel: &Kernel, slot: usize, side: Side) -> Result<usize, Refusal
     Err(Refusal::NotAllowed)
 }
 
-/// The names that a poll gives of those that are queued.
+/// The names that a poll gives out of those that are queued.
 fn chosen(alloc: Global, queue: &[Name], polled: Option<Polled>) -> Result<Vec<Name>, AllocError> {
     let most = match polled {
         Some(Polled::Interrupted) => 0,
@@ -224,8 +226,8 @@ fn chosen(alloc: Global, queue: &[Name], polled: Option<Polled>) -> Result<Vec<N
     Ok(names)
 }
 
-/// Those of a poll's names that are about an end of this slot, as the world of that slot has them. Without a slot
-/// those of the poller itself.
+/// The names of a poll that name an end of this slot, as the slot's machine has them. None: those of the listener and
+/// the waker.
 pub fn own_names(
     alloc: Global,
     names: &[Name],
@@ -251,7 +253,7 @@ fn own_name(name: Name, slot: Option<usize>) -> Option<Name> {
     }
 }
 
-/// The slots of a part, in rising order.
+/// The slots of a part, in ascending order.
 fn slots_of(alloc: Global, part: Part) -> Result<VecDeque<usize>, AllocError> {
     let mut slots = VecDeque::new(alloc);
     for index in 0..part.slots {

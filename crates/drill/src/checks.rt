@@ -1,0 +1,152 @@
+// The server's log beside the lines that are expected, and the first failed check.
+use log::Level;
+use relay_core::{Fault, Verdict};
+use std::alloc::{AllocError, Global};
+use std::collections::VecDeque;
+
+/// The server's log, the lines that are expected next, and the first failed check.
+#[derive(Drop)]
+pub struct Checks {
+    alloc: Global,
+    /// The lines that must be logged next, in order.
+    expected: VecDeque<(Level, String)>,
+    /// All lines that were logged.
+    pub text: String,
+    /// What the first check that failed has found.
+    pub wrong: Option<String>,
+}
+
+impl Checks {
+    pub fn new(alloc: Global) -> Checks {
+        Checks {
+            alloc,
+            expected: VecDeque::new(alloc),
+            text: String::new(alloc),
+            wrong: None,
+        }
+    }
+
+    /// Notes that a check has failed. An empty text means that memory ran out.
+    pub fn fail(&mut self, text: &str) {
+        if self.wrong.is_none() {
+            let text = String::from_str(self.alloc, text);
+            self.wrong = Some(text.unwrap_or(String::new(self.alloc)));
+        }
+    }
+
+    /// Expects a line, after those that are expected already.
+    pub fn expect(&mut self, level: Level, text: Result<String, AllocError>) {
+        let added = match text {
+            Ok(text) => self.expected.push_back((level, text)).is_ok(),
+            Err(_) => false,
+        };
+        if !added {
+            self.fail("");
+        }
+    }
+
+    /// Expects the line about a connection that has ended.
+    pub fn expect_end(
+        &mut self,
+        slot: usize,
+        generation: u64,
+        verdict: Verdict,
+        counts: (u64, u64),
+    ) {
+        let alloc = self.alloc;
+        match verdict {
+            Verdict::Live => {}
+            Verdict::Done => {
+                let bytes = bytes_of(alloc, counts.0, counts.1);
+                self.expect(Level::Info, line_of(alloc, "done", slot, generation, bytes));
+            }
+            Verdict::Failed(fault) => {
+                let cause = cause_of(alloc, fault);
+                self.expect(Level::Warn, line_of(alloc, "fail", slot, generation, cause));
+            }
+        }
+    }
+
+    /// Whether all lines that are expected were logged.
+    pub fn is_complete(&self) -> bool {
+        self.expected.is_empty()
+    }
+
+    /// Adds a line that was logged, without comparing it.
+    pub fn add(&mut self, text: &str) {
+        let added = self.text.push_str(text).and(self.text.push_str("\n"));
+        if added.is_err() {
+            self.fail("");
+        }
+    }
+
+    /// Compares a line that was logged with the one that is expected next.
+    pub fn write(&mut self, level: Level, text: &str) {
+        self.add(text);
+        let expected = self.expected.pop_front();
+        if !is_expected(&expected, level, text) {
+            self.fail_at(text, &expected);
+        }
+    }
+
+    /// Fails since this line was logged in place of the expected one.
+    fn fail_at(&mut self, text: &str, expected: &Option<(Level, String)>) {
+        let line = match expected {
+            Some((_, line)) => line.as_str(),
+            None => "no line",
+        };
+        self.fail_with(format!(in self.alloc; "the log gets `{text}` in place of `{line}`"));
+    }
+
+    /// Fails if a line that is expected was not logged.
+    pub fn check(&mut self) {
+        if let Some((_, line)) = self.expected.pop_front() {
+            let text = line.as_str();
+            self.fail_with(format!(in self.alloc; "the log lacks `{text}`"));
+        }
+    }
+
+    fn fail_with(&mut self, text: Result<String, AllocError>) {
+        match text {
+            Ok(text) => self.fail(text.as_str()),
+            Err(_) => self.fail(""),
+        }
+    }
+}
+
+/// Whether this line is the expected one.
+fn is_expected(expected: &Option<(Level, String)>, level: Level, text: &str) -> bool {
+    match expected {
+        Some((wanted, line)) => *wanted == level && line.as_str() == text,
+        None => false,
+    }
+}
+
+/// The line about the end of a connection.
+fn line_of(
+    alloc: Global,
+    word: &str,
+    slot: usize,
+    generation: u64,
+    rest: Result<String, AllocError>,
+) -> Result<String, AllocError> {
+    let rest = rest?;
+    format!(in alloc; "{word} s={slot} g={generation} {rest}")
+}
+
+fn bytes_of(alloc: Global, up: u64, down: u64) -> Result<String, AllocError> {
+    format!(in alloc; "up={up} down={down}")
+}
+
+fn cause_of(alloc: Global, fault: Fault) -> Result<String, AllocError> {
+    match fault {
+        Fault::Idle => String::from_str(alloc, "idle"),
+        Fault::Broken { side, call, kind } => {
+            broken_of(alloc, side.name(), call.name(), kind.name())
+        }
+    }
+}
+
+fn broken_of(alloc: Global, side: &str, call: &str, kind: &str) -> Result<String, AllocError> {
+    format!(in alloc; "side={side} call={call} kind={kind}")
+}
