@@ -1,6 +1,7 @@
 """The rows of `rows` and `wrong`: what `drill` is given, and what is seen of it; and the server with mistakes."""
 
 import os
+import pathlib
 import re
 import shutil
 import subprocess
@@ -53,13 +54,17 @@ def read(name):
             old = text.replace("\\n", "\n")
         elif mark == "new:":
             changes.append((path, old, text.replace("\\n", "\n")))
-        elif mark.startswith("slots="):
-            rows.append(Row(mutant or f"of line {number}", [f"world {line}"], changes))
-            mutant, changes = "", []
         elif mark == ">":
             rows[-1].wanted += repeated(text).split(" | ")
         elif line:
-            rows[-1].steps += repeated(line, "; ").split("; ")
+            steps, _, difference = line.partition(" > ")
+            steps = repeated(steps, "; ").split("; ")
+            if mark.startswith("slots="):
+                rows.append(Row(mutant or f"line-{number}", [], changes))
+                steps[0] = f"world {steps[0]}"
+                mutant, changes = "", []
+            rows[-1].steps += steps
+            rows[-1].wanted += [f"differs: {difference}"] if difference else []
     return rows
 
 
@@ -84,6 +89,14 @@ def state_of(line):
     return line.replace(" 0.", " ", 1) if line.startswith("past ") else None
 
 
+def compared():
+    """The names of all that the program compares, but for a lack of memory, and a slot or an end that is missing."""
+    source = {path.stem: path.read_text() for path in pathlib.Path(TOP, "crates/drill/src").iterdir()}
+    values = re.findall(r'\(\s*"([^"]+)", ', source["compare"] + source["difference"])
+    checks = re.findall(r'\.fail\(\s*"([^"]+)"', "".join(source.values()))
+    return {*values, *checks, "the log gets", "the log lacks"} - {"memory", "slot", "open ends"}
+
+
 def build(folder, rows):
     """Copies the sources into a folder, and makes all mistakes there."""
     shutil.copytree(TOP, folder, dirs_exist_ok=True, ignore=shutil.ignore_patterns("out", ".git", "build", "docs", "bench"))
@@ -98,7 +111,7 @@ def build(folder, rows):
 
 
 def noticed(folder, rows):
-    """The names of the rows in whose scripts the program, built over the server with the mistakes, notices a difference."""
+    """By each row's name what the program, built over the server with the mistakes, prints of a difference in its script."""
     cases = os.path.join(folder, "cases")
     os.mkdir(cases)
     for row in rows:
@@ -108,5 +121,5 @@ def noticed(folder, rows):
     done = subprocess.run(command, cwd=os.path.join(folder, "crates/drill"), capture_output=True, text=True)
     if done.stdout.count("== ") < len(rows):
         print(done.stdout[-2000:] + done.stderr[-2000:])
-    told = re.split(r"^== (\S+)\n", done.stdout, flags=re.M)[1:]
-    return {name for name, output in zip(told[::2], told[1::2]) if re.search("^differs: ", output, re.M)}
+    printed = re.split(r"^== (\S+)\n", done.stdout, flags=re.M)[1:]
+    return {name: re.findall("^differs: .*", output, re.M) for name, output in zip(printed[::2], printed[1::2])}
