@@ -1,17 +1,17 @@
 -- A seat that holds one slot, after exchanges there.
-use Rattle.std.proofs.Common.{◌≡◌, ◌≢◌, ℕ, ◌+◌, ◌≤◌, Bool, true, false, List, [], ◌∷◌, refl, sym, subst, ap, ◌∙◌, arith}
+use Rattle.std.proofs.Common.{◌≡◌, ℕ, Bool, true, false, List, [], ◌∷◌, refl, sym, subst, ap, ◌∙◌, arith}
 use Rattle.claims.specs.declared.answers.Posted.{Posted}
 use Rattle.claims.specs.declared.answers.Posted.TheVariants as posted
 use Rattle.claims.specs.declared.answers.Released.{Released}
 use Rattle.claims.specs.declared.answers.Released.TheVariants.{Wake, Quiet}
 use Rattle.claims.specs.declared.view.Account.{Account}
 use Rattle.claims.specs.declared.view.Exchange.{Exchange}
-use Rattle.claims.specs.declared.view.Exchange.TheVariants.{Held, Adopted, Post, Release}
+use Rattle.claims.specs.declared.view.Exchange.TheVariants.{Post, Release}
 use Rattle.claims.specs.Words.{one}
 use Rattle.claims.specs.Views.{account_of, after_all}
 use Rattle.claims.specs.Seats.{SeatState, account_at, Holds, HoldsNot, HoldsNothing, Adds}
 use Rattle.claims.specs.Calls.{PostChange, ReleaseChange}
-use Rattle.claims.proofs.Seats.{account_after, holds_nothing_again}
+use Rattle.claims.proofs.Seats.{account_after}
 use Rattle.dispatch.specs.Posts.{HoldsOnly}
 use mathlib.Core.Logic.{dite}
 use native.Mathlib.Decide.{ℕ_discrete}

@@ -1,5 +1,5 @@
 pub mod Outgoing
-pub mod Polls
+pub mod Marks
 pub mod Splits
 pub mod Worn
 pub mod Holding

@@ -1,8 +1,9 @@
 -- What turns and openings both do to a seat: they hold one slot, post there, and release it. Part of the promises.
 use Rattle.std.specs.Prelude.{◌≡◌, ◌≢◌, ℕ, ◌^◌}
-use Rattle.claims.specs.Seats.{SeatState, posts_of, Holds, HoldsNot}
+use Rattle.claims.specs.Seats.{SeatState, TableId, posts_of, Holds, HoldsNot, HoldsNothing}
 use Rattle.relay_log.specs.declared.faults.ServerFault.{ServerFault}
 use Rattle.relay_log.specs.declared.faults.ServerFault.TheVariants as server_fault
+use Rattle.dispatch.specs.declared.shared.Own.{Own}
 
 -- the seat has posted 2^56 times, and posts no more
 abbrev pub IsWorn : SeatState → Type 0
@@ -11,6 +12,11 @@ IsWorn seat = posts_of seat ≡ 2 ^ 56
 -- a turn or a round is refused so only where its seat is worn
 abbrev pub OnlyWorn : ServerFault → SeatState → Type 0
 OnlyWorn fault seat = (fault ≡ server_fault.Worn) × IsWorn seat
+
+-- between two turns or rounds a thread's seat belongs to these claim words and holds no slot
+pub record AtRest (claims : TableId) (own : Own) : Type 0 where
+  pub same : own.seat.table ≡ claims
+  pub idle : HoldsNothing own.seat
 
 -- the seat holds this slot, and no other
 pub record HoldsOnly (slot : ℕ) (s : SeatState) : Type 0 where

@@ -1,8 +1,13 @@
 -- Which slots are a poller's. Part of the promises. All are dealt in parts of one size, one after the other, and the
 -- last part has what is left.
-use Rattle.std.specs.Prelude.{ℕ, ◌*◌, ◌+◌, ◌-◌, ◌/◌, min, List, map}
+use Rattle.std.specs.Prelude.{ℕ, ◌*◌, ◌+◌, ◌-◌, ◌/◌, ◌<◌, ◌≤◌, min, List, map}
 use Rattle.std.specs.List.{range_with_len}
 use Rattle.dispatch.specs.declared.part.Part.{Part}
+
+-- this slot is one of a poller's
+pub record IsIn (part : Part) (slot : ℕ) : Type 0 where
+  pub least : part.first ≤ slot
+  pub most : slot < part.first + part.slots
 
 -- how many parts there are
 abbrev pub parts_of : ℕ → ℕ → ℕ

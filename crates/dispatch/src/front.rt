@@ -82,6 +82,9 @@ pub trait Front {
     // Whether the last wait for reports failed, and not by a signal, if it says so.
     ghost failed: { Self → Bool } = { λ _. true };
 
+    // How many milliseconds its last wait for reports could take, if it says so: 0 where it was not to wait.
+    ghost waited: { Self → ℕ } = { λ _. 0 };
+
     // Whether clients can still come to it.
     ghost listens: { Self → Bool };
 
@@ -112,6 +115,7 @@ pub trait Front {
         ensures capacity { vec_capacity batch.new ≡ vec_capacity batch.old }
         ensures reported { batch.new.items ≡ reported self.new }
         ensures listens { listens self.new ≡ listens self.old }
+        ensures waited { wait ≡ false → waited self.new ≡ 0 }
         ensures failed { OnErr result (batch.new.items ≡ []) }
         ensures fault { IfErr result (λ error. error_kind error ≢ Interrupted → failed self.new ≡ true) };
 
@@ -119,6 +123,7 @@ pub trait Front {
     fn accept(&mut self) -> io::Result<Self::Client>
         ensures reported { reported self.new ≡ reported self.old }
         ensures failed { failed self.new ≡ failed self.old }
+        ensures waited { waited self.new ≡ waited self.old }
         ensures listens { listens self.new ≡ listens self.old };
 
     /// Gives up its share of the listening socket, which is closed with the last one. It may be called again, and
@@ -126,7 +131,8 @@ pub trait Front {
     fn stop_listening(&mut self)
         ensures listens { listens self.new ≡ false }
         ensures reported { reported self.new ≡ reported self.old }
-        ensures failed { failed self.new ≡ failed self.old };
+        ensures failed { failed self.new ≡ failed self.old }
+        ensures waited { waited self.new ≡ waited self.old };
 
     /// Starts the connection to the target (connect(2)), and has both sockets reported for reading and writing, each
     /// under its token. It tells the addresses of the client's connection, if it is to tell them. After an error no
@@ -144,6 +150,7 @@ pub trait Front {
         ensures same { Self.Client.told client.new ≡ Self.Client.told client.old }
         ensures reported { reported self.new ≡ reported self.old }
         ensures failed { failed self.new ≡ failed self.old }
+        ensures waited { waited self.new ≡ waited self.old }
         ensures listens { listens self.new ≡ listens self.old };
 
     /// Ends the wait in progress of the thread that opens this slot, or else its next one, which then reports the

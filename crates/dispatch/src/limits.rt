@@ -1,14 +1,7 @@
-//! The limits and fixed numbers of a round.
+//! The limits and fixed numbers of pollers and their turns.
 
 /// The most reports that one poll gives.
 pub const MAX_BATCH: usize = 256;
-
-/// The most tries of accept(2) in one round. The tickets of what was opened wait no longer than that for their turns.
-pub const MAX_ACCEPTS: usize = 4;
-
-/// A round begins only if the poller's hand has room for a ticket of each slot, which a sweep may take, and this many
-/// more, for its reports and openings.
-pub const ROUND_ROOM: usize = 512;
 
 /// The most turns that the poller's thread runs after one round.
 pub const MAX_OWN_TURNS: usize = 16;
@@ -17,7 +10,7 @@ pub const MAX_OWN_TURNS: usize = 16;
 pub const OWN_BUDGET: usize = 8;
 
 /// This many tickets of a connection go to the workers after a turn that spent the poller's budget.
-pub const HEAVY_TICKETS: u8 = 16;
+pub const HEAVY_MARKS: u8 = 16;
 
 /// The number under which the listening socket is reported.
 pub const LISTENER: u64 = 0;

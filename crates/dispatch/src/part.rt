@@ -1,6 +1,6 @@
 // The slots of one poller.
 ghost use Rattle.std.specs.Prelude.{◌↔◌, IsTrue};
-ghost use Rattle.dispatch.specs.Polls.{IsIn};
+ghost use Rattle.dispatch.specs.Splits.{IsIn};
 
 /// The slots of one poller, which alone opens connections there and delivers their reports: this many of them, one
 /// after the other from the first on.

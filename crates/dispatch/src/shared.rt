@@ -1,8 +1,8 @@
 ghost use Rattle.std.specs.Prelude.{◌≡◌, ◌≤◌};
 ghost use Rattle.dispatch.specs.Counted.{ended_by, moved_by};
 
-use crate::episodes::Fullness;
 use crate::front::Front;
+use crate::fullness::Fullness;
 use crate::hand::Hand;
 use berths::Berths;
 use claims::{ClaimSeat, Claims};
@@ -35,22 +35,28 @@ pub struct Shared<F: Front> {
 }
 
 impl<F: Front> Shared<F> {
-    /// Counts an event at a slot, if anything is counted. Only the thread that holds the slot may do so, or the
-    /// poller that has it in hand while it is free.
-    pub(crate) fn count(&self, slot: usize, event: Event) {
+    /// Counts a connection that is opened in a slot, which the poller's thread holds.
+    pub fn count_opened(&self, slot: usize) {
         if let Some(statistics) = &self.statistics {
-            statistics.count(slot, event);
+            statistics.count(slot, Event::Opened);
         }
     }
 
-    /// Counts the bytes of a connection that a turn has left open.
+    /// Counts a connection that was accepted for a free slot, which its poller has in hand, and closed unopened.
+    pub fn count_dropped(&self, slot: usize) {
+        if let Some(statistics) = &self.statistics {
+            statistics.count(slot, Event::Dropped);
+        }
+    }
+
+    /// Counts the bytes of a connection that a turn has left open, by the thread that holds its slot.
     pub fn count_moved(&self, slot: usize, pair: &Pair) {
         if let Some(statistics) = &self.statistics {
             statistics.count(slot, moved_by(pair));
         }
     }
 
-    /// Counts a connection that has ended.
+    /// Counts a connection that has ended, by the thread that holds its slot.
     pub fn count_ended(&self, slot: usize, pair: &Pair) {
         if let Some(statistics) = &self.statistics {
             statistics.count(slot, ended_by(pair));

@@ -1,7 +1,6 @@
 //! How the slots are dealt to the pollers.
 ghost use Rattle.std.specs.Prelude.{◌≡◌, ◌+◌, ◌*◌, ◌<◌, ◌≤◌};
-ghost use Rattle.dispatch.specs.Polls.{IsIn};
-ghost use Rattle.dispatch.specs.Splits.{part_of, parts_of};
+ghost use Rattle.dispatch.specs.Splits.{part_of, parts_of, IsIn};
 
 use crate::part::Part;
 

@@ -115,6 +115,8 @@ impl<F: Front + Drop, S: Sink> Front for RecordedFront<F, S> {
 
     ghost failed = { λ f. F.failed f.inner };
 
+    ghost waited = { λ f. F.waited f.inner };
+
     ghost listens = { λ f. F.listens f.inner };
 
     ghost may_tell = { λ client route. F.may_tell client.inner route };

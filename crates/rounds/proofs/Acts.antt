@@ -1,5 +1,5 @@
 -- Acts, one after the other.
-use Rattle.std.proofs.Common.{◌≡◌, ◌≢◌, ◌⊎◌, ℕ, zero, suc, ◌+◌, ◌<◌, ◌≤◌, Bool, true, false, cond, List, [], ◌∷◌, ◌++◌, length, length-append, get_or, refl, sym, subst, ap, ◌∙◌, arith, inl, inr, append_assoc}
+use Rattle.std.proofs.Common.{◌≡◌, ℕ, zero, suc, ◌+◌, ◌≤◌, Bool, true, false, cond, List, [], ◌∷◌, ◌++◌, length, length-append, refl, sym, subst, ap, ◌∙◌, arith, inl, inr, append_assoc}
 use Rattle.std.specs.Prelude.{◌==◌, if◌then◌else◌}
 use Rattle.std.specs.List.{All}
 use Rattle.std.proofs.lemmas.Bool.{eq-eqb, ne_eqb}
@@ -11,7 +11,7 @@ use native.Mathlib.Decide.{ℕ_discrete}
 use Rattle.claims.specs.declared.view.Account.{Account}
 use Rattle.claims.specs.declared.view.Exchange.{Exchange}
 use Rattle.claims.specs.declared.view.Exchange.TheVariants.{Post, NotFree}
-use Rattle.claims.specs.Views.{blank, after, after_all, account_of, minted_by}
+use Rattle.claims.specs.Views.{blank, after_all, account_of, minted_by}
 use Rattle.claims.specs.Seats.{SeatState, trace_at, account_at, HoldsNothing, Adds}
 use Rattle.claims.proofs.Histories.{after_both}
 use Rattle.ready.specs.declared.ticket.Ticket.{Ticket}

@@ -1,5 +1,5 @@
 -- Connections that are opened one after the other, and why one is closed unopened.
-use Rattle.std.proofs.Common.{◌≡◌, ◌≢◌, ◌⊎◌, ℕ, ◌+◌, ◌-◌, ◌<◌, ◌≤◌, List, [], ◌∷◌, ◌++◌, length, drop, slice_get, slice_set, min, cond, Bool, true, false, refl, sym, subst, ap, ◌∙◌, arith, inl, inr, append_assoc, length-append, Option, Some, None}
+use Rattle.std.proofs.Common.{◌≡◌, ◌⊎◌, ℕ, ◌+◌, ◌-◌, ◌<◌, ◌≤◌, List, [], ◌∷◌, ◌++◌, length, drop, slice_get, slice_set, min, cond, Bool, true, false, refl, sym, subst, ap, ◌∙◌, arith, inl, inr, append_assoc, length-append, Option, Some, None}
 use Rattle.std.specs.Prelude.{◌==◌, Option, Some, None, Result, Ok, Err, OnOk, IfSome, IfErr, OnErr, IsErr, IsErrAnd, map, slice_index}
 use Rattle.std.proofs.lemmas.Bool.{cases_lt, false≢true}
 use Rattle.std.proofs.lemmas.List.{append-nil, length-set}
@@ -20,15 +20,17 @@ use Rattle.ready.specs.declared.ticket.Ticket.{Ticket}
 use Rattle.dispatch.specs.declared.shared.Own.{Own}
 use Rattle.ready.specs.Steps.{EndState}
 use Rattle.dispatch.specs.Hands.{HandState, ticket_room}
+use Rattle.dispatch.specs.Limits.{last_generation}
 use Rattle.rounds.specs.Deliveries.{at_slot}
-use Rattle.rounds.specs.Openings.{times, slots_in, AreIn, AreOpened, SlotsCounted, OnlyTook, Between, LetGo, Started, Connected, AcceptDone, IsOpened, IsDropped, IsLost, IsSpent, LostFor, DropsFor}
-use Rattle.dispatch.specs.Polls.{PollerState, Counted, counted_up, IsIn}
+use Rattle.rounds.specs.Openings.{times, slots_in, AreIn, AreOpened, SlotsCounted, OnlyTook, Between, LetGo, Started, Connected, AcceptDone, IsOpened, IsLost, IsSpent, Fate, Opened, Dropped, Lost, DropsFor}
+use Rattle.dispatch.specs.Splits.{IsIn}
+use Rattle.rounds.specs.Pollers.{PollerState, Counted, counted_up}
 use Rattle.dispatch.specs.declared.part.Part.{Part}
-use Rattle.dispatch.specs.declared.episodes.Episodes.{Episodes}
-use Rattle.dispatch.specs.Drops.{dropped_for}
-use Rattle.dispatch.specs.Episodes.{opened_after}
+use Rattle.rounds.specs.declared.episodes.Episodes.{Episodes}
+use Rattle.rounds.specs.Drops.{dropped_for}
+use Rattle.rounds.specs.Episodes.{opened_after}
 use Rattle.relay_log.specs.declared.cause.Cause.{Cause}
-use Rattle.rounds.specs.Acts.{Act, made_by, ActsMade, opening}
+use Rattle.rounds.specs.Acts.{made_by, ActsMade, opening}
 use Rattle.rounds.proofs.Acts.{at_slot-append, acts_none, acts_one, acts_both, tries_none, tries_both, try_opened, try_held}
 use Rattle.rounds.proofs.Reports.{none_at}
 use Rattle.relay_log.specs.declared.cause.Cause.TheVariants as cause
@@ -282,10 +284,10 @@ module _ (p q : PollerState) (a : Own) (hand : HandState) (taken : hand ≡ reco
         there b t here (subst (λ (x : PollerState). Connected (t ∷ []) [] 0 x q (record a { hand = hand }) b ⊎ Connected [] (t.slot ∷ []) 1 x q (record a { hand = hand }) b) still
         placed) free slots
 
--- three clauses of a call that answered Ok give a fourth
-pub on_ok : {T E A B C D : Type 0} (r : Result T E) → (A → B → C → D) → OnOk r A → OnOk r B → OnOk r C → OnOk r D
-on_ok (Ok x) f a b c = f a b c
-on_ok (Err e) f a b c = tt
+-- a clause of a call that answered Ok gives another
+pub on_ok : {T E A B : Type 0} (r : Result T E) → (A → B) → OnOk r A → OnOk r B
+on_ok (Ok x) f a = f a
+on_ok (Err e) f a = tt
 
 -- nothing was opened, and nothing was taken
 pub accept_none : (p q : PollerState) (a : Own) → SamePoller p q → AcceptDone p q a a
@@ -387,42 +389,43 @@ opens_dropped p r q episodes dropped one two =
     subst (λ (s : PollerState). s ≡ opens p s) (sym two) (ap (λ (s : PollerState). record s { dropped = dropped }) one
     ∙ sym (ap (λ (s : PollerState). opens p (record s { dropped = dropped })) one))
 
--- what became of an accepted connection in the first slot in hand, as it counts
-abbrev IsCounted : PollerState → PollerState → SeatState → SeatState → ℕ → Type 0
-IsCounted p q a b slot = IsOpened p q ⊎ (IsDropped p q ⊎ (IsLost p q × LostFor p slot a b))
-
 pub lost_counts : (p q : PollerState) (a b : SeatState) (slots : List ℕ) (slot : ℕ) → slice_get slots 0 ≡ Some slot
-    → q ≡ record p { lost = counted_up p.lost 1 } → IsSpent p slot → IfSome (slice_get slots 0) (IsCounted p q a b)
-lost_counts p q a b slots slot first is spent = subst (λ (o : Option ℕ). IfSome o (IsCounted p q a b)) (sym first) (inr (inr (
-  (ap (λ (s : PollerState). s.opened) is, ap (λ (s : PollerState). s.dropped) is, ap (λ (s : PollerState). s.lost) is, ap (λ (s : PollerState). s.episodes) is),
-  inl spent,
-)))
+    → q ≡ record p { lost = counted_up p.lost 1 } → IsSpent p slot → IfSome (slice_get slots 0) (λ (s : ℕ). Fate s p q a b)
+lost_counts p q a b slots slot first is spent = subst (λ (o : Option ℕ). IfSome o (λ (s : ℕ). Fate s p q a b)) (sym first) (Lost
+    (ap (λ (s : PollerState). s.opened) is, ap (λ (s : PollerState). s.dropped) is, ap (λ (s : PollerState). s.lost) is, ap (λ (s : PollerState). s.episodes) is)
+    (inl spent))
 
 pub dropped_counts : (p r q : PollerState) (a b : SeatState) (slots : List ℕ) (slot : ℕ) (cause : Cause) → slice_get slots 0 ≡ Some slot
     → r ≡ record p { episodes = record p.episodes { drops = dropped_for cause p.second p.episodes.drops } } → q ≡ record r { dropped = counted_up r.dropped 1 }
-    → IfSome (slice_get slots 0) (IsCounted p q a b)
-dropped_counts p r q a b slots slot cause first one two = subst (λ (o : Option ℕ). IfSome o (IsCounted p q a b)) (sym first) (inr (inl (
+    → IfSome (slice_get slots 0) (λ (s : ℕ). Fate s p q a b)
+dropped_counts p r q a b slots slot cause first one two = subst (λ (o : Option ℕ). IfSome o (λ (s : ℕ). Fate s p q a b)) (sym first) (Dropped (
   ap (λ (s : PollerState). s.opened) two ∙ ap (λ (s : PollerState). s.opened) one,
   ap (λ (s : PollerState). s.dropped) two ∙ ap (λ (s : PollerState). counted_up s.dropped 1) one,
   ap (λ (s : PollerState). s.lost) two ∙ ap (λ (s : PollerState). s.lost) one,
   (cause, ap (λ (s : PollerState). s.episodes) two ∙ ap (λ (s : PollerState). s.episodes) one),
-)))
+))
 
-pub placed_counts : {E : Type 0} (r : Result (Unit {0}) E) (p q : PollerState) (a b : SeatState) (slots : List ℕ) (slot : ℕ) → slice_get slots 0 ≡ Some slot
-    → OnOk r (IsOpened p q ⊎ (IsLost p q × Adds slot (exchange.NotFree ∷ []) a b)) → OnOk r (IfSome (slice_get slots 0) (IsCounted p q a b))
-placed_counts (Ok done) p q a b slots slot first (inl opened) = subst (λ (o : Option ℕ). IfSome o (IsCounted p q a b)) (sym first) (inl opened)
-placed_counts (Ok done) p q a b slots slot first (inr lost) = subst (λ (o : Option ℕ). IfSome o (IsCounted p q a b)) (sym first) (inr (inr (lost.0, inr lost.1)))
-placed_counts (Err fault) p q a b slots slot first is = tt
+-- a connection was placed in it, or it was found not to be free
+placed_fate : (p q : PollerState) (a b : SeatState) (slot : ℕ) → IsOpened p q ⊎ (IsLost p q × Adds slot (exchange.NotFree ∷ []) a b) → Fate slot p q a b
+placed_fate p q a b slot (inl opened) = Opened opened
+placed_fate p q a b slot (inr lost) = Lost lost.0 (inr lost.1)
+
+pub placed_counts : {E : Type 0} (r : Result (Unit {0}) E) (p s q : PollerState) (a b : SeatState) (slots : List ℕ) (slot there : ℕ) → slice_get slots 0 ≡ Some slot
+    → s ≡ p → there ≡ slot → OnOk r (IsOpened s q ⊎ (IsLost s q × Adds there (exchange.NotFree ∷ []) a b))
+    → OnOk r (IfSome (slice_get slots 0) (λ (i : ℕ). Fate i p q a b))
+placed_counts r p s q a b slots slot there first same here =
+    on_ok r (λ is. subst (λ (o : Option ℕ). IfSome o (λ (i : ℕ). Fate i p q a b)) (sym first)
+    (subst (λ (x : PollerState). Fate slot x q a b) same (subst (λ (i : ℕ). Fate i s q a b) here (placed_fate s q a b there is))))
 
 -- a slot that has no next names
-pub no_names : (table : List ℕ) (slot : ℕ) → (slot ≤ 32767 → slot < length table → slice_index table slot ≡ 140737488355327)
-    → (length table ≤ slot) ⊎ ((32768 ≤ slot) ⊎ (slice_index table slot ≡ 140737488355327))
+pub no_names : (table : List ℕ) (slot : ℕ) → (slot ≤ 32767 → slot < length table → slice_index table slot ≡ last_generation)
+    → (length table ≤ slot) ⊎ ((32768 ≤ slot) ⊎ (slice_index table slot ≡ last_generation))
 no_names table slot last = by_table (cases_lt slot (length table)) where
-  by_width : slot < length table → (slot < 32768) ⊎ (32768 ≤ slot) → (length table ≤ slot) ⊎ ((32768 ≤ slot) ⊎ (slice_index table slot ≡ 140737488355327))
+  by_width : slot < length table → (slot < 32768) ⊎ (32768 ≤ slot) → (length table ≤ slot) ⊎ ((32768 ≤ slot) ⊎ (slice_index table slot ≡ last_generation))
   by_width inside (inl narrow) = inr (inr (last (omega arith) inside))
   by_width inside (inr wide) = inr (inl wide)
 
-  by_table : (slot < length table) ⊎ (length table ≤ slot) → (length table ≤ slot) ⊎ ((32768 ≤ slot) ⊎ (slice_index table slot ≡ 140737488355327))
+  by_table : (slot < length table) ⊎ (length table ≤ slot) → (length table ≤ slot) ⊎ ((32768 ≤ slot) ⊎ (slice_index table slot ≡ last_generation))
   by_table (inl inside) = by_width inside (cases_lt slot 32768)
   by_table (inr outside) = inl outside
 
@@ -572,9 +575,10 @@ lacking_drops may_refuse may_tell proxy route c told is =
     subst (λ (d : Cause). DropsFor may_refuse may_tell proxy d) (sym is) (by_lead (lead_of proxy route) (λ i. lead_of proxy route)) where
       by_lead : (lead : Option (List ℕ)) → lead_of proxy route ≡ lead → DropsFor may_refuse may_tell proxy (lacks lead)
       by_lead None same = (route, told, same)
-      by_lead (Some lead) same = tt
+      by_lead (Some lead) same = (lead, (route, told, same))
 
 -- for want of memory
-pub memory_drops : (may_refuse : Unopened → Type 0) (may_tell : Route → Type 0) (proxy : Bool) (c : Cause)
-    → c ≡ cause.Memory → DropsFor may_refuse may_tell proxy c
-memory_drops may_refuse may_tell proxy c is = subst (λ (d : Cause). DropsFor may_refuse may_tell proxy d) (sym is) tt
+pub memory_drops : (may_refuse : Unopened → Type 0) (may_tell : Route → Type 0) (proxy : Bool) (route : Route) (lead : List ℕ) (c : Cause)
+    → may_tell route → lead_of proxy route ≡ Some lead → c ≡ cause.Memory → DropsFor may_refuse may_tell proxy c
+memory_drops may_refuse may_tell proxy route lead c told same is =
+    subst (λ (d : Cause). DropsFor may_refuse may_tell proxy d) (sym is) (lead, (route, told, same))

@@ -1,3 +1,4 @@
+pub mod Pollers
 pub mod Acts
 pub mod Connections
 pub mod Reports

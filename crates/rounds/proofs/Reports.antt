@@ -7,7 +7,6 @@ use Rattle.std.specs.List.{cons_option}
 use Rattle.std.proofs.lemmas.Bool.{eq-eqb, ne_eqb}
 use Rattle.std.proofs.lemmas.List.{append-nil}
 use Rattle.std.proofs.lemmas.List.Elements.{filter_map-append}
-use Rattle.std.proofs.lemmas.List.Sums.{sum_by-append}
 use mathlib.Core.Logic.{dite}
 use native.Mathlib.Decide.{ℕ_discrete}
 use Rattle.claims.specs.declared.view.Exchange.TheVariants as exchange
@@ -16,7 +15,8 @@ use Rattle.claims.specs.Seats.{SeatState, HoldsNothing, Adds}
 use Rattle.ready.specs.declared.ticket.Ticket.{Ticket}
 use Rattle.dispatch.specs.Hands.{HandState}
 use Rattle.dispatch.specs.declared.part.Part.{Part}
-use Rattle.dispatch.specs.Polls.{IsIn, IsOwnTable, PollerState}
+use Rattle.dispatch.specs.Splits.{IsIn}
+use Rattle.rounds.specs.Pollers.{IsOwnTable, PollerState}
 use Rattle.rounds.specs.Openings.{AreIn}
 use Rattle.rounds.specs.Acts.{Act, made_by, due_of, IsPost}
 use Rattle.rounds.proofs.Acts.{all_none, all_one, acts_none, acts_one, acts_both, due-append, posts_both, posts_le, posts_hold_nothing, at_slot-append}

@@ -1,6 +1,6 @@
 -- A round, of its parts: the reports were delivered, a sweep was made or none, and connections
 -- were opened.
-use Rattle.std.proofs.Common.{◌≡◌, ◌⊎◌, ℕ, ◌+◌, ◌*◌, ◌<◌, ◌≤◌, ◌≢◌, ◌↔◌, inl, inr, Bool, true, false, IsTrue, List, [], ◌++◌, length, Result, Ok, Err, IsErrAnd, refl, sym, subst, ap, ◌∙◌, arith, append_assoc}
+use Rattle.std.proofs.Common.{◌≡◌, ◌⊎◌, ℕ, ◌+◌, ◌<◌, ◌≤◌, ◌≢◌, ◌↔◌, inl, inr, Bool, true, false, IsTrue, List, [], ◌++◌, length, Result, Ok, Err, IsErrAnd, refl, sym, subst, ap, ◌∙◌, arith, append_assoc}
 use Rattle.std.specs.Prelude.{map}
 use Rattle.claims.specs.Seats.{SeatState}
 use Rattle.ready.specs.declared.ticket.Ticket.{Ticket}
@@ -12,11 +12,11 @@ use Rattle.rounds.specs.Deliveries.{all_reported, at_slot, ArePosted, Delivered}
 use Rattle.dispatch.specs.Hands.{HandState}
 use Rattle.rounds.specs.Openings.{times, slots_in, AreIn, AreOpened, SlotsCounted, OnlyTook, AcceptDone}
 use Rattle.dispatch.specs.Outgoing.{outgoing, tickets_out}
-use Rattle.dispatch.specs.Polls.{PollerState, Counted, HasOpenedAll}
+use Rattle.rounds.specs.Pollers.{PollerState, Counted, HasOpenedAll}
 use Rattle.dispatch.specs.declared.part.Part.{Part}
 use Rattle.relay_log.specs.declared.faults.ServerFault.{ServerFault}
 use Rattle.relay_log.specs.declared.faults.ServerFault.TheVariants.{Worn}
-use Rattle.rounds.specs.Rounds.{RoundDone, AcceptEnded, ListenerKept, ListensToOpen}
+use Rattle.rounds.specs.Rounds.{RoundDone, RoundKeeps, AcceptEnded, ListenerKept, ListensToOpen, MayWait, WaitedAsMay}
 use Rattle.std.proofs.lemmas.Bool.{cases_lt}
 use Rattle.rounds.specs.Sweeps.{swept_after, sweep_of}
 use Rattle.rounds.proofs.Connections.{SamePoller, accept_none, tried}
@@ -41,7 +41,7 @@ begun_is same = record {
   swept = ap (λ (s : PollerState). s.swept) same;
 }
 
-pub looked_is : {p q r : PollerState} → q ≡ record p { batch = [] } → r ≡ record q { listening = r.listening; reported = r.reported; failed = r.failed; batch = r.batch }
+pub looked_is : {p q r : PollerState} → q ≡ record p { batch = [] } → r ≡ record q { listening = r.listening; reported = r.reported; failed = r.failed; waited = r.waited; batch = r.batch }
     → SameTable p r
 looked_is begun looked = record {
   table = ap (λ (s : PollerState). s.table) looked ∙ ap (λ (s : PollerState). s.table) begun;
@@ -164,51 +164,64 @@ pub kept : (p q : PollerState) → Listens p q → ListenerKept p q
 kept p q (inl same) = inl same
 kept p q (inr closed) = inr (inl closed.0, closed.1)
 
+-- the poller waits only where it may
+pub waits_if : (wait : Bool) (limit : ℕ) (p q r : PollerState) (a b : Own) → q ≡ record p { listening = q.listening } → (wait ≡ true → MayWait limit q b)
+    → (wait ≡ true → b ≡ a) → (wait ≡ false → r.waited ≡ 0) → WaitedAsMay limit p r a
+waits_if true limit p q r a b same may still none some =
+    subst (λ (o : Own). MayWait limit p o) (still refl) (subst (λ (s : PollerState). MayWait limit s b) same (may refl))
+waits_if false limit p q r a b same may still none some = absurd (some (none refl))
+
 -- what the steps of a round leave as it is, but that a front may listen no longer; the end of a round may change the
 -- last two
-pub record Lasting (old new : PollerState) : Type 0 where
+pub record Lasting (limit : ℕ) (had : Own) (old new : PollerState) : Type 0 where
   pub opening : new.opening ≡ old.opening
   pub most : new.most ≡ old.most
   pub heavy : new.heavy ≡ old.heavy
+  pub waits : WaitedAsMay limit old new had
   pub over : new.over ≡ old.over
   pub listening : Listens old new
 
-pub looked_lasts : (p q r : PollerState) → q ≡ record p { batch = [] } → r ≡ record q { listening = r.listening; reported = r.reported; failed = r.failed; batch = r.batch }
-    → Listens q r → Lasting p r
-looked_lasts p q r begun looked listens = record {
+pub looked_lasts : {limit : ℕ} {had : Own} (p q r : PollerState) → q ≡ record p { batch = [] }
+    → r ≡ record q { listening = r.listening; reported = r.reported; failed = r.failed; waited = r.waited; batch = r.batch }
+    → Listens q r → WaitedAsMay limit q r had → Lasting limit had p r
+looked_lasts {limit} {had} p q r begun looked listens waits = record {
   opening = ap (λ (s : PollerState). s.opening) looked ∙ ap (λ (s : PollerState). s.opening) begun;
   most = ap (λ (s : PollerState). s.most) looked ∙ ap (λ (s : PollerState). s.most) begun;
   heavy = ap (λ (s : PollerState). s.heavy) looked ∙ ap (λ (s : PollerState). s.heavy) begun;
+  waits = λ some. subst (λ (s : PollerState). MayWait limit s had) begun (waits some);
   over = ap (λ (s : PollerState). s.over) looked ∙ ap (λ (s : PollerState). s.over) begun;
   listening = subst (λ (s : PollerState). Listens s r) begun listens;
 }
 
-pub delivered_lasts : {p q r : PollerState} → Lasting p q → r ≡ record q { accepting = r.accepting } → Lasting p r
-delivered_lasts {p} before is =
-    subst (λ (s : PollerState). Lasting p s) (sym is) (record {
+pub delivered_lasts : {limit : ℕ} {had : Own} {p q r : PollerState} → Lasting limit had p q → r ≡ record q { accepting = r.accepting } → Lasting limit had p r
+delivered_lasts {limit} {had} {p} before is =
+    subst (λ (s : PollerState). Lasting limit had p s) (sym is) (record {
       opening = before.opening;
       most = before.most;
       heavy = before.heavy;
+      waits = before.waits;
       over = before.over;
       listening = before.listening;
     })
 
-pub swept_lasts : {p q r : PollerState} → Lasting p q → r ≡ record q { second = r.second; swept = r.swept } → Lasting p r
-swept_lasts {p} before is =
-    subst (λ (s : PollerState). Lasting p s) (sym is) (record {
+pub swept_lasts : {limit : ℕ} {had : Own} {p q r : PollerState} → Lasting limit had p q → r ≡ record q { second = r.second; swept = r.swept } → Lasting limit had p r
+swept_lasts {limit} {had} {p} before is =
+    subst (λ (s : PollerState). Lasting limit had p s) (sym is) (record {
       opening = before.opening;
       most = before.most;
       heavy = before.heavy;
+      waits = before.waits;
       over = before.over;
       listening = before.listening;
     })
 
-pub accepted_lasts : {p q r : PollerState} → Lasting p q → r ≡ tried q r → Lasting p r
-accepted_lasts {p} before is =
-    subst (λ (s : PollerState). Lasting p s) (sym is) (record {
+pub accepted_lasts : {limit : ℕ} {had : Own} {p q r : PollerState} → Lasting limit had p q → r ≡ tried q r → Lasting limit had p r
+accepted_lasts {limit} {had} {p} before is =
+    subst (λ (s : PollerState). Lasting limit had p s) (sym is) (record {
       opening = before.opening;
       most = before.most;
       heavy = before.heavy;
+      waits = before.waits;
       over = before.over;
       listening = before.listening;
     })
@@ -226,6 +239,23 @@ still_read p q r s t read delivered swept accepted ended =
 -- the hand had no room for a round
 pub ended_early : (enough : Bool) (slots words room : ℕ) → (IsTrue enough ↔ (512 + slots ≤ room)) → enough ≡ false → slots ≡ words → room < 512 + words
 ended_early enough slots words room is not same = grind arith
+
+-- it had room for one
+pub begun_not_early : {X : Type 0} (slots words room : ℕ) → 512 + slots ≤ room → slots ≡ words → room < 512 + words → X
+begun_not_early slots words room enough same few = absurd (omega arith)
+
+-- what a round keeps that has come to its end, or was refused
+pub keeps : {limit : ℕ} {p q : PollerState} {a b : Own} → Lasting limit a p q → (q.swept ≡ p.swept) ⊎ (q.swept ≡ swept_after limit p.second p.swept)
+    → b.ready.history.taken ≡ a.ready.history.taken → RoundKeeps limit p q a b
+keeps {limit} {p} {q} {a} {b} same swept took = record {
+  opening = same.opening;
+  most = same.most;
+  heavy = same.heavy;
+  swept = swept;
+  listens = kept p q same.listening;
+  over = λ over. inl (sym same.over ∙ over);
+  took = took;
+}
 
 -- a round that was refused so has nothing to say
 pub but_worn : {T : Type 0} {X : Type 0} (r : Result T ServerFault) (e : ServerFault) → IsErrAnd r (λ y. y ≡ e) → e ≡ Worn → r ≢ Err Worn → X

@@ -4,7 +4,7 @@ use Rattle.std.specs.declared.io.ErrorKind.{ErrorKind}
 use Rattle.std.specs.declared.io.ErrorKind.TheVariants.{Interrupted, ConnectionAborted, NetworkDown, NetworkUnreachable, HostUnreachable, WouldBlock}
 use Rattle.rounds.specs.declared.accepting.Accepted.{Accepted}
 use Rattle.rounds.specs.declared.accepting.Accepted.TheVariants.{Again, Blocked, Starved}
-use Rattle.dispatch.specs.declared.episodes.Episodes.{Episodes}
+use Rattle.rounds.specs.declared.episodes.Episodes.{Episodes}
 
 -- A signal, a connection that was given up before it was accepted, or a network error that the new socket had pending:
 -- the next connection may be accepted at once. EAGAIN says that none waits. Anything else counts as a lack of

@@ -1,5 +1,5 @@
 -- What accepting and opening connections does to what the poller's thread owns. Part of the promises.
-use Rattle.std.specs.Prelude.{◌≡◌, ◌⊎◌, ℕ, ◌+◌, ◌≤◌, ◌==◌, Bool, false, List, [], ◌∷◌, ◌++◌, length, drop, map, None, slice_index, slice_set}
+use Rattle.std.specs.Prelude.{◌≡◌, ◌⊎◌, ℕ, ◌+◌, ◌<◌, ◌≤◌, ◌==◌, Bool, false, List, [], ◌∷◌, ◌++◌, length, drop, map, Some, None, slice_index, slice_set}
 use Rattle.std.specs.List.{count_by}
 use Rattle.claims.specs.declared.view.Exchange.TheVariants as exchange
 use Rattle.claims.specs.Seats.{SeatState, TableId, Adds, HoldsNothing, account_at}
@@ -8,7 +8,10 @@ use Rattle.dispatch.specs.declared.shared.Own.{Own}
 use Rattle.claims.specs.Views.{minted_by}
 use Rattle.rounds.specs.Acts.{Act, made_by, opening, ActsMade, AreTries}
 use Rattle.rounds.specs.Deliveries.{at_slot}
-use Rattle.dispatch.specs.Polls.{PollerState, Counted, counted_up, IsIn}
+use Rattle.dispatch.specs.Splits.{IsIn}
+use Rattle.dispatch.specs.Hands.{ticket_room}
+use Rattle.dispatch.specs.Limits.{last_generation}
+use Rattle.rounds.specs.Pollers.{PollerState, Counted, counted_up}
 use Rattle.relay_log.specs.declared.cause.Cause.{Cause}
 use Rattle.relay_log.specs.declared.cause.Cause.TheVariants as cause
 use Rattle.dispatch.specs.declared.front.Unopened.{Unopened}
@@ -16,8 +19,8 @@ use Rattle.dispatch.specs.declared.front.Unopened.TheVariants as unopened
 use Rattle.dispatch.specs.declared.route.Route.{Route}
 use Rattle.rounds.specs.Leads.{LeadTold}
 use Rattle.dispatch.specs.declared.part.Part.{Part}
-use Rattle.dispatch.specs.Drops.{dropped_for}
-use Rattle.dispatch.specs.Episodes.{opened_after}
+use Rattle.rounds.specs.Drops.{dropped_for}
+use Rattle.rounds.specs.Episodes.{opened_after}
 
 -- Between two steps of a round the poller's thread holds no slot, its seat is one of these claim words, and its table
 -- has a generation for each slot
@@ -108,10 +111,10 @@ IsLost old new =
     (new.opened ≡ old.opened) × (new.dropped ≡ old.dropped) × (new.lost ≡ counted_up old.lost 1)
     × (new.episodes ≡ old.episodes)
 
--- Why an accepted connection is closed unopened: memory ran out, or the front refused to open it, or an address is
--- missing of the line that its target is to be sent
+-- Why an accepted connection is closed unopened: the front refused to open it; or the front opened it, and an address is
+-- missing of the line that its target is to be sent, or none is, and memory ran out
 abbrev pub DropsFor : (Unopened → Type 0) → (Route → Type 0) → Bool → Cause → Type 0
-DropsFor may_refuse may_tell proxy cause.Memory = Unit {0}
+DropsFor may_refuse may_tell proxy cause.Memory = (lead : List ℕ) × LeadTold may_tell proxy (Some lead)
 DropsFor may_refuse may_tell proxy cause.Connect = may_refuse unopened.Connect
 DropsFor may_refuse may_tell proxy cause.Register = may_refuse unopened.Register
 DropsFor may_refuse may_tell proxy cause.Address = LeadTold may_tell proxy None
@@ -119,11 +122,33 @@ DropsFor may_refuse may_tell proxy cause.Address = LeadTold may_tell proxy None
 -- no connection can be opened in this slot: it is another poller's, or the table or the names lack it, or its
 -- generation is the last
 abbrev pub IsSpent : PollerState → ℕ → Type 0
-IsSpent p slot = (IsIn p.part slot → ⊥) ⊎ ((length p.table ≤ slot) ⊎ ((32768 ≤ slot) ⊎ (slice_index p.table slot ≡ 140737488355327)))
+IsSpent p slot = (IsIn p.part slot → ⊥) ⊎ ((length p.table ≤ slot) ⊎ ((32768 ≤ slot) ⊎ (slice_index p.table slot ≡ last_generation)))
 
 -- why a slot is lost: it is spent, or one exchange found that it is not free
 abbrev pub LostFor : PollerState → ℕ → SeatState → SeatState → Type 0
 LostFor p slot old new = IsSpent p slot ⊎ Adds slot (exchange.NotFree ∷ []) old new
+
+-- what became of an accepted connection that was for this slot
+pub data Fate (slot : ℕ) (old new : PollerState) (had has : SeatState) : Type 0 where
+  Opened : IsOpened old new → Fate slot old new had has
+  Dropped : IsDropped old new → Fate slot old new had has
+  Lost : IsLost old new → LostFor old slot had has → Fate slot old new had has
+
+-- this is the next connection of one of the poller's own slots
+pub record IsNext (p : PollerState) (t : Ticket) : Type 0 where
+  pub inside : t.slot < length p.table
+  pub own : IsIn p.part t.slot
+  pub generation : t.generation ≡ slice_index p.table t.slot + 1
+  pub most : t.generation ≤ last_generation
+
+-- Placing a connection in a free slot: it was opened there, or the slot was found not to be free and is no longer used.
+-- At most one ticket more is in hand
+pub record Placed (t : Ticket) (old new : PollerState) (had has : Own) : Type 0 where
+  pub done : Connected (t ∷ []) [] 0 old new had has ⊎ Connected [] (t.slot ∷ []) 1 old new had has
+  pub counted : IsOpened old new ⊎ (IsLost old new × Adds t.slot (exchange.NotFree ∷ []) had.seat has.seat)
+  pub free : has.free ≡ had.free
+  pub slots : has.hand.slots ≡ had.hand.slots
+  pub room : ticket_room had.hand ≤ ticket_room has.hand + 1
 
 -- What accepting did: connections were opened, and each slot that was taken was opened, or is in hand, or is no longer
 -- used. A connection whose opening failed leaves its slot in hand
@@ -133,3 +158,13 @@ pub record AcceptDone (old new : PollerState) (had has : Own) : Type 0 where
   pub held : ℕ
   pub connected : Connected opened lost held old new had has
   pub slots : SlotsCounted had has opened lost
+
+-- one try of accept(2), which leaves at most one ticket more in hand
+pub record OneAccepted (old new : PollerState) (had has : Own) : Type 0 where
+  pub done : AcceptDone old new had has
+  pub room : ticket_room had.hand ≤ ticket_room has.hand + 1
+
+-- a thread's ends of the queues are as they were
+pub record SameQueues (old new : Own) : Type 0 where
+  pub ready : new.ready ≡ old.ready
+  pub free : new.free ≡ old.free

@@ -4,12 +4,17 @@ use Rattle.ready.specs.declared.ticket.Ticket.{Ticket}
 use Rattle.ready.specs.Steps.{HeldOnce}
 use Rattle.dispatch.specs.declared.shared.Own.{Own}
 use Rattle.rounds.specs.Acts.{Act, due_of, ActsMade, ArePosts, AreTries}
-use Rattle.rounds.specs.Deliveries.{all_reported}
+use Rattle.rounds.specs.Deliveries.{all_reported, ArePosted}
 use Rattle.dispatch.specs.Hands.{HasRoom, ticket_room}
 use Rattle.rounds.specs.Openings.{AreIn, AreOpened, SlotsCounted}
 use Rattle.dispatch.specs.Outgoing.{tickets_out}
-use Rattle.dispatch.specs.Polls.{PollerState, HasOpenedAll, Counted}
-use Rattle.rounds.specs.Sweeps.{is_due, sweep_of}
+use Rattle.rounds.specs.Pollers.{PollerState, HasOpenedAll, Counted}
+use Rattle.rounds.specs.Drops.{AreTold}
+use Rattle.rounds.specs.Limits.{spare_room}
+use Rattle.rounds.specs.Sweeps.{is_due, sweep_of, swept_after}
+use Rattle.dispatch.specs.Posts.{OnlyWorn}
+use Rattle.relay_log.specs.declared.faults.ServerFault.{ServerFault}
+use Rattle.relay_log.specs.declared.faults.ServerFault.TheVariants as server_fault
 
 -- The reports of the batch were delivered: each that is for a connection was posted at its slot, and those that woke
 -- made their tickets. Then came the posts of a sweep, if one was made, and those that woke made theirs. Then
@@ -65,13 +70,22 @@ AcceptMayEnd p own = (p.starved ≡ true) ⊎ NoneToAccept p own
 abbrev pub MayWait : ℕ → PollerState → Own → Type 0
 MayWait limit p own = (is_due limit p ≡ false) × (own.hand.tickets ≡ []) × AcceptMayEnd p own
 
+-- a round waited for reports only if it might, by what the poller kept and its thread had in hand before
+abbrev pub WaitedAsMay : ℕ → PollerState → PollerState → Own → Type 0
+WaitedAsMay limit old new had = new.waited ≢ 0 → MayWait limit old had
+
 -- why accepting ends: it may, or it was tried 4 times
 abbrev pub AcceptEnded : PollerState → Own → Type 0
 AcceptEnded p own = AcceptMayEnd p own ⊎ (p.tries ≡ 0)
 
--- a round ends early if its hand has not room for a ticket of each slot and 512 more
+-- a round does not begin if its hand has no room for a ticket of each slot and 512 more
 abbrev pub EndedEarly : ℕ → Own → Type 0
-EndedEarly slots own = ticket_room own.hand < 512 + slots
+EndedEarly slots own = ticket_room own.hand < spare_room + slots
+
+-- then nothing happens, but that no reports are left from the round before
+pub record NotBegun (old new : PollerState) (had has : Own) : Type 0 where
+  pub own : has ≡ had
+  pub poller : new ≡ record old { batch = [] }
 
 -- a connection may be accepted now: one may be waiting, it would be opened, and a free slot is in hand
 pub record MayAccept (p : PollerState) (own : Own) : Type 0 where
@@ -110,3 +124,42 @@ TookAll slots own = HeldOnce 0 own.free.history ⊎ ((slots ≤ length own.hand.
 -- are back
 abbrev pub LooksForAll : PollerState → Own → Type 0
 LooksForAll p own = HasOpenedAll p → TookAll p.part.slots own × (IsBack p own → p.over ≡ true)
+
+-- a look whether a sweep is due: it is made if so
+pub record SweepMade (limit : ℕ) (old new : PollerState) (had has : Own) : Type 0 where
+  pub posted : ArePosted (sweep_of old new) had.seat has.seat had.hand has.hand
+  pub swept : new.swept ≡ swept_after limit old.second old.swept
+
+-- A round that began and was not refused: it delivered what its front reported, its second is one that the clock may
+-- tell, a sweep was made if one was due, accepting ended for a reason, the front does not listen once all connections
+-- were opened, the poller is over where it can be, and no drop is left to be logged at this second
+pub record RoundEnded (tells : ℕ → Type 0) (limit : ℕ) (old new : PollerState) (has : Own) : Type 0 where
+  pub read : new.batch ≡ new.reported
+  pub second : tells new.second
+  pub swept : new.swept ≡ swept_after limit old.second old.swept
+  pub accepted : AcceptEnded new has
+  pub closed : ListensToOpen new
+  pub back : LooksForAll new has
+  pub drops : AreTold new.second new.episodes.drops
+
+-- What every round keeps: what connections are opened with, how many may be, and the heavy marks. The second of the last
+-- sweep is what it was, or that of a sweep that was due. It listens as before, or no longer. It is over as before, or
+-- since all its slots are back. And its thread took no ticket from the queue
+pub record RoundKeeps (limit : ℕ) (old new : PollerState) (had has : Own) : Type 0 where
+  pub opening : new.opening ≡ old.opening
+  pub most : new.most ≡ old.most
+  pub heavy : new.heavy ≡ old.heavy
+  pub swept : (new.swept ≡ old.swept) ⊎ (new.swept ≡ swept_after limit old.second old.swept)
+  pub listens : ListenerKept old new
+  pub over : new.over ≡ true → (old.over ≡ true) ⊎ IsOver new has
+  pub took : has.ready.history.taken ≡ had.ready.history.taken
+
+-- a wait for reports failed, and not by a signal: nothing was reported
+pub record PollFailed (new : PollerState) : Type 0 where
+  pub failed : new.failed ≡ true
+  pub none : new.batch ≡ []
+  pub read : new.batch ≡ new.reported
+
+-- why a round is refused: its wait for reports failed, or its seat is worn
+abbrev pub RoundRefused : ServerFault → PollerState → Own → Type 0
+RoundRefused fault new has = ((fault ≡ server_fault.Poll) × PollFailed new) ⊎ OnlyWorn fault has.seat

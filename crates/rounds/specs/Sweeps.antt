@@ -3,7 +3,7 @@
 use Rattle.std.specs.Prelude.{ℕ, Bool, zero, suc, ◌==◌, List, [], ◌∷◌, ◌++◌, length, nat_lt, if◌then◌else◌, slice_index}
 use Rattle.ready.specs.declared.ticket.Ticket.{Ticket}
 use Rattle.relay_core.specs.Idle.{is_past}
-use Rattle.dispatch.specs.Polls.{PollerState}
+use Rattle.rounds.specs.Pollers.{PollerState}
 
 -- the last connection that was opened in a slot
 abbrev pub last_in : List ℕ → ℕ → Ticket

@@ -7,15 +7,19 @@
 //! one whose opening failed. A connection whose sockets report nothing is looked at again by a round's sweep. What a
 //! round is lent is in `dispatch`; what becomes of the tickets is in `turns`.
 //!
+//! - [`Poller`] is what a poller keeps between its rounds, and [`Opening`] what its connections are opened with.
+//! - [`Episodes`] is what a poller logs once for as long as it lasts, and [`Drops`] what it logs of clients that are
+//!   closed unopened.
+//!
 //! # Inside
 //!
 //! - A round waits for reports only with no ticket in hand, and for one of the first four reasons for which accepting
 //!   ends (`poll`: `wait`, by `MayWait`); if it does not wait, a ticket is in hand, or a connection may be accepted
-//!   now (`haste`, by `MayNotWait`). The wait is a fault exactly if it gave an error other than a signal (`polled`);
-//!   its batch is delivered (`deliver_batch`).
+//!   now (`haste`, by `MayNotWait`). If it does not, the front was not to wait (`waited`). The wait is a fault exactly
+//!   if it gave an error other than a signal (`polled`); its batch is delivered (`deliver_batch`).
 //! - Each error of accept(2) has its class, and only the answer that no connection waits lowers the accept flag
 //!   (`accepted_of`, `not_accepted`: `flag`). A lack lasts until that answer or a connection (`starved_after`).
-//! - A drop is counted, or owed a line of its own (`dropped_at`, `owed_for`, in `dispatch`). A count is cleared only
+//! - A drop is counted, or owed a line of its own (`dropped_at`, `owed_for`). A count is cleared only
 //!   for a line that has it, by its own cause (`told_at`, `tell_of`; `Owed` cannot be dropped, and only the log takes
 //!   it), and at an opening all is logged (`end_episodes`). A lack counts as logged until a connection is opened
 //!   (`episodes_after`). A poller becomes full if the listener was reported, it may open more and no slot was free
@@ -25,9 +29,9 @@
 //!   the poller's size of ring, made at the second of the round (`connect`: `pair`), and its lead the PROXY line of
 //!   the addresses that the front gave, or nothing (`lead`, by `LeadTold` of `specs/Leads.antt`). Without a pair the
 //!   cause that is logged is the front's, or `address` if the line is to be sent and the front gave a route without
-//!   one of the two, or `memory` (`cause`, by `DropsFor`).
-//! - An accepted connection counts as opened, as dropped, or by its slot as lost (`open`: `counted`), and once: what
-//!   comes with it out of `Poller::accept` cannot be dropped, and only these three counts take it (`Uncounted`). It
+//!   one of the two, or `memory` if there was nothing of the kind (`cause`, by `DropsFor`).
+//! - An accepted connection counts as opened, as dropped, or by its slot as lost (`open`: `counted`, by `Fate`), and
+//!   once: what comes with it out of `Poller::accept` cannot be dropped, and only these counts take it (`Uncounted`). It
 //!   counts as dropped only if the log gets a line or a count of it (`Dropped`), and a slot is lost only if one
 //!   exchange found that it is not free, or if no connection can be opened there (`LostFor`). After an opening that
 //!   failed the slot is in hand, and nowhere else (`prepare`: `failed`; `round`: `slots`). Slots start at generation
@@ -36,10 +40,19 @@
 
 mod accepting;
 mod delivering;
+mod dropping;
+mod drops;
+mod episodes;
 mod lead;
+mod limits;
 mod opening;
+mod poller;
 mod round;
 mod sweeping;
 
 pub use delivering::deliver;
+pub use drops::{Drops, Tally};
+pub use episodes::Episodes;
+pub use opening::Opening;
+pub use poller::Poller;
 pub use round::poller_round;

@@ -2,20 +2,22 @@
 //! connection, the connection to the target, what the target is sent first, the pair, the place, and the one note
 //! that starts it.
 ghost use Rattle.std.specs.Prelude.{◌≡◌, ◌≢◌, ◌⊎◌, ◌+◌, ◌<◌, ◌≤◌, [], ◌∷◌, ◌++◌, length, Err, Some, None, IfOk, IfErr, OnOk, OnErr, OnSome, IfSome, IsNone, slice_get, slice_index};
-ghost use Rattle.claims.specs.declared.view.Exchange.TheVariants as exchange;
-ghost use Rattle.claims.specs.Seats.{Adds, HoldsNothing, OnlyAt};
+ghost use Rattle.claims.specs.Seats.{HoldsNothing, OnlyAt};
 ghost use Rattle.relay_core.specs.Pairs.{fresh};
-ghost use Rattle.dispatch.specs.Drops.{dropped_for};
+ghost use Rattle.rounds.specs.Drops.{dropped_for};
 ghost use Rattle.dispatch.specs.Posts.{HoldsOnly, OnlyWorn};
 ghost use Rattle.dispatch.specs.Hands.{ticket_room};
+ghost use Rattle.dispatch.specs.Limits.{last_generation};
 ghost use Rattle.rounds.specs.Leads.{LeadTold};
-ghost use Rattle.rounds.specs.Openings.{Between, DropsFor, LetGo, Started, Connected, AcceptDone, IsOpened, IsDropped, IsLost, LostFor};
-ghost use Rattle.dispatch.specs.Polls.{AreGenerations, IsIn};
+ghost use Rattle.rounds.specs.Openings.{Between, DropsFor, Fate, IsNext, LetGo, OneAccepted, Placed, Started};
+ghost use Rattle.rounds.specs.Pollers.{AreGenerations};
 
+use crate::dropping::Dropped;
 use crate::lead::lead;
+use crate::poller::{Poller, Uncounted};
 use berths::Berth;
 use claims::{Adopted, Posted, Released};
-use dispatch::{Dropped, Front, Hand, Opened, Own, Poller, Settle, Shared, Uncounted};
+use dispatch::{Front, Hand, Opened, Own, Settle, Shared};
 use log::Log;
 use ready::Ticket;
 use relay_core::Pair;
@@ -25,6 +27,16 @@ use relay_log::{
 use std::alloc::Global;
 use std::sync::Wait;
 use token::{Side, Token, next_gen};
+
+/// What a poller's connections are opened with.
+#[derive(Clone, Copy)]
+pub struct Opening {
+    /// The bytes of a ring, 1 to 65,536.
+    pub ring: usize,
+    /// Whether a target is first sent a line with the addresses of its client's connection (PROXY protocol, version
+    /// 1).
+    pub proxy: bool,
+}
 
 /// The names of a connection's two ends.
 #[derive(Clone, Copy)]
@@ -55,10 +67,9 @@ pub(crate) fn open<F: Front, R: Wait + Log>(
     requires slot { 1 ≤ length own.old.hand.slots }
     ensures between { Between shared.now.claims own.new poller.new }
     ensures worn { IfErr result (λ fault. OnlyWorn fault own.new.seat) }
-    ensures counted { OnOk result (IfSome (slice_get own.old.hand.slots 0) (λ slot. IsOpened poller.old poller.new
-        ⊎ (IsDropped poller.old poller.new
-        ⊎ (IsLost poller.old poller.new × LostFor poller.old slot own.old.seat own.new.seat)))) }
-    ensures done { OnOk result (AcceptDone poller.old poller.new own.old own.new) }
+    ensures counted { OnOk result (IfSome (slice_get own.old.hand.slots 0) (λ slot. Fate slot poller.old poller.new own.old.seat
+        own.new.seat)) }
+    ensures done { OnOk result (OneAccepted poller.old poller.new own.old own.new) }
     ensures ready { own.new.ready ≡ own.old.ready }
     ensures poller { poller.new ≡ record poller.old {
       table = poller.new.table;
@@ -67,13 +78,12 @@ pub(crate) fn open<F: Front, R: Wait + Log>(
       lost = poller.new.lost;
       episodes = poller.new.episodes;
     } }
-    ensures room { OnOk result (ticket_room own.old.hand ≤ ticket_room own.new.hand + 1) }
 {
     let Some(slot) = own.hand.take_slot() else {
         poller.count_lost(uncounted);
         return Ok(());
     };
-    if !poller.part().has(slot) {
+    if !poller.part.has(slot) {
         poller.count_lost(uncounted);
         return Ok(());
     }
@@ -147,7 +157,7 @@ pub(crate) fn next_names(table: &[u64], slot: usize) -> Option<Names>
       generation = slice_index table.now slot + 1;
     }) }
     ensures inside { OnSome result (slot < length table.now) }
-    ensures none { IsNone result → slot ≤ 32767 → slot < length table.now → slice_index table.now slot ≡ 140737488355327 }
+    ensures none { IsNone result → slot ≤ 32767 → slot < length table.now → slice_index table.now slot ≡ last_generation }
 {
     let generation = next_gen(*table.get(slot)?)?;
     let client = Token::pack(slot, Side::Client, generation).ok()?;
@@ -172,7 +182,7 @@ pub(crate) fn connect<F: Front, N: Log>(
     ensures cause { IfErr result (λ cause. DropsFor (F.may_refuse client) (F.may_tell client) poller.old.opening.proxy cause) }
     ensures same { poller.new ≡ poller.old }
 {
-    let second = poller.second();
+    let second = poller.second;
     match reach(rt, alloc, poller, &mut client, names) {
         Ok((pair, target)) => Ok(Berth {
             pair,
@@ -205,15 +215,15 @@ fn reach<F: Front, N: Log>(
     ensures cause { IfErr result (λ cause. DropsFor (F.may_refuse client.old) (F.may_tell client.old) poller.old.opening.proxy cause) }
     ensures same { poller.new ≡ poller.old }
 {
-    let Opened { target, route } = poller.open(rt, client, names.client, names.target)?;
-    let opening = poller.opening();
+    let Opened { target, route } = poller.front.open(rt, client, names.client, names.target)?;
+    let opening = poller.opening;
     let lead = lead(alloc, opening.proxy, &route)?;
     let pair = Pair::new(
         alloc,
         names.client.slot(),
         names.client.generation(),
         opening.ring,
-        poller.second(),
+        poller.second,
         lead.as_slice(),
     )?;
     Ok((pair, target))
@@ -248,16 +258,12 @@ fn place<F: Front, R: Wait + Log>(
     uncounted: Uncounted,
 ) -> Result<(), ServerFault>
     requires between { Between shared.now.claims own.old poller.old }
-    requires inside { berth.pair.slot < length poller.old.table }
-    requires own { IsIn poller.old.part berth.pair.slot }
-    requires next { berth.pair.generation ≡ slice_index poller.old.table berth.pair.slot + 1 }
-    requires generation { berth.pair.generation ≤ 140737488355327 }
+    requires next { IsNext poller.old (record { slot = berth.pair.slot; generation = berth.pair.generation }) }
     requires room { 1 ≤ ticket_room own.old.hand }
     ensures between { Between shared.now.claims own.new poller.new }
     ensures worn { IfErr result (λ fault. OnlyWorn fault own.new.seat) }
-    ensures done { OnOk result (Connected (record { slot = berth.pair.slot; generation = berth.pair.generation } ∷ []) [] 0
-        poller.old poller.new own.old own.new ⊎ Connected [] (berth.pair.slot ∷ []) 1 poller.old poller.new own.old
-        own.new) }
+    ensures placed { OnOk result (Placed (record { slot = berth.pair.slot; generation = berth.pair.generation })
+        poller.old poller.new own.old own.new) }
     ensures poller { poller.new ≡ record poller.old {
       table = poller.new.table;
       opened = poller.new.opened;
@@ -265,11 +271,6 @@ fn place<F: Front, R: Wait + Log>(
       episodes = poller.new.episodes;
     } }
     ensures ready { own.new.ready ≡ own.old.ready }
-    ensures counted { OnOk result (IsOpened poller.old poller.new
-        ⊎ (IsLost poller.old poller.new × Adds berth.pair.slot (exchange.NotFree ∷ []) own.old.seat own.new.seat)) }
-    ensures free { OnOk result (own.new.free ≡ own.old.free) }
-    ensures slots { OnOk result (own.new.hand.slots ≡ own.old.hand.slots) }
-    ensures room { OnOk result (ticket_room own.old.hand ≤ ticket_room own.new.hand + 1) }
 {
     let (slot, generation) = (berth.pair.slot(), berth.pair.generation());
     if let Some(from) = F::peer(&berth.client) {

@@ -6,21 +6,21 @@ ghost use Rattle.claims.specs.Seats.{HoldsNothing};
 ghost use Rattle.ready.specs.Steps.{HeldOnce};
 ghost use Rattle.rounds.specs.Accepts.{accepted_of, episodes_after, flag_after, starved_after};
 ghost use Rattle.rounds.specs.Deliveries.{Delivered, all_reported};
-ghost use Rattle.dispatch.specs.Drops.{AreTold};
+ghost use Rattle.rounds.specs.Drops.{AreTold};
 ghost use Rattle.dispatch.specs.Hands.{ticket_room};
-ghost use Rattle.rounds.specs.Openings.{AreIn, Between, OnlyTook, AcceptDone};
-ghost use Rattle.dispatch.specs.Polls.{HasOpenedAll};
-ghost use Rattle.rounds.specs.Rounds.{RoundDone, AcceptEnded, EndedEarly, IsBack, IsFull, IsOver, LooksForAll, MayAccept, MayNotWait, MayWait, NoSlot, NoneToAccept, TookAll, ListenerKept, ListensToOpen};
-ghost use Rattle.rounds.specs.Sweeps.{swept_after};
+ghost use Rattle.rounds.specs.Limits.{max_accepts, spare_room};
+ghost use Rattle.rounds.specs.Openings.{AreIn, Between, OnlyTook, AcceptDone, OneAccepted};
+ghost use Rattle.rounds.specs.Pollers.{HasOpenedAll};
+ghost use Rattle.rounds.specs.Rounds.{AcceptEnded, EndedEarly, IsFull, IsOver, ListensToOpen, LooksForAll, MayAccept, MayNotWait, MayWait, NoSlot, NoneToAccept, NotBegun, RoundDone, RoundEnded, RoundKeeps, RoundRefused, TookAll, WaitedAsMay};
 ghost use Rattle.dispatch.specs.Posts.{OnlyWorn};
 
 use crate::accepting::{Accepted, accepted_of};
 use crate::delivering::deliver;
+use crate::limits::{MAX_ACCEPTS, SPARE_ROOM};
 use crate::opening::open;
+use crate::poller::Poller;
 use crate::sweeping::{is_due, keep_time};
-use dispatch::{
-    Clock, Front, Hand, LISTENER, MAX_ACCEPTS, Own, Poller, ROUND_ROOM, Shared, Timing,
-};
+use dispatch::{Clock, Front, Hand, LISTENER, Own, Shared, Timing};
 use log::{Log, error};
 use relay_log::{ServerFault, log_all_taken};
 use std::alloc::Global;
@@ -29,21 +29,21 @@ use std::sync::Wait;
 
 /// One round of the poller.
 ///
-/// The tickets in hand stay there, in front of those of the round; if the hand has no room for a ticket of each slot
-/// and 512 more, the round ends there. Then it asks once for reports and delivers them ([`deliver`]); it waits for
-/// them only if no sweep is due, no ticket is in hand and no connection can be accepted now. A sweep is due if at the
-/// second of the round before at least the idle limit had passed since the last sweep, or since the poller began: it
-/// posts a note at each slot in which it has opened a connection, in rising order. Without a limit none is made. Then
-/// it reads its second. While connections may be waiting and a slot is free, it accepts and opens them, with at most
-/// 4 calls of accept(2).
+/// If the hand has no room for a ticket of each slot and 512 more, the round ends at once, and nothing happens. Else
+/// the tickets in hand stay there, in front of those of the round. The round asks once for reports and delivers them
+/// ([`deliver`]); it waits for them only if no sweep is due, no ticket is in hand and no connection can be accepted
+/// now. A sweep is due if at the second of the round before at least the idle limit had passed since the last sweep,
+/// or since the poller began: it posts a note at each slot in which it has opened a connection, in rising order.
+/// Without a limit none is made. Then the round reads its second. While connections may be waiting and a slot is free,
+/// it accepts and opens them, with at most 4 calls of accept(2).
 ///
 /// Once all connections that the poller may open were opened, its front no longer listens: neither at the round's
-/// end, nor while it asks for reports, where that was so before.
+/// end, nor while it asks for reports, if they were opened before.
 ///
 /// An opened connection has the slot's next generation, one note and one ticket, and is logged. A connection whose
-/// opening fails is closed and logged or counted, and its slot is as it was, and in hand. At its end the log is told
-/// of what is counted, once a second. Where the listener was reported and no slot is free, the last poller to find so
-/// tells the log. What connections are opened with stays the same.
+/// opening fails is closed and logged or counted, and its slot is as it was, and in hand. At its end the round logs
+/// what is counted, once a second. If the listener was reported and no slot is free, the last poller to find so logs
+/// that. What connections are opened with stays the same.
 ///
 /// Refusals: `Poll` if waiting for reports failed, and `Worn` if the seat has posted 2^56 times. Then, too, the seat
 /// holds nothing.
@@ -58,27 +58,14 @@ pub fn poller_round<F: Front, C: Clock, R: Wait + Log>(
     requires same { own.old.seat.table ≡ shared.now.claims }
     requires idle { HoldsNothing own.old.seat }
     requires sized { length poller.old.table ≡ shared.now.claims.words }
-    ensures same { own.new.seat.table ≡ own.old.seat.table }
-    ensures idle { HoldsNothing own.new.seat }
-    ensures sized { length poller.new.table ≡ length poller.old.table }
+    ensures between { Between shared.now.claims own.new poller.new }
+    ensures early { EndedEarly shared.now.claims.words own.old → IsOk result × NotBegun poller.old poller.new own.old own.new }
+    ensures waits { EndedEarly shared.now.claims.words own.old ⊎ WaitedAsMay timing.now.limit poller.old poller.new own.old }
     ensures round { result ≢ Err ServerFault.Worn → RoundDone poller.old poller.new own.old own.new }
-    ensures batch { result ≢ Err ServerFault.Worn → EndedEarly shared.now.claims.words own.new ⊎ (poller.new.batch ≡ poller.new.reported) }
-    ensures told { OnOk result (EndedEarly shared.now.claims.words own.new ⊎ C.tells timing.now.clock.now poller.new.second) }
-    ensures swept { OnOk result (EndedEarly shared.now.claims.words own.new
-        ⊎ (poller.new.swept ≡ swept_after timing.now.limit poller.old.second poller.old.swept)) }
-    ensures unswept { (poller.new.swept ≡ poller.old.swept)
-        ⊎ (poller.new.swept ≡ swept_after timing.now.limit poller.old.second poller.old.swept) }
-    ensures accepted { OnOk result (EndedEarly shared.now.claims.words own.new ⊎ AcceptEnded poller.new own.new) }
-    ensures over { OnOk result (poller.new.over ≡ true → (poller.old.over ≡ true) ⊎ IsOver poller.new own.new) }
-    ensures listens { ListenerKept poller.old poller.new }
-    ensures closed { OnOk result (EndedEarly shared.now.claims.words own.new ⊎ ListensToOpen poller.new) }
-    ensures ended { OnOk result (EndedEarly shared.now.claims.words own.new ⊎ LooksForAll poller.new own.new) }
-    ensures told_drops { OnOk result (EndedEarly shared.now.claims.words own.new ⊎ AreTold poller.new.second poller.new.episodes.drops) }
-    ensures opening { poller.new.opening ≡ poller.old.opening }
-    ensures most { poller.new.most ≡ poller.old.most }
-    ensures heavy { poller.new.heavy ≡ poller.old.heavy }
-    ensures took { own.new.ready.history.taken ≡ own.old.ready.history.taken }
-    ensures refused { IfErr result (λ fault. ((fault ≡ ServerFault.Poll) × (poller.new.failed ≡ true)) ⊎ OnlyWorn fault own.new.seat) }
+    ensures ended { OnOk result (EndedEarly shared.now.claims.words own.old
+        ⊎ RoundEnded (C.tells timing.now.clock.now) timing.now.limit poller.old poller.new own.new) }
+    ensures keeps { RoundKeeps timing.now.limit poller.old poller.new own.old own.new }
+    ensures refused { IfErr result (λ fault. RoundRefused fault poller.new own.new) }
 {
     if !begin(&own.hand, poller, shared.claims.slots()) {
         return Ok(());
@@ -94,11 +81,11 @@ pub fn poller_round<F: Front, C: Clock, R: Wait + Log>(
 /// The start of a round. Answers false if the hand has no room for a ticket of each of this many slots and 512 more.
 fn begin<F: Front>(hand: &Hand, poller: &mut Poller<F>, slots: usize) -> bool
     ensures poller { poller.new ≡ record poller.old { batch = [] } }
-    ensures room { IsTrue result ↔ (512 + slots ≤ ticket_room hand.now) }
+    ensures room { IsTrue result ↔ (spare_room + slots ≤ ticket_room hand.now) }
 {
-    poller.forget_reports();
+    poller.batch.clear();
     let room = hand.room();
-    room >= ROUND_ROOM && room - ROUND_ROOM >= slots
+    room >= SPARE_ROOM && room - SPARE_ROOM >= slots
 }
 
 /// Takes the reports, with a front that listens no longer where no connection is to be opened. It waits for them,
@@ -115,8 +102,10 @@ fn look<F: Front, R: Wait + Log>(
       listening = poller.new.listening;
       reported = poller.new.reported;
       failed = poller.new.failed;
+      waited = poller.new.waited;
       batch = poller.new.batch;
     } }
+    ensures waits { WaitedAsMay limit poller.old poller.new own.old }
     ensures listens { (poller.new.listening ≡ poller.old.listening) ⊎ (HasOpenedAll poller.old × (poller.new.listening ≡ false)) }
     ensures batch { poller.new.batch ≡ poller.new.reported }
     ensures failed { IfErr result (λ fault. (fault ≡ ServerFault.Poll) × (poller.new.failed ≡ true) × (poller.new.batch ≡ [])) }
@@ -134,7 +123,7 @@ fn listen_to_open<F: Front>(poller: &mut Poller<F>)
     ensures closed { ListensToOpen poller.new }
 {
     if poller.has_opened_all() {
-        poller.stop_listening();
+        poller.front.stop_listening();
     }
 }
 
@@ -143,11 +132,12 @@ fn may_wait<F: Front, R: Wait>(rt: &R, own: &mut Own, poller: &Poller<F>, limit:
     requires room { 1 ≤ ticket_room own.old.hand }
     ensures took { OnlyTook own.old own.new }
     ensures reason { result ≡ true → MayWait limit poller.now own.new }
+    ensures still { result ≡ true → own.new ≡ own.old }
     ensures haste { result ≡ false → MayNotWait limit poller.now own.new }
 {
     !is_due(poller, limit)
         && own.hand.tickets() == 0
-        && (poller.is_starved() || !may_accept(rt, own, poller))
+        && (poller.starved || !may_accept(rt, own, poller))
 }
 
 /// Asks for reports, with a front that does not listen where all was opened. After a signal the batch is empty. While
@@ -163,13 +153,19 @@ fn poll<F: Front, R: Log>(
     requires wait { wait ≡ true → MayWait _limit poller.old _own.now }
     requires haste { wait ≡ false → MayNotWait _limit poller.old _own.now }
     requires closed { ListensToOpen poller.old }
-    ensures same { poller.new ≡ record poller.old { reported = poller.new.reported; failed = poller.new.failed; batch = poller.new.batch } }
+    ensures same { poller.new ≡ record poller.old {
+      reported = poller.new.reported;
+      failed = poller.new.failed;
+      waited = poller.new.waited;
+      batch = poller.new.batch;
+    } }
+    ensures waited { wait ≡ false → poller.new.waited ≡ 0 }
     ensures batch { poller.new.batch ≡ poller.new.reported }
     ensures failed { OnErr result ((poller.new.failed ≡ true) × (poller.new.batch ≡ [])) }
     ensures fault { IfErr result (λ fault. fault ≡ ServerFault.Poll) }
     ensures few { length poller.new.batch ≤ 256 }
 {
-    let answer = poller.poll(wait);
+    let answer = poller.front.poll(&mut poller.batch, wait);
     polled(rt, answer)
 }
 
@@ -229,7 +225,7 @@ fn accept<F: Front, R: Wait + Log>(
     poller: &mut Poller<F>,
 ) -> Result<(), ServerFault>
     requires between { Between shared.now.claims own.old poller.old }
-    requires room { 4 ≤ ticket_room own.old.hand }
+    requires room { max_accepts ≤ ticket_room own.old.hand }
     ensures between { Between shared.now.claims own.new poller.new }
     ensures worn { IfErr result (λ fault. OnlyWorn fault own.new.seat) }
     ensures done { OnOk result (AcceptDone poller.old poller.new own.old own.new) }
@@ -268,13 +264,13 @@ fn tell_if_full<F: Front, R: Wait + Log>(
     ensures kept { poller.old.episodes.full ≡ true → poller.new.episodes.full ≡ true }
     ensures found { IsFull poller.new own.new → poller.new.episodes.full ≡ true }
 {
-    if poller.is_full() {
+    if poller.episodes.full {
         return;
     }
     if !is_full(rt, own, poller) {
         return;
     }
-    poller.set_full(true);
+    poller.episodes.full = true;
     if shared.full.enter() {
         log_all_taken(rt, shared.claims.slots());
     }
@@ -299,7 +295,7 @@ fn accept_all<F: Front, R: Wait + Log>(
     poller: &mut Poller<F>,
 ) -> Result<(), ServerFault>
     requires between { Between shared.now.claims own.old poller.old }
-    requires room { 4 ≤ ticket_room own.old.hand }
+    requires room { max_accepts ≤ ticket_room own.old.hand }
     ensures between { Between shared.now.claims own.new poller.new }
     ensures worn { IfErr result (λ fault. OnlyWorn fault own.new.seat) }
     ensures done { OnOk result (AcceptDone poller.old poller.new own.old own.new) }
@@ -333,10 +329,11 @@ fn may_accept<F: Front, R: Wait>(rt: &R, own: &mut Own, poller: &Poller<F>) -> b
     requires room { 1 ≤ ticket_room own.old.hand }
     ensures took { OnlyTook own.old own.new }
     ensures ended { result ≡ false → NoneToAccept poller.now own.new }
+    ensures still { result ≡ false → own.new ≡ own.old }
     ensures slot { result ≡ true → 1 ≤ length own.new.hand.slots }
     ensures may { result ≡ true → MayAccept poller.now own.new }
 {
-    poller.is_accepting() && !poller.has_opened_all() && has_slot(rt, own)
+    poller.accepting && !poller.has_opened_all() && has_slot(rt, own)
 }
 
 /// Tries accept(2), and opens the connection that it gives. Answers whether the next try is worth making: not if the
@@ -350,14 +347,12 @@ fn accept_next<F: Front, R: Wait + Log>(
 ) -> Result<bool, ServerFault>
     requires between { Between shared.now.claims own.old poller.old }
     requires room { 1 ≤ ticket_room own.old.hand }
-    requires left { 1 ≤ poller.old.tries }
     requires slot { 1 ≤ length own.old.hand.slots }
     ensures between { Between shared.now.claims own.new poller.new }
     ensures worn { IfErr result (λ fault. OnlyWorn fault own.new.seat) }
-    ensures done { OnOk result (AcceptDone poller.old poller.new own.old own.new) }
-    ensures room { OnOk result (ticket_room own.old.hand ≤ ticket_room own.new.hand + 1) }
+    ensures done { OnOk result (OneAccepted poller.old poller.new own.old own.new) }
     ensures ready { own.new.ready ≡ own.old.ready }
-    ensures tries { poller.new.tries + 1 ≡ poller.old.tries }
+    ensures tries { poller.new.tries ≡ poller.old.tries - 1 }
     ensures starved { IfOk result (λ more. more ≡ false → poller.new.starved ≡ true) }
     ensures poller { poller.new ≡ record poller.old {
       table = poller.new.table;
@@ -428,13 +423,16 @@ fn not_accepted<F: Front, R: Log>(
     match class {
         Accepted::Again => {}
         Accepted::Blocked => {
-            poller.lower_accept_flag();
+            poller.accepting = false;
+            poller.starved = false;
             end_full(shared, poller);
         }
         Accepted::Starved => {
-            if poller.mark_starved() {
+            poller.starved = true;
+            if !poller.episodes.starved {
                 log_failure(rt, "accept", error);
             }
+            poller.episodes.starved = true;
         }
     }
     class
@@ -444,10 +442,10 @@ fn not_accepted<F: Front, R: Log>(
 fn end_full<F: Front>(shared: &Shared<F>, poller: &mut Poller<F>)
     ensures { poller.new ≡ record poller.old { episodes = record poller.old.episodes { full = false } } }
 {
-    if poller.is_full() {
+    if poller.episodes.full {
         shared.full.leave();
     }
-    poller.set_full(false);
+    poller.episodes.full = false;
 }
 
 /// Logs why a system call failed.
@@ -469,10 +467,10 @@ fn take_back<F: Front, R: Wait>(rt: &R, own: &mut Own, poller: &mut Poller<F>)
         return;
     }
     listen_to_open(poller);
-    let part = poller.part();
-    take_all(rt, own, part.slots);
-    let slots = own.hand.slots() as u64;
-    poller.set_over(slots.saturating_add(poller.lost()) >= part.slots as u64);
+    let slots = poller.part.slots;
+    take_all(rt, own, slots);
+    let free = own.hand.slots() as u64;
+    poller.over = free.saturating_add(poller.lost) >= slots as u64;
 }
 
 /// Takes free slots in hand, at most this many, until there is none or the hand is full.

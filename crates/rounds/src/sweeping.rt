@@ -3,13 +3,15 @@ ghost use Rattle.std.specs.Prelude.{◌≡◌, ◌⊎◌, ◌<◌, ◌≤◌, le
 ghost use Rattle.claims.specs.Seats.{HoldsNothing};
 ghost use Rattle.rounds.specs.Deliveries.{ArePosted};
 ghost use Rattle.dispatch.specs.Hands.{ticket_room};
-ghost use Rattle.rounds.specs.Openings.{AreIn, Between};
+ghost use Rattle.rounds.specs.Openings.{AreIn, Between, SameQueues};
+ghost use Rattle.rounds.specs.Rounds.{SweepMade};
 ghost use Rattle.dispatch.specs.Posts.{OnlyWorn};
-ghost use Rattle.rounds.specs.Sweeps.{all_opened, is_due, opened_in, swept_after, sweep_of};
+ghost use Rattle.rounds.specs.Sweeps.{all_opened, is_due, opened_in, sweep_of};
 
 use crate::delivering::post_note;
+use crate::poller::Poller;
 use claims::{ClaimSeat, Claims};
-use dispatch::{Clock, Front, Hand, Own, Poller, Shared, Timing};
+use dispatch::{Clock, Front, Hand, Own, Shared, Timing};
 use ready::Ticket;
 use relay_log::ServerFault;
 
@@ -28,12 +30,10 @@ pub(crate) fn keep_time<F: Front, C: Clock>(
     ensures poller { poller.new ≡ record poller.old { second = poller.new.second; swept = poller.new.swept } }
     ensures told { OnOk result (C.tells timing.now.clock.now poller.new.second) }
     ensures worn { IfErr result (λ fault. OnlyWorn fault own.new.seat) }
-    ensures posted { OnOk result (ArePosted (sweep_of poller.old poller.new) own.old.seat own.new.seat own.old.hand own.new.hand) }
-    ensures swept { OnOk result (poller.new.swept ≡ swept_after timing.now.limit poller.old.second poller.old.swept) }
+    ensures swept { OnOk result (SweepMade timing.now.limit poller.old poller.new own.old own.new) }
     ensures unswept { OnErr result (poller.new.swept ≡ poller.old.swept) }
     ensures own { AreIn poller.old.part (sweep_of poller.old poller.new) }
-    ensures ready { own.new.ready ≡ own.old.ready }
-    ensures free { own.new.free ≡ own.old.free }
+    ensures queues { SameQueues own.old own.new }
 {
     sweep_if_due(shared, own, poller, timing.limit)?;
     poller.set_second(timing.moment().second);
@@ -52,12 +52,10 @@ fn sweep_if_due<F: Front>(
     ensures between { Between shared.now.claims own.new poller.new }
     ensures poller { poller.new ≡ record poller.old { swept = poller.new.swept } }
     ensures worn { IfErr result (λ fault. OnlyWorn fault own.new.seat) }
-    ensures posted { OnOk result (ArePosted (sweep_of poller.old poller.new) own.old.seat own.new.seat own.old.hand own.new.hand) }
-    ensures swept { OnOk result (poller.new.swept ≡ swept_after limit poller.old.second poller.old.swept) }
+    ensures swept { OnOk result (SweepMade limit poller.old poller.new own.old own.new) }
     ensures unswept { OnErr result (poller.new.swept ≡ poller.old.swept) }
     ensures own { AreIn poller.old.part (sweep_of poller.old poller.new) }
-    ensures ready { own.new.ready ≡ own.old.ready }
-    ensures free { own.new.free ≡ own.old.free }
+    ensures queues { SameQueues own.old own.new }
 {
     if !is_due(poller, limit) {
         return Ok(());
@@ -72,7 +70,7 @@ fn sweep_if_due<F: Front>(
 pub(crate) fn is_due<F: Front>(poller: &Poller<F>, limit: u64) -> bool
     ensures { result ≡ is_due limit poller.now }
 {
-    let (second, last) = (poller.second(), poller.swept());
+    let (second, last) = (poller.second, poller.swept);
     limit > 0 && second >= last && second - last >= limit
 }
 

@@ -3,12 +3,12 @@ use Rattle.std.proofs.Common.{◌≡◌, ℕ, ◌+◌, List, [], ◌∷◌, ◌+
 use Rattle.std.specs.List.{range_with_len}
 use Rattle.std.proofs.lemmas.List.FromFn.{map-range_with_len_more}
 use Rattle.std.proofs.lemmas.List.{length-replicate, length-reverse, map-append, nil_from_length, reverse-append, reverse-reverse}
-use Rattle.dispatch.specs.declared.opening.Opening.{Opening}
+use Rattle.rounds.specs.declared.opening.Opening.{Opening}
 use Rattle.dispatch.specs.declared.part.Part.{Part}
 use Rattle.claims.specs.Seats.{TableId, SeatState, fresh_seat}
-use Rattle.dispatch.specs.Episodes.{no_episodes}
+use Rattle.rounds.specs.Episodes.{no_episodes}
 use Rattle.dispatch.specs.Parts.{AreFresh}
-use Rattle.dispatch.specs.Polls.{PollerState}
+use Rattle.rounds.specs.Pollers.{PollerState}
 use Rattle.server.specs.Begins.{HasBegun}
 use Rattle.std.proofs.lemmas.List.Elements.{All-nil, All-push}
 
@@ -29,11 +29,12 @@ pub mapped_all : {A B : Type 0} (of : A → B) (f : ℕ → B) (xs : List A) (n 
 mapped_all of f xs n m all each = subst (λ (k : ℕ). map of xs ≡ map f (range_with_len 0 k)) all each
 
 -- one poller more that has opened nothing yet
-pub begun_one : (slots : ℕ) (opening : Opening) (ps qs : List PollerState) {p : PollerState} {reported : List ℕ} {failed listening : Bool} {part : Part} {most : ℕ}
+pub begun_one : (slots : ℕ) (opening : Opening) (ps qs : List PollerState) {p : PollerState} {reported : List ℕ} {failed listening : Bool} {waited : ℕ} {part : Part} {most : ℕ}
     → qs ≡ ps ++ p ∷ []
     → p ≡ record {
       reported = reported;
       failed = failed;
+      waited = waited;
       listening = listening;
       table = replicate slots 0;
       batch = [];

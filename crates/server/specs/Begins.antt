@@ -1,8 +1,8 @@
 -- How a server's pollers begin. Part of the promises.
 use Rattle.std.specs.Prelude.{◌≡◌, ℕ, true, false, [], replicate}
-use Rattle.dispatch.specs.declared.opening.Opening.{Opening}
-use Rattle.dispatch.specs.Episodes.{no_episodes}
-use Rattle.dispatch.specs.Polls.{PollerState}
+use Rattle.rounds.specs.declared.opening.Opening.{Opening}
+use Rattle.rounds.specs.Episodes.{no_episodes}
+use Rattle.rounds.specs.Pollers.{PollerState}
 
 -- a poller that has opened nothing yet, with a table for this many slots, and what it opens connections with
 pub record HasBegun (slots : ℕ) (opens : Opening) (p : PollerState) : Type 0 where

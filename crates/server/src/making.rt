@@ -2,7 +2,7 @@
 ghost use Rattle.std.specs.Prelude.{◌≡◌, ◌+◌, ◌-◌, ◌<◌, ◌≤◌, ◌∷◌, [], length, replicate, map, All, true, false, IfOk, IfErr};
 ghost use Rattle.claims.specs.Seats.{fresh_seat};
 ghost use Rattle.ready.specs.Steps.{unused, opened as filled};
-ghost use Rattle.dispatch.specs.Episodes.{no_episodes};
+ghost use Rattle.rounds.specs.Episodes.{no_episodes};
 ghost use Rattle.dispatch.specs.Parts.{AreFresh};
 ghost use Rattle.server.specs.Limits.{share_of, shares_of};
 ghost use Rattle.dispatch.specs.Splits.{each_part, part_of, parts_of};
@@ -11,8 +11,9 @@ ghost use Rattle.settings.specs.Pollers.{pollers_for};
 
 use berths::Berths;
 use claims::Claims;
-use dispatch::{ClientsAt, Front, Fullness, Opening, Parts, Poller, ServerFault, Shared, Split};
+use dispatch::{ClientsAt, Front, Fullness, Parts, ServerFault, Shared, Split};
 use ready::{FreeQueue, ReadyQueue};
+use rounds::{Opening, Poller};
 use settings::{Settings, pollers_for};
 use std::alloc::{AllocError, Global};
 use std::sync::Wait;
@@ -161,6 +162,7 @@ fn poller_of<F: Front + Drop>(
     ensures { IfOk result (λ poller. poller ≡ record {
       reported = F.reported front;
       failed = F.failed front;
+      waited = F.waited front;
       listening = F.listens front;
       table = replicate settings.now.slots 0;
       batch = [];

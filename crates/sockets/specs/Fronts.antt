@@ -50,12 +50,14 @@ Fails (Ok done) = ⊥
 Fails (Err error) = error_kind error ≢ Interrupted
 
 -- how a front's connections are forwarded, the most milliseconds that it waits for reports, the numbers that its last
--- poll was told, whether that failed, and whether it has a share of the listening socket
+-- poll was told, whether that failed, how many milliseconds it could take, and whether the front has a share of the
+-- listening socket
 pub record Watched : Type 0 where
   pub forwarding : Forwarding
   pub wait : ℕ
   pub reported : List ℕ
   pub failed : Bool
+  pub waited : ℕ
   pub listening : Bool
 
 -- the longest wait for reports of each of this many pollers, 16 at most, in milliseconds: together they wake at most 10

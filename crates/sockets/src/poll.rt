@@ -50,6 +50,8 @@ pub struct Sockets<'r, R> {
     wait: u64,
     // Whether the last wait failed, and not by a signal.
     failed: bool,
+    // How many milliseconds it could take.
+    waited: u64,
 }
 
 impl<'r, R> Model for Sockets<'r, R> {
@@ -65,6 +67,7 @@ impl<'r, R> Model for Sockets<'r, R> {
       wait = s.wait;
       reported = numbers (items s.events);
       failed = s.failed;
+      waited = s.waited;
       listening = is_some s.listener;
     } };
 
@@ -98,6 +101,7 @@ pub fn open_all<'r, R: Net + Log>(
           wait = wait_of (parts_of split.slots split.size);
           reported = [];
           failed = false;
+          waited = 0;
           listening = true;
         })) }
     ensures wakers { IfOk result (λ made. made.1.split ≡ split) }
@@ -145,6 +149,7 @@ fn fronts_of<'r, R>(
           wait = wait_of (vec_len polls);
           reported = [];
           failed = false;
+          waited = 0;
           listening = true;
         })) }
 {
@@ -164,11 +169,20 @@ fn fronts_of<'r, R>(
                 events: Events::with_capacity(alloc, MAX_BATCH)?,
                 wait,
                 failed: false,
+                waited: 0,
             }),
             None => unreachable!(),
         }
     }
     Ok(fronts)
+}
+
+/// How many milliseconds a poll may take, if a wait takes at most the longest.
+fn millis_of(wait: bool, longest: u64) -> u64
+    ensures longest { wait ≡ true → result ≡ longest }
+    ensures none { wait ≡ false → result ≡ 0 }
+{
+    if wait { longest } else { 0 }
 }
 
 /// The longest wait for reports of each of this many pollers, in milliseconds.
@@ -329,6 +343,8 @@ impl<R: Dial> Front for Sockets<'_, R> {
 
     ghost failed = { λ s. s.failed };
 
+    ghost waited = { λ s. s.waited };
+
     ghost listens = { λ s. s.listening };
 
     ghost may_tell = { λ client route. MayTell client.socket.peer route };
@@ -349,13 +365,18 @@ impl<R: Dial> Front for Sockets<'_, R> {
         ensures reported { batch.new.items ≡ self.new.reported }
         ensures fault { IfErr result (λ error. error_kind error ≢ Interrupted → self.new.failed ≡ true) }
         ensures fails { IsTrue self.new.failed ↔ Fails result }
-        ensures same { self.new ≡ record self.old { reported = self.new.reported; failed = self.new.failed } }
+        ensures asked { wait ≡ true → self.new.waited ≡ self.old.wait }
+        ensures waited { wait ≡ false → self.new.waited ≡ 0 }
+        ensures same { self.new ≡ record self.old {
+          reported = self.new.reported;
+          failed = self.new.failed;
+          waited = self.new.waited;
+        } }
     {
         batch.clear();
-        let most = if wait { self.wait } else { 0 };
-        let answer = self
-            .poll
-            .poll(&mut self.events, Some(Duration::from_millis(most)));
+        self.waited = millis_of(wait, self.wait);
+        let most = Duration::from_millis(self.waited);
+        let answer = self.poll.poll(&mut self.events, Some(most));
         self.failed = has_failed(&answer);
         answer?;
         put_numbers(batch, &self.events, &self.told);

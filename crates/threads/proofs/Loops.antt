@@ -21,7 +21,8 @@ use Rattle.turns.specs.declared.worker.Worked.{Worked}
 use Rattle.turns.specs.declared.worker.Worked.TheVariants as worked
 use Rattle.dispatch.specs.Hands.{HandState}
 use Rattle.dispatch.specs.Outgoing.{outgoing, Inserted, tickets_out, slots_out, without_first, TookNothing}
-use Rattle.dispatch.specs.Polls.{PollerState, looked_at}
+use Rattle.dispatch.specs.Heavy.{looked_at}
+use Rattle.rounds.specs.Pollers.{PollerState}
 use Rattle.rounds.specs.Rounds.{RoundDone, EndedEarly, ListenerKept, ListensToOpen}
 use Rattle.turns.specs.Shares.{AreShared, OneShared, TicketsShared}
 use Rattle.turns.specs.Turns.{TicketsKept, SlotGiven, SlotsKept, IsTurnOf, TurnMade, OwnTurn, program}

@@ -13,7 +13,8 @@ use Rattle.turns.specs.declared.worker.Worked.{Worked}
 use Rattle.turns.specs.declared.worker.Worked.TheVariants as worked
 use Rattle.rounds.specs.Acts.{Act, ActsMade, IsPost, IsTry, due_of}
 use Rattle.dispatch.specs.Outgoing.{TookNothing, tickets_out, slots_out}
-use Rattle.dispatch.specs.Polls.{PollerState, HasOpenedAll, IsIn}
+use Rattle.dispatch.specs.Splits.{IsIn}
+use Rattle.rounds.specs.Pollers.{PollerState, HasOpenedAll}
 use Rattle.dispatch.specs.Posts.{IsWorn, OnlyWorn}
 use Rattle.rounds.specs.Deliveries.{at_slot}
 use Rattle.rounds.specs.Openings.{slots_in}

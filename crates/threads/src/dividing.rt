@@ -9,8 +9,9 @@ ghost use Rattle.threads.specs.Divided.{numbered, IsEndOf, AreEndsFrom, AreLeft,
 use crate::limits::WORKER_HAND;
 use crate::polling::PollerThread;
 use crate::working::Worker;
-use dispatch::{Front, MAX_BATCH, Own, Parts, Poller, ServerFault, Shared};
+use dispatch::{Front, MAX_BATCH, Own, Parts, ServerFault, Shared};
 use ready::FreeQueue;
+use rounds::Poller;
 use std::alloc::Global;
 use std::sync::Arc;
 

@@ -6,8 +6,9 @@ ghost use Rattle.threads.specs.Endings.{fault_by};
 ghost use Rattle.threads.specs.Loops.{Took};
 
 use crate::faults::{Earliest, Outcome, Recorded};
-use dispatch::{Front, Own, Poller, ServerFault};
+use dispatch::{Front, Own, ServerFault};
 use ready::Ticket;
+use rounds::Poller;
 use std::sync::atomic::Ordering::SeqCst;
 use std::sync::atomic::{AtomicBool, AtomicUsize};
 use std::sync::{Mutex, Wait};

@@ -2,7 +2,7 @@
 ghost use Rattle.std.specs.Prelude.{◌≡◌, ◌⊎◌, ℕ, [], length, None, OnOk, OnSome, IfErr, IfOk};
 ghost use Rattle.std.specs.Arc.{arc_value};
 ghost use Rattle.claims.specs.Seats.{HoldsNothing};
-ghost use Rattle.dispatch.specs.Drops.{no_drops};
+ghost use Rattle.rounds.specs.Drops.{no_drops};
 ghost use Rattle.rounds.specs.Rounds.{EndedEarly, ListensToOpen};
 ghost use Rattle.turns.specs.Turns.{NoOwnTurn};
 ghost use Rattle.threads.specs.declared.ending.Why.{Why};
@@ -12,9 +12,9 @@ ghost use Rattle.threads.specs.Loops.{Asked, LoopMade, OwnTurnsRan, PollerEnded,
 use crate::context::Context;
 use crate::ending::{Ended, NoFault, end_if_over};
 use crate::stopping::StopFlag;
-use dispatch::{Clock, Front, Gate, MAX_OWN_TURNS, Own, Poller, Shared};
+use dispatch::{Clock, Front, Gate, MAX_OWN_TURNS, Own, Shared};
 use log::Log;
-use rounds::poller_round;
+use rounds::{Poller, poller_round};
 use std::sync::{Arc, Wait};
 use turns::{Worked, own_turn, share_tickets};
 
@@ -184,7 +184,8 @@ where
         ensures turns { OnOk result (TurnsAfter self.old.poller self.new.poller self.old.own self.new.own) }
         ensures cut { IfErr result (λ ended. TurnsCut ended.why self.old.poller self.new.poller self.old.own self.new.own) }
     {
-        share_tickets(context.rt, &mut self.own, &mut self.poller);
+        let poller = &mut self.poller;
+        share_tickets(context.rt, &mut self.own, &mut poller.heavy);
         for _turn in 0..MAX_OWN_TURNS {
             let seen = match context.ending.look() {
                 Ok(seen) => seen,
@@ -211,12 +212,15 @@ where
             × WornEnd ended.why self.new.own) }
         ensures poller { self.new.poller ≡ record self.old.poller { heavy = self.new.poller.heavy } }
     {
+        let poller = &mut self.poller;
+        let is_closing = poller.has_opened_all();
         let worked = own_turn(
             context.rt,
             &self.shared,
             &mut self.own,
             context.gate,
-            &mut self.poller,
+            &mut poller.heavy,
+            is_closing,
             &context.timing,
         );
         match Ended::on_fault(worked) {

@@ -1,6 +1,6 @@
 -- The end of a turn, after the steps that took the notes and ran the connection; a turn of a poller's own; and the
 -- tickets in hand of which some were looked at: each of those is put, or after the others in hand.
-use Rattle.std.proofs.Common.{◌≡◌, ◌⊎◌, ◌+◌, ◌↔◌, ◌<◌, ◌≤◌, ℕ, List, [], ◌∷◌, length, drop, slice_get, Bool, true, false, IsTrue, Option, Some, None, Result, Ok, Err, IfOk, IfErr, IfSome, IsErrAnd, inl, inr, refl, sym, ap, subst, ◌∙◌, arith, suc, ◌++◌, append_assoc, zero, nat_lt}
+use Rattle.std.proofs.Common.{◌≡◌, ◌⊎◌, ◌+◌, ◌↔◌, ◌<◌, ◌≤◌, ℕ, List, [], ◌∷◌, length, drop, slice_get, Bool, true, false, IsTrue, Option, Some, None, Result, Ok, Err, IfErr, IfSome, IsErrAnd, inl, inr, refl, sym, ap, subst, ◌∙◌, arith, suc, ◌++◌, append_assoc, zero, nat_lt}
 use Rattle.std.proofs.lemmas.Option.{none-some, same_Some}
 use denote.Enum.Bare.{sameb}
 use Rattle.turns.specs.contracts.worker.Worked.{the_type}
@@ -11,8 +11,8 @@ use Rattle.claims.specs.declared.answers.Posted.{Posted}
 use Rattle.claims.specs.declared.answers.Posted.TheVariants as posted
 use Rattle.claims.specs.Calls.{PostChange}
 use Rattle.dispatch.proofs.Holding.{holds_still, holds_from, holds_behind_post, woke_behind_post}
-use Rattle.claims.specs.Views.{account_of, after_all, minted_by}
-use Rattle.claims.specs.Seats.{TableId, SeatState, account_at, Holds, HoldsNot, HoldsNothing, OnlyAt, Adds}
+use Rattle.claims.specs.Views.{after_all, minted_by}
+use Rattle.claims.specs.Seats.{TableId, SeatState, account_at, Holds, HoldsNothing, OnlyAt, Adds}
 use Rattle.claims.proofs.Seats.{adds_none, adds_both, account_after, minted_both, holds_nothing_again, only_at_post}
 use Rattle.std.proofs.lemmas.Bool.{ltb-true, ltb-false, false≢true}
 use Rattle.ready.specs.declared.ticket.Ticket.{Ticket}
@@ -23,12 +23,12 @@ use Rattle.turns.specs.declared.worker.Worked.TheVariants as worked
 use Rattle.dispatch.specs.Outgoing.{Inserted, TookNothing, outgoing, tickets_out, slots_out, without_first}
 use Rattle.dispatch.specs.Posts.{HoldsOnly}
 use Rattle.dispatch.specs.Hands.{HandState, HasRoom}
-use Rattle.turns.specs.Turns.{WasHeld, program, AtWork, TicketsKept, TicketPut, SlotsKept, SlotGiven, TurnDone, ClaimedTurn, TurnEnd, LeftSlot, TurnMade, NoOwnTurn, marks_after}
+use Rattle.turns.specs.Turns.{WasHeld, program, AtWork, TicketsKept, SlotsKept, SlotGiven, TurnDone, ClaimedTurn, TurnEnd, LeftSlot, TurnMade, NoOwnTurn, marks_after}
 use Rattle.std.specs.Prelude.{Some}
 use Rattle.std.proofs.lemmas.List.{append-nil}
 use Rattle.ready.specs.declared.history.History.{History}
 use Rattle.ready.specs.Steps.{EndState}
-use Rattle.dispatch.specs.Polls.{looked_at}
+use Rattle.dispatch.specs.Heavy.{looked_at}
 use Rattle.turns.specs.Shares.{AreShared, IsLight, OneShared, Passed, Stays}
 
 -- the same tickets were to be put before

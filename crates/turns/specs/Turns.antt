@@ -6,11 +6,17 @@ use Rattle.claims.specs.Views.{minted_by}
 use Rattle.claims.specs.Seats.{TableId, account_at, Adds}
 use Rattle.ready.specs.declared.ticket.Ticket.{Ticket}
 use Rattle.relay_core.specs.Pairs.{PairState, noted}
+use Rattle.relay_core.specs.Replies.{AnswerValue}
+use Rattle.relay_core.specs.declared.Side.{Side}
+use Rattle.berths.specs.declared.berths.Berth.{Berth}
+use Rattle.engine.specs.Turns.{IsTurn}
+use Rattle.turns.specs.declared.terms.Terms.{Terms}
 use Rattle.relay_log.specs.declared.faults.ServerFault.{ServerFault}
 use Rattle.dispatch.specs.declared.shared.Own.{Own}
 use Rattle.turns.specs.declared.worker.Worked.{Worked}
 use Rattle.turns.specs.declared.worker.Worked.TheVariants as worked
 use Rattle.dispatch.specs.Hands.{HasRoom}
+use Rattle.dispatch.specs.Limits.{heavy_marks, last_generation}
 use Rattle.dispatch.specs.Posts.{HoldsOnly}
 use Rattle.dispatch.specs.Outgoing.{Inserted, KeepsTicket, KeepsSlot, TookNothing, tickets_out, slots_out, without_first}
 
@@ -52,9 +58,9 @@ TicketsKept ticket (suc n) old new = TicketPut ticket old new
 
 -- the ticket's slot was given, unless its generation is the last
 pub record SlotGiven (ticket : Ticket) (old new : Own) : Type 0 where
-  pub kept : ticket.generation < 140737488355327 → KeepsSlot ticket.slot new.free.history new.hand
-  pub slots : ticket.generation < 140737488355327 → Inserted ticket.slot (slots_out old) (slots_out new)
-  pub last : 140737488355327 ≤ ticket.generation → slots_out new ≡ slots_out old
+  pub kept : ticket.generation < last_generation → KeepsSlot ticket.slot new.free.history new.hand
+  pub slots : ticket.generation < last_generation → Inserted ticket.slot (slots_out old) (slots_out new)
+  pub last : last_generation ≤ ticket.generation → slots_out new ≡ slots_out old
 
 -- only a connection that has ended gives its slot
 abbrev pub SlotsKept : Ticket → Result Worked ServerFault → Own → Own → Type 0
@@ -115,9 +121,9 @@ OwnTurn words ticket (Ok None) old new = new ≡ old
 OwnTurn words ticket (Ok (Some worked)) old new = TurnMade words ticket (Ok worked) (without_first old) new
 OwnTurn words ticket (Err fault) old new = TurnMade words ticket (Err fault) (without_first old) new
 
--- the heavy marks after an own turn: a connection that spent its budget has 16, and the others have what they had
+-- the heavy marks after an own turn: a connection that spent its budget has all of them, and the others have what they had
 abbrev pub marks_after : Option Ticket → Result (Option Worked) ServerFault → List ℕ → List ℕ
-marks_after (Some ticket) (Ok (Some worked.Again)) heavy = slice_set heavy ticket.slot 16
+marks_after (Some ticket) (Ok (Some worked.Again)) heavy = slice_set heavy ticket.slot heavy_marks
 marks_after (Some ticket) (Ok (Some worked.Busy)) heavy = heavy
 marks_after (Some ticket) (Ok (Some worked.Gone)) heavy = heavy
 marks_after (Some ticket) (Ok (Some worked.Ended)) heavy = heavy
@@ -133,3 +139,13 @@ NoOwnTurn own = (own.hand.tickets ≡ []) ⊎ (own.hand.capacity ≤ length own.
 -- the pair, noted if there were notes
 abbrev pub noted_by : ℕ → PairState → PairState
 noted_by notes pair = if nat_lt 0 notes then noted pair else pair
+
+-- A wire is served so: at this second it came from one state to another by these answers to the calls of a pair on a side
+abbrev pub Serves : Type 0 → Type 1
+Serves S = ℕ → S → S → Side → PairState → List AnswerValue → Type 0
+
+-- A connection, to which this many notes were given, had one turn on its two wires, as its terms allow
+abbrev pub Plays : {C T : Type 0} → Serves C → Serves T → Terms → ℕ → Berth C T → Berth C T → Type 0
+Plays client target terms notes old new =
+    IsTurn terms.budget terms.moment.second terms.moment.limit (noted_by notes old.pair) new.pair
+    (client terms.moment.second old.client new.client) (target terms.moment.second old.target new.target)

@@ -1,16 +1,17 @@
 //! The turns that the poller's thread runs by itself, so that no worker has to be woken for them.
-ghost use Rattle.std.specs.Prelude.{◌≡◌, ◌↔◌, ◌<◌, ◌∷◌, ◌++◌, [], length, slice_get, Ok, Some, None, IfErr, IfSome, IsSome};
+ghost use Rattle.std.specs.Prelude.{◌≡◌, ◌↔◌, ◌<◌, ◌∷◌, ◌++◌, [], length, slice_get, Ok, Some, None, IfErr, IfSome, IsSome, true};
 ghost use Rattle.claims.specs.Seats.{HoldsNothing, OnlyAt};
 ghost use Rattle.dispatch.specs.Outgoing.{TookNothing};
-ghost use Rattle.dispatch.specs.Polls.{HasOpenedAll, looked_at};
+ghost use Rattle.dispatch.specs.Heavy.{looked_at};
+ghost use Rattle.dispatch.specs.Limits.{own_turns};
 ghost use Rattle.turns.specs.Shares.{IsLight, Stays, TicketsShared};
-ghost use Rattle.dispatch.specs.Posts.{OnlyWorn};
+ghost use Rattle.dispatch.specs.Posts.{AtRest, OnlyWorn};
 ghost use Rattle.turns.specs.Turns.{marks_after, NoOwnTurn, OwnTurn};
 
 use crate::giving::put_ticket;
 use crate::terms::Terms;
 use crate::worker::{Worked, turn_of};
-use dispatch::{Clock, Front, Gate, Hand, MAX_OWN_TURNS, Own, Poller, Shared, Timing};
+use dispatch::{Clock, Front, Gate, Hand, HeavyMarks, MAX_OWN_TURNS, Own, Shared, Timing};
 use log::Log;
 use ready::{AllBusy, ReadyQueue, Ticket};
 use relay_log::ServerFault;
@@ -26,13 +27,12 @@ enum Stay {
 }
 
 /// Puts the tickets in hand that the poller's thread does not run by itself, so that the workers begin with them:
-/// those of connections that spent all of its budget a short while ago, and those after the first 16 that are left
-/// from the one on at which an end of the ready queue is found asleep. The others stay in hand, in order, and so do
+/// those of connections that spent all of its budget a short while ago, and, after the first 16 that stay, every
+/// ticket from the point where an end of the ready queue is found asleep. The others stay in hand, in order, and so do
 /// those that the queue refuses: where no worker sleeps, all of them may be at work on much larger turns.
-pub fn share_tickets<F: Front, R: Wait>(rt: &R, own: &mut Own, poller: &mut Poller<F>)
+pub fn share_tickets<R: Wait>(rt: &R, own: &mut Own, heavy: &mut HeavyMarks)
     requires idle { HoldsNothing own.old.seat }
-    ensures poller { poller.new ≡ record poller.old { heavy = poller.new.heavy } }
-    ensures shared { TicketsShared poller.old.heavy poller.new.heavy own.old own.new }
+    ensures shared { TicketsShared heavy.old heavy.new own.old own.new }
 {
     let mut kept = 0;
     let mut asleep = false;
@@ -40,7 +40,7 @@ pub fn share_tickets<F: Front, R: Wait>(rt: &R, own: &mut Own, poller: &mut Poll
         let Some(ticket) = own.hand.take_ticket() else {
             return;
         };
-        if let Some(stay) = stays(&own.ready, poller, ticket, kept, &mut asleep) {
+        if let Some(stay) = stays(&own.ready, heavy, ticket, kept, &mut asleep) {
             keep(&mut own.hand, ticket, kept, stay);
             kept += 1;
         } else {
@@ -52,19 +52,19 @@ pub fn share_tickets<F: Front, R: Wait>(rt: &R, own: &mut Own, poller: &mut Poll
 /// Why a ticket stays in hand, where this many have stayed, and an end of the queue may have been found asleep
 /// before. None: it does not. An end that is woken for one ticket runs the next ones, too: one wake for each would
 /// cost more than their turns.
-fn stays<F: Front>(
+fn stays(
     ready: &ReadyQueue,
-    poller: &mut Poller<F>,
+    heavy: &mut HeavyMarks,
     ticket: Ticket,
     kept: usize,
     asleep: &mut bool,
 ) -> Option<Stay>
-    ensures light { IsSome result → IsLight poller.old.heavy ticket }
-    ensures stays { Stays kept poller.old.heavy ticket → IsSome result }
-    ensures early { result ≡ Some Stay.Early → kept < 16 }
-    ensures marks { poller.new ≡ record poller.old { heavy = looked_at ticket.slot poller.old.heavy } }
+    ensures light { IsSome result → IsLight heavy.old ticket }
+    ensures stays { Stays kept heavy.old ticket → IsSome result }
+    ensures early { result ≡ Some Stay.Early → kept < own_turns }
+    ensures marks { heavy.new ≡ looked_at ticket.slot heavy.old }
 {
-    if !poller.is_light(ticket.slot) {
+    if !heavy.is_light(ticket.slot) {
         return None;
     }
     if kept < MAX_OWN_TURNS {
@@ -81,7 +81,7 @@ fn stays<F: Front>(
 /// Keeps a ticket in hand, where this many have stayed: after the first 16 only by a look for it alone.
 fn keep(hand: &mut Hand, ticket: Ticket, _kept: usize, _stay: Stay)
     requires room { length hand.old.tickets < hand.old.capacity }
-    requires early { _stay ≡ Stay.Early → _kept < 16 }
+    requires early { _stay ≡ Stay.Early → _kept < own_turns }
     ensures kept { hand.new ≡ record hand.old { tickets = hand.old.tickets ++ ticket ∷ [] } }
 {
     hand.keep_ticket(ticket);
@@ -92,28 +92,27 @@ fn keep(hand: &mut Hand, ticket: Ticket, _kept: usize, _stay: Stay)
 /// `Worn`, as of a worker's turn.
 ///
 /// Nothing else that is in hand is put. Where a connection ends, the round that follows looks for its slot before it
-/// waits, if a client may be waiting. If no more connections may be opened, it does not wait, so that the poller's
-/// end is found at once.
+/// waits, if a client may be waiting. If the poller `is_closing`, since it may open no more connections, that round
+/// does not wait, so that the poller's end is found at once.
 pub fn own_turn<F: Front, G: Gate, C: Clock, R: Wait + Log>(
     rt: &R,
     shared: &Shared<F>,
     own: &mut Own,
     gate: &G,
-    poller: &mut Poller<F>,
+    heavy: &mut HeavyMarks,
+    is_closing: bool,
     timing: &Timing<'_, C>,
 ) -> Result<Option<Worked>, ServerFault>
-    requires same { own.old.seat.table ≡ shared.now.claims }
-    requires idle { HoldsNothing own.old.seat }
-    ensures same { own.new.seat.table ≡ own.old.seat.table }
-    ensures idle { HoldsNothing own.new.seat }
-    ensures poller { poller.new ≡ record poller.old { heavy = marks_after (slice_get own.old.hand.tickets 0) result poller.old.heavy } }
+    requires rest { AtRest shared.now.claims own.old }
+    ensures rest { AtRest shared.now.claims own.new }
+    ensures marks { heavy.new ≡ marks_after (slice_get own.old.hand.tickets 0) result heavy.old }
     ensures only { IfSome (slice_get own.old.hand.tickets 0) (λ ticket. OnlyAt ticket.slot own.old.seat own.new.seat) }
     ensures turn { IfSome (slice_get own.old.hand.tickets 0) (λ ticket. OwnTurn shared.now.claims.words ticket result own.old own.new) }
     ensures none { result ≡ Ok None ↔ NoOwnTurn own.old }
     ensures unchanged { result ≡ Ok None → own.new ≡ own.old }
     ensures took { TookNothing own.old own.new }
     ensures worn { IfErr result (λ fault. OnlyWorn fault own.new.seat) }
-    ensures woken { result ≡ Ok (Some Worked.Ended) → HasOpenedAll poller.old
+    ensures woken { result ≡ Ok (Some Worked.Ended) → is_closing ≡ true
         → IfSome (slice_get own.old.hand.tickets 0) (λ ticket. F.woke shared.now.waker ticket.slot) }
 {
     if !own.hand.has_slot_room() {
@@ -124,20 +123,26 @@ pub fn own_turn<F: Front, G: Gate, C: Clock, R: Wait + Log>(
     };
     let terms = Terms::own(shared.budget, timing.moment());
     let worked = turn_of(rt, shared, own, gate, ticket, terms)?;
-    follow_up(shared, poller, ticket, worked);
+    follow_up(shared, heavy, is_closing, ticket, worked);
     Ok(Some(worked))
 }
 
-/// What the answer of an own turn means to the poller: a connection that spent the budget is heavy from then on, and
-/// once no more may be opened, the next wait ends at once where one has ended.
-fn follow_up<F: Front>(shared: &Shared<F>, poller: &mut Poller<F>, ticket: Ticket, worked: Worked)
-    ensures marks { poller.new ≡ record poller.old { heavy = marks_after (Some ticket) (Ok (Some worked)) poller.old.heavy } }
-    ensures woken { worked ≡ Worked.Ended → HasOpenedAll poller.old → F.woke shared.now.waker ticket.slot }
+/// What the answer of an own turn means to its poller: a connection that spent the budget is heavy from then on, and
+/// once no more may be opened, the next wait ends at once if one has ended.
+fn follow_up<F: Front>(
+    shared: &Shared<F>,
+    heavy: &mut HeavyMarks,
+    is_closing: bool,
+    ticket: Ticket,
+    worked: Worked,
+)
+    ensures marks { heavy.new ≡ marks_after (Some ticket) (Ok (Some worked)) heavy.old }
+    ensures woken { worked ≡ Worked.Ended → is_closing ≡ true → F.woke shared.now.waker ticket.slot }
 {
     if worked == Worked::Again {
-        poller.mark_heavy(ticket.slot);
+        heavy.mark(ticket.slot);
     }
-    if worked == Worked::Ended && poller.has_opened_all() {
+    if worked == Worked::Ended && is_closing {
         F::wake(&shared.waker, ticket.slot);
     }
 }

@@ -1,5 +1,6 @@
 //! What one turn is held to.
 ghost use Rattle.std.specs.Prelude.{◌≡◌, min};
+ghost use Rattle.dispatch.specs.Limits.{own_budget};
 
 use dispatch::OWN_BUDGET;
 use engine::Moment;
@@ -15,7 +16,7 @@ impl Terms {
     /// What a turn of a poller's own is held to: 8 calls at most, so that the reports of other connections wait no
     /// longer.
     pub(crate) fn own(budget: usize, moment: Moment) -> Terms
-        ensures { result ≡ record { budget = min budget 8; moment = moment } }
+        ensures { result ≡ record { budget = min budget own_budget; moment = moment } }
     {
         Terms {
             budget: budget.min(OWN_BUDGET),

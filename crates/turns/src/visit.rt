@@ -1,8 +1,8 @@
 //! The connection of a held slot, out of its place and back.
 ghost use Rattle.std.specs.Prelude.{◌≡◌, ◌<◌, ◌≤◌, IfOk, IfErr};
-ghost use Rattle.engine.specs.Turns.{outcome_of, IsServed, IsTurn};
+ghost use Rattle.engine.specs.Turns.{outcome_of, IsServed};
 ghost use Rattle.dispatch.specs.Posts.{HoldsOnly};
-ghost use Rattle.turns.specs.Turns.{noted_by};
+ghost use Rattle.turns.specs.Turns.{noted_by, Plays};
 
 use crate::terms::Terms;
 use berths::Berth;
@@ -125,10 +125,8 @@ impl<F: Front> Visit<F> {
         requires most { terms.budget ≤ 1024 }
         ensures ticket { self.new.ticket ≡ self.old.ticket }
         ensures outcome { result ≡ outcome_of self.new.berth.pair }
-        ensures run { IsTurn terms.budget terms.moment.second terms.moment.limit (noted_by notes self.old.berth.pair)
-            self.new.berth.pair (IsServed F.Client.told F.Client.does terms.moment.second self.old.berth.client
-            self.new.berth.client) (IsServed F.Target.told F.Target.does terms.moment.second self.old.berth.target
-            self.new.berth.target) }
+        ensures run { Plays (IsServed F.Client.told F.Client.does) (IsServed F.Target.told F.Target.does) terms notes
+            self.old.berth self.new.berth }
     {
         tell_notes(&mut self.berth.pair, notes);
         turn_with(

@@ -3,11 +3,12 @@
 ghost use Rattle.std.specs.Prelude.{◌≡◌, ◌≢◌, ◌⊎◌, ℕ, ◌<◌, ◌≤◌, [], ◌∷◌, length, Ok, IfOk, IfErr};
 ghost use Rattle.claims.specs.declared.view.Exchange.TheVariants as exchange;
 ghost use Rattle.claims.specs.Seats.{Adds, HoldsNothing, OnlyAt};
-ghost use Rattle.engine.specs.Turns.{outcome_of, IsServed, IsTurn};
+ghost use Rattle.engine.specs.Turns.{outcome_of, IsServed};
 ghost use Rattle.dispatch.specs.Hands.{HasRoom};
+ghost use Rattle.dispatch.specs.Limits.{last_generation};
 ghost use Rattle.dispatch.specs.Outgoing.{KeepsSlot, TookNothing};
 ghost use Rattle.dispatch.specs.Posts.{HoldsOnly, OnlyWorn};
-ghost use Rattle.turns.specs.Turns.{AtWork, ClaimedTurn, TurnEnd, LeftSlot, TurnMade, noted_by};
+ghost use Rattle.turns.specs.Turns.{AtWork, ClaimedTurn, TurnEnd, LeftSlot, TurnMade, Plays};
 
 use crate::giving::{give_back, put_ticket};
 use crate::gone::log_gone;
@@ -21,7 +22,6 @@ use ready::Ticket;
 use relay_core::{MAX_READ, Pair, Verdict};
 use relay_log::{ServerFault, log_done, log_fail};
 use std::sync::Wait;
-use token::MAX_GENERATION;
 
 /// The outcome of a worker's turn.
 #[derive(Clone, Copy, PartialEq, Eq)]
@@ -205,10 +205,8 @@ fn play<F: Front, G: Gate>(
     ensures ticket { visit.new.ticket ≡ visit.old.ticket }
     ensures outcome { result ≡ outcome_of visit.new.berth.pair }
     ensures played { (notes : ℕ) × Adds visit.old.ticket.slot (exchange.Take notes ∷ []) seat.old seat.new
-        × IsTurn terms.budget terms.moment.second terms.moment.limit (noted_by notes visit.old.berth.pair)
-        visit.new.berth.pair (IsServed F.Client.told F.Client.does terms.moment.second visit.old.berth.client
-        visit.new.berth.client) (IsServed F.Target.told F.Target.does terms.moment.second visit.old.berth.target
-        visit.new.berth.target) }
+        × Plays (IsServed F.Client.told F.Client.does) (IsServed F.Target.told F.Target.does) terms notes
+        visit.old.berth visit.new.berth }
 {
     let slot = visit.ticket().slot;
     let notes = shared.claims.take(seat, slot);
@@ -309,7 +307,7 @@ fn end<F: Front, R: Wait + Log>(rt: &R, shared: &Shared<F>, own: &mut Own, visit
 /// Wakes the poller, which may be waiting for the slot. If it were woken before the slot is given back, it could look
 /// and keep waiting.
 fn wake_poller<F: Front>(shared: &Shared<F>, _own: &Own, ended: Ticket)
-    requires given { ended.generation < MAX_GENERATION → KeepsSlot ended.slot _own.now.free.history _own.now.hand }
+    requires given { ended.generation < last_generation → KeepsSlot ended.slot _own.now.free.history _own.now.hand }
     ensures woken { F.woke shared.now.waker ended.slot }
 {
     F::wake(&shared.waker, ended.slot);

@@ -1,4 +1,3 @@
-use Rattle.std.proofs.Common.{refl}
 use Rattle.dispatch.proofs.Holding.{released_all}
 use Rattle.rounds.proofs.opening.let_go.Goals as goal
 

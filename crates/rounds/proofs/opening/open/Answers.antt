@@ -1,9 +1,7 @@
-use Rattle.std.proofs.Common.{◌≡◌, ◌+◌, ◌<◌, ◌≤◌, ℕ, List, OnOk, ◌⊎◌, slice_index, length, refl, subst, inr, ◌++◌, ◌∷◌, [], ap, sym, ◌∙◌}
+use Rattle.std.proofs.Common.{rules, ◌≡◌, ◌+◌, ◌<◌, ◌≤◌, ℕ, List, slice_index, length, refl, subst, inr, ◌++◌, ◌∷◌, [], ap, sym, ◌∙◌}
 use Rattle.dispatch.specs.Hands.{HandState, ticket_room}
-use Rattle.dispatch.specs.Polls.{PollerState}
-use Rattle.claims.specs.declared.view.Exchange.TheVariants as exchange
-use Rattle.claims.specs.Seats.{Adds}
-use Rattle.rounds.specs.Openings.{IsOpened, IsLost}
+use Rattle.dispatch.specs.Limits.{last_generation}
+use Rattle.rounds.specs.Pollers.{PollerState}
 use Rattle.token.specs.declared.token.Token.{Token}
 use Rattle.rounds.proofs.Connections.{some_first, opened_never, opened_not, opened_there, on_ok, same_dropped, opens_lost, opens_dropped, opens_placed, lost_counts, dropped_counts, placed_counts, no_names, room_still}
 use Rattle.rounds.proofs.opening.open.Goals as goal
@@ -13,15 +11,17 @@ returns-in_default g c =
     absurd (some_first c.args.own.now.hand.slots c.requires.slot (sym c.take_slot.ensures.value ∙ c.in_default.is))
 
 pub returns-then-not-has-clause-done : goal.returns-then-not-has-clause-done
-returns-then-not-has-clause-done g c =
-    opened_never c.args.poller.now c.count_lost-then-not-has.new.self c.args.own.now c.take_slot.new.self c.take_slot.ensures.left c.in-Some.slot (sym c.take_slot.ensures.value
-    ∙ c.in-Some.is) c.count_lost-then-not-has.ensures
+returns-then-not-has-clause-done g c = record {
+  done = opened_never c.args.poller.now c.count_lost-then-not-has.new.self c.args.own.now c.take_slot.new.self c.take_slot.ensures.left c.in-Some.slot
+      (sym c.take_slot.ensures.value ∙ c.in-Some.is) c.count_lost-then-not-has.ensures;
+  room = room_still c.args.own.now.hand c.take_slot.new.self _ c.take_slot.ensures.left;
+}
 
 pub returns-in_default-next_names : goal.returns-in_default-next_names
 returns-in_default-next_names g c =
     let first = sym c.take_slot.ensures.value ∙ c.in-Some.is in
     let spent = no_names c.args.poller.now.table c.in-Some.slot
-    (subst (λ (table : List ℕ). c.in-Some.slot ≤ 32767 → c.in-Some.slot < length table → slice_index table c.in-Some.slot ≡ 140737488355327) c.table.ensures.table
+    (subst (λ (table : List ℕ). c.in-Some.slot ≤ 32767 → c.in-Some.slot < length table → slice_index table c.in-Some.slot ≡ last_generation) c.table.ensures.table
     (c.in_default-next_names.ensures.none refl)) in
     record {
       between = record {
@@ -32,11 +32,13 @@ returns-in_default-next_names g c =
       worn = tt;
       counted = lost_counts c.args.poller.now c.count_lost-in_default-next_names.new.self c.args.own.now.seat c.args.own.now.seat c.args.own.now.hand.slots c.in-Some.slot first
           c.count_lost-in_default-next_names.ensures (inr spent);
-      done = opened_never c.args.poller.now c.count_lost-in_default-next_names.new.self c.args.own.now c.take_slot.new.self c.take_slot.ensures.left c.in-Some.slot first
-          c.count_lost-in_default-next_names.ensures;
+      done = record {
+        done = opened_never c.args.poller.now c.count_lost-in_default-next_names.new.self c.args.own.now c.take_slot.new.self c.take_slot.ensures.left c.in-Some.slot first
+            c.count_lost-in_default-next_names.ensures;
+        room = room_still c.args.own.now.hand c.take_slot.new.self _ c.take_slot.ensures.left;
+      };
       ready = refl;
       poller = opens_lost c.args.poller.now c.count_lost-in_default-next_names.new.self _ c.count_lost-in_default-next_names.ensures;
-      room = room_still c.args.own.now.hand c.take_slot.new.self _ c.take_slot.ensures.left;
     }
 
 pub returns-in-Err : goal.returns-in-Err
@@ -53,12 +55,14 @@ returns-in-Err g c =
       worn = tt;
       counted = dropped_counts c.args.poller.now c.prepare.new.poller c.count_dropped.new.self c.args.own.now.seat c.args.own.now.seat c.args.own.now.hand.slots c.in-Some.slot
           c.in-Err.dropped first c.in-Err.ensures.told c.count_dropped.ensures;
-      done = opened_not c.args.poller.now c.count_dropped.new.self c.args.own.now c.take_slot.new.self c.take_slot.ensures.left c.in-Some.slot first c.prepare.new.hand here
-          (same_dropped c.args.poller.now c.prepare.new.poller c.count_dropped.new.self _ _ c.in-Err.ensures.told c.count_dropped.ensures);
+      done = record {
+        done = opened_not c.args.poller.now c.count_dropped.new.self c.args.own.now c.take_slot.new.self c.take_slot.ensures.left c.in-Some.slot first c.prepare.new.hand here
+            (same_dropped c.args.poller.now c.prepare.new.poller c.count_dropped.new.self _ _ c.in-Err.ensures.told c.count_dropped.ensures);
+        room = subst (λ (h : HandState). ticket_room h ≤ ticket_room c.prepare.new.hand + 1) c.take_slot.ensures.left
+            (room_still c.take_slot.new.self c.prepare.new.hand _ c.in-Err.ensures.failed);
+      };
       ready = refl;
       poller = opens_dropped c.args.poller.now c.prepare.new.poller c.count_dropped.new.self _ _ c.in-Err.ensures.told c.count_dropped.ensures;
-      room = subst (λ (h : HandState). ticket_room h ≤ ticket_room c.prepare.new.hand + 1) c.take_slot.ensures.left
-          (room_still c.take_slot.new.self c.prepare.new.hand _ c.in-Err.ensures.failed);
     }
 
 pub returns-in-Ok : goal.returns-in-Ok
@@ -69,18 +73,18 @@ returns-in-Ok g c =
     record {
       between = c.place.ensures.between;
       worn = c.place.ensures.worn;
-      counted = placed_counts c.place.result c.args.poller.now c.place.new.poller c.args.own.now.seat c.place.new.own.seat c.args.own.now.hand.slots c.in-Some.slot first
-          (subst (λ (p : PollerState). OnOk c.place.result (IsOpened p c.place.new.poller
-          ⊎ (IsLost p c.place.new.poller × Adds c.in-Some.slot (exchange.NotFree ∷ []) c.args.own.now.seat c.place.new.own.seat))) c.in-Ok.ensures.same
-          (subst (λ (slot : ℕ). OnOk c.place.result (IsOpened c.prepare.new.poller c.place.new.poller
-          ⊎ (IsLost c.prepare.new.poller c.place.new.poller × Adds slot (exchange.NotFree ∷ []) c.args.own.now.seat c.place.new.own.seat))) here c.place.ensures.counted));
+      counted = placed_counts c.place.result c.args.poller.now c.prepare.new.poller c.place.new.poller c.args.own.now.seat c.place.new.own.seat c.args.own.now.hand.slots
+          c.in-Some.slot c.in-Ok.berth.pair.slot first c.in-Ok.ensures.same here (on_ok c.place.result (λ x. x.counted) c.place.ensures.placed);
       done = on_ok c.place.result
-          (opened_there c.args.poller.now c.place.new.poller c.args.own.now c.prepare.new.hand hand c.in-Some.slot first
-          c.prepare.new.poller c.place.new.own (record { slot = c.in-Ok.berth.pair.slot; generation = c.in-Ok.berth.pair.generation }) c.in-Ok.ensures.same here)
-          c.place.ensures.done c.place.ensures.free c.place.ensures.slots;
+          (λ x. record {
+            done = opened_there c.args.poller.now c.place.new.poller c.args.own.now c.prepare.new.hand hand c.in-Some.slot first
+                c.prepare.new.poller c.place.new.own (record { slot = c.in-Ok.berth.pair.slot; generation = c.in-Ok.berth.pair.generation }) c.in-Ok.ensures.same here
+                x.done x.free x.slots;
+            room = subst (λ (h : HandState). ticket_room h ≤ ticket_room c.place.new.own.hand + 1) hand x.room;
+          })
+          c.place.ensures.placed;
       ready = c.place.ensures.ready;
       poller = opens_placed c.args.poller.now c.prepare.new.poller c.place.new.poller c.in-Ok.ensures.same c.place.ensures.poller;
-      room = subst (λ (h : HandState). OnOk c.place.result (ticket_room h ≤ ticket_room c.place.new.own.hand + 1)) hand c.place.ensures.room;
     }
 
 pub place-requires-clause-between : goal.place-requires-clause-between
@@ -90,20 +94,20 @@ place-requires-clause-between g c = record {
   sized = ap (λ (p : PollerState). length p.table) c.in-Ok.ensures.same ∙ c.requires.between.sized;
 }
 
-pub place-requires-clause-inside : goal.place-requires-clause-inside
-place-requires-clause-inside g c =
-    let here : c.in-Ok.berth.pair.slot ≡ c.in-Some.slot = c.in-Ok.ensures.slot ∙ ap (λ (t : Token). t.slot) c.in-Some-next_names.ensures.client in
-    let table : c.prepare.new.poller.table ≡ c.table.result.now = ap (λ (p : PollerState). p.table) c.in-Ok.ensures.same ∙ sym c.table.ensures.table in
-    subst (λ (t : List ℕ). c.in-Ok.berth.pair.slot < length t) (sym table) (subst (λ (s : ℕ). s < length c.table.result.now) (sym here) c.in-Some-next_names.ensures.inside)
-
 pub place-requires-clause-next : goal.place-requires-clause-next
 place-requires-clause-next g c =
     let named = c.in-Some-next_names.ensures.client in
     let here : c.in-Ok.berth.pair.slot ≡ c.in-Some.slot = c.in-Ok.ensures.slot ∙ ap (λ (t : Token). t.slot) named in
     let table : c.prepare.new.poller.table ≡ c.table.result.now = ap (λ (p : PollerState). p.table) c.in-Ok.ensures.same ∙ sym c.table.ensures.table in
-    subst (λ (t : List ℕ). c.in-Ok.berth.pair.generation ≡ slice_index t c.in-Ok.berth.pair.slot + 1) (sym table)
-    (subst (λ (s : ℕ). c.in-Ok.berth.pair.generation ≡ slice_index c.table.result.now s + 1) (sym here)
-    (c.in-Ok.ensures.generation ∙ ap (λ (t : Token). t.generation) named))
+    record {
+      inside = subst (λ (t : List ℕ). c.in-Ok.berth.pair.slot < length t) (sym table)
+          (subst (λ (s : ℕ). s < length c.table.result.now) (sym here) c.in-Some-next_names.ensures.inside);
+      own = search rules;
+      generation = subst (λ (t : List ℕ). c.in-Ok.berth.pair.generation ≡ slice_index t c.in-Ok.berth.pair.slot + 1) (sym table)
+          (subst (λ (s : ℕ). c.in-Ok.berth.pair.generation ≡ slice_index c.table.result.now s + 1) (sym here)
+          (c.in-Ok.ensures.generation ∙ ap (λ (t : Token). t.generation) named));
+      most = search rules;
+    }
 
 pub place-requires-clause-room : goal.place-requires-clause-room
 place-requires-clause-room g c = subst (λ (h : HandState). 1 ≤ ticket_room h) (sym (c.in-Ok.ensures.prepared ∙ c.take_slot.ensures.left)) c.requires.room

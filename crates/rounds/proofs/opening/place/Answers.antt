@@ -7,7 +7,8 @@ use Rattle.rounds.specs.Acts.{opening}
 use Rattle.dispatch.proofs.Holding.{holds_from}
 use Rattle.ready.specs.declared.ticket.Ticket.{Ticket}
 use Rattle.dispatch.specs.Hands.{HandState}
-use Rattle.dispatch.specs.Polls.{PollerState, IsIn}
+use Rattle.dispatch.specs.Splits.{IsIn}
+use Rattle.rounds.specs.Pollers.{PollerState}
 use Rattle.rounds.specs.Openings.{Connected}
 use Rattle.rounds.proofs.Connections.{is_opened, not_ok, not_placed, passed_up, placed, places_lost, places_opened, places_told, room_less, still_sized}
 use Rattle.rounds.proofs.opening.place.Goals as goal
@@ -28,21 +29,23 @@ returns-in_ok-start-in-Adopted g c =
             ∙ c.requires.between.sized;
       };
       worn = tt;
-      done = inl (subst (λ (t : Ticket). Connected (t ∷ []) [] 0 c.args.poller.now c.end_episodes.new.self c.args.own.now c.start.new.own) named
-          (placed c.args.poller.now c.count_opened.new.self ticket c.count_opened.ensures c.end_episodes.new.self c.end_episodes.ensures c.args.own.now c.start.new.own change.0
-          started.noted
-          (subst (λ (t : Ticket). IsIn c.args.poller.now.part t.slot) (sym named) c.requires.own)
-          (subst (λ (t : Ticket). t.generation ≡ slice_index c.args.poller.now.table t.slot + 1) (sym named) c.requires.next)
-          (adds_both ticket.slot (exchange.Adopted change.0 ∷ []) (drop 1 (opening 0 started.noted)) c.args.own.now.seat c.adopt.new.seat c.start.new.own.seat change.1
-          started.seat)
-          started.hand c.start.ensures.ready c.start.ensures.free));
+      placed = record {
+        done = inl (subst (λ (t : Ticket). Connected (t ∷ []) [] 0 c.args.poller.now c.end_episodes.new.self c.args.own.now c.start.new.own) named
+            (placed c.args.poller.now c.count_opened.new.self ticket c.count_opened.ensures c.end_episodes.new.self c.end_episodes.ensures c.args.own.now c.start.new.own change.0
+            started.noted
+            (subst (λ (t : Ticket). IsIn c.args.poller.now.part t.slot) (sym named) c.requires.next.own)
+            (subst (λ (t : Ticket). t.generation ≡ slice_index c.args.poller.now.table t.slot + 1) (sym named) c.requires.next.generation)
+            (adds_both ticket.slot (exchange.Adopted change.0 ∷ []) (drop 1 (opening 0 started.noted)) c.args.own.now.seat c.adopt.new.seat c.start.new.own.seat change.1
+            started.seat)
+            started.hand c.start.ensures.ready c.start.ensures.free));
+        counted = inl (is_opened c.args.poller.now c.count_opened.new.self ticket c.count_opened.ensures c.end_episodes.new.self c.end_episodes.ensures);
+        free = c.start.ensures.free;
+        slots = ap (λ (h : HandState). h.slots) c.in_ok-start-in-Adopted.ensures.started.hand;
+        room = room_less c.args.own.now.hand c.start.new.own.hand ticket c.in_ok-start-in-Adopted.ensures.started.hand;
+      };
       poller = places_told c.args.poller.now c.count_opened.new.self c.end_episodes.new.self _ (places_opened c.args.poller.now c.count_opened.new.self _ _ c.count_opened.ensures)
           c.end_episodes.ensures;
       ready = c.start.ensures.ready;
-      counted = inl (is_opened c.args.poller.now c.count_opened.new.self ticket c.count_opened.ensures c.end_episodes.new.self c.end_episodes.ensures);
-      free = c.start.ensures.free;
-      slots = ap (λ (h : HandState). h.slots) c.in_ok-start-in-Adopted.ensures.started.hand;
-      room = room_less c.args.own.now.hand c.start.new.own.hand ticket c.in_ok-start-in-Adopted.ensures.started.hand;
     }
 
 pub returns-in_err-start-in-Adopted : goal.returns-in_err-start-in-Adopted
@@ -56,13 +59,9 @@ returns-in_err-start-in-Adopted g c =
         sized = still_sized c.args.poller.now c.count_opened.new.self ticket c.count_opened.ensures ∙ c.requires.between.sized;
       };
       worn = passed_up c.from_residual.result c.in_err-start-in-Adopted.field-0.0 _ c.from_residual.ensures.1 c.in_err-start-in-Adopted.ensures.worn;
-      done = not_ok c.from_residual.result _ failed;
+      placed = not_ok c.from_residual.result _ failed;
       poller = places_opened c.args.poller.now c.count_opened.new.self _ _ c.count_opened.ensures;
       ready = c.start.ensures.ready;
-      counted = not_ok c.from_residual.result _ failed;
-      free = not_ok c.from_residual.result _ failed;
-      slots = not_ok c.from_residual.result _ failed;
-      room = not_ok c.from_residual.result _ failed;
     }
 
 pub returns-in-NotFree : goal.returns-in-NotFree
@@ -78,21 +77,23 @@ returns-in-NotFree g c =
         sized = ap (λ (s : PollerState). length s.table) c.count_lost.ensures ∙ c.requires.between.sized;
       };
       worn = tt;
-      done = inr (not_placed c.args.poller.now c.count_lost.new.self c.args.own.now c.adopt.new.seat ticket c.count_lost.ensures change);
+      placed = record {
+        done = inr (not_placed c.args.poller.now c.count_lost.new.self c.args.own.now c.adopt.new.seat ticket c.count_lost.ensures change);
+        counted = inr (
+          (
+            ap (λ (s : PollerState). s.opened) c.count_lost.ensures,
+            ap (λ (s : PollerState). s.dropped) c.count_lost.ensures,
+            ap (λ (s : PollerState). s.lost) c.count_lost.ensures,
+            ap (λ (s : PollerState). s.episodes) c.count_lost.ensures,
+          ),
+          change,
+        );
+        free = refl;
+        slots = refl;
+        room = omega arith;
+      };
       poller = places_lost c.args.poller.now c.count_lost.new.self _ c.count_lost.ensures;
       ready = refl;
-      counted = inr (
-        (
-          ap (λ (s : PollerState). s.opened) c.count_lost.ensures,
-          ap (λ (s : PollerState). s.dropped) c.count_lost.ensures,
-          ap (λ (s : PollerState). s.lost) c.count_lost.ensures,
-          ap (λ (s : PollerState). s.episodes) c.count_lost.ensures,
-        ),
-        change,
-      );
-      free = refl;
-      slots = refl;
-      room = omega arith;
     }
 
 pub start-requires-clause-holder : goal.start-requires-clause-holder

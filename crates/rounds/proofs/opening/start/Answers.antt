@@ -2,7 +2,7 @@ use Rattle.std.proofs.Common.{refl, sym, subst, ap, [], ◌∷◌}
 use Rattle.claims.specs.declared.view.Account.{Account}
 use Rattle.claims.specs.declared.view.Exchange.TheVariants.{Take, Release}
 use Rattle.claims.specs.Seats.{SeatState}
-use Rattle.claims.proofs.Seats.{account_after, only_at_post, only_at_twice}
+use Rattle.claims.proofs.Seats.{account_after}
 use Rattle.dispatch.specs.Posts.{IsWorn}
 use Rattle.dispatch.proofs.Holding.{holds_still, holds_behind_post}
 use Rattle.dispatch.proofs.Worn.{worn_still}

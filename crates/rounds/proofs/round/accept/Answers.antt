@@ -1,5 +1,5 @@
 use Rattle.std.proofs.Common.{ℕ, ◌≤◌, ◌∙◌, ap, subst, sym}
-use Rattle.dispatch.specs.Polls.{PollerState}
+use Rattle.rounds.specs.Pollers.{PollerState}
 use Rattle.rounds.specs.Rounds.{AcceptEnded}
 use Rattle.rounds.proofs.Connections.{accept_again, accept_both, accept_none, accept_told, accept_took, between_took, not_ok, passed_up, room_same, same_full, took_none}
 use Rattle.rounds.proofs.round.accept.Goals as goal

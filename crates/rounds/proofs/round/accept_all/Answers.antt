@@ -1,5 +1,5 @@
 use Rattle.std.proofs.Common.{refl, inl, inr, ◌+◌, ◌∙◌, ap, length, arith}
-use Rattle.dispatch.specs.Polls.{PollerState}
+use Rattle.rounds.specs.Pollers.{PollerState}
 use Rattle.rounds.proofs.Connections.{between_took, not_ok, passed_up, room_same, accept_none, accept_again, accept_still, same_tries, accept_and_took, accept_and_next, room_left}
 use Rattle.rounds.proofs.round.accept_all.Goals as goal
 
@@ -20,13 +20,11 @@ pub accept_next-requires : goal.accept_next-requires
 accept_next-requires g c =
     let room = c.loop-try.invariant.room in
     let same = room_same c.loop-try.own c.may_accept.new.own c.may_accept.ensures.took in
-    let sum = c.loop-try.invariant.tries in
     let more = c.loop-try-test.true in
     record {
       between = between_took c.args.shared.now.claims c.loop-try.own c.may_accept.new.own c.loop-try.poller c.loop-try.poller c.loop-try.invariant.between c.may_accept.ensures.took
           refl;
       room = omega arith;
-      left = omega arith;
       slot = c.may_accept.ensures.slot c.if-not-may_accept.false;
     }
 
@@ -55,7 +53,7 @@ pub returns-then-not-branch : goal.returns-then-not-branch
 returns-then-not-branch g c = record {
   between = c.accept_next.ensures.between;
   worn = tt;
-  done = accept_and_next c.loop-try.invariant.done c.may_accept.ensures.took c.in_ok-accept_next.ensures.done;
+  done = accept_and_next c.loop-try.invariant.done c.may_accept.ensures.took c.in_ok-accept_next.ensures.done.done;
   ended = inl (inl (c.in_ok-accept_next.ensures.starved c.if-not-branch.true));
   ready = c.accept_next.ensures.ready ∙ c.may_accept.ensures.took.ready ∙ c.loop-try.invariant.done.connected.ready;
   poller = accept_again c.args.poller.now c.loop-try.poller c.accept_next.new.poller c.loop-try.invariant.poller c.in_ok-accept_next.ensures.poller;
@@ -64,8 +62,8 @@ returns-then-not-branch g c = record {
 pub loop-try-preserved : goal.loop-try-preserved
 loop-try-preserved g c = record {
   between = c.in_ok-accept_next.ensures.between;
-  room = room_left c.loop-try._try c.loop-try.own c.may_accept.new.own c.accept_next.new.own c.may_accept.ensures.took c.in_ok-accept_next.ensures.room c.loop-try.invariant.room;
-  tries = (let left = c.in_ok-accept_next.ensures.tries in let sum = c.loop-try.invariant.tries in omega arith);
-  done = accept_and_next c.loop-try.invariant.done c.may_accept.ensures.took c.in_ok-accept_next.ensures.done;
+  room = room_left c.loop-try._try c.loop-try.own c.may_accept.new.own c.accept_next.new.own c.may_accept.ensures.took c.in_ok-accept_next.ensures.done.room c.loop-try.invariant.room;
+  tries = (let less = c.in_ok-accept_next.ensures.tries in let sum = c.loop-try.invariant.tries in let more = c.loop-try-test.true in omega arith);
+  done = accept_and_next c.loop-try.invariant.done c.may_accept.ensures.took c.in_ok-accept_next.ensures.done.done;
   poller = accept_again c.args.poller.now c.loop-try.poller c.accept_next.new.poller c.loop-try.invariant.poller c.in_ok-accept_next.ensures.poller;
 }

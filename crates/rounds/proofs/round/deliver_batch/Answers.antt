@@ -1,7 +1,7 @@
 use Rattle.std.proofs.Common.{ℕ, ◌≡◌, ◌≤◌, ◌∙◌, ◌↔◌, IsTrue, List, length, inr, refl, ap, subst, sym}
 use Rattle.std.specs.Prelude.{Contains}
 use Rattle.dispatch.specs.Hands.{ticket_room}
-use Rattle.dispatch.specs.Polls.{IsOwnTable, PollerState}
+use Rattle.rounds.specs.Pollers.{IsOwnTable, PollerState}
 use Rattle.rounds.specs.Deliveries.{Delivered}
 use Rattle.rounds.proofs.Connections.{not_ok, passed_up}
 use Rattle.rounds.proofs.Reports.{flag_still, own_reports}

@@ -1,7 +1,7 @@
 use Rattle.std.proofs.Common.{ℕ, List, ◌≤◌, ◌∙◌, length, refl, subst, sym, ap}
 use Rattle.ready.specs.declared.ticket.Ticket.{Ticket}
 use Rattle.dispatch.specs.Hands.{ticket_room}
-use Rattle.dispatch.specs.Polls.{PollerState, IsOwnTable}
+use Rattle.rounds.specs.Pollers.{PollerState, IsOwnTable}
 use Rattle.rounds.specs.Deliveries.{ArePosted}
 use Rattle.rounds.specs.Openings.{AreIn}
 use Rattle.rounds.specs.Sweeps.{all_opened}
@@ -24,13 +24,14 @@ returns-then-not-is_due g c =
       between = c.requires.between;
       poller = refl;
       worn = tt;
-      posted = subst (λ (ts : List Ticket). ArePosted ts c.args.own.now.seat c.args.own.now.seat c.args.own.now.hand c.args.own.now.hand)
-          (sym (no_sweep c.args.poller.now c.args.poller.now.swept refl)) (posted_none c.args.own.now.seat c.args.own.now.hand);
-      swept = not_swept c.args.poller.now c.args.limit c.is_due.result c.is_due.ensures c.if-not-is_due.true;
+      swept = record {
+        posted = subst (λ (ts : List Ticket). ArePosted ts c.args.own.now.seat c.args.own.now.seat c.args.own.now.hand c.args.own.now.hand)
+            (sym (no_sweep c.args.poller.now c.args.poller.now.swept refl)) (posted_none c.args.own.now.seat c.args.own.now.hand);
+        swept = not_swept c.args.poller.now c.args.limit c.is_due.result c.is_due.ensures c.if-not-is_due.true;
+      };
       unswept = tt;
       own = subst (λ (ts : List Ticket). AreIn c.args.poller.now.part ts) (sym (no_sweep c.args.poller.now c.args.poller.now.swept refl)) (λ slot out. refl);
-      ready = refl;
-      free = refl;
+      queues = record { ready = refl; free = refl };
     }
 
 pub returns-in_err-sweep : goal.returns-in_err-sweep
@@ -40,12 +41,10 @@ returns-in_err-sweep g c =
       between = record { same = c.sweep.ensures.same ∙ c.requires.between.same; idle = c.sweep.ensures.idle; sized = c.requires.between.sized };
       poller = refl;
       worn = passed_up c.from_residual.result c.in_err-sweep.field-0.0 _ c.from_residual.ensures.1 c.in_err-sweep.ensures.worn;
-      posted = not_ok c.from_residual.result _ failed;
       swept = not_ok c.from_residual.result _ failed;
       unswept = if_fails c.from_residual.result refl;
       own = subst (λ (ts : List Ticket). AreIn c.args.poller.now.part ts) (sym (no_sweep c.args.poller.now c.args.poller.now.swept refl)) (λ slot out. refl);
-      ready = refl;
-      free = refl;
+      queues = record { ready = refl; free = refl };
     }
 
 pub returns : goal.returns
@@ -58,15 +57,16 @@ returns g c =
       };
       poller = swept_only c.args.poller.now c.args.limit c.is_due.result c.is_due.ensures c.count_sweep.new.self c.count_sweep.ensures c.if-not-is_due.false;
       worn = tt;
-      posted = subst (λ (ts : List Ticket). ArePosted ts c.args.own.now.seat c.sweep.new.seat c.args.own.now.hand c.sweep.new.hand)
-          (sym (sweep_is c.args.poller.now c.args.limit c.is_due.result c.is_due.ensures c.count_sweep.new.self c.count_sweep.ensures c.if-not-is_due.false))
-          (subst (λ (t : List ℕ). ArePosted (all_opened t) c.args.own.now.seat c.sweep.new.seat c.args.own.now.hand c.sweep.new.hand) c.table.ensures.table
-          c.in_ok-sweep.ensures.posted);
-      swept = swept c.args.poller.now c.args.limit c.is_due.result c.is_due.ensures c.count_sweep.new.self c.count_sweep.ensures c.if-not-is_due.false;
+      swept = record {
+        posted = subst (λ (ts : List Ticket). ArePosted ts c.args.own.now.seat c.sweep.new.seat c.args.own.now.hand c.sweep.new.hand)
+            (sym (sweep_is c.args.poller.now c.args.limit c.is_due.result c.is_due.ensures c.count_sweep.new.self c.count_sweep.ensures c.if-not-is_due.false))
+            (subst (λ (t : List ℕ). ArePosted (all_opened t) c.args.own.now.seat c.sweep.new.seat c.args.own.now.hand c.sweep.new.hand) c.table.ensures.table
+            c.in_ok-sweep.ensures.posted);
+        swept = swept c.args.poller.now c.args.limit c.is_due.result c.is_due.ensures c.count_sweep.new.self c.count_sweep.ensures c.if-not-is_due.false;
+      };
       unswept = tt;
       own = own_sweep c.args.poller.now.part c.args.poller.now c.count_sweep.new.self
           (own_opened c.args.poller.now.part c.args.poller.now.table
           (subst (λ (t : List ℕ). IsOwnTable c.args.poller.now.part t) c.table.ensures.table c.table.ensures.own));
-      ready = refl;
-      free = refl;
+      queues = record { ready = refl; free = refl };
     }

@@ -1,4 +1,4 @@
-use Rattle.std.proofs.Common.{rules, ◌<◌, ◌≡◌, ◌∙◌, ℕ, List, Option, Some, None, Ok, Err, Result, slice_get, refl, sym, ap, subst, inl, inr, length}
+use Rattle.std.proofs.Common.{rules, ◌<◌, ◌≡◌, ◌∙◌, Option, Some, None, Ok, Err, Result, slice_get, refl, sym, ap, subst, inl, inr, length}
 use Rattle.ready.specs.declared.ticket.Ticket.{Ticket}
 use Rattle.dispatch.specs.Hands.{HandState}
 use Rattle.relay_log.specs.declared.faults.ServerFault.{ServerFault}
@@ -12,9 +12,8 @@ pub returns-then-not-has_slot_room : goal.returns-then-not-has_slot_room
 returns-then-not-has_slot_room g c =
     let oldest = slice_get c.args.own.now.hand.tickets 0 in
     record {
-      same = refl;
-      idle = c.requires.idle;
-      poller = ap (λ (marks : List ℕ). record c.args.poller.now { heavy = marks }) (marks_none oldest c.args.poller.now.heavy);
+      rest = c.requires.rest;
+      marks = marks_none oldest c.args.heavy.now;
       only = of_any oldest _ (λ t. record { table = refl; others = λ other ne. refl });
       turn = of_any oldest _ (λ t. refl);
       none = (
@@ -33,9 +32,8 @@ returns-in_default g c =
     let none : oldest ≡ None = sym c.take_ticket.ensures.value ∙ c.in_default.is in
     let still = ap (λ (h : HandState). record c.args.own.now { hand = h }) (none_taken c.args.own.now.hand c.take_ticket.new.self none c.take_ticket.ensures.left) in
     record {
-      same = refl;
-      idle = c.requires.idle;
-      poller = ap (λ (marks : List ℕ). record c.args.poller.now { heavy = marks }) (marks_none oldest c.args.poller.now.heavy);
+      rest = record { same = c.requires.rest.same; idle = c.requires.rest.idle };
+      marks = marks_none oldest c.args.heavy.now;
       only = of_none oldest _ none;
       turn = of_none oldest _ none;
       none = (λ is. inl (empty_is c.args.own.now.hand.tickets none), λ no. refl);
@@ -54,10 +52,9 @@ returns-in_err-worked g c =
     let made = own_made c.args.shared.now.claims.words c.in-Some.ticket (Err fault) c.args.own.now c.turn_of.new.own c.take_ticket.new.self c.take_ticket.ensures.left
     c.in_err-worked.ensures.made in
     record {
-      same = c.turn_of.ensures.only.table;
-      idle = c.turn_of.ensures.idle;
-      poller = ap (λ (marks : List ℕ). record c.args.poller.now { heavy = marks }) (marks_fault oldest c.in-Some.ticket c.from_residual.result fault c.args.poller.now.heavy first
-          failed);
+      rest = record { same = c.turn_of.ensures.only.table ∙ c.requires.rest.same; idle = c.turn_of.ensures.idle };
+      marks = marks_fault oldest c.in-Some.ticket c.from_residual.result fault c.args.heavy.now first
+          failed;
       only = of_first oldest c.in-Some.ticket _ first c.turn_of.ensures.only;
       turn = of_first oldest c.in-Some.ticket _ first
           (subst (λ (r : Result (Option Worked) ServerFault). OwnTurn c.args.shared.now.claims.words c.in-Some.ticket r c.args.own.now c.turn_of.new.own) (sym failed) made);
@@ -78,9 +75,8 @@ returns g c =
     let made = own_made c.args.shared.now.claims.words c.in-Some.ticket (Ok c.in_ok-worked.worked) c.args.own.now c.turn_of.new.own c.take_ticket.new.self
     c.take_ticket.ensures.left c.in_ok-worked.ensures.made in
     record {
-      same = c.turn_of.ensures.only.table;
-      idle = c.turn_of.ensures.idle;
-      poller = subst (λ (o : Option Ticket). c.follow_up.new.poller ≡ record c.args.poller.now { heavy = marks_after o (Ok (Some c.in_ok-worked.worked)) c.args.poller.now.heavy })
+      rest = record { same = c.turn_of.ensures.only.table ∙ c.requires.rest.same; idle = c.turn_of.ensures.idle };
+      marks = subst (λ (o : Option Ticket). c.follow_up.new.heavy ≡ marks_after o (Ok (Some c.in_ok-worked.worked)) c.args.heavy.now)
           (sym first) c.follow_up.ensures.marks;
       only = of_first oldest c.in-Some.ticket _ first c.turn_of.ensures.only;
       turn = of_first oldest c.in-Some.ticket _ first made;
@@ -96,8 +92,8 @@ returns g c =
 
 pub turn_of-requires : goal.turn_of-requires
 turn_of-requires g c = record {
-  same = c.requires.same;
-  idle = c.requires.idle;
+  same = c.requires.rest.same;
+  idle = c.requires.rest.idle;
   room = record {
     tickets = c.in-Some.ensures.room refl;
     slots = subst (λ (h : HandState). length h.slots < h.capacity) (sym c.take_ticket.ensures.left) (c.has_slot_room.ensures.0 c.if-not-has_slot_room.false);

@@ -1,4 +1,4 @@
-use Rattle.std.proofs.Common.{◌≡◌, ℕ, ◌∷◌, [], ap, refl, subst}
+use Rattle.std.proofs.Common.{ℕ, ◌∷◌, [], ap, refl, subst}
 use Rattle.ready.specs.declared.ticket.Ticket.{Ticket}
 use Rattle.claims.specs.declared.view.Exchange.TheVariants.{Take}
 use Rattle.claims.specs.Seats.{Adds}

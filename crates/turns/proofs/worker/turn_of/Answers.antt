@@ -1,5 +1,4 @@
 use Rattle.std.proofs.Common.{refl, arith}
-use Rattle.dispatch.specs.declared.shared.Own.{Own}
 use Rattle.turns.proofs.Turns.{busy_made, claimed_then, made_idle, none_made, work_begins}
 use Rattle.turns.proofs.worker.turn_of.Goals as goal
 

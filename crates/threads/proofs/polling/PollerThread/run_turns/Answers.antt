@@ -1,5 +1,7 @@
-use Rattle.std.proofs.Common.{rules, subst, []}
+use Rattle.std.proofs.Common.{rules, ap, subst, []}
 use Rattle.std.specs.Prelude.{Option, OnSome}
+use Rattle.rounds.specs.Pollers.{PollerState}
+use Rattle.turns.specs.Shares.{TicketsShared}
 use Rattle.turns.specs.declared.worker.Worked.{Worked}
 use Rattle.threads.specs.Loops.{OwnTurnsRan}
 use Rattle.threads.proofs.Loops.{cut_worn, own_both, own_none}
@@ -7,11 +9,12 @@ use Rattle.threads.proofs.polling.PollerThread.run_turns.Goals as goal
 
 pub loop-turn-init : goal.loop-turn-init
 loop-turn-init g c = record {
-  heavy = c.share_tickets.new.poller.heavy;
+  heavy = c.share_tickets.new.heavy;
   shared = c.share_tickets.new.own;
-  sharing = c.share_tickets.ensures.shared;
+  sharing = subst (λ (s : PollerState). TicketsShared s.heavy c.share_tickets.new.heavy c.args.self.now.own c.share_tickets.new.own) c.poller.view_is
+      c.share_tickets.ensures.shared;
   turns = own_none c.share_tickets.new.own;
-  poller = c.share_tickets.ensures.poller;
+  poller = ap (λ (s : PollerState). record s { heavy = c.share_tickets.new.heavy }) c.poller.view_is;
 }
 
 pub loop-turn-preserved : goal.loop-turn-preserved

@@ -1,7 +1,7 @@
 -- What the log is told once for as long as it lasts. Part of the promises.
 use Rattle.std.specs.Prelude.{false}
-use Rattle.dispatch.specs.Drops.{no_drops}
-use Rattle.dispatch.specs.declared.episodes.Episodes.{Episodes}
+use Rattle.rounds.specs.Drops.{no_drops}
+use Rattle.rounds.specs.declared.episodes.Episodes.{Episodes}
 
 -- nothing goes on
 abbrev pub no_episodes : Episodes

@@ -3,10 +3,10 @@
 use Rattle.std.specs.Prelude.{◌≡◌, ℕ, ◌+◌, ◌==◌, ◌||◌, nat_lt, Bool, false, Option, Some, None, if◌then◌else◌}
 use Rattle.relay_log.specs.declared.cause.Cause.{Cause}
 use Rattle.relay_log.specs.declared.cause.Cause.TheVariants as cause
-use Rattle.dispatch.specs.Polls.{counted_up}
-use Rattle.dispatch.specs.declared.drops.Tally.{Tally}
-use Rattle.dispatch.specs.declared.drops.Drops.{Drops}
-use Rattle.dispatch.specs.declared.dropping.Owed.{Owed}
+use Rattle.rounds.specs.Pollers.{counted_up}
+use Rattle.rounds.specs.declared.drops.Tally.{Tally}
+use Rattle.rounds.specs.declared.drops.Drops.{Drops}
+use Rattle.rounds.specs.declared.dropping.Owed.{Owed}
 
 -- nothing was told of a cause, and nothing is counted
 abbrev pub no_tally : Tally

@@ -1,6 +1,6 @@
 use Rattle.std.proofs.Common.{◌≡◌, replicate, rules}
-use Rattle.dispatch.proofs.Polls.{own_none, are_none}
-use Rattle.dispatch.proofs.poller.Poller.new.Goals as goal
+use Rattle.rounds.proofs.Pollers.{own_none, are_none}
+use Rattle.rounds.proofs.poller.Poller.new.Goals as goal
 
 pub invariant_of-result : goal.invariant_of-result
 invariant_of-result g c =

@@ -1,6 +1,6 @@
 //! An accepted connection that is closed unopened.
 ghost use Rattle.std.specs.Prelude.{◌≡◌};
-ghost use Rattle.dispatch.specs.Drops.{dropped_for};
+ghost use Rattle.rounds.specs.Drops.{dropped_for};
 
 use crate::drops::Drops;
 use log::Log;
@@ -32,7 +32,7 @@ impl Owed {
 /// [`Poller::count_dropped`](crate::Poller::count_dropped) takes it. It cannot be dropped, so each is counted.
 ///
 /// In a clause it is the cause.
-pub struct Dropped {
+pub(crate) struct Dropped {
     cause: Cause,
 }
 

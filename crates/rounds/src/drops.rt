@@ -1,7 +1,7 @@
 //! Which lines the log gets of accepted connections that are closed unopened: the first of a cause has one of its
 //! own, and those that follow it are counted.
 ghost use Rattle.std.specs.Prelude.{◌≡◌};
-ghost use Rattle.dispatch.specs.Drops.{all_told_at, dropped_at, dropped_for, due_at, follows, is_counted, no_drops, no_tally, owed, owed_for, tally_of, told_at, with_tally, AreTold};
+ghost use Rattle.rounds.specs.Drops.{all_told_at, dropped_at, dropped_for, due_at, follows, is_counted, no_drops, no_tally, owed, owed_for, tally_of, told_at, with_tally, AreTold};
 
 use crate::dropping::Owed;
 use log::Log;

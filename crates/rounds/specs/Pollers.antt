@@ -1,16 +1,13 @@
 -- What the poller keeps between its rounds. Part of the promises.
-use Rattle.std.specs.Prelude.{◌≡◌, ◌⊎◌, ℕ, ◌+◌, ◌-◌, ◌<◌, ◌≤◌, min, Bool, List, All, slice_index, slice_set}
-use Rattle.dispatch.specs.declared.episodes.Episodes.{Episodes}
-use Rattle.dispatch.specs.declared.opening.Opening.{Opening}
+use Rattle.std.specs.Prelude.{◌≡◌, ◌⊎◌, ℕ, ◌+◌, ◌≤◌, min, Bool, List, All, slice_index}
+use Rattle.rounds.specs.declared.episodes.Episodes.{Episodes}
+use Rattle.rounds.specs.declared.opening.Opening.{Opening}
 use Rattle.dispatch.specs.declared.part.Part.{Part}
+use Rattle.dispatch.specs.Limits.{last_generation}
+use Rattle.dispatch.specs.Splits.{IsIn}
 
--- this slot is one of a poller's
-pub record IsIn (part : Part) (slot : ℕ) : Type 0 where
-  pub least : part.first ≤ slot
-  pub most : slot < part.first + part.slots
-
--- What the front reported at the last wait, whether that failed, whether the front listens, each slot's generation, the
--- reports that this round delivers, the accept flag (whether a connection may wait to be accepted), whether accept(2)
+-- What the front reported at the last wait, whether that failed, how many milliseconds it could take (0 if the front does
+-- not say so), whether the front listens, each slot's generation, the reports that this round delivers, the accept flag (whether a connection may wait to be accepted), whether accept(2)
 -- was starved at its last answer, how many tries of it the last round left, what connections are opened with, the slots
 -- in which it opens them, each slot's heavy mark (how many of its next tickets are for the workers), how many it may
 -- open in all, how many it has opened and how many it has closed unopened, how many slots it no longer uses, the second
@@ -19,6 +16,7 @@ pub record IsIn (part : Part) (slot : ℕ) : Type 0 where
 pub record PollerState : Type 0 where
   pub reported : List ℕ
   pub failed : Bool
+  pub waited : ℕ
   pub listening : Bool
   pub table : List ℕ
   pub batch : List ℕ
@@ -39,15 +37,11 @@ pub record PollerState : Type 0 where
 
 -- every entry is a generation
 abbrev pub AreGenerations : List ℕ → Type 0
-AreGenerations table = All (λ generation. generation ≤ 140737488355327) table
+AreGenerations table = All (λ generation. generation ≤ last_generation) table
 
 -- a poller's table says of the slots of other pollers that they have had no connection
 abbrev pub IsOwnTable : Part → List ℕ → Type 0
 IsOwnTable part table = (slot : ℕ) → (IsIn part slot → ⊥) → slice_index table slot ≡ 0
-
--- the heavy marks, once a ticket of this slot was looked at: one less of its next is for the workers
-abbrev pub looked_at : ℕ → List ℕ → List ℕ
-looked_at slot heavy = slice_set heavy slot (slice_index heavy slot - 1)
 
 -- all connections that it may open have been
 abbrev pub HasOpenedAll : PollerState → Type 0

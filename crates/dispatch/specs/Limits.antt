@@ -1,0 +1,18 @@
+-- Numbers of the server that clauses name. Part of the promises.
+use Rattle.std.specs.Prelude.{ℕ}
+
+-- a slot whose connection had this generation is used no more: 2^47 - 1 (`MAX_GENERATION` of `token`)
+abbrev pub last_generation : ℕ
+last_generation = 140737488355327
+
+-- the most tickets that stay for turns of the poller's own thread while it has not found all workers busy
+abbrev pub own_turns : ℕ
+own_turns = 16
+
+-- the most calls of such a turn
+abbrev pub own_budget : ℕ
+own_budget = 8
+
+-- how many of a connection's next tickets go to the workers after such a turn that spent its budget
+abbrev pub heavy_marks : ℕ
+heavy_marks = 16

@@ -1,0 +1,59 @@
+//! Which tickets a poller's thread leaves to the workers.
+ghost use Rattle.std.specs.Prelude.{◌≡◌, ◌↔◌, IfOk, IsTrue, replicate, slice_index, slice_set};
+ghost use Rattle.dispatch.specs.Heavy.{looked_at};
+ghost use Rattle.dispatch.specs.Limits.{heavy_marks};
+
+use crate::limits::HEAVY_MARKS;
+use std::alloc::{AllocError, Global};
+use std::marker::Model;
+
+/// Each slot's heavy marks: how many of its next tickets are for the workers.
+///
+/// In a clause it is the list of these numbers.
+#[derive(Drop)]
+pub struct HeavyMarks {
+    marks: Vec<u8>,
+}
+
+impl Model for HeavyMarks {
+    ghost use Rattle.std.specs.Prelude.{ℕ, List};
+
+    ghost Value = { List ℕ };
+
+    ghost view = { λ h. h.marks.items };
+}
+
+impl HeavyMarks {
+    /// No marks, of this many slots. Fails only if there is no memory for them.
+    pub fn none(alloc: Global, slots: usize) -> Result<HeavyMarks, AllocError>
+        ensures { IfOk result (λ marks. marks ≡ replicate slots 0) }
+    {
+        let marks = vec![in alloc; 0; slots]?;
+        Ok(HeavyMarks { marks })
+    }
+
+    /// Whether the poller's own thread runs this slot's ticket. If the ticket goes to the workers, one of the slot's
+    /// marks is used up.
+    #[tactic(auto, using(crate::proofs::Marks::looked_at_light))]
+    pub fn is_light(&mut self, slot: usize) -> bool
+        ensures light { IsTrue result ↔ slice_index self.old slot ≡ 0 }
+        ensures marks { self.new ≡ looked_at slot self.old }
+    {
+        match self.marks.get_mut(slot) {
+            Some(left) if *left > 0 => {
+                *left -= 1;
+                false
+            }
+            _ => true,
+        }
+    }
+
+    /// The slot's connection spent the budget of a turn in the poller's thread: its next tickets are for the workers.
+    pub fn mark(&mut self, slot: usize)
+        ensures { self.new ≡ slice_set self.old slot heavy_marks }
+    {
+        if let Some(left) = self.marks.get_mut(slot) {
+            *left = HEAVY_MARKS;
+        }
+    }
+}

@@ -1,0 +1,347 @@
+//! What a poller keeps between its rounds.
+ghost use Rattle.std.specs.Prelude.{◌≡◌, ◌-◌, ◌<◌, ◌≤◌, ◌↔◌, [], length, IfOk, OnOk, OnErr, IsTrue, replicate, slice_set, true, false};
+ghost use Rattle.dispatch.specs.Limits.{last_generation};
+ghost use Rattle.dispatch.specs.Splits.{IsIn};
+ghost use Rattle.rounds.specs.Drops.{all_told_at, dropped_for, AreTold};
+ghost use Rattle.rounds.specs.Episodes.{no_episodes, opened_after};
+ghost use Rattle.rounds.specs.Limits.{max_accepts};
+ghost use Rattle.rounds.specs.Pollers.{AreGenerations, IsOwnTable, HasOpenedAll, counted_up};
+
+use crate::dropping::Dropped;
+use crate::episodes::Episodes;
+use crate::limits::MAX_ACCEPTS;
+use crate::opening::Opening;
+use dispatch::{Front, HeavyMarks, MAX_BATCH, Part, Shared};
+use log::Log;
+use ready::Ticket;
+use relay_log::Cause;
+use std::alloc::{AllocError, Global};
+use std::io;
+use std::marker::Model;
+
+/// What a poller keeps between its rounds: where connections and reports come from, and what it knows of them.
+#[derive(Drop)]
+pub struct Poller<F: Front> {
+    /// Where connections and reports come from.
+    pub(crate) front: F,
+    // Each slot's generation.
+    pub(crate) table: Vec<u64>,
+    // The reports of the last wait, which the round delivers: numbers of tokens.
+    pub(crate) batch: Vec<u64>,
+    // Whether a connection may be waiting to be accepted.
+    pub(crate) accepting: bool,
+    // Whether accept(2) was starved at its last answer. A round waits for reports then.
+    pub(crate) starved: bool,
+    // How many tries of accept(2) the last round left.
+    pub(crate) tries: usize,
+    pub(crate) opening: Opening,
+    // The slots in which it opens connections.
+    pub(crate) part: Part,
+    /// Which tickets its thread leaves to the workers. It is lent to the turns in that thread.
+    pub heavy: HeavyMarks,
+    // How many connections it may open in all.
+    most: u64,
+    opened: u64,
+    // How many connections it has closed unopened.
+    dropped: u64,
+    // How many slots are no longer used. A round that looks for the end counts them as free.
+    pub(crate) lost: u64,
+    // The second of the last round, at which it opens connections, and that of the last sweep.
+    pub(crate) second: u64,
+    pub(crate) swept: u64,
+    // Whether all slots were found to be back, once no more connections may be opened.
+    pub(crate) over: bool,
+    // What the log is told once for as long as it lasts.
+    pub(crate) episodes: Episodes,
+}
+
+/// A connection was accepted, and is counted nowhere yet. Nothing but [`Poller::accept`] makes one, and only
+/// `count_opened`, `count_dropped` and `count_lost` of that poller take it. It cannot be dropped, so each accepted
+/// connection is counted once.
+pub(crate) struct Uncounted(());
+
+impl<F: Front> Model for Poller<F> {
+    ghost use Rattle.std.specs.Prelude.{◌≤◌, length, vec_capacity};
+    ghost use Rattle.rounds.specs.Pollers.{PollerState, AreGenerations, IsOwnTable};
+
+    ghost Value = { PollerState };
+
+    ghost view = { λ p. record {
+      reported = F.reported p.front;
+      failed = F.failed p.front;
+      waited = F.waited p.front;
+      listening = F.listens p.front;
+      table = p.table.items;
+      batch = p.batch.items;
+      accepting = p.accepting;
+      starved = p.starved;
+      tries = p.tries;
+      opening = p.opening;
+      part = p.part;
+      heavy = p.heavy;
+      most = p.most;
+      opened = p.opened;
+      dropped = p.dropped;
+      lost = p.lost;
+      second = p.second;
+      swept = p.swept;
+      over = p.over;
+      episodes = p.episodes;
+    } };
+
+    ghost invariant = { λ p. AreGenerations p.table.items × IsOwnTable p.part p.table.items × (256 ≤ vec_capacity p.batch)
+        × (length p.batch.items ≤ 256) × (1 ≤ p.opening.ring) × (p.opening.ring ≤ 65536) };
+}
+
+impl<F: Front> Poller<F> {
+    /// A poller that has opened no connection yet. Its table is for `table` slots, and it opens connections in a part
+    /// of them, at most `most` in all, with what `opening` says.
+    ///
+    /// Fails only if there is no memory for what it keeps of each slot and for the batch. A round allocates memory
+    /// only for connections and log lines.
+    pub fn new(
+        alloc: Global,
+        front: F,
+        table: usize,
+        part: Part,
+        opening: Opening,
+        most: u64,
+    ) -> Result<Poller<F>, AllocError>
+    where
+        F: Drop,
+        requires ring { (1 ≤ opening.ring) × (opening.ring ≤ 65536) }
+        ensures { IfOk result (λ poller. poller ≡ record {
+          reported = F.reported front;
+          failed = F.failed front;
+          waited = F.waited front;
+          listening = F.listens front;
+          table = replicate table 0;
+          batch = [];
+          accepting = true;
+          starved = false;
+          tries = 0;
+          opening = opening;
+          part = part;
+          heavy = replicate table 0;
+          most = most;
+          opened = 0;
+          dropped = 0;
+          lost = 0;
+          second = 0;
+          swept = 0;
+          over = false;
+          episodes = no_episodes;
+        }) }
+    {
+        Ok(Poller {
+            front,
+            table: vec![in alloc; 0; table]?,
+            batch: Vec::with_capacity(alloc, MAX_BATCH)?,
+            accepting: true,
+            starved: false,
+            tries: 0,
+            opening,
+            part,
+            heavy: HeavyMarks::none(alloc, table)?,
+            most,
+            opened: 0,
+            dropped: 0,
+            lost: 0,
+            second: 0,
+            swept: 0,
+            over: false,
+            episodes: Episodes::none(),
+        })
+    }
+
+    /// From now on this slot counts as having had this many connections: the next one there has the next generation,
+    /// and there is none after the last, 2^47 - 1. A server starts at 0. `drill` starts near the last.
+    #[tactic(auto, using(crate::proofs::Pollers::own_set))]
+    pub fn start_at(&mut self, slot: usize, generation: u64)
+        requires inside { slot < length self.old.table }
+        requires own { IsIn self.old.part slot }
+        requires generation { generation ≤ last_generation }
+        ensures { self.new ≡ record self.old { table = slice_set self.old.table slot generation } }
+    {
+        self.table[slot] = generation;
+    }
+
+    /// It begins at this second: its first sweep comes once the idle limit has passed since then. It counts from
+    /// second 0 if this is not called.
+    pub fn begin_at(&mut self, second: u64)
+        ensures { self.new ≡ record self.old { swept = second } }
+    {
+        self.swept = second;
+    }
+
+    /// Whether all connections that it may open have been opened, and all of them are closed. A round finds that out
+    /// by the slots that were given back.
+    pub fn is_over(&self) -> bool
+        ensures { result ≡ self.now.over }
+    {
+        self.over
+    }
+
+    /// Whether a connection may be waiting to be accepted.
+    pub fn is_accepting(&self) -> bool
+        ensures { result ≡ self.now.accepting }
+    {
+        self.accepting
+    }
+
+    /// Each slot's generation: how many connections it has had, or counts as having had.
+    pub fn table(&self) -> &[u64]
+        ensures table { result.now ≡ self.now.table }
+        ensures generations { AreGenerations result.now }
+        ensures own { IsOwnTable self.now.part result.now }
+    {
+        self.table.as_slice()
+    }
+
+    /// The slots in which it opens connections.
+    pub fn part(&self) -> Part
+        ensures { result ≡ self.now.part }
+    {
+        self.part
+    }
+
+    /// From now on it opens no more connections: it counts as having opened all that it may.
+    pub fn stop_opening(&mut self)
+        ensures { self.new ≡ record self.old { most = 0 } }
+    {
+        self.most = 0;
+    }
+
+    /// Whether it has opened all connections that it may open.
+    pub fn has_opened_all(&self) -> bool
+        ensures { IsTrue result ↔ HasOpenedAll self.now }
+    {
+        self.opened >= self.most
+    }
+
+    /// The reports of the last wait, which the round delivers.
+    pub(crate) fn batch(&self) -> &[u64]
+        ensures batch { result.now ≡ self.now.batch }
+        ensures few { length result.now ≤ 256 }
+    {
+        self.batch.as_slice()
+    }
+
+    /// The listener was reported: a connection may be waiting to be accepted.
+    pub(crate) fn raise_accept_flag(&mut self)
+        ensures { self.new ≡ record self.old { accepting = true } }
+    {
+        self.accepting = true;
+    }
+
+    /// The round is made at this second.
+    pub(crate) fn set_second(&mut self, second: u64)
+        ensures { self.new ≡ record self.old { second = second } }
+    {
+        self.second = second;
+    }
+
+    /// A round made a sweep at its second.
+    pub(crate) fn count_sweep(&mut self)
+        ensures { self.new ≡ record self.old { swept = self.old.second } }
+    {
+        self.swept = self.second;
+    }
+
+    /// A round may try accept(2) this many times again.
+    pub(crate) fn reset_tries(&mut self)
+        ensures { self.new ≡ record self.old { tries = max_accepts } }
+    {
+        self.tries = MAX_ACCEPTS;
+    }
+
+    /// Tries accept(2) once ([`Front::accept`]), which counts as one of the round's tries if any is left.
+    pub(crate) fn accept(&mut self) -> io::Result<(F::Client, Uncounted)>
+        ensures accepted { OnOk result (self.new ≡ record self.old { tries = self.old.tries - 1; starved = false }) }
+        ensures refused { OnErr result (self.new ≡ record self.old { tries = self.old.tries - 1 }) }
+    {
+        self.tries = self.tries.saturating_sub(1);
+        let client = self.front.accept()?;
+        self.starved = false;
+        Ok((client, Uncounted(())))
+    }
+
+    /// A round opens an accepted connection in a slot that its thread holds: the slot has the ticket's generation
+    /// from now on. The statistics have it, too.
+    #[tactic(auto, using(crate::proofs::Pollers::own_set))]
+    pub(crate) fn count_opened(&mut self, shared: &Shared<F>, ticket: Ticket, uncounted: Uncounted)
+        requires inside { ticket.slot < length self.old.table }
+        requires own { IsIn self.old.part ticket.slot }
+        requires generation { ticket.generation ≤ last_generation }
+        ensures { self.new ≡ record self.old {
+          table = slice_set self.old.table ticket.slot ticket.generation;
+          opened = counted_up self.old.opened 1;
+        } }
+    {
+        self.table[ticket.slot] = ticket.generation;
+        self.opened = self.opened.saturating_add(1);
+        shared.count_opened(ticket.slot);
+        uncounted.spend();
+    }
+
+    /// A round closes a connection unopened. The log says why, or the connection is counted for a later line.
+    pub(crate) fn tell_dropped<N: Log>(&mut self, rt: &N, cause: Cause) -> Dropped
+        ensures cause { result ≡ cause }
+        ensures drops { self.new ≡ record self.old {
+          episodes = record self.old.episodes
+              { drops = dropped_for cause self.old.second self.old.episodes.drops };
+        } }
+    {
+        Dropped::tell(rt, &mut self.episodes.drops, cause, self.second)
+    }
+
+    /// A round logs at its second how many are counted, of each cause of which that second has had no line.
+    pub(crate) fn tell_counted<N: Log>(&mut self, rt: &N)
+        ensures told { self.new ≡ record self.old
+            { episodes = record self.old.episodes { drops = all_told_at self.old.second self.old.episodes.drops } } }
+        ensures all { AreTold self.new.second self.new.episodes.drops }
+    {
+        self.episodes.drops.tell(rt, self.second);
+    }
+
+    /// A connection was opened, or the thread ends: all that is counted is logged. From now on a lack is logged again,
+    /// and the next drop of each cause by a line of its own.
+    pub fn end_episodes<N: Log>(&mut self, rt: &N)
+        ensures { self.new ≡ record self.old { episodes = opened_after self.old.episodes } }
+    {
+        self.episodes.drops.end(rt);
+        self.episodes.starved = false;
+    }
+
+    /// A round closed an accepted connection unopened, which was logged, or is counted for a later line. Its slot is in
+    /// hand, and the statistics have it there, too.
+    pub(crate) fn count_dropped(
+        &mut self,
+        shared: &Shared<F>,
+        slot: usize,
+        dropped: Dropped,
+        uncounted: Uncounted,
+    )
+        ensures { self.new ≡ record self.old { dropped = counted_up self.old.dropped 1 } }
+    {
+        self.dropped = self.dropped.saturating_add(1);
+        shared.count_dropped(slot);
+        dropped.spend();
+        uncounted.spend();
+    }
+
+    /// A round found a slot that is no longer used, and closed the accepted connection that was for it.
+    pub(crate) fn count_lost(&mut self, uncounted: Uncounted)
+        ensures { self.new ≡ record self.old { lost = counted_up self.old.lost 1 } }
+    {
+        self.lost = self.lost.saturating_add(1);
+        uncounted.spend();
+    }
+}
+
+impl Uncounted {
+    /// It is counted.
+    fn spend(self) {
+        let Uncounted(()) = self;
+    }
+}
