@@ -23,7 +23,7 @@ use Rattle.dispatch.specs.Hands.{HandState}
 use Rattle.dispatch.specs.Outgoing.{outgoing, Inserted, tickets_out, slots_out, without_first, TookNothing}
 use Rattle.dispatch.specs.Heavy.{looked_at}
 use Rattle.rounds.specs.Pollers.{PollerState}
-use Rattle.rounds.specs.Rounds.{RoundDone, EndedEarly, ListenerKept, ListensToOpen}
+use Rattle.rounds.specs.Rounds.{RoundDone, RoundRefused, EndedEarly, ListenerKept, ListensToOpen}
 use Rattle.turns.specs.Shares.{AreShared, OneShared, TicketsShared}
 use Rattle.turns.specs.Turns.{TicketsKept, SlotGiven, SlotsKept, IsTurnOf, TurnMade, OwnTurn, program}
 use Rattle.rounds.specs.Acts.{Act, ActsMade, made_by, due_of, IsPost, IsTry}
@@ -633,11 +633,11 @@ fault_at (Ok done) = Poll
 fault_at (Err fault) = fault
 
 round_cut_by : (said : Bool → Type 0) (why : Why) (fault : ServerFault) (answer : Result (Unit {0}) ServerFault) (p begun q : PollerState) (a b : Own) → answer ≡ Err fault → why ≡ Met fault
-    → ((fault ≡ Poll) × (q.failed ≡ true)) ⊎ OnlyWorn fault b.seat
+    → RoundRefused fault q b
     → (answer ≢ Err Worn → RoundDone begun q a b) → Asked said p begun → q.most ≡ begun.most → ListenerKept begun q → NoTicketTaken a b → RoundCut said why p q a b
 round_cut_by said why fault answer p begun q a b is was (inl failed) done asked most listens took = inl (record {
   reason = was ∙ ap (λ (f : ServerFault). Met f) failed.0;
-  failed = failed.1;
+  failed = failed.1.failed;
   made = record {
     begun = begun;
     asked = asked;
@@ -654,13 +654,13 @@ round_cut_by said why fault answer p begun q a b is was (inr worn) done asked mo
 
 pub round_cut : (said : Bool → Type 0) (why : Why) (answer : Result (Unit {0}) ServerFault) (p begun q : PollerState) (a c b : Own)
     → (fault : ServerFault) × (answer ≡ Err fault) × (why ≡ Met fault)
-    → IfErr answer (λ fault. ((fault ≡ Poll) × (q.failed ≡ true)) ⊎ OnlyWorn fault b.seat)
+    → IfErr answer (λ fault. RoundRefused fault q b)
     → (answer ≢ Err Worn → RoundDone begun q c b) → Asked said p begun → q.most ≡ begun.most → ListenerKept begun q → NoTicketTaken c b → c ≡ a
     → RoundCut said why p q a b
 round_cut said why answer p begun q a c b (fault, is, was) refused done asked most listens took same =
     subst (λ (o : Own). RoundCut said why p q o b) same
     (round_cut_by said why fault answer p begun q c b is was
-    (subst (λ (r : Result (Unit {0}) ServerFault). IfErr r (λ fault. ((fault ≡ Poll) × (q.failed ≡ true)) ⊎ OnlyWorn fault b.seat)) is refused)
+    (subst (λ (r : Result (Unit {0}) ServerFault). IfErr r (λ fault. RoundRefused fault q b)) is refused)
     done asked most listens took)
 
 -- after a round the turns were cut short

@@ -118,9 +118,9 @@ pub record Took (ticket : Ticket) (old new : Own) : Type 0 where
   pub free : new.free ≡ old.free
   pub hand : new.hand ≡ old.hand
 
--- A poller's thread ran this many tickets in its hand, and met these faults. What it was to put before, and the tickets that are due again,
--- were run or are put or in hand, each once. The free slots that it was to give before, and those that the turns freed,
--- are given or in hand, each once. It took nothing from a queue
+-- A poller's thread ran this many tickets in its hand, and met these faults. What it was to put before, and the tickets
+-- that are due again, were run or are put or in hand, each once. The free slots that it was to give before, and those
+-- that the turns freed, are given or in hand, each once. It took nothing from a queue
 pub record OwnTurnsRan (count : ℕ) (faults : List ServerFault) (old new : Own) : Type 0 where
   pub ran : List Run
   pub due : List Ticket

@@ -10,7 +10,6 @@ use log::Log;
 use ready::FreeQueue;
 use relay_log::log_no_thread;
 use rounds::Poller;
-use rounds::Poller;
 use std::alloc::Global;
 use std::sync::atomic::AtomicBool;
 use std::sync::{Arc, Mutex, Wait};
