@@ -137,6 +137,7 @@ impl<F: Front + Drop, S: Sink> Front for RecordedFront<F, S> {
         ensures capacity { vec_capacity batch.new ≡ vec_capacity batch.old }
         ensures reported { batch.new.items ≡ F.reported self.new.inner }
         ensures listens { F.listens self.new.inner ≡ F.listens self.old.inner }
+        ensures waited { wait ≡ false → F.waited self.new.inner ≡ 0 }
         ensures failed { OnErr result (batch.new.items ≡ []) }
         ensures fault { IfErr result (λ error. error_kind error ≢ Interrupted → F.failed self.new.inner ≡ true) }
         ensures recorded { Records S.did (polled self.old.poller result batch.new.items) self.old.recorder.sink self.new.recorder.sink }
@@ -159,6 +160,7 @@ impl<F: Front + Drop, S: Sink> Front for RecordedFront<F, S> {
     fn accept(&mut self) -> io::Result<RecordedWire<F::Client, S>>
         ensures reported { F.reported self.new.inner ≡ F.reported self.old.inner }
         ensures failed { F.failed self.new.inner ≡ F.failed self.old.inner }
+        ensures waited { F.waited self.new.inner ≡ F.waited self.old.inner }
         ensures listens { F.listens self.new.inner ≡ F.listens self.old.inner }
         ensures unnamed { IfOk result (λ client. client.name ≡ None) }
         ensures recorded { Records S.did (act.Poller self.old.poller (polling.Accept (accepted result)) ∷ [])
@@ -196,6 +198,7 @@ impl<F: Front + Drop, S: Sink> Front for RecordedFront<F, S> {
         ensures same { F.Client.told client.new.inner ≡ F.Client.told client.old.inner }
         ensures reported { F.reported self.new.inner ≡ F.reported self.old.inner }
         ensures failed { F.failed self.new.inner ≡ F.failed self.old.inner }
+        ensures waited { F.waited self.new.inner ≡ F.waited self.old.inner }
         ensures listens { F.listens self.new.inner ≡ F.listens self.old.inner }
         ensures named { IfOk result (λ opened. (client.new.name ≡ Some client_token) × (opened.target.name ≡ Some target_token)) }
         ensures recorded { Records S.did
