@@ -1,8 +1,9 @@
 //! The steps of a poller's thread.
-ghost use Rattle.std.specs.Prelude.{◌≡◌, ◌⊎◌, ℕ, [], length, None, OnOk, OnSome, IfErr, IfOk};
+ghost use Rattle.std.specs.Prelude.{◌≡◌, ◌⊎◌, ℕ, [], length, slice_get, Ok, Some, None, OnOk, OnSome, IfErr, IfOk, IfSome};
 ghost use Rattle.std.specs.Arc.{arc_value};
 ghost use Rattle.claims.specs.Seats.{HoldsNothing};
 ghost use Rattle.rounds.specs.Drops.{no_drops};
+ghost use Rattle.rounds.specs.Pollers.{HasOpenedAll};
 ghost use Rattle.rounds.specs.Rounds.{EndedEarly, ListensToOpen};
 ghost use Rattle.turns.specs.Turns.{NoOwnTurn};
 ghost use Rattle.threads.specs.declared.ending.Why.{Why};
@@ -200,7 +201,8 @@ where
         Ok(())
     }
 
-    /// Runs the turn of the oldest ticket in hand. None if there is no ticket, or no room in hand for a slot.
+    /// Runs the turn of the oldest ticket in hand. None if there is no ticket, or no room in hand for a slot. If it ends
+    /// its connection, and no more may be opened, the poller of its slot is woken.
     fn turn<G: Gate, C: Clock, R: Wait + Log, S: StopFlag>(
         &mut self,
         context: &Context<'_, G, C, R, S>,
@@ -211,6 +213,8 @@ where
         ensures cut { IfErr result (λ ended. OwnTurnsRan 1 (faults_by ended.why) self.old.own self.new.own
             × WornEnd ended.why self.new.own) }
         ensures poller { self.new.poller ≡ record self.old.poller { heavy = self.new.poller.heavy } }
+        ensures woken { result ≡ Ok (Some Worked.Ended) → HasOpenedAll self.old.poller
+            → IfSome (slice_get self.old.own.hand.tickets 0) (λ ticket. F.woke (arc_value self.old.shared).waker ticket.slot) }
     {
         let poller = &mut self.poller;
         let is_closing = poller.has_opened_all();
