@@ -12,7 +12,6 @@ use Rattle.world.specs.declared.actors.Doing.TheVariants as doing
 use Rattle.world.specs.declared.event.Event.{Event}
 use Rattle.world.specs.declared.event.Event.TheVariants as event
 use Rattle.world.specs.declared.event.Act.TheVariants as act
-use Rattle.world.specs.declared.past.Past.{Past}
 use Rattle.world.specs.Calls.{OpenConnection, called, told_of, made}
 use Rattle.world.proofs.TurnsTotals.{get-set_same}
 use Rattle.kernel_model.specs.Kernel.{KernelState}
@@ -28,7 +27,7 @@ use Rattle.interleaving.specs.Threads.{System, Thread, Acts, Calls, with_thread,
 use Rattle.claims.specs.declared.view.Exchange.{Exchange}
 use Rattle.claims.specs.Rule.{made as exchange_made}
 use Rattle.interleaving.specs.Histories.{exchanges_in}
-use Rattle.interleaving.specs.Likeness.{Held, ThreadLike, Goes, machine_of, Settled, IsSettled, calls_in}
+use Rattle.interleaving.specs.Likeness.{outside_among, Held, ThreadLike, Goes, machine_of, Settled, IsSettled, calls_in}
 use Rattle.interleaving.proofs.Frames.{Follows, apart, go_on, thread_goes_on, holder_apart}
 use Rattle.interleaving.proofs.Posts.{some_notes}
 
@@ -39,22 +38,24 @@ abbrev held_to_limit : ℕ → ℕ → Connection → Connection
 held_to_limit now limit c = record c { pair = expired now limit c.pair }
 
 -- A worker holds the slot, and its connection fails where the idle limit has passed: by one event more, or none
-record Limited (st : System) (p : SlotState) (c : Connection) (workers : List WorkerState) (past : List Past) : Type 0 where
+record Limited (st : System) (p : SlotState) (c : Connection) (workers : List WorkerState) : Type 0 where
   pub events : List Event
-  pub allowed : machine_runs.run (machine_of st (with_connection p c) st.entry st.tickets workers past) events
-      ≡ Some (machine_of st (with_connection p (held_to_limit st.second st.limits.idle c)) st.entry st.tickets workers past)
+  pub allowed : machine_runs.run (machine_of st (with_connection p c) st.entry st.tickets workers) events
+      ≡ Some (machine_of st (with_connection p (held_to_limit st.second st.limits.idle c)) st.entry st.tickets workers)
   pub calls : calls_in events ≡ []
-  pub words : exchanges_in (machine_of st (with_connection p c) st.entry st.tickets workers past) events ≡ []
+  pub outside : outside_among events ≡ []
+  pub words : exchanges_in (machine_of st (with_connection p c) st.entry st.tickets workers) events ≡ []
 
-limited : (st : System) (p : SlotState) (c : Connection) (workers : List WorkerState) (past : List Past) (i left : ℕ) → slice_get workers i ≡ Some (busy (doing.Holds 0 left))
-    → (b : Bool) → is_overdue st.second st.limits.idle c.pair ≡ b → Limited st p c workers past
-limited st p c workers past i left had true over = record {
+limited : (st : System) (p : SlotState) (c : Connection) (workers : List WorkerState) (i left : ℕ) → slice_get workers i ≡ Some (busy (doing.Holds 0 left))
+    → (b : Bool) → is_overdue st.second st.limits.idle c.pair ≡ b → Limited st p c workers
+limited st p c workers i left had true over = record {
   events = event.Work i act.Expire ∷ [];
   allowed = rw (had, over) refl;
   calls = refl;
+  outside = refl;
   words = rw (had, over) refl;
 }
-limited st p c workers past i left had false over = record { events = []; allowed = rw over refl; calls = refl; words = refl }
+limited st p c workers i left had false over = record { events = []; allowed = rw over refl; calls = refl; outside = refl; words = refl }
 
 more_runs : (es more : List Event) (o : Option State)
     → ((q : State) → machine_runs.run q (es ++ more) ≡ option_and_then (λ (v : State). machine_runs.run v more) (machine_runs.run q es))
@@ -82,12 +83,12 @@ same_ends notes c = by (some_wait notes)
     by true = refl
     by false = refl
 
-takes : (st : System) (p : SlotState) (workers : List WorkerState) (past : List Past) → Settled st p workers
+takes : (st : System) (p : SlotState) (workers : List WorkerState) → Settled st p workers
     → (i : ℕ) (t : Thread) → slice_get st.threads i ≡ Some t
     → (c : Connection) → Held p i t c → st.place ≡ None → t.left ≤ st.limits.budget → slice_get workers i ≡ Some (busy (doing.Holds 0 st.limits.budget))
-    → Limited (notes_taken st i t c) (record p { notes = [] }) (heard st.word.pending c) workers past
-    → Follows [] (exchange_made word.take st.word ∷ []) (machine_of st p st.entry st.tickets workers past) (Acts i) (notes_taken st i t c)
-takes st p workers past set i t there c held at least had l =
+    → Limited (notes_taken st i t c) (record p { notes = [] }) (heard st.word.pending c) workers
+    → Follows [] (exchange_made word.take st.word ∷ []) (machine_of st p st.entry st.tickets workers) (Acts i) (notes_taken st i t c)
+takes st p workers set i t there c held at least had l =
     let e : Connection = held_to_limit st.second st.limits.idle (heard st.word.pending c) in
     let next : System = notes_taken st i t c in
     let q : SlotState = record p { notes = []; connection = Some e } in
@@ -95,13 +96,13 @@ takes st p workers past set i t there c held at least had l =
     let same : machine.heard c p.notes ≡ heard st.word.pending c = heard_as c p.notes ∙ rw count refl in
     let here : ThreadLike st.limits.budget st.place q i (planned st t t.left (heard st.word.pending c)) (busy (doing.Holds 0 st.limits.budget)) =
     Goes e st.limits.budget (record { holder = held.holder; connection = refl; generation = held.generation }) at refl refl least refl in
-    let words : exchanges_in (machine_of st p st.entry st.tickets workers past) (event.Work i act.Take ∷ l.events) ≡ exchange_made word.take (word_at p) ∷ [] =
+    let words : exchanges_in (machine_of st p st.entry st.tickets workers) (event.Work i act.Take ∷ l.events) ≡ exchange_made word.take (word_at p) ∷ [] =
     rw (had, held.connection, same) (ap (λ (xs : List Exchange). exchange_made word.take (word_at p) ∷ xs) l.words) in
     record {
       events = event.Work i act.Take ∷ l.events;
-      world = machine_of next q st.entry st.tickets workers past;
+      world = machine_of next q st.entry st.tickets workers;
       allowed = rw (had, held.connection, same) l.allowed;
-      like = IsSettled q workers past refl (record {
+      like = IsSettled q workers refl (record {
         ends = set.ends ∙ rw (held.connection, same_ends st.word.pending c) refl;
         word = rw set.word refl;
         place = λ no. absurd (let yes : is_by_worker p.holder ≡ true = rw held.holder refl in cc);
@@ -110,17 +111,18 @@ takes st p workers past set i t there c held at least had l =
             (λ j u v other like. apart st.limits.budget st.place st.place p q j u v (holder_apart p i j held.holder other) refl like);
       });
       calls = l.calls;
+      outside = l.outside;
       words = words ∙ ap (λ (v : WordState). exchange_made word.take v ∷ []) (sym set.word);
     }
 
-pub takes_notes : (st : System) (p : SlotState) (workers : List WorkerState) (past : List Past) → Settled st p workers
+pub takes_notes : (st : System) (p : SlotState) (workers : List WorkerState) → Settled st p workers
     → (i : ℕ) (t : Thread) → slice_get st.threads i ≡ Some t → (k : WorkerState) → slice_get workers i ≡ Some k
     → (c : Connection) → Held p i t c → st.place ≡ None → t.left ≤ st.limits.budget → k ≡ busy (doing.Holds 0 st.limits.budget)
-    → Follows [] (exchange_made word.take st.word ∷ []) (machine_of st p st.entry st.tickets workers past) (Acts i) (notes_taken st i t c)
-takes_notes st p workers past set i t there k had c held at least is =
+    → Follows [] (exchange_made word.take st.word ∷ []) (machine_of st p st.entry st.tickets workers) (Acts i) (notes_taken st i t c)
+takes_notes st p workers set i t there k had c held at least is =
     let still : slice_get workers i ≡ Some (busy (doing.Holds 0 st.limits.budget)) = had ∙ ap Some is in
-    takes st p workers past set i t there c held at least still
-    (limited (notes_taken st i t c) (record p { notes = [] }) (heard st.word.pending c) workers past i st.limits.budget still _ refl)
+    takes st p workers set i t there c held at least still
+    (limited (notes_taken st i t c) (record p { notes = [] }) (heard st.word.pending c) workers i st.limits.budget still _ refl)
 
 -- A call gets its reply
 
@@ -140,15 +142,15 @@ slot_calls : (now : ℕ) (p : SlotState) (k : KernelState) (c : Connection) (r :
 unfolding machine.slot_call
 slot_calls now p k c r line is made = rw (is, made) refl
 
-makes_call : (st : System) (p : SlotState) (workers : List WorkerState) (past : List Past) → Settled st p workers
+makes_call : (st : System) (p : SlotState) (workers : List WorkerState) → Settled st p workers
     → (i : ℕ) (t : Thread) → slice_get st.threads i ≡ Some t
     → (c : Connection) → Held p i t c → st.place ≡ None → (more : ℕ) → t.left ≤ more → slice_get workers i ≡ Some (busy (doing.Holds 0 more)) → nat_lt 0 more ≡ true
     → (r : Reply) (line : OpenConnection) → called st.second (record { kernel = st.kernel; connection = c }) r ≡ Some line
     → Limited (with_thread (record st { kernel = line.kernel }) i (planned st t (t.left - 1) line.connection)) p line.connection
-    (slice_set workers i (busy (doing.Holds 0 (more - 1)))) past
-    → Follows [] [] (machine_of st p st.entry st.tickets workers past) (Calls i r)
+    (slice_set workers i (busy (doing.Holds 0 (more - 1))))
+    → Follows [] [] (machine_of st p st.entry st.tickets workers) (Calls i r)
     (with_thread (record st { kernel = line.kernel }) i (planned st t (t.left - 1) line.connection))
-makes_call st p workers past set i t there c held at more least had some r line is l =
+makes_call st p workers set i t there c held at more least had some r line is l =
     let d : Connection = held_to_limit st.second st.limits.idle line.connection in
     let new : Thread = planned st t (t.left - 1) line.connection in
     let next : System = with_thread (record st { kernel = line.kernel }) i new in
@@ -162,9 +164,9 @@ makes_call st p workers past set i t there c held at more least had some r line 
     Goes d (more - 1) (record { holder = held.holder; connection = refl; generation = held.generation }) at refl refl (omega arith) refl in
     record {
       events = event.Work i (act.Call r) ∷ l.events;
-      world = machine_of next q st.entry st.tickets (slice_set workers i busier) past;
+      world = machine_of next q st.entry st.tickets (slice_set workers i busier);
       allowed = rw (had, some, made) l.allowed;
-      like = IsSettled q (slice_set workers i busier) past refl (record {
+      like = IsSettled q (slice_set workers i busier) refl (record {
         ends = set.ends ∙ rw (held.connection, ends) refl;
         word = set.word;
         place = λ no. absurd (let yes : is_by_worker p.holder ≡ true = rw held.holder refl in cc);
@@ -172,19 +174,20 @@ makes_call st p workers past set i t there c held at more least had some r line 
             (λ j u v other like. apart st.limits.budget st.place st.place p q j u v (holder_apart p i j held.holder other) refl like);
       });
       calls = ap (λ (xs : List (ℕ × Reply)). (i, r) ∷ xs) l.calls;
+      outside = l.outside;
       words = rw (had, some, made) l.words;
     }
 
-pub calls : (st : System) (p : SlotState) (workers : List WorkerState) (past : List Past) → Settled st p workers
+pub calls : (st : System) (p : SlotState) (workers : List WorkerState) → Settled st p workers
     → (i : ℕ) (t : Thread) → slice_get st.threads i ≡ Some t → (k : WorkerState) → slice_get workers i ≡ Some k
     → (c : Connection) → Held p i t c → st.place ≡ None → t.out ≡ Some c → (more : ℕ) → t.left ≤ more → k ≡ busy (doing.Holds 0 more) → nat_lt 0 more ≡ true
-    → (r : Reply) → Kept (Follows [] [] (machine_of st p st.entry st.tickets workers past) (Calls i r)) (after_call st i t r Call)
-calls st p workers past set i t there k had c held at out more least is some r =
+    → (r : Reply) → Kept (Follows [] [] (machine_of st p st.entry st.tickets workers) (Calls i r)) (after_call st i t r Call)
+calls st p workers set i t there k had c held at out more least is some r =
     let still : slice_get workers i ≡ Some (busy (doing.Holds 0 more)) = had ∙ ap Some is in
     kept_bind _ t.out (λ d has.
     let same : d ≡ c = (let both : Some d ≡ Some c = sym has ∙ out in cc) in
     rw same (kept_map _ (called st.second (record { kernel = st.kernel; connection = c }) r) (λ line made.
-    makes_call st p workers past set i t there c held at more least still some r line made
+    makes_call st p workers set i t there c held at more least still some r line made
     (limited (with_thread (record st { kernel = line.kernel }) i (planned st t (t.left - 1) line.connection)) p line.connection
-    (slice_set workers i (busy (doing.Holds 0 (more - 1)))) past i (more - 1)
+    (slice_set workers i (busy (doing.Holds 0 (more - 1)))) i (more - 1)
     (get-set_same workers i (busy (doing.Holds 0 more)) (busy (doing.Holds 0 (more - 1))) still) _ refl))))

@@ -6,7 +6,6 @@ use Rattle.token.specs.declared.name.Name.{Name}
 use Rattle.world.specs.declared.connection.Connection.{Connection}
 use Rattle.world.specs.declared.actors.Holder.TheVariants.{By}
 use Rattle.world.specs.declared.event.Event.{Event}
-use Rattle.world.specs.declared.past.Past.{Past}
 use Rattle.world.specs.Slots.{SlotState, WorkerState}
 use Rattle.world.specs.States.{State}
 use Rattle.world.specs.Steps as machine
@@ -15,7 +14,7 @@ use Rattle.world.proofs.TurnsTotals.{get-set_same, get-set_other}
 use Rattle.interleaving.specs.Threads.{System, Thread, Step}
 use Rattle.claims.specs.declared.view.Exchange.{Exchange}
 use Rattle.interleaving.specs.Histories.{exchanges_in, left_of}
-use Rattle.interleaving.specs.Likeness.{ahead, ThreadLike, Rests, Opens, Tries, Holds, HasOut, Goes, Stays, Leaves, HasClosed, HasRetired, WorkerFor, WorkersFor, ends_of, machine_of, Settled, HalfOpen, opened_slot, Like, IsSettled, IsHalfOpen, call_of, calls_in}
+use Rattle.interleaving.specs.Likeness.{outside_of, outside_among, ahead, ThreadLike, Rests, Opens, Tries, Holds, HasOut, Goes, Stays, Leaves, HasClosed, HasRetired, WorkerFor, WorkersFor, ends_of, machine_of, Settled, HalfOpen, opened_slot, Like, IsSettled, IsHalfOpen, call_of, calls_in}
 
 -- One step of the threads, which makes these exchanges, and what the machine makes of it, which was ahead by those before
 pub record Follows (before own : List Exchange) (w : State) (s : Step) (next : System) : Type 0 where
@@ -24,6 +23,7 @@ pub record Follows (before own : List Exchange) (w : State) (s : Step) (next : S
   pub allowed : machine_runs.run w events ≡ Some world
   pub like : Like next world
   pub calls : calls_in events ≡ call_of s
+  pub outside : outside_among events ≡ outside_of s
   pub words : before ++ exchanges_in w events ≡ own ++ ahead next world like
 
 pub one_event : (w : State) (e : Event) (v : State) → machine.step w e ≡ Some v → machine_runs.run w (e ∷ []) ≡ Some v
@@ -82,23 +82,23 @@ beside st n k flag accepted batch = record st { second = n; kernel = k; flag = f
 -- in both kinds of likeness
 pub record Frame (st : System) (before : List Exchange) (p : SlotState) (entry : ℕ) (tickets : List ℕ) (workers : List WorkerState) : Type 0 where
   pub ends : st.ends ≡ ends_of p
-  pub like : (n : ℕ) (k : KernelState) (flag accepted : Bool) (batch : List Name) (past : List Past)
-      → Like (beside st n k flag accepted batch) (machine_of (beside st n k flag accepted batch) p entry tickets workers past)
-  pub ahead_is : (n : ℕ) (k : KernelState) (flag accepted : Bool) (batch : List Name) (past : List Past)
-      → ahead (beside st n k flag accepted batch) (machine_of (beside st n k flag accepted batch) p entry tickets workers past) (like n k flag accepted batch past) ≡ before
+  pub like : (n : ℕ) (k : KernelState) (flag accepted : Bool) (batch : List Name)
+      → Like (beside st n k flag accepted batch) (machine_of (beside st n k flag accepted batch) p entry tickets workers)
+  pub ahead_is : (n : ℕ) (k : KernelState) (flag accepted : Bool) (batch : List Name)
+      → ahead (beside st n k flag accepted batch) (machine_of (beside st n k flag accepted batch) p entry tickets workers) (like n k flag accepted batch) ≡ before
 
 pub settled_frame : (st : System) (p : SlotState) (workers : List WorkerState) → Settled st p workers → Frame st [] p st.entry st.tickets workers
 settled_frame st p workers s = record {
   ends = s.ends;
-  like = λ n k flag accepted batch past. IsSettled p workers past refl (record { ends = s.ends; word = s.word; place = s.place; threads = s.threads });
-  ahead_is = λ n k flag accepted batch past. refl;
+  like = λ n k flag accepted batch. IsSettled p workers refl (record { ends = s.ends; word = s.word; place = s.place; threads = s.threads });
+  ahead_is = λ n k flag accepted batch. refl;
 }
 
 pub half_frame : (st : System) (t : Thread) (c : Connection) (workers : List WorkerState) → HalfOpen st t c workers
     → Frame st (left_of t.todo st.word) (opened_slot t.generation c) t.generation (t.generation ∷ []) workers
 half_frame st t c workers s = record {
   ends = s.ends;
-  like = λ n k flag accepted batch past. IsHalfOpen t c workers past refl (record {
+  like = λ n k flag accepted batch. IsHalfOpen t c workers refl (record {
     first = s.first;
     worker = s.worker;
     others = s.others;
@@ -106,7 +106,7 @@ half_frame st t c workers s = record {
     ends = s.ends;
     stage = s.stage;
   });
-  ahead_is = λ n k flag accepted batch past. refl;
+  ahead_is = λ n k flag accepted batch. refl;
 }
 
 -- one thread goes on, and no worker does
@@ -140,5 +140,6 @@ holder_apart p i j by other also = other (let same : By i ≡ By j = sym by ∙ 
 
 -- the next state of the machine, where nothing but the threads' own changes
 pub settles : (st next : System) (w : State) (s : Step) (before own : List Exchange) (like : Like next w) → call_of s ≡ [] → before ++ [] ≡ own ++ ahead next w like
-    → Follows before own w s next
-settles st next w s before own like nothing words = record { events = []; world = w; allowed = refl; like = like; calls = rw nothing refl; words = words }
+    → outside_of s ≡ [] → Follows before own w s next
+settles st next w s before own like nothing words inside =
+    record { events = []; world = w; allowed = refl; like = like; calls = rw nothing refl; outside = rw inside refl; words = words }

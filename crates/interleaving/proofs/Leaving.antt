@@ -15,7 +15,6 @@ use Rattle.world.specs.declared.actors.Holder.TheVariants.{Nobody, By, Free}
 use Rattle.world.specs.declared.actors.Doing.TheVariants as doing
 use Rattle.world.specs.declared.event.Event.TheVariants as event
 use Rattle.world.specs.declared.event.Act.TheVariants as act
-use Rattle.world.specs.declared.past.Past.{Past}
 use Rattle.world.specs.Slots.{SlotState, WorkerState, is_by_worker}
 use Rattle.world.specs.States.{State}
 use Rattle.world.specs.States as machine_states
@@ -35,43 +34,43 @@ held_by p i X by nobody = absurd (let yes : is_by_worker p.holder ≡ true = rw 
 
 -- The connection is back in its place
 
-put_back : (st : System) (p : SlotState) (workers : List WorkerState) (past : List Past) → Settled st p workers
+put_back : (st : System) (p : SlotState) (workers : List WorkerState) → Settled st p workers
     → (i : ℕ) (t : Thread) → slice_get st.threads i ≡ Some t → (k : WorkerState) → slice_get workers i ≡ Some k
     → (c : Connection) → Held p i t c → t.out ≡ Some c → (rest : List Act)
     → ThreadLike st.limits.budget (Some c) p i (record t { out = None; todo = rest }) k
-    → Follows [] [] (machine_of st p st.entry st.tickets workers past) (Acts i) (put_in st i t rest)
-put_back st p workers past set i t there k had c held out rest here =
+    → Follows [] [] (machine_of st p st.entry st.tickets workers) (Acts i) (put_in st i t rest)
+put_back st p workers set i t there k had c held out rest here =
     let new : Thread = record t { out = None; todo = rest } in
-    rw out (settles st (with_thread (record st { place = Some c }) i new) (machine_of st p st.entry st.tickets workers past) (Acts i) [] [] (IsSettled p workers past refl (record {
+    rw out (settles st (with_thread (record st { place = Some c }) i new) (machine_of st p st.entry st.tickets workers) (Acts i) [] [] (IsSettled p workers refl (record {
       ends = set.ends;
       word = set.word;
       place = λ no. held_by p i _ held.holder no;
       threads = thread_goes_on st.limits.budget st.place (Some c) p p st.threads workers i t new k set.threads there had here
           (λ j u v other like. apart st.limits.budget st.place (Some c) p p j u v (holder_apart p i j held.holder other) refl like);
-    })) refl refl)
+    })) refl refl refl)
 
 rests_now : (c : Connection) (some : Bool) → is_live (verdict c.pair) ≡ true → is_none (next_call c.pair) ≡ true → may_release c some ≡ true
 unfolding may_release
 rests_now c some live none = rw (none, live) refl
 
 -- with nothing to do
-pub puts_quiet : (st : System) (p : SlotState) (workers : List WorkerState) (past : List Past) → Settled st p workers
+pub puts_quiet : (st : System) (p : SlotState) (workers : List WorkerState) → Settled st p workers
     → (i : ℕ) (t : Thread) → slice_get st.threads i ≡ Some t → (k : WorkerState) → slice_get workers i ≡ Some k
     → (c : Connection) (more : ℕ) → Held p i t c → t.out ≡ Some c → k ≡ busy (doing.Holds 0 more)
     → is_live (verdict c.pair) ≡ true → is_none (next_call c.pair) ≡ true
-    → Follows [] [] (machine_of st p st.entry st.tickets workers past) (Acts i) (put_in st i t (Release ∷ []))
-puts_quiet st p workers past set i t there k had c more held out is live none =
-    put_back st p workers past set i t there k had c held out (Release ∷ [])
+    → Follows [] [] (machine_of st p st.entry st.tickets workers) (Acts i) (put_in st i t (Release ∷ []))
+puts_quiet st p workers set i t there k had c more held out is live none =
+    put_back st p workers set i t there k had c held out (Release ∷ [])
     (Leaves c more (record { holder = held.holder; connection = held.connection; generation = held.generation }) refl (rests_now c (is_nonempty p.notes) live none) refl is)
 
 -- with its budget spent
-pub puts_again : (st : System) (p : SlotState) (workers : List WorkerState) (past : List Past) → Settled st p workers
+pub puts_again : (st : System) (p : SlotState) (workers : List WorkerState) → Settled st p workers
     → (i : ℕ) (t : Thread) → slice_get st.threads i ≡ Some t → (k : WorkerState) → slice_get workers i ≡ Some k
     → (c : Connection) (more : ℕ) → Held p i t c → t.out ≡ Some c → k ≡ busy (doing.Holds 0 more)
     → is_live (verdict c.pair) ≡ true
-    → Follows [] [] (machine_of st p st.entry st.tickets workers past) (Acts i) (put_in st i t (Post ∷ Release ∷ []))
-puts_again st p workers past set i t there k had c more held out is live =
-    put_back st p workers past set i t there k had c held out (Post ∷ Release ∷ [])
+    → Follows [] [] (machine_of st p st.entry st.tickets workers) (Acts i) (put_in st i t (Post ∷ Release ∷ []))
+puts_again st p workers set i t there k had c more held out is live =
+    put_back st p workers set i t there k had c held out (Post ∷ Release ∷ [])
     (Stays c more (record { holder = held.holder; connection = held.connection; generation = held.generation }) refl live refl is)
 
 -- a post by the holder, which wakes nobody
@@ -84,11 +83,11 @@ due_now : (c : Connection) → is_live (verdict c.pair) ≡ true → may_release
 unfolding may_release
 due_now c live = rw live (or_true _)
 
-pub posts_due : (st : System) (p : SlotState) (workers : List WorkerState) (past : List Past) → Settled st p workers
+pub posts_due : (st : System) (p : SlotState) (workers : List WorkerState) → Settled st p workers
     → (i : ℕ) (t : Thread) → slice_get st.threads i ≡ Some t → (k : WorkerState) → slice_get workers i ≡ Some k
     → (c : Connection) (more : ℕ) → Held p i t c → st.place ≡ Some c → is_live (verdict c.pair) ≡ true → k ≡ busy (doing.Holds 0 more)
-    → Follows [] (exchange_made word.post st.word ∷ []) (machine_of st p st.entry st.tickets workers past) (Acts i) (with_thread (posted st t.generation) i (goes_on t (Release ∷ [])))
-posts_due st p workers past set i t there k had c more held at live is =
+    → Follows [] (exchange_made word.post st.word ∷ []) (machine_of st p st.entry st.tickets workers) (Acts i) (with_thread (posted st t.generation) i (goes_on t (Release ∷ [])))
+posts_due st p workers set i t there k had c more held at live is =
     let g : ℕ = c.pair.generation in
     let q : SlotState = with_note p g in
     let new : Thread = goes_on t (Release ∷ []) in
@@ -99,9 +98,9 @@ posts_due st p workers past set i t there k had c more held at live is =
     Leaves c more (record { holder = held.holder; connection = held.connection; generation = held.generation }) at (rw (some_more p.notes g) (due_now c live)) refl is in
     rw woke (record {
       events = event.Work i act.Post ∷ [];
-      world = machine_of next q st.entry st.tickets workers past;
+      world = machine_of next q st.entry st.tickets workers;
       allowed = rw (had, is, held.connection, live) refl;
-      like = IsSettled q workers past refl (record {
+      like = IsSettled q workers refl (record {
         ends = set.ends;
         word = ap (word_after word.post) set.word ∙ post_word p g;
         place = λ no. held_by p i _ held.holder no;
@@ -109,6 +108,7 @@ posts_due st p workers past set i t there k had c more held at live is =
             (λ j u v other like. noted_like st.limits.budget st.place p g j u v like);
       });
       calls = refl;
+      outside = refl;
       words = rw (had, is, held.connection, live, held.holder) refl;
     })
 
@@ -133,11 +133,11 @@ released_like st p workers set i t there c held at tickets =
           (λ j u v other like. apart st.limits.budget st.place st.place p q j u v (holder_apart p i j held.holder other) refl like);
     }
 
-releases_by : (st : System) (p : SlotState) (workers : List WorkerState) (past : List Past) → Settled st p workers
+releases_by : (st : System) (p : SlotState) (workers : List WorkerState) → Settled st p workers
     → (i : ℕ) (t : Thread) → slice_get st.threads i ≡ Some t → (more : ℕ) → slice_get workers i ≡ Some (busy (doing.Holds 0 more))
     → (c : Connection) → Held p i t c → st.place ≡ Some c → (b : Bool) → is_nonempty p.notes ≡ b → may_release c b ≡ true
-    → Follows [] (exchange_made word.release st.word ∷ []) (machine_of st p st.entry st.tickets workers past) (Acts i) (with_thread (released st t.generation) i (goes_on t []))
-releases_by st p workers past set i t there more had c held at true some may =
+    → Follows [] (exchange_made word.release st.word ∷ []) (machine_of st p st.entry st.tickets workers) (Acts i) (with_thread (released st t.generation) i (goes_on t []))
+releases_by st p workers set i t there more had c held at true some may =
     let wait : some_wait st.word.pending ≡ true = rw set.word (some_notes p.notes ∙ some) in
     let tickets : List ℕ = st.tickets ++ t.generation ∷ [] in
     let between : WorkerState = record { doing = doing.Idle; hand = ticket t.generation ∷ [] } in
@@ -145,7 +145,7 @@ releases_by st p workers past set i t there more had c held at true some may =
     rw wait (record {
       events = event.Work i act.Release ∷ event.Work i act.Put ∷ [];
       world = machine_of (with_thread (record st { word = word_after word.release st.word; tickets = tickets }) i (goes_on t [])) (record p { holder = Nobody })
-          st.entry tickets (slice_set workers i machine_states.resting) past;
+          st.entry tickets (slice_set workers i machine_states.resting);
       allowed = rw (
         had,
         held.connection,
@@ -156,48 +156,53 @@ releases_by st p workers past set i t there more had c held at true some may =
         set_twice workers i between machine_states.resting,
         longer,
       ) refl;
-      like = IsSettled (record p { holder = Nobody }) (slice_set workers i machine_states.resting) past refl
+      like = IsSettled (record p { holder = Nobody }) (slice_set workers i machine_states.resting) refl
           (released_like st p workers set i t there c held at tickets);
       calls = refl;
+      outside = refl;
       words = rw (had, held.connection, some, may, held.generation, get-set_same workers i (busy (doing.Holds 0 more)) between had, some_notes p.notes ∙ some) refl;
     })
-releases_by st p workers past set i t there more had c held at false some may =
+releases_by st p workers set i t there more had c held at false some may =
     let wait : some_wait st.word.pending ≡ false = rw set.word (some_notes p.notes ∙ some) in
     rw wait (record {
       events = event.Work i act.Release ∷ [];
       world = machine_of (with_thread (record st { word = word_after word.release st.word }) i (goes_on t [])) (record p { holder = Nobody })
-          st.entry st.tickets (slice_set workers i machine_states.resting) past;
+          st.entry st.tickets (slice_set workers i machine_states.resting);
       allowed = rw (had, held.connection, some, may) refl;
-      like = IsSettled (record p { holder = Nobody }) (slice_set workers i machine_states.resting) past refl
+      like = IsSettled (record p { holder = Nobody }) (slice_set workers i machine_states.resting) refl
           (released_like st p workers set i t there c held at st.tickets);
       calls = refl;
+      outside = refl;
       words = rw (had, held.connection, some, may, some_notes p.notes ∙ some) refl;
     })
 
-pub releases : (st : System) (p : SlotState) (workers : List WorkerState) (past : List Past) → Settled st p workers
+pub releases : (st : System) (p : SlotState) (workers : List WorkerState) → Settled st p workers
     → (i : ℕ) (t : Thread) → slice_get st.threads i ≡ Some t → (k : WorkerState) → slice_get workers i ≡ Some k
     → (c : Connection) (more : ℕ) → Held p i t c → st.place ≡ Some c → may_release c (is_nonempty p.notes) ≡ true → k ≡ busy (doing.Holds 0 more)
-    → Follows [] (exchange_made word.release st.word ∷ []) (machine_of st p st.entry st.tickets workers past) (Acts i) (with_thread (released st t.generation) i (goes_on t []))
-releases st p workers past set i t there k had c more held at may is =
-    releases_by st p workers past set i t there more (had ∙ ap Some is) c held at (is_nonempty p.notes) refl may
+    → Follows [] (exchange_made word.release st.word ∷ []) (machine_of st p st.entry st.tickets workers) (Acts i) (with_thread (released st t.generation) i (goes_on t []))
+releases st p workers set i t there k had c more held at may is =
+    releases_by st p workers set i t there more (had ∙ ap Some is) c held at (is_nonempty p.notes) refl may
 
 -- The connection is closed
 
-pub closes : (st : System) (p : SlotState) (workers : List WorkerState) (past : List Past) → Settled st p workers
+pub closes : (st : System) (p : SlotState) (workers : List WorkerState) → Settled st p workers
     → (i : ℕ) (t : Thread) → slice_get st.threads i ≡ Some t → (k : WorkerState) → slice_get workers i ≡ Some k
     → (c : Connection) (more : ℕ) → Held p i t c → st.place ≡ None → k ≡ busy (doing.Holds 0 more) → is_live (verdict c.pair) ≡ false
-    → Kept (Follows [] [] (machine_of st p st.entry st.tickets workers past) (Acts i)) (closed st i t (Retire ∷ Give ∷ []) c)
-closes st p workers past set i t there k had c more held at is over = kept_map _ (kernel.close_both st.kernel c.ends) (λ told may.
+    → Kept (Follows [] [] (machine_of st p st.entry st.tickets workers) (Acts i)) (closed st i t (Retire ∷ Give ∷ []) c)
+closes st p workers set i t there k had c more held at is over = kept_map _ (kernel.close_both st.kernel c.ends) (λ told may.
     let new : Thread = record t { out = None; todo = Retire ∷ Give ∷ [] } in
-    let next : System = with_thread (record st { kernel = told.value; ends = None }) i new in
+    let next : System = with_thread (record st {
+      kernel = told.value;
+      ends = None;
+      past = st.past ++ record { slot = 0; generation = c.pair.generation; verdict = verdict c.pair; ends = told.told } ∷ [];
+    }) i new in
     let q : SlotState = record p { connection = None } in
     let busier : WorkerState = busy (doing.Closed 0) in
-    let gone : List Past = past ++ record { slot = 0; generation = c.pair.generation; verdict = verdict c.pair; ends = told.told } ∷ [] in
     record {
       events = event.Work i act.Close ∷ [];
-      world = machine_of next q st.entry st.tickets (slice_set workers i busier) gone;
+      world = machine_of next q st.entry st.tickets (slice_set workers i busier);
       allowed = rw (had, is, held.connection, over, may) refl;
-      like = IsSettled q (slice_set workers i busier) gone refl (record {
+      like = IsSettled q (slice_set workers i busier) refl (record {
         ends = refl;
         word = set.word;
         place = λ no. held_by p i _ held.holder no;
@@ -206,24 +211,25 @@ closes st p workers past set i t there k had c more held at is over = kept_map _
             (λ j u v other like. apart st.limits.budget st.place st.place p q j u v (holder_apart p i j held.holder other) refl like);
       });
       calls = refl;
+      outside = refl;
       words = rw (had, is, held.connection, over, may) refl;
     })
 
-pub retires : (st : System) (p : SlotState) (workers : List WorkerState) (past : List Past) → Settled st p workers
+pub retires : (st : System) (p : SlotState) (workers : List WorkerState) → Settled st p workers
     → (i : ℕ) (t : Thread) → slice_get st.threads i ≡ Some t → (k : WorkerState) → slice_get workers i ≡ Some k
     → HeldClosed p i t → st.place ≡ None → k ≡ busy (doing.Closed 0)
-    → Follows [] (exchange_made word.retire st.word ∷ []) (machine_of st p st.entry st.tickets workers past) (Acts i)
+    → Follows [] (exchange_made word.retire st.word ∷ []) (machine_of st p st.entry st.tickets workers) (Acts i)
     (with_thread (record st { word = word_after word.retire st.word }) i (goes_on t (Give ∷ [])))
-retires st p workers past set i t there k had held at is =
+retires st p workers set i t there k had held at is =
     let new : Thread = goes_on t (Give ∷ []) in
     let next : System = with_thread (record st { word = word_after word.retire st.word }) i new in
     let q : SlotState = record p { holder = Free } in
     let busier : WorkerState = busy (doing.Retired 0) in
     record {
       events = event.Work i act.Retire ∷ [];
-      world = machine_of next q st.entry st.tickets (slice_set workers i busier) past;
+      world = machine_of next q st.entry st.tickets (slice_set workers i busier);
       allowed = rw (had, is) refl;
-      like = IsSettled q (slice_set workers i busier) past refl (record {
+      like = IsSettled q (slice_set workers i busier) refl (record {
         ends = set.ends;
         word = rw (set.word, held.holder) refl;
         place = λ yes. at ∙ sym held.connection;
@@ -231,6 +237,7 @@ retires st p workers past set i t there k had held at is =
             (λ j u v other like. apart st.limits.budget st.place st.place p q j u v (holder_apart p i j held.holder other) refl like);
       });
       calls = refl;
+      outside = refl;
       words = rw (had, is) refl;
     }
 
@@ -238,39 +245,41 @@ one_more : (n : ℕ) → replicate {A = ℕ} n zero ++ zero ∷ [] ≡ replicate
 one_more zero = refl
 one_more (suc n) = ap (λ (xs : List ℕ). 0 ∷ xs) (one_more n)
 
-gives_by : (st : System) (p : SlotState) (workers : List WorkerState) (past : List Past) → Settled st p workers
+gives_by : (st : System) (p : SlotState) (workers : List WorkerState) → Settled st p workers
     → (i : ℕ) (t : Thread) → slice_get st.threads i ≡ Some t → (k : WorkerState) → slice_get workers i ≡ Some k
     → p.generation ≡ t.generation → k ≡ busy (doing.Retired 0) → (b : Bool) → is_worn t.generation ≡ b
-    → Follows [] [] (machine_of st p st.entry st.tickets workers past) (Acts i) (with_thread (given st t.generation) i (goes_on t []))
-gives_by st p workers past set i t there k had own is true worn = rw worn (record {
+    → Follows [] [] (machine_of st p st.entry st.tickets workers) (Acts i) (with_thread (given st t.generation) i (goes_on t []))
+gives_by st p workers set i t there k had own is true worn = rw worn (record {
   events = event.Work i act.Free ∷ [];
-  world = machine_of (with_thread st i (goes_on t [])) p st.entry st.tickets (slice_set workers i machine_states.resting) past;
+  world = machine_of (with_thread st i (goes_on t [])) p st.entry st.tickets (slice_set workers i machine_states.resting);
   allowed = rw (had, is, own, worn) refl;
-  like = IsSettled p (slice_set workers i machine_states.resting) past refl (record {
+  like = IsSettled p (slice_set workers i machine_states.resting) refl (record {
     ends = set.ends;
     word = set.word;
     place = set.place;
     threads = go_on st.limits.budget st.place st.place p p st.threads workers i t (goes_on t []) machine_states.resting set.threads there (Rests refl refl) (λ j u v other like. like);
   });
   calls = refl;
+  outside = refl;
   words = rw (had, is) refl;
 })
-gives_by st p workers past set i t there k had own is false worn = rw worn (record {
+gives_by st p workers set i t there k had own is false worn = rw worn (record {
   events = event.Work i act.Free ∷ [];
-  world = machine_of (with_thread (record st { free = suc st.free }) i (goes_on t [])) p st.entry st.tickets (slice_set workers i machine_states.resting) past;
+  world = machine_of (with_thread (record st { free = suc st.free }) i (goes_on t [])) p st.entry st.tickets (slice_set workers i machine_states.resting);
   allowed = rw (had, is, own, worn, one_more st.free) refl;
-  like = IsSettled p (slice_set workers i machine_states.resting) past refl (record {
+  like = IsSettled p (slice_set workers i machine_states.resting) refl (record {
     ends = set.ends;
     word = set.word;
     place = set.place;
     threads = go_on st.limits.budget st.place st.place p p st.threads workers i t (goes_on t []) machine_states.resting set.threads there (Rests refl refl) (λ j u v other like. like);
   });
   calls = refl;
+  outside = refl;
   words = rw (had, is) refl;
 })
 
-pub gives : (st : System) (p : SlotState) (workers : List WorkerState) (past : List Past) → Settled st p workers
+pub gives : (st : System) (p : SlotState) (workers : List WorkerState) → Settled st p workers
     → (i : ℕ) (t : Thread) → slice_get st.threads i ≡ Some t → (k : WorkerState) → slice_get workers i ≡ Some k
     → p.generation ≡ t.generation → k ≡ busy (doing.Retired 0)
-    → Follows [] [] (machine_of st p st.entry st.tickets workers past) (Acts i) (with_thread (given st t.generation) i (goes_on t []))
-gives st p workers past set i t there k had own is = gives_by st p workers past set i t there k had own is (is_worn t.generation) refl
+    → Follows [] [] (machine_of st p st.entry st.tickets workers) (Acts i) (with_thread (given st t.generation) i (goes_on t []))
+gives st p workers set i t there k had own is = gives_by st p workers set i t there k had own is (is_worn t.generation) refl

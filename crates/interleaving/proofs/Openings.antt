@@ -15,7 +15,6 @@ use Rattle.world.specs.declared.actors.Holder.{Holder}
 use Rattle.world.specs.declared.actors.Holder.TheVariants.{Nobody, By, Free}
 use Rattle.world.specs.declared.event.Event.TheVariants as event
 use Rattle.world.specs.declared.event.Polling.TheVariants as polling
-use Rattle.world.specs.declared.past.Past.{Past}
 use Rattle.world.specs.Slots.{SlotState, WorkerState}
 use Rattle.world.specs.States.{State}
 use Rattle.world.specs.States as machine_states
@@ -25,7 +24,7 @@ use Rattle.world.specs.Words.{is_free}
 use Rattle.world.proofs.TurnsKept.{Kept, kept_some, kept_none, kept_bind, kept_map, kept_when}
 use Rattle.world.proofs.TurnsTotals.{total_at, get-set_same, get-set_other}
 use Rattle.world.proofs.TurnsFacts.{Facts, facts, SlotOk, Turns, is_number, worker_holds, worker_closes, worker_retires, one_same}
-use Rattle.interleaving.specs.Programs.{Release, opening}
+use Rattle.interleaving.specs.Programs.{Release, open_slot}
 use Rattle.interleaving.specs.Threads.{System, Thread, Acts, with_thread, goes_on, registering, registered, acts, released}
 use Rattle.claims.specs.declared.view.Exchange.{Exchange}
 use Rattle.claims.specs.Rule.{made as exchange_made}
@@ -73,10 +72,10 @@ none_here st p workers i u k there other free none gone (HasRetired own todo is)
     let least : worker_retires 0 k ≤ total (worker_retires 0) workers = total_at (worker_retires 0) workers i k there in
     let some : worker_retires 0 k ≡ 1 = rw is refl in omega arith)
 
-unused : (st : System) (p : SlotState) (workers : List WorkerState) (past : List Past) → Settled st p workers → Turns (machine_of st p st.entry st.tickets workers past)
+unused : (st : System) (p : SlotState) (workers : List WorkerState) → Settled st p workers → Turns (machine_of st p st.entry st.tickets workers)
     → (free : ℕ) → st.free ≡ suc free → Unused st p workers
-unused st p workers past set turns free some =
-    let w : State = machine_of st p st.entry st.tickets workers past in
+unused st p workers set turns free some =
+    let w : State = machine_of st p st.entry st.tickets workers in
     let sv : SlotOk (facts w 0 p.generation) p = turns.each 0 p refl in
     let gone : total (worker_retires 0) workers + total (is_number 0) (replicate st.free 0) ≤ one (is_free p.holder) = sv.gone in
     let places : total (is_number 0) (replicate st.free 0) ≡ 1 + total (is_number 0) (replicate free 0) = rw some refl in
@@ -99,21 +98,21 @@ after_set : (st : System) (new : Thread) (workers : List WorkerState)
     → (i : ℕ) (u : Thread) → i ≢ 0 → slice_get (slice_set st.threads 0 new) i ≡ Some u → (u.todo ≡ []) × (slice_get workers i ≡ Some machine_states.resting)
 after_set st new workers old i u other at = old i u (sym (get-set_other st.threads 0 i new (λ same. other (sym same))) ∙ at) other
 
-registers_by : (st : System) (p : SlotState) (workers : List WorkerState) (past : List Past) → Settled st p workers → Unused st p workers
+registers_by : (st : System) (p : SlotState) (workers : List WorkerState) → Settled st p workers → Unused st p workers
     → (t : Thread) → slice_get st.threads 0 ≡ Some t → (k : WorkerState) → slice_get workers 0 ≡ Some k → k ≡ machine_states.resting
     → (free : ℕ) → st.free ≡ suc free → st.accepted ≡ true → (client target : EndName) → token_of 0 Client (st.entry + 1) ≡ Some client → token_of 0 Target (st.entry + 1) ≡ Some target
-    → Follows [] [] (machine_of st p st.entry st.tickets workers past) (Acts 0) (registered st 0 t (drop 1 opening) free (st.entry + 1) (kernel.open_both st.kernel client target))
-registers_by st p workers past set un t there k had is free some accepted client target one two =
+    → Follows [] [] (machine_of st p st.entry st.tickets workers) (Acts 0) (registered st 0 t (drop 1 open_slot) free (st.entry + 1) (kernel.open_both st.kernel client target))
+registers_by st p workers set un t there k had is free some accepted client target one two =
     let g : ℕ = st.entry + 1 in
     let told : Told KernelState Descriptors = kernel.open_both st.kernel client target in
     let c : Connection = record { pair = fresh 0 g st.limits.ring st.second st.limits.lead; ends = told.told } in
-    let new : Thread = record t { generation = g; out = Some c; todo = drop 1 opening } in
-    let next : System = registered st 0 t (drop 1 opening) free g told in
+    let new : Thread = record t { generation = g; out = Some c; todo = drop 1 open_slot } in
+    let next : System = registered st 0 t (drop 1 open_slot) free g told in
     record {
       events = event.Poll polling.Open ∷ event.Poll polling.Put ∷ [];
-      world = machine_of next (opened_slot g c) g (g ∷ []) workers past;
+      world = machine_of next (opened_slot g c) g (g ∷ []) workers;
       allowed = rw (accepted, some, one, two, un.tickets) refl;
-      like = IsHalfOpen new c workers past refl (record {
+      like = IsHalfOpen new c workers refl (record {
         first = get-set_same st.threads 0 t new there;
         worker = had ∙ ap Some is;
         others = after_set st new workers un.others;
@@ -122,55 +121,56 @@ registers_by st p workers past set un t there k had is free some accepted client
         stage = Registered (length p.notes) refl (rw (set.word, un.holder) refl) (set.place (rw un.holder refl) ∙ un.connection) refl;
       });
       calls = refl;
+      outside = refl;
       words = rw (accepted, some, one, two, set.word) refl;
     }
 
-registers_with : (st : System) (p : SlotState) (workers : List WorkerState) (past : List Past) → Settled st p workers → Turns (machine_of st p st.entry st.tickets workers past)
+registers_with : (st : System) (p : SlotState) (workers : List WorkerState) → Settled st p workers → Turns (machine_of st p st.entry st.tickets workers)
     → (t : Thread) → slice_get st.threads 0 ≡ Some t → (k : WorkerState) → slice_get workers 0 ≡ Some k → k ≡ machine_states.resting
-    → (free : ℕ) → st.free ≡ free → Kept (Follows [] [] (machine_of st p st.entry st.tickets workers past) (Acts 0)) (registering st 0 t (drop 1 opening) free)
-registers_with st p workers past set turns t there k had is zero some = kept_none
-registers_with st p workers past set turns t there k had is (suc free) some = kept_when st.accepted _ (λ accepted.
+    → (free : ℕ) → st.free ≡ free → Kept (Follows [] [] (machine_of st p st.entry st.tickets workers) (Acts 0)) (registering st 0 t (drop 1 open_slot) free)
+registers_with st p workers set turns t there k had is zero some = kept_none
+registers_with st p workers set turns t there k had is (suc free) some = kept_when st.accepted _ (λ accepted.
     kept_bind _ (token_of 0 Client (st.entry + 1)) (λ client one. kept_map _ (token_of 0 Target (st.entry + 1)) (λ target two.
-    registers_by st p workers past set (unused st p workers past set turns free some) t there k had is free some accepted client target one two)))
+    registers_by st p workers set (unused st p workers set turns free some) t there k had is free some accepted client target one two)))
 
-pub registers : (st : System) (p : SlotState) (workers : List WorkerState) (past : List Past) → Settled st p workers → Turns (machine_of st p st.entry st.tickets workers past)
+pub registers : (st : System) (p : SlotState) (workers : List WorkerState) → Settled st p workers → Turns (machine_of st p st.entry st.tickets workers)
     → (t : Thread) → slice_get st.threads 0 ≡ Some t → (k : WorkerState) → slice_get workers 0 ≡ Some k → k ≡ machine_states.resting
-    → Kept (Follows [] [] (machine_of st p st.entry st.tickets workers past) (Acts 0)) (registering st 0 t (drop 1 opening) st.free)
-registers st p workers past set turns t there k had is = registers_with st p workers past set turns t there k had is st.free refl
+    → Kept (Follows [] [] (machine_of st p st.entry st.tickets workers) (Acts 0)) (registering st 0 t (drop 1 open_slot) st.free)
+registers st p workers set turns t there k had is = registers_with st p workers set turns t there k had is st.free refl
 
 -- The acts after that: the machine makes no event
 
-abbrev pub half_world : System → Thread → Connection → List WorkerState → List Past → State
-half_world st t c workers past = machine_of st (opened_slot t.generation c) t.generation (t.generation ∷ []) workers past
+abbrev pub half_world : System → Thread → Connection → List WorkerState → State
+half_world st t c workers = machine_of st (opened_slot t.generation c) t.generation (t.generation ∷ []) workers
 
 -- the next stage
-stays_half : (st : System) (t : Thread) (c : Connection) (workers : List WorkerState) (past : List Past) → HalfOpen st t c workers
+stays_half : (st : System) (t : Thread) (c : Connection) (workers : List WorkerState) → HalfOpen st t c workers
     → (new : WordState) (place : Option Connection) (entry : ℕ) (u : Thread) → u.generation ≡ t.generation → Stage new place entry u c
     → (before own : List Exchange) → before ++ [] ≡ own ++ left_of u.todo new
-    → Follows before own (half_world st t c workers past) (Acts 0) (with_thread (record st { word = new; place = place; entry = entry }) 0 u)
-stays_half st t c workers past half new place entry u same stage before own words =
-    settles st (with_thread (record st { word = new; place = place; entry = entry }) 0 u) (half_world st t c workers past) (Acts 0) before own
-    (IsHalfOpen u c workers past (rw same refl) (record {
+    → Follows before own (half_world st t c workers) (Acts 0) (with_thread (record st { word = new; place = place; entry = entry }) 0 u)
+stays_half st t c workers half new place entry u same stage before own words =
+    settles st (with_thread (record st { word = new; place = place; entry = entry }) 0 u) (half_world st t c workers) (Acts 0) before own
+    (IsHalfOpen u c workers (rw same refl) (record {
       first = get-set_same st.threads 0 t u half.first;
       worker = half.worker;
       others = after_set st u workers (λ i v at other. half.others i v other at);
       tickets = half.tickets;
       ends = half.ends;
       stage = stage;
-    })) refl words
+    })) refl words refl
 
 -- the slot is released, and the opening is over
-leaves_half : (st : System) (t : Thread) (c : Connection) (workers : List WorkerState) (past : List Past) → HalfOpen st t c workers
+leaves_half : (st : System) (t : Thread) (c : Connection) (workers : List WorkerState) → HalfOpen st t c workers
     → st.word ≡ taken_word 1 → st.place ≡ Some c → st.entry ≡ t.generation
-    → Follows (left_of (Release ∷ []) st.word) (exchange_made word.release st.word ∷ []) (half_world st t c workers past) (Acts 0) (with_thread (released st t.generation) 0 (goes_on t []))
-leaves_half st t c workers past half is at own =
+    → Follows (left_of (Release ∷ []) st.word) (exchange_made word.release st.word ∷ []) (half_world st t c workers) (Acts 0) (with_thread (released st t.generation) 0 (goes_on t []))
+leaves_half st t c workers half is at own =
     let next : System = with_thread (record st { word = record { pending = 1; free = false; held = false }; tickets = t.generation ∷ [] }) 0 (goes_on t []) in
-    rw (is, half.tickets) (settles st next (half_world st t c workers past) (Acts 0) _ _ (IsSettled (opened_slot t.generation c) workers past (rw own refl) (record {
+    rw (is, half.tickets) (settles st next (half_world st t c workers) (Acts 0) _ _ (IsSettled (opened_slot t.generation c) workers (rw own refl) (record {
       ends = half.ends;
       word = refl;
       place = λ yes. at;
       threads = λ i u there. over i u there (cases_eq i 0);
-    })) refl refl)
+    })) refl refl refl)
   where
     over : (i : ℕ) (u : Thread) → slice_get (slice_set st.threads 0 (goes_on t [])) i ≡ Some u → (i ≡ 0) ⊎ (i ≢ 0)
         → WorkerFor st.limits.budget st.place (opened_slot t.generation c) workers i u
@@ -183,16 +183,16 @@ leaves_half st t c workers past half is at own =
         let rest : (u.todo ≡ []) × (slice_get workers i ≡ Some machine_states.resting) = after_set st (goes_on t []) workers (λ j v at other. half.others j v other at) i u other there in
         record { worker = machine_states.resting; there = rest.1; like = Rests rest.0 refl }
 
-pub goes_half : (st : System) (t : Thread) (c : Connection) (workers : List WorkerState) (past : List Past) → HalfOpen st t c workers → Stage st.word st.place st.entry t c
-    → Kept (Follows (left_of t.todo st.word) (exchange st.word (first_kind t.todo)) (half_world st t c workers past) (Acts 0)) (acts st 0 t t.todo)
-goes_half st t c workers past half (Registered notes todo is at out) = rw (todo, is) (kept_some
-    (stays_half st t c workers past half (taken_word notes) st.place st.entry (goes_on t (drop 2 opening)) refl (Adopted notes refl refl at out) _ _ refl))
-goes_half st t c workers past half (Adopted notes todo is at out) = rw todo (kept_some
-    (stays_half st t c workers past half st.word st.place t.generation (goes_on t (drop 3 opening)) refl (Entered notes refl is at out refl) _ _ refl))
-goes_half st t c workers past half (Entered notes todo is at out own) = rw (todo, is) (kept_some
-    (stays_half st t c workers past half (taken_word 0) st.place st.entry (goes_on t (drop 4 opening)) refl (Emptied refl refl at out own) _ _ refl))
-goes_half st t c workers past half (Emptied todo is at out own) = rw todo (kept_some
-    (stays_half st t c workers past half st.word t.out st.entry (record t { out = None; todo = drop 5 opening }) refl (Placed refl is out own) _ _ refl))
-goes_half st t c workers past half (Placed todo is at own) = rw (todo, is) (kept_some
-    (stays_half st t c workers past half (taken_word 1) st.place st.entry (goes_on t (drop 6 opening)) refl (Posted refl refl at own) _ _ refl))
-goes_half st t c workers past half (Posted todo is at own) = rw todo (kept_some (leaves_half st t c workers past half is at own))
+pub goes_half : (st : System) (t : Thread) (c : Connection) (workers : List WorkerState) → HalfOpen st t c workers → Stage st.word st.place st.entry t c
+    → Kept (Follows (left_of t.todo st.word) (exchange st.word (first_kind t.todo)) (half_world st t c workers) (Acts 0)) (acts st 0 t t.todo)
+goes_half st t c workers half (Registered notes todo is at out) = rw (todo, is) (kept_some
+    (stays_half st t c workers half (taken_word notes) st.place st.entry (goes_on t (drop 2 open_slot)) refl (Adopted notes refl refl at out) _ _ refl))
+goes_half st t c workers half (Adopted notes todo is at out) = rw todo (kept_some
+    (stays_half st t c workers half st.word st.place t.generation (goes_on t (drop 3 open_slot)) refl (Entered notes refl is at out refl) _ _ refl))
+goes_half st t c workers half (Entered notes todo is at out own) = rw (todo, is) (kept_some
+    (stays_half st t c workers half (taken_word 0) st.place st.entry (goes_on t (drop 4 open_slot)) refl (Emptied refl refl at out own) _ _ refl))
+goes_half st t c workers half (Emptied todo is at out own) = rw todo (kept_some
+    (stays_half st t c workers half st.word t.out st.entry (record t { out = None; todo = drop 5 open_slot }) refl (Placed refl is out own) _ _ refl))
+goes_half st t c workers half (Placed todo is at own) = rw (todo, is) (kept_some
+    (stays_half st t c workers half (taken_word 1) st.place st.entry (goes_on t (drop 6 open_slot)) refl (Posted refl refl at own) _ _ refl))
+goes_half st t c workers half (Posted todo is at own) = rw todo (kept_some (leaves_half st t c workers half is at own))

@@ -16,7 +16,6 @@ use Rattle.world.specs.declared.connection.Connection.{Connection}
 use Rattle.world.specs.declared.event.Event.{Event}
 use Rattle.world.specs.declared.event.Event.TheVariants as event
 use Rattle.world.specs.declared.event.Polling.TheVariants as polling
-use Rattle.world.specs.declared.past.Past.{Past}
 use Rattle.world.specs.Slots.{SlotState, WorkerState, is_held}
 use Rattle.world.specs.Steps as machine
 use Rattle.world.specs.Steps.{with_note, brings_ticket, may_release}
@@ -26,7 +25,7 @@ use Rattle.world.proofs.TurnsKept.{Kept, kept_some, kept_none, kept_when, kept_g
 use Rattle.interleaving.specs.Threads.{System, Thread, Step, Deliver, Sweep, is_limited, poller_rests, posted, delivered, delivers, step}
 use Rattle.claims.specs.Rule.{made as exchange_made}
 use Rattle.interleaving.specs.Histories.{exchange, posts, kind_in, exchanges_of}
-use Rattle.interleaving.specs.Likeness.{ticket, Held, ThreadLike, Rests, Opens, Tries, Holds, HasOut, Goes, Stays, Leaves, HasClosed, HasRetired, WorkerFor, WorkersFor, machine_of, Settled, IsSettled, call_of, call_in}
+use Rattle.interleaving.specs.Likeness.{outside_in, outside_of, ticket, Held, ThreadLike, Rests, Opens, Tries, Holds, HasOut, Goes, Stays, Leaves, HasClosed, HasRetired, WorkerFor, WorkersFor, machine_of, Settled, IsSettled, call_of, call_in}
 use Rattle.interleaving.proofs.Frames.{Follows, settled_frame}
 use Rattle.interleaving.proofs.Outside.{two_parts, alone}
 
@@ -100,31 +99,33 @@ settled_post st p workers g batch s = record {
 }
 
 -- the machine's posts, by an event that does this
-posts_by : (st : System) (p : SlotState) (workers : List WorkerState) (past : List Past) (s : Step) (e : Event) (g : ℕ) (batch : List Name) → Settled st p workers
-    → call_in e ≡ [] → call_of s ≡ [] → (b : Bool) → brings_ticket p ≡ b
-    → machine.step (machine_of st p st.entry st.tickets workers past) e
-    ≡ Some (record (machine.posted (machine_of st p st.entry st.tickets workers past) 0 g p) { batch = batch })
-    → exchanges_of (machine_of st p st.entry st.tickets workers past) e ≡ exchange_made word.post (word_at p) ∷ []
-    → Follows [] (exchange_made word.post st.word ∷ []) (machine_of st p st.entry st.tickets workers past) s (with_batch (posted st g) batch)
-posts_by st p workers past s e g batch set none nothing true brings h makes =
+posts_by : (st : System) (p : SlotState) (workers : List WorkerState) (s : Step) (e : Event) (g : ℕ) (batch : List Name) → Settled st p workers
+    → call_in e ≡ [] → call_of s ≡ [] → outside_in e ≡ [] → outside_of s ≡ [] → (b : Bool) → brings_ticket p ≡ b
+    → machine.step (machine_of st p st.entry st.tickets workers) e
+    ≡ Some (record (machine.posted (machine_of st p st.entry st.tickets workers) 0 g p) { batch = batch })
+    → exchanges_of (machine_of st p st.entry st.tickets workers) e ≡ exchange_made word.post (word_at p) ∷ []
+    → Follows [] (exchange_made word.post st.word ∷ []) (machine_of st p st.entry st.tickets workers) s (with_batch (posted st g) batch)
+posts_by st p workers s e g batch set none nothing inside within true brings h makes =
     let woke : wakes st.word ≡ true = ap wakes set.word ∙ (wakes_as p ∙ brings) in
     let more : map ticket (st.tickets ++ g ∷ []) ≡ map ticket st.tickets ++ ticket g ∷ [] = map-append ticket st.tickets (g ∷ []) in
     record {
       events = e ∷ event.Poll polling.Put ∷ [];
-      world = machine_of (with_batch (posted st g) batch) (with_note p g) st.entry (st.tickets ++ g ∷ []) workers past;
+      world = machine_of (with_batch (posted st g) batch) (with_note p g) st.entry (st.tickets ++ g ∷ []) workers;
       allowed = rw (h, brings, more) refl;
-      like = IsSettled (with_note p g) workers past (rw woke refl) (settled_post st p workers g batch set);
+      like = IsSettled (with_note p g) workers (rw woke refl) (settled_post st p workers g batch set);
       calls = rw (none, nothing) refl;
+      outside = rw (inside, within) refl;
       words = rw (makes, h, brings, set.word) refl;
     }
-posts_by st p workers past s e g batch set none nothing false brings h makes =
+posts_by st p workers s e g batch set none nothing inside within false brings h makes =
     let woke : wakes st.word ≡ false = ap wakes set.word ∙ (wakes_as p ∙ brings) in
     record {
       events = e ∷ [];
-      world = machine_of (with_batch (posted st g) batch) (with_note p g) st.entry st.tickets workers past;
+      world = machine_of (with_batch (posted st g) batch) (with_note p g) st.entry st.tickets workers;
       allowed = rw (h, brings) refl;
-      like = IsSettled (with_note p g) workers past (rw woke refl) (settled_post st p workers g batch set);
+      like = IsSettled (with_note p g) workers (rw woke refl) (settled_post st p workers g batch set);
       calls = rw (none, nothing) refl;
+      outside = rw (inside, within) refl;
       words = rw (makes, h, set.word) refl;
     }
 
@@ -134,40 +135,40 @@ past_one x (suc k) not = refl
 
 -- a report of an end
 
-delivers_here : (st : System) (p : SlotState) (workers : List WorkerState) (past : List Past) (n : EndName) (rest : List Name) → Settled st p workers
+delivers_here : (st : System) (p : SlotState) (workers : List WorkerState) (n : EndName) (rest : List Name) → Settled st p workers
     → st.batch ≡ name.End n ∷ rest → n.slot ≡ 0 → (b : Bool) → (st.entry == n.generation) ≡ b
-    → Follows [] (exchange st.word (posts st (name.End n ∷ rest))) (machine_of st p st.entry st.tickets workers past) Deliver (record (delivered st (name.End n)) { batch = rest })
-delivers_here st p workers past n rest set is first true own =
+    → Follows [] (exchange st.word (posts st (name.End n ∷ rest))) (machine_of st p st.entry st.tickets workers) Deliver (record (delivered st (name.End n)) { batch = rest })
+delivers_here st p workers n rest set is first true own =
     let same : n.generation ≡ st.entry = sym (eqb-true st.entry n.generation own) in
     rw (first, own, same)
-    (posts_by st p workers past Deliver (event.Poll polling.Deliver) st.entry rest set refl refl (brings_ticket p) refl (rw (is, first, own) refl) (rw (is, first, own) refl))
-delivers_here st p workers past n rest set is first false own = rw (first, own)
-    (alone st [] p st.entry st.tickets workers past (settled_frame st p workers set) Deliver (event.Poll polling.Deliver) st.second st.kernel st.flag st.accepted rest
-    (rw (is, first, own) refl) refl refl (rw (is, first, own) refl))
+    (posts_by st p workers Deliver (event.Poll polling.Deliver) st.entry rest set refl refl refl refl (brings_ticket p) refl (rw (is, first, own) refl) (rw (is, first, own) refl))
+delivers_here st p workers n rest set is first false own = rw (first, own)
+    (alone st [] p st.entry st.tickets workers (settled_frame st p workers set) Deliver (event.Poll polling.Deliver) st.second st.kernel st.flag st.accepted rest
+    (rw (is, first, own) refl) refl refl (rw (is, first, own) refl) refl)
 
-delivers_end : (st : System) (p : SlotState) (workers : List WorkerState) (past : List Past) (n : EndName) (rest : List Name) → Settled st p workers
+delivers_end : (st : System) (p : SlotState) (workers : List WorkerState) (n : EndName) (rest : List Name) → Settled st p workers
     → st.batch ≡ name.End n ∷ rest → (n.slot ≡ 0) ⊎ (n.slot ≢ 0)
-    → Follows [] (exchange st.word (posts st (name.End n ∷ rest))) (machine_of st p st.entry st.tickets workers past) Deliver (record (delivered st (name.End n)) { batch = rest })
-delivers_end st p workers past n rest set is (inl first) = delivers_here st p workers past n rest set is first (st.entry == n.generation) refl
-delivers_end st p workers past n rest set is (inr other) = rw (ne_eqb n.slot 0 other)
-    (alone st [] p st.entry st.tickets workers past (settled_frame st p workers set) Deliver (event.Poll polling.Deliver) st.second st.kernel st.flag st.accepted rest
-    (rw (is, past_one st.entry n.slot other) refl) refl refl (rw (is, past_one st.entry n.slot other) refl))
+    → Follows [] (exchange st.word (posts st (name.End n ∷ rest))) (machine_of st p st.entry st.tickets workers) Deliver (record (delivered st (name.End n)) { batch = rest })
+delivers_end st p workers n rest set is (inl first) = delivers_here st p workers n rest set is first (st.entry == n.generation) refl
+delivers_end st p workers n rest set is (inr other) = rw (ne_eqb n.slot 0 other)
+    (alone st [] p st.entry st.tickets workers (settled_frame st p workers set) Deliver (event.Poll polling.Deliver) st.second st.kernel st.flag st.accepted rest
+    (rw (is, past_one st.entry n.slot other) refl) refl refl (rw (is, past_one st.entry n.slot other) refl) refl)
 
-delivers_all : (st : System) (p : SlotState) (workers : List WorkerState) (past : List Past) (batch : List Name) → Settled st p workers → st.batch ≡ batch
-    → Kept (Follows [] (exchange st.word (posts st batch)) (machine_of st p st.entry st.tickets workers past) Deliver) (delivers st batch)
-delivers_all st p workers past [] set is = kept_none
-delivers_all st p workers past (name.Listener ∷ rest) set is = kept_some
-    (alone st [] p st.entry st.tickets workers past (settled_frame st p workers set) Deliver (event.Poll polling.Deliver) st.second st.kernel true st.accepted rest (rw is refl) refl refl (rw is refl))
-delivers_all st p workers past (name.Waker ∷ rest) set is = kept_some
-    (alone st [] p st.entry st.tickets workers past (settled_frame st p workers set) Deliver (event.Poll polling.Deliver) st.second st.kernel st.flag st.accepted rest (rw is refl) refl refl (rw is refl))
-delivers_all st p workers past (name.End n ∷ rest) set is = kept_some (delivers_end st p workers past n rest set is (cases_eq n.slot 0))
+delivers_all : (st : System) (p : SlotState) (workers : List WorkerState) (batch : List Name) → Settled st p workers → st.batch ≡ batch
+    → Kept (Follows [] (exchange st.word (posts st batch)) (machine_of st p st.entry st.tickets workers) Deliver) (delivers st batch)
+delivers_all st p workers [] set is = kept_none
+delivers_all st p workers (name.Listener ∷ rest) set is = kept_some
+    (alone st [] p st.entry st.tickets workers (settled_frame st p workers set) Deliver (event.Poll polling.Deliver) st.second st.kernel true st.accepted rest (rw is refl) refl refl (rw is refl) refl)
+delivers_all st p workers (name.Waker ∷ rest) set is = kept_some
+    (alone st [] p st.entry st.tickets workers (settled_frame st p workers set) Deliver (event.Poll polling.Deliver) st.second st.kernel st.flag st.accepted rest (rw is refl) refl refl (rw is refl) refl)
+delivers_all st p workers (name.End n ∷ rest) set is = kept_some (delivers_end st p workers n rest set is (cases_eq n.slot 0))
 
-pub reports : (st : System) (p : SlotState) (workers : List WorkerState) (past : List Past) → Settled st p workers
-    → Kept (Follows [] (exchange st.word (kind_in st Deliver)) (machine_of st p st.entry st.tickets workers past) Deliver) (step st Deliver)
-reports st p workers past set = kept_when (poller_rests st) _ (λ b. delivers_all st p workers past st.batch set refl)
+pub reports : (st : System) (p : SlotState) (workers : List WorkerState) → Settled st p workers
+    → Kept (Follows [] (exchange st.word (kind_in st Deliver)) (machine_of st p st.entry st.tickets workers) Deliver) (step st Deliver)
+reports st p workers set = kept_when (poller_rests st) _ (λ b. delivers_all st p workers st.batch set refl)
 
-pub sweeps : (st : System) (p : SlotState) (workers : List WorkerState) (past : List Past) → Settled st p workers
-    → Kept (Follows [] (exchange st.word (kind_in st Sweep)) (machine_of st p st.entry st.tickets workers past) Sweep) (step st Sweep)
-sweeps st p workers past set = kept_guard _ _ (λ b.
+pub sweeps : (st : System) (p : SlotState) (workers : List WorkerState) → Settled st p workers
+    → Kept (Follows [] (exchange st.word (kind_in st Sweep)) (machine_of st p st.entry st.tickets workers) Sweep) (step st Sweep)
+sweeps st p workers set = kept_guard _ _ (λ b.
     let parts : (is_limited st ≡ true) × (nat_lt 0 st.entry ≡ true) = and_parts (is_limited st) (nat_lt 0 st.entry) (two_parts (poller_rests st) _ b) in
-    posts_by st p workers past Sweep (event.Poll (polling.Sweep 0)) st.entry st.batch set refl refl (brings_ticket p) refl (rw (parts.0, parts.1) refl) refl)
+    posts_by st p workers Sweep (event.Poll (polling.Sweep 0)) st.entry st.batch set refl refl refl refl (brings_ticket p) refl (rw (parts.0, parts.1) refl) refl)

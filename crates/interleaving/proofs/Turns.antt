@@ -11,7 +11,6 @@ use Rattle.world.specs.declared.actors.Holder.TheVariants.{Nobody, By}
 use Rattle.world.specs.declared.actors.Doing.TheVariants as doing
 use Rattle.world.specs.declared.event.Event.TheVariants as event
 use Rattle.world.specs.declared.event.Act.TheVariants as act
-use Rattle.world.specs.declared.past.Past.{Past}
 use Rattle.world.specs.Slots.{SlotState, WorkerState, is_by_worker}
 use Rattle.world.specs.States.{State}
 use Rattle.world.specs.States as machine_states
@@ -21,7 +20,7 @@ use Rattle.world.proofs.TurnsFacts.{facts, SlotOk, Turns}
 use Rattle.world.proofs.TurnsWorker.{Waiting, waiting}
 use Rattle.world.proofs.TurnsEnded.{own_generation}
 use Rattle.world.proofs.TurnsRun.{names_it}
-use Rattle.interleaving.specs.Programs.{Act, TakeOut, TakeNotes, Call, turn, quiet, again, ended, plan, opening}
+use Rattle.interleaving.specs.Programs.{Act, TakeOut, TakeNotes, Call, turn, quiet, again, ended, plan, open_slot}
 use Rattle.interleaving.specs.Threads.{System, Thread, Begin, Acts, Open, is_over, rests, with_thread, goes_on, begun, claimed, taken_out, step}
 use Rattle.claims.specs.Rule.{made as exchange_made}
 use Rattle.interleaving.specs.Likeness.{ticket, Held, ThreadLike, Rests, Opens, Tries, Holds, HasOut, Goes, Stays, Leaves, HasClosed, HasRetired, WorkerFor, machine_of, Settled, IsSettled}
@@ -54,50 +53,51 @@ rests_like budget place p i t k (HasRetired generation todo is) r = absurd (let 
 
 -- it takes the oldest ticket
 
-begins_with : (st : System) (p : SlotState) (workers : List WorkerState) (past : List Past) → Settled st p workers → (i : ℕ) (t : Thread) → slice_get st.threads i ≡ Some t
+begins_with : (st : System) (p : SlotState) (workers : List WorkerState) → Settled st p workers → (i : ℕ) (t : Thread) → slice_get st.threads i ≡ Some t
     → (k : WorkerState) → slice_get workers i ≡ Some k → k ≡ machine_states.resting → (most : ℕ) → most ≤ st.limits.budget → (tickets : List ℕ) → st.tickets ≡ tickets
-    → Kept (Follows [] [] (machine_of st p st.entry st.tickets workers past) (Begin i most)) (begun st i most tickets)
-begins_with st p workers past set i t there k had is most within [] tickets = kept_none
-begins_with st p workers past set i t there k had is most within (g ∷ rest) tickets =
+    → Kept (Follows [] [] (machine_of st p st.entry st.tickets workers) (Begin i most)) (begun st i most tickets)
+begins_with st p workers set i t there k had is most within [] tickets = kept_none
+begins_with st p workers set i t there k had is most within (g ∷ rest) tickets =
     let new : Thread = record { generation = g; out = None; left = most; todo = turn } in
     let next : System = with_thread (record st { tickets = rest }) i new in
     let busier : WorkerState = busy (doing.Tries (ticket g)) in
     kept_some (record {
       events = event.Work i act.Pop ∷ [];
-      world = machine_of next p st.entry rest (slice_set workers i busier) past;
+      world = machine_of next p st.entry rest (slice_set workers i busier);
       allowed = rw (had, is, tickets) refl;
-      like = IsSettled p (slice_set workers i busier) past refl (record {
+      like = IsSettled p (slice_set workers i busier) refl (record {
         ends = set.ends;
         word = set.word;
         place = set.place;
         threads = go_on st.limits.budget st.place st.place p p st.threads workers i t new busier set.threads there (Tries refl within refl) (λ j u v other like. like);
       });
       calls = refl;
+      outside = refl;
       words = rw (had, is, tickets) refl;
     })
 
-pub begins_turn : (st : System) (p : SlotState) (workers : List WorkerState) (past : List Past) → Settled st p workers → (i most : ℕ)
-    → Kept (Follows [] [] (machine_of st p st.entry st.tickets workers past) (Begin i most)) (step st (Begin i most))
-begins_turn st p workers past set i most = kept_bind _ (slice_get st.threads i) (λ t there. kept_when (rests t && nat_le most st.limits.budget) _ (λ r.
+pub begins_turn : (st : System) (p : SlotState) (workers : List WorkerState) → Settled st p workers → (i most : ℕ)
+    → Kept (Follows [] [] (machine_of st p st.entry st.tickets workers) (Begin i most)) (step st (Begin i most))
+begins_turn st p workers set i most = kept_bind _ (slice_get st.threads i) (λ t there. kept_when (rests t && nat_le most st.limits.budget) _ (λ r.
     let it : WorkerFor st.limits.budget st.place p workers i t = set.threads i t there in
     let parts : (rests t ≡ true) × (nat_le most st.limits.budget ≡ true) = and_parts (rests t) (nat_le most st.limits.budget) r in
-    begins_with st p workers past set i t there it.worker it.there (rests_like st.limits.budget st.place p i t it.worker it.like parts.0)
+    begins_with st p workers set i t there it.worker it.there (rests_like st.limits.budget st.place p i t it.worker it.like parts.0)
     most (leb-true most st.limits.budget parts.1) st.tickets refl))
 
 -- the poller's thread begins an opening
-pub begins_opening : (st : System) (p : SlotState) (workers : List WorkerState) (past : List Past) → Settled st p workers
-    → Kept (Follows [] [] (machine_of st p st.entry st.tickets workers past) Open) (step st Open)
-begins_opening st p workers past set = kept_bind _ (slice_get st.threads 0) (λ t there. kept_guard (rests t) _ (λ r.
+pub begins_opening : (st : System) (p : SlotState) (workers : List WorkerState) → Settled st p workers
+    → Kept (Follows [] [] (machine_of st p st.entry st.tickets workers) Open) (step st Open)
+begins_opening st p workers set = kept_bind _ (slice_get st.threads 0) (λ t there. kept_guard (rests t) _ (λ r.
     let it : WorkerFor st.limits.budget st.place p workers 0 t = set.threads 0 t there in
     let is : it.worker ≡ machine_states.resting = rests_like st.limits.budget st.place p 0 t it.worker it.like r in
-    let next : System = with_thread st 0 (goes_on t opening) in
-    settles st next (machine_of st p st.entry st.tickets workers past) Open [] [] (IsSettled p workers past refl (record {
+    let next : System = with_thread st 0 (goes_on t open_slot) in
+    settles st next (machine_of st p st.entry st.tickets workers) Open [] [] (IsSettled p workers refl (record {
       ends = set.ends;
       word = set.word;
       place = set.place;
-      threads = thread_goes_on st.limits.budget st.place st.place p p st.threads workers 0 t (goes_on t opening) it.worker set.threads there it.there
+      threads = thread_goes_on st.limits.budget st.place st.place p p st.threads workers 0 t (goes_on t open_slot) it.worker set.threads there it.there
           (Opens refl refl is) (λ j u v other like. like);
-    })) refl refl))
+    })) refl refl refl))
 
 -- it claims the slot, which nobody holds
 
@@ -105,11 +105,11 @@ some_there : (o : Option Connection) → is_some o ≡ true → (c : Connection)
 some_there None h = absurd (cc)
 some_there (Some c) h = (c, refl)
 
-pub claims : (st : System) (p : SlotState) (workers : List WorkerState) (past : List Past) → Settled st p workers → Turns (machine_of st p st.entry st.tickets workers past)
+pub claims : (st : System) (p : SlotState) (workers : List WorkerState) → Settled st p workers → Turns (machine_of st p st.entry st.tickets workers)
     → (i : ℕ) (t : Thread) → slice_get st.threads i ≡ Some t → (k : WorkerState) → slice_get workers i ≡ Some k → t.todo ≡ turn → t.left ≤ st.limits.budget → k ≡ busy (doing.Tries (ticket t.generation))
-    → Follows [] (exchange_made word.claim st.word ∷ []) (machine_of st p st.entry st.tickets workers past) (Acts i) (claimed st i t (TakeOut ∷ TakeNotes ∷ []))
-claims st p workers past set turns i t there k had todo least is =
-    let w : State = machine_of st p st.entry st.tickets workers past in
+    → Follows [] (exchange_made word.claim st.word ∷ []) (machine_of st p st.entry st.tickets workers) (Acts i) (claimed st i t (TakeOut ∷ TakeNotes ∷ []))
+claims st p workers set turns i t there k had todo least is =
+    let w : State = machine_of st p st.entry st.tickets workers in
     let wait : Waiting p = waiting w i k (ticket t.generation) p had (rw is refl) refl turns in
     let own : t.generation ≡ p.generation = names_it w i k (ticket t.generation) p had (rw is refl) refl turns in
     let c : (c : Connection) × (p.connection ≡ Some c) = some_there p.connection wait.lies in
@@ -121,9 +121,9 @@ claims st p workers past set turns i t there k had todo least is =
     let busier : WorkerState = busy (doing.Holds 0 st.limits.budget) in
     rw free (record {
       events = event.Work i act.Claim ∷ [];
-      world = machine_of next q st.entry st.tickets (slice_set workers i busier) past;
+      world = machine_of next q st.entry st.tickets (slice_set workers i busier);
       allowed = rw (had, is, wait.holder) refl;
-      like = IsSettled q (slice_set workers i busier) past refl (record {
+      like = IsSettled q (slice_set workers i busier) refl (record {
         ends = set.ends;
         word = rw (set.word, wait.holder) refl;
         place = λ no. absurd (cc);
@@ -132,25 +132,26 @@ claims st p workers past set turns i t there k had todo least is =
             (λ j u v other like. apart st.limits.budget st.place st.place p q j u v (λ by. absurd (let no : Nobody ≡ By j = sym wait.holder ∙ by in cc)) refl like);
       });
       calls = refl;
+      outside = refl;
       words = rw (had, is, set.word, wait.holder) refl;
     })
 
 -- it takes the connection out, which is its ticket's own
-pub takes_out : (st : System) (p : SlotState) (workers : List WorkerState) (past : List Past) → Settled st p workers → Turns (machine_of st p st.entry st.tickets workers past)
+pub takes_out : (st : System) (p : SlotState) (workers : List WorkerState) → Settled st p workers → Turns (machine_of st p st.entry st.tickets workers)
     → (i : ℕ) (t : Thread) → slice_get st.threads i ≡ Some t → (k : WorkerState) → slice_get workers i ≡ Some k
     → (c : Connection) → Held p i t c → st.place ≡ Some c → t.left ≤ st.limits.budget → k ≡ busy (doing.Holds 0 st.limits.budget)
-    → Follows [] [] (machine_of st p st.entry st.tickets workers past) (Acts i) (taken_out st i t (TakeNotes ∷ []) st.place)
-takes_out st p workers past set turns i t there k had c held at least is =
-    let w : State = machine_of st p st.entry st.tickets workers past in
+    → Follows [] [] (machine_of st p st.entry st.tickets workers) (Acts i) (taken_out st i t (TakeNotes ∷ []) st.place)
+takes_out st p workers set turns i t there k had c held at least is =
+    let w : State = machine_of st p st.entry st.tickets workers in
     let sv : SlotOk (facts w 0 p.generation) p = turns.each 0 p refl in
     let own : c.pair.generation ≡ t.generation = own_generation (facts w 0 p.generation) p c (sv.connection c held.connection).stands ∙ held.generation in
     let new : Thread = record t { out = Some c; todo = TakeNotes ∷ [] } in
     let next : System = with_thread (record st { place = None }) i new in
-    rw (at, eq-eqb c.pair.generation t.generation own) (settles st next w (Acts i) [] [] (IsSettled p workers past refl (record {
+    rw (at, eq-eqb c.pair.generation t.generation own) (settles st next w (Acts i) [] [] (IsSettled p workers refl (record {
       ends = set.ends;
       word = set.word;
       place = λ no. absurd (let yes : is_by_worker p.holder ≡ true = rw held.holder refl in cc);
       threads = thread_goes_on st.limits.budget st.place None p p st.threads workers i t new k set.threads there had
           (HasOut c (record { holder = held.holder; connection = held.connection; generation = held.generation }) refl refl refl least is)
           (λ j u v other like. apart st.limits.budget st.place None p p j u v (holder_apart p i j held.holder other) refl like);
-    })) refl refl)
+    })) refl refl refl)

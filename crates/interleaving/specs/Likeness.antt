@@ -1,6 +1,6 @@
 -- When a state of the threads and a state of the machine are alike, and the law. Part of the promises. The machine has one
 -- slot. It makes an opening in one event where the threads make seven acts: it is ahead of them until the last of these.
-use Rattle.std.specs.Prelude.{◌≡◌, ◌≢◌, ℕ, ◌≤◌, true, false, List, [], ◌∷◌, ◌++◌, map, replicate, slice_get, drop, Option, Some, None, option_map}
+use Rattle.std.specs.Prelude.{◌≡◌, ◌≢◌, ℕ, ◌≤◌, true, false, List, [], ◌∷◌, ◌++◌, map, replicate, slice_get, drop, Option, Some, None, option_map, length}
 use Rattle.kernel_model.specs.declared.reply.Reply.{Reply}
 use Rattle.kernel_model.specs.declared.both.Descriptors.{Descriptors}
 use Rattle.kernel_model.specs.Ends.{is_nonempty}
@@ -15,7 +15,10 @@ use Rattle.world.specs.declared.actors.Doing.TheVariants as doing
 use Rattle.world.specs.declared.event.Event.{Event}
 use Rattle.world.specs.declared.event.Event.TheVariants as event
 use Rattle.world.specs.declared.event.Act.TheVariants as act
-use Rattle.world.specs.declared.past.Past.{Past}
+use Rattle.world.specs.declared.event.Listening.TheVariants as listening
+use Rattle.world.specs.declared.event.Polling.TheVariants as polling
+use Rattle.world.specs.declared.event.Reported.{Reported}
+use Rattle.world.specs.declared.event.Reported.TheVariants as reported
 use Rattle.world.specs.Slots.{SlotState, WorkerState, is_by_worker}
 use Rattle.world.specs.States.{State}
 use Rattle.world.specs.States as machine
@@ -24,9 +27,9 @@ use Rattle.world.specs.Words.{word_at}
 use Rattle.world.specs.Acts.{busy}
 use Rattle.world.specs.Runs as events
 use Rattle.world.specs.Headline.{HeadlineHolds}
-use Rattle.interleaving.specs.Programs.{TakeOut, TakeNotes, Post, Release, Retire, Give, turn, plan, opening}
+use Rattle.interleaving.specs.Programs.{Act, PutIn, TakeOut, TakeNotes, Post, Release, Retire, Give, turn, plan, open_slot}
 use Rattle.interleaving.specs.Histories.{exchanges, exchanges_in, left_of}
-use Rattle.interleaving.specs.Threads.{System, Thread, Step, Calls, start, run}
+use Rattle.interleaving.specs.Threads.{System, Thread, Step, Tick, Network, Connect, Spurious, Vanish, Accept, Drop, Poll, Calls, start, run}
 
 -- the ticket of a generation of the one slot
 abbrev pub ticket : ℕ → Ticket
@@ -50,7 +53,7 @@ pub record HeldClosed (p : SlotState) (i : ℕ) (t : Thread) : Type 0 where
 -- has retired the slot
 pub data ThreadLike (budget : ℕ) (place : Option Connection) (p : SlotState) (i : ℕ) (t : Thread) (k : WorkerState) : Type 0 where
   Rests : t.todo ≡ [] → k ≡ machine.resting → ThreadLike budget place p i t k
-  Opens : i ≡ 0 → t.todo ≡ opening → k ≡ machine.resting → ThreadLike budget place p i t k
+  Opens : i ≡ 0 → t.todo ≡ open_slot → k ≡ machine.resting → ThreadLike budget place p i t k
   Tries : t.todo ≡ turn → t.left ≤ budget → k ≡ busy (doing.Tries (ticket t.generation)) → ThreadLike budget place p i t k
   Holds : (c : Connection) → Held p i t c → place ≡ Some c → t.todo ≡ TakeOut ∷ TakeNotes ∷ [] → t.left ≤ budget → k ≡ busy (doing.Holds 0 budget)
       → ThreadLike budget place p i t k
@@ -80,9 +83,9 @@ abbrev pub ends_of : SlotState → Option Descriptors
 ends_of p = option_map (λ (c : Connection). c.ends) p.connection
 
 -- The machine that has what the threads have, with the slot p, this entry in its table, the tickets of these generations,
--- these workers, and these connections that were closed
-abbrev pub machine_of : System → SlotState → ℕ → List ℕ → List WorkerState → List Past → State
-machine_of st p entry tickets workers past = record {
+-- and these workers
+abbrev pub machine_of : System → SlotState → ℕ → List ℕ → List WorkerState → State
+machine_of st p entry tickets workers = record {
   limits = st.limits;
   second = st.second;
   kernel = st.kernel;
@@ -95,7 +98,7 @@ machine_of st p entry tickets workers past = record {
   free = replicate st.free 0;
   slots = p ∷ [];
   workers = workers;
-  past = past;
+  past = st.past;
 }
 
 -- No opening is half way: the word and the place are those of the slot p, and each thread is where its worker is. A place
@@ -114,14 +117,14 @@ taken_word notes = record { pending = notes; free = false; held = true }
 -- registered; the slot is adopted; the table has its generation; the old notes are gone; the connection is in its place;
 -- the note of the opening is posted
 pub data Stage (word : WordState) (place : Option Connection) (entry : ℕ) (t : Thread) (c : Connection) : Type 0 where
-  Registered : (notes : ℕ) → t.todo ≡ drop 1 opening → word ≡ record { pending = notes; free = true; held = true } → place ≡ None
+  Registered : (notes : ℕ) → t.todo ≡ drop 1 open_slot → word ≡ record { pending = notes; free = true; held = true } → place ≡ None
       → t.out ≡ Some c → Stage word place entry t c
-  Adopted : (notes : ℕ) → t.todo ≡ drop 2 opening → word ≡ taken_word notes → place ≡ None → t.out ≡ Some c → Stage word place entry t c
-  Entered : (notes : ℕ) → t.todo ≡ drop 3 opening → word ≡ taken_word notes → place ≡ None → t.out ≡ Some c → entry ≡ t.generation
+  Adopted : (notes : ℕ) → t.todo ≡ drop 2 open_slot → word ≡ taken_word notes → place ≡ None → t.out ≡ Some c → Stage word place entry t c
+  Entered : (notes : ℕ) → t.todo ≡ drop 3 open_slot → word ≡ taken_word notes → place ≡ None → t.out ≡ Some c → entry ≡ t.generation
       → Stage word place entry t c
-  Emptied : t.todo ≡ drop 4 opening → word ≡ taken_word 0 → place ≡ None → t.out ≡ Some c → entry ≡ t.generation → Stage word place entry t c
-  Placed : t.todo ≡ drop 5 opening → word ≡ taken_word 0 → place ≡ Some c → entry ≡ t.generation → Stage word place entry t c
-  Posted : t.todo ≡ drop 6 opening → word ≡ taken_word 1 → place ≡ Some c → entry ≡ t.generation → Stage word place entry t c
+  Emptied : t.todo ≡ drop 4 open_slot → word ≡ taken_word 0 → place ≡ None → t.out ≡ Some c → entry ≡ t.generation → Stage word place entry t c
+  Placed : t.todo ≡ drop 5 open_slot → word ≡ taken_word 0 → place ≡ Some c → entry ≡ t.generation → Stage word place entry t c
+  Posted : t.todo ≡ drop 6 open_slot → word ≡ taken_word 1 → place ≡ Some c → entry ≡ t.generation → Stage word place entry t c
 
 -- what the machine has of the slot once it has made the opening
 abbrev pub opened_slot : ℕ → Connection → SlotState
@@ -137,15 +140,15 @@ pub record HalfOpen (st : System) (t : Thread) (c : Connection) (workers : List 
   pub stage : Stage st.word st.place st.entry t c
 
 pub data Like (st : System) (w : State) : Type 0 where
-  IsSettled : (p : SlotState) (workers : List WorkerState) (past : List Past) → w ≡ machine_of st p st.entry st.tickets workers past
+  IsSettled : (p : SlotState) (workers : List WorkerState) → w ≡ machine_of st p st.entry st.tickets workers
       → Settled st p workers → Like st w
-  IsHalfOpen : (t : Thread) (c : Connection) (workers : List WorkerState) (past : List Past)
-      → w ≡ machine_of st (opened_slot t.generation c) t.generation (t.generation ∷ []) workers past → HalfOpen st t c workers → Like st w
+  IsHalfOpen : (t : Thread) (c : Connection) (workers : List WorkerState)
+      → w ≡ machine_of st (opened_slot t.generation c) t.generation (t.generation ∷ []) workers → HalfOpen st t c workers → Like st w
 
 -- What the machine is ahead by: the exchanges of an opening that is half way which the threads have not yet made
 abbrev pub ahead : (st : System) (w : State) → Like st w → List Exchange
-ahead st w (IsSettled p workers past is set) = []
-ahead st w (IsHalfOpen t c workers past is half) = left_of t.todo st.word
+ahead st w (IsSettled p workers is set) = []
+ahead st w (IsHalfOpen t c workers is half) = left_of t.todo st.word
 
 -- the calls of the threads and those of the machine's workers: by which, and with which reply
 abbrev pub call_of : Step → List (ℕ × Reply)
@@ -164,26 +167,68 @@ abbrev pub calls_in : List Event → List (ℕ × Reply)
 calls_in [] = []
 calls_in (e ∷ es) = call_in e ++ calls_in es
 
--- What no thread ever finds: a slot that is held where it has a ticket, a place that lacks the ticket's connection, and a
--- slot that is not free where it opens a connection
-pub record NothingIsLost (st : System) : Type 0 where
+-- What no thread ever finds: a slot that is held where it has a ticket, a place that lacks the ticket's connection, a place
+-- that is not empty where it puts a connection in, and a slot that is not free where it opens a connection. There is at
+-- most one ticket of the slot, and it is free at most once
+pub record NoActInVain (st : System) : Type 0 where
   pub held : (i : ℕ) (t : Thread) → slice_get st.threads i ≡ Some t → t.todo ≡ turn → st.word.held ≡ false
   pub there : (i : ℕ) (t : Thread) → slice_get st.threads i ≡ Some t → t.todo ≡ drop 1 turn
       → (c : Connection) × (st.place ≡ Some c) × (c.pair.generation ≡ t.generation)
-  pub free : (i : ℕ) (t : Thread) → slice_get st.threads i ≡ Some t → t.todo ≡ drop 1 opening → st.word.free ≡ true
+  pub empty : (i : ℕ) (t : Thread) (rest : List Act) → slice_get st.threads i ≡ Some t → t.todo ≡ PutIn ∷ rest → st.place ≡ None
+  pub free : (i : ℕ) (t : Thread) → slice_get st.threads i ≡ Some t → t.todo ≡ drop 1 open_slot → st.word.free ≡ true
+  pub one_ticket : length st.tickets ≤ 1
+  pub free_once : st.free ≤ 1
+
+-- What the clock, the network and the kernel do, and what the poller does at its listener and with a poll, as the machine's
+-- events: those of the steps, and those among the events
+
+abbrev pub here : Reported → Reported
+here reported.Listener = reported.Listener
+here reported.Waker = reported.Waker
+here (reported.End s side) = reported.End 0 side
+
+abbrev pub outside_of : Step → List Event
+outside_of (Tick n) = event.Tick n ∷ []
+outside_of (Network side change) = event.Network 0 side change ∷ []
+outside_of Connect = event.Listen listening.Connect ∷ []
+outside_of (Spurious who) = event.Spurious (here who) ∷ []
+outside_of (Vanish who) = event.Vanish (here who) ∷ []
+outside_of (Accept reply) = event.Listen (listening.Accept reply) ∷ []
+outside_of Drop = event.Listen listening.Drop ∷ []
+outside_of (Poll names) = event.Poll (polling.Poll names) ∷ []
+outside_of s = []
+
+abbrev pub all_outside : List Step → List Event
+all_outside [] = []
+all_outside (s ∷ steps) = outside_of s ++ all_outside steps
+
+abbrev pub outside_in : Event → List Event
+outside_in (event.Tick n) = event.Tick n ∷ []
+outside_in (event.Network s side change) = event.Network s side change ∷ []
+outside_in (event.Spurious who) = event.Spurious who ∷ []
+outside_in (event.Vanish who) = event.Vanish who ∷ []
+outside_in (event.Listen l) = event.Listen l ∷ []
+outside_in (event.Poll (polling.Poll names)) = event.Poll (polling.Poll names) ∷ []
+outside_in e = []
+
+abbrev pub outside_among : List Event → List Event
+outside_among [] = []
+outside_among (e ∷ es) = outside_in e ++ outside_among es
 
 -- These steps of threads are a run of the machine: there are events, allowed one after the other from its opening, that
--- lead to a like state. They have the same calls and replies in the same order, and the same exchanges of the slot's word
--- with the same answers in the same order, but for what the machine is ahead by. So the headline holds of it
+-- lead to a like state. They have the same calls and replies in the same order; clock, network, kernel, listener and polls
+-- do the same in the same order; and so do the exchanges of the slot's word, with the same answers, but for what the
+-- machine is ahead by. So the headline holds of it
 pub record IsARun (l : Limits) (steps : List Step) (st : System) : Type 0 where
   pub made : List Event
   pub world : State
   pub allowed : events.run (machine.opening l) made ≡ Some world
   pub like : Like st world
   pub calls : calls_in made ≡ calls_of steps
+  pub outside : outside_among made ≡ all_outside steps
   pub words : exchanges_in (machine.opening l) made ≡ exchanges (start l) steps ++ ahead st world like
   pub holds : HeadlineHolds l made world
-  pub nothing : NothingIsLost st
+  pub nothing : NoActInVain st
 
 abbrev pub EveryInterleavingIsARun : Type 0
 EveryInterleavingIsARun = (l : Limits) (steps : List Step) (st : System) → l.slots ≡ 1 → run (start l) steps ≡ Some st → IsARun l steps st

@@ -49,5 +49,5 @@ abbrev pub plan : ℕ → PairState → List Act
 plan left p = if is_live (verdict p) then (if is_none (next_call p) then quiet else (if left == 0 then again else Call ∷ [])) else ended
 
 -- the opening of a connection
-abbrev pub opening : List Act
-opening = Register ∷ Adopt ∷ Enter ∷ Discard ∷ PutIn ∷ Post ∷ Release ∷ []
+abbrev pub open_slot : List Act
+open_slot = Register ∷ Adopt ∷ Enter ∷ Discard ∷ PutIn ∷ Post ∷ Release ∷ []

@@ -18,18 +18,19 @@ use Rattle.kernel_model.specs.declared.both.Sockets.{Sockets}
 use Rattle.kernel_model.specs.Outcome.{guard, Told}
 use Rattle.kernel_model.specs.Kernel as kernel
 use Rattle.kernel_model.specs.Kernel.{KernelState}
-use Rattle.relay_core.specs.Pairs.{fresh, noted}
+use Rattle.relay_core.specs.Pairs.{fresh, noted, verdict}
 use Rattle.relay_core.specs.Idle.{expired}
 use Rattle.claims.specs.Words.{WordState, word_after, wakes, some_wait}
 use Rattle.claims.specs.Words as word
 use Rattle.world.specs.declared.connection.Connection.{Connection}
 use Rattle.world.specs.declared.limits.Limits.{Limits}
+use Rattle.world.specs.declared.past.Past.{Past}
 use Rattle.world.specs.declared.event.Change.{Change}
 use Rattle.world.specs.declared.event.Reported.{Reported}
 use Rattle.world.specs.declared.event.Reported.TheVariants as reported
 use Rattle.world.specs.Calls.{when, OpenConnection, descriptor, called}
 use Rattle.world.specs.Steps.{change_at, token_of, is_worn}
-use Rattle.interleaving.specs.Programs.{Act, Claim, TakeOut, TakeNotes, Call, PutIn, Post, Release, Close, Retire, Give, Register, Adopt, Enter, Discard, turn, gone, plan, opening}
+use Rattle.interleaving.specs.Programs.{Act, Claim, TakeOut, TakeNotes, Call, PutIn, Post, Release, Close, Retire, Give, Register, Adopt, Enter, Discard, turn, gone, plan, open_slot}
 
 -- A thread: the generation of its ticket or of the connection that it opens, the connection that it has out of its
 -- place, the calls that are left, and the rest of its program. Without one it rests
@@ -43,7 +44,8 @@ pub record Thread : Type 0 where
 -- worth a try, perhaps an `accepted` client, the rest of its `batch`, and in its table the slot's `entry`. `ends` are the
 -- sockets of the slot's connection. `word` is the slot's word, `place` the connection in its place, `tickets` are the
 -- generations of its tickets in the ready queue and in hands, oldest first, and `free` is how often the slot stands in
--- the queue of free slots or in the poller's hand. The first of the `threads` is the poller's
+-- the queue of free slots or in the poller's hand. The first of the `threads` is the poller's, and `past` are the
+-- closed connections, in order
 pub record System : Type 0 where
   pub limits : Limits
   pub second : ℕ
@@ -58,6 +60,7 @@ pub record System : Type 0 where
   pub tickets : List ℕ
   pub free : ℕ
   pub threads : List Thread
+  pub past : List Past
 
 abbrev pub resting : Thread
 resting = record { generation = 0; out = None; left = 0; todo = [] }
@@ -78,13 +81,14 @@ start l = record {
   tickets = [];
   free = 1;
   threads = replicate l.workers resting;
+  past = [];
 }
 
 -- What may happen: some seconds pass (`Tick`); the network does something (`Network`, `Connect`); a report comes without
 -- cause (`Spurious`) or is taken back (`Vanish`). The poller calls accept(2) (`Accept`), drops what it accepted (`Drop`),
 -- polls (`Poll`), delivers the first report of its batch (`Deliver`), posts for time (`Sweep`), or begins an opening
--- (`Open`). A thread begins a turn with the oldest ticket and with so many calls (`Begin`), at most the budget, or makes the next act of its program: `Acts`, or
--- `Calls` with the reply of a call
+-- (`Open`). A thread begins a turn with the oldest ticket and a number of calls, at most the budget (`Begin`), or makes
+-- the next act of its program: `Acts`, or `Calls` with the reply of a call
 pub data Step : Type 0 where
   Tick : ℕ → Step
   Network : Side → Change → Step
@@ -155,7 +159,7 @@ claimed st i t rest =
     if st.word.held then with_thread st i resting
     else with_thread (exchanged st word.claim) i (goes_on t rest)
 
--- it has the connection, if that is the ticket's own
+-- It has the connection, if that is the ticket's own. Another one, which is never found, stays in its place
 abbrev pub taken_out : System → ℕ → Thread → List Act → Option Connection → System
 taken_out st i t rest None = with_thread st i (goes_on t gone)
 taken_out st i t rest (Some c) =
@@ -176,12 +180,21 @@ heard notes c = if some_wait notes then record c { pair = noted c.pair } else c
 abbrev pub notes_taken : System → ℕ → Thread → Connection → System
 notes_taken st i t c = with_thread (exchanged st word.take) i (planned st t t.left (heard st.word.pending c))
 
+-- without a connection out, which never happens, the notes are thrown away
+abbrev pub taking : System → ℕ → Thread → List Act → Option Connection → System
+taking st i t rest None = with_thread (exchanged st word.take) i (goes_on t rest)
+taking st i t rest (Some c) = notes_taken st i t c
+
 abbrev pub put_in : System → ℕ → Thread → List Act → System
 put_in st i t rest = with_thread (record st { place = t.out }) i (record t { out = None; todo = rest })
 
 abbrev pub closed : System → ℕ → Thread → List Act → Connection → Option System
 closed st i t rest c = option_map
-    (λ (told : Told KernelState Sockets). with_thread (record st { kernel = told.value; ends = None }) i (record t { out = None; todo = rest }))
+    (λ (told : Told KernelState Sockets). with_thread (record st {
+      kernel = told.value;
+      ends = None;
+      past = st.past ++ record { slot = 0; generation = c.pair.generation; verdict = verdict c.pair; ends = told.told } ∷ [];
+    }) i (record t { out = None; todo = rest }))
     (kernel.close_both st.kernel c.ends)
 
 -- a slot whose last generation was used is not opened again
@@ -207,7 +220,7 @@ registering st i t rest (suc free) = when st.accepted (option_and_then
     (token_of 0 Target (st.entry + 1)))
     (token_of 0 Client (st.entry + 1)))
 
--- the slot is the thread's, or no longer used where it was not free
+-- the slot is the thread's; or, which never happens, it was not free and is no longer used
 abbrev pub adopted : System → ℕ → Thread → List Act → System
 adopted st i t rest =
     if st.word.free then with_thread (exchanged st word.adopt) i (goes_on t rest)
@@ -216,7 +229,7 @@ adopted st i t rest =
 abbrev pub after_act : System → ℕ → Thread → Act → List Act → Option System
 after_act st i t Claim rest = Some (claimed st i t rest)
 after_act st i t TakeOut rest = Some (taken_out st i t rest st.place)
-after_act st i t TakeNotes rest = option_map (λ (c : Connection). notes_taken st i t c) t.out
+after_act st i t TakeNotes rest = Some (taking st i t rest t.out)
 after_act st i t Call rest = None
 after_act st i t PutIn rest = Some (put_in st i t rest)
 after_act st i t Post rest = Some (with_thread (posted st t.generation) i (goes_on t rest))
@@ -297,7 +310,7 @@ step st Drop = guard (poller_rests st && st.accepted) (record st { accepted = fa
 step st (Poll names) = when (poller_rests st && (length st.batch == 0)) (over_kernel (record st { batch = names.items }) (kernel.poll st.kernel names.items))
 step st Deliver = when (poller_rests st) (delivers st st.batch)
 step st Sweep = guard (poller_rests st && (is_limited st && nat_lt 0 st.entry)) (posted st st.entry)
-step st Open = option_and_then (λ (t : Thread). guard (rests t) (with_thread st 0 (goes_on t opening))) (slice_get st.threads 0)
+step st Open = option_and_then (λ (t : Thread). guard (rests t) (with_thread st 0 (goes_on t open_slot))) (slice_get st.threads 0)
 step st (Begin i most) = option_and_then (λ (t : Thread). begins st i most t) (slice_get st.threads i)
 step st (Acts i) = option_and_then (λ (t : Thread). acts st i t t.todo) (slice_get st.threads i)
 step st (Calls i r) = option_and_then (λ (t : Thread). calls st i t r t.todo) (slice_get st.threads i)

@@ -4,9 +4,9 @@ ghost use Rattle.interleaving.specs.Likeness.{EveryInterleavingIsARun};
 use relay_core::laws;
 
 /// For each list of steps that threads make by their programs, in any order, there is a list of events of the machine,
-/// allowed one after the other from its opening, that leads to a like state. It has the same calls with the same
-/// answers in the same order.
-
+/// allowed one after the other from its opening, that leads to a like state. Calls and replies, exchanges of the slot's
+/// word with their answers, and what clock, network, kernel, listener and polls do are the same, in the same order. And
+/// no act of a thread is in vain.
 pub fn every_interleaving_is_a_run()
     ensures { EveryInterleavingIsARun }
 {

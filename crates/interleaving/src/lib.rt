@@ -5,7 +5,7 @@
 //! with the acts of the network and of the kernel between them. `specs/Likeness.antt` says when a state of the threads
 //! and a state of the machine (`world`) are alike.
 //!
-//! [`laws`] says that each such run of threads is a run of the machine, with the same calls and answers.
+//! [`laws`] says that each such run of threads is a run of the machine.
 #![tactic(auto)]
 
 pub mod laws;
