@@ -148,14 +148,16 @@ this_thread : (st : System) (t u : Thread) → slice_get st.threads 0 ≡ Some t
 this_thread st t u first there = let both : Some u ≡ Some t = sym there ∙ first in cc
 
 acts_half : (st : System) (t : Thread) (c : Connection) (workers : List WorkerState) → HalfOpen st t c workers
-    → (i : ℕ) (u : Thread) → slice_get st.threads i ≡ Some u → (i ≡ 0) ⊎ (i ≢ 0) → Kept (Follows (left_of t.todo st.word) (exchange st.word (first_kind u.todo)) (half_world st t c workers) (Acts i)) (acts st i u u.todo)
+    → (i : ℕ) (u : Thread) → slice_get st.threads i ≡ Some u → (i ≡ 0) ⊎ (i ≢ 0)
+    → Kept (Follows (left_of t.todo st.word) (exchange st.word (first_kind u.todo)) (half_world st t c workers) (Acts i)) (acts st i u u.todo)
 acts_half st t c workers half i u there (inl first) =
     let same : u ≡ t = this_thread st t u half.first (rw first at there) in
     rw (first, same) (goes_half st t c workers half half.stage)
 acts_half st t c workers half i u there (inr other) = rw (half.others i u other there).0 kept_none
 
 calls_half : (st : System) (t : Thread) (c : Connection) (workers : List WorkerState) → HalfOpen st t c workers
-    → (i : ℕ) (u : Thread) (r : Reply) → slice_get st.threads i ≡ Some u → (i ≡ 0) ⊎ (i ≢ 0) → Kept (Follows (left_of t.todo st.word) [] (half_world st t c workers) (Calls i r)) (calls st i u r u.todo)
+    → (i : ℕ) (u : Thread) (r : Reply) → slice_get st.threads i ≡ Some u → (i ≡ 0) ⊎ (i ≢ 0)
+    → Kept (Follows (left_of t.todo st.word) [] (half_world st t c workers) (Calls i r)) (calls st i u r u.todo)
 calls_half st t c workers half i u r there (inl first) =
     let same : u ≡ t = this_thread st t u half.first (rw first at there) in
     rw (first, same) (stage_calls st (left_of t.todo st.word) (half_world st t c workers) t c r half.stage)
@@ -164,7 +166,8 @@ calls_half st t c workers half i u r there (inr other) = rw (half.others i u oth
 follows_half : (st : System) (t : Thread) (c : Connection) (workers : List WorkerState) → HalfOpen st t c workers
     → (s : Step) → Kept (Follows (left_of t.todo st.word) (exchange st.word (kind_in st s)) (half_world st t c workers) s) (step st s)
 follows_half st t c workers half (Tick n) = ticks st (left_of t.todo st.word) (opened_slot t.generation c) t.generation (t.generation ∷ []) workers (half_frame st t c workers half) n
-follows_half st t c workers half (Network side change) = network st (left_of t.todo st.word) (opened_slot t.generation c) t.generation (t.generation ∷ []) workers (half_frame st t c workers half) side change
+follows_half st t c workers half (Network side change) =
+    network st (left_of t.todo st.word) (opened_slot t.generation c) t.generation (t.generation ∷ []) workers (half_frame st t c workers half) side change
 follows_half st t c workers half Connect = connects st (left_of t.todo st.word) (opened_slot t.generation c) t.generation (t.generation ∷ []) workers (half_frame st t c workers half)
 follows_half st t c workers half (Spurious who) = spurious st (left_of t.todo st.word) (opened_slot t.generation c) t.generation (t.generation ∷ []) workers (half_frame st t c workers half) who
 follows_half st t c workers half (Vanish who) = vanishes st (left_of t.todo st.word) (opened_slot t.generation c) t.generation (t.generation ∷ []) workers (half_frame st t c workers half) who

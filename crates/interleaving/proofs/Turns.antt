@@ -106,7 +106,8 @@ some_there None h = absurd (cc)
 some_there (Some c) h = (c, refl)
 
 pub claims : (st : System) (p : SlotState) (workers : List WorkerState) → Settled st p workers → Turns (machine_of st p st.entry st.tickets workers)
-    → (i : ℕ) (t : Thread) → slice_get st.threads i ≡ Some t → (k : WorkerState) → slice_get workers i ≡ Some k → t.todo ≡ turn → t.left ≤ st.limits.budget → k ≡ busy (doing.Tries (ticket t.generation))
+    → (i : ℕ) (t : Thread) → slice_get st.threads i ≡ Some t → (k : WorkerState) → slice_get workers i ≡ Some k → t.todo ≡ turn → t.left ≤ st.limits.budget
+    → k ≡ busy (doing.Tries (ticket t.generation))
     → Follows [] (exchange_made word.claim st.word ∷ []) (machine_of st p st.entry st.tickets workers) (Acts i) (claimed st i t (TakeOut ∷ TakeNotes ∷ []))
 claims st p workers set turns i t there k had todo least is =
     let w : State = machine_of st p st.entry st.tickets workers in

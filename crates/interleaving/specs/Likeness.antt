@@ -55,11 +55,14 @@ pub data ThreadLike (budget : ℕ) (place : Option Connection) (p : SlotState) (
   Rests : t.todo ≡ [] → k ≡ machine.resting → ThreadLike budget place p i t k
   Opens : i ≡ 0 → t.todo ≡ open_slot → k ≡ machine.resting → ThreadLike budget place p i t k
   Tries : t.todo ≡ turn → t.left ≤ budget → k ≡ busy (doing.Tries (ticket t.generation)) → ThreadLike budget place p i t k
-  Holds : (c : Connection) → Held p i t c → place ≡ Some c → t.todo ≡ TakeOut ∷ TakeNotes ∷ [] → t.left ≤ budget → k ≡ busy (doing.Holds 0 budget)
+  Holds : (c : Connection) → Held p i t c → place ≡ Some c → t.todo ≡ TakeOut ∷ TakeNotes ∷ [] → t.left ≤ budget
+      → k ≡ busy (doing.Holds 0 budget)
       → ThreadLike budget place p i t k
-  HasOut : (c : Connection) → Held p i t c → place ≡ None → t.out ≡ Some c → t.todo ≡ TakeNotes ∷ [] → t.left ≤ budget → k ≡ busy (doing.Holds 0 budget)
+  HasOut : (c : Connection) → Held p i t c → place ≡ None → t.out ≡ Some c → t.todo ≡ TakeNotes ∷ [] → t.left ≤ budget
+      → k ≡ busy (doing.Holds 0 budget)
       → ThreadLike budget place p i t k
-  Goes : (c : Connection) (more : ℕ) → Held p i t c → place ≡ None → t.out ≡ Some c → t.todo ≡ plan t.left c.pair → t.left ≤ more → k ≡ busy (doing.Holds 0 more)
+  Goes : (c : Connection) (more : ℕ) → Held p i t c → place ≡ None → t.out ≡ Some c → t.todo ≡ plan t.left c.pair → t.left ≤ more
+      → k ≡ busy (doing.Holds 0 more)
       → ThreadLike budget place p i t k
   Stays : (c : Connection) (more : ℕ) → Held p i t c → place ≡ Some c → is_live (verdict c.pair) ≡ true → t.todo ≡ Post ∷ Release ∷ []
       → k ≡ busy (doing.Holds 0 more) → ThreadLike budget place p i t k
@@ -122,7 +125,8 @@ pub data Stage (word : WordState) (place : Option Connection) (entry : ℕ) (t :
   Adopted : (notes : ℕ) → t.todo ≡ drop 2 open_slot → word ≡ taken_word notes → place ≡ None → t.out ≡ Some c → Stage word place entry t c
   Entered : (notes : ℕ) → t.todo ≡ drop 3 open_slot → word ≡ taken_word notes → place ≡ None → t.out ≡ Some c → entry ≡ t.generation
       → Stage word place entry t c
-  Emptied : t.todo ≡ drop 4 open_slot → word ≡ taken_word 0 → place ≡ None → t.out ≡ Some c → entry ≡ t.generation → Stage word place entry t c
+  Emptied : t.todo ≡ drop 4 open_slot → word ≡ taken_word 0 → place ≡ None → t.out ≡ Some c → entry ≡ t.generation
+      → Stage word place entry t c
   Placed : t.todo ≡ drop 5 open_slot → word ≡ taken_word 0 → place ≡ Some c → entry ≡ t.generation → Stage word place entry t c
   Posted : t.todo ≡ drop 6 open_slot → word ≡ taken_word 1 → place ≡ Some c → entry ≡ t.generation → Stage word place entry t c
 
