@@ -85,7 +85,11 @@ impl Driver {
     }
 
     /// Makes a step of a poller's thread, unless it is in a turn or has ended.
-    fn round<G: Gate, R: Wait + Log>(&self, context: &Context<'_, G, ScriptClock, R>, poller: usize) {
+    fn round<G: Gate, R: Wait + Log>(
+        &self,
+        context: &Context<'_, G, ScriptClock, R>,
+        poller: usize,
+    ) {
         let Some(cell) = self.pollers.get(poller) else {
             return;
         };
