@@ -6,7 +6,7 @@ use Rattle.world.specs.declared.event.Event.{Event}
 use Rattle.world.specs.States.{State, opening}
 use Rattle.world.specs.Runs.{run}
 use Rattle.world.specs.Headline.{HeadlineHolds}
-use Rattle.world.specs.Support.{TicketsHold, RestHolds, TableHolds, EdgesHold}
+use Rattle.world.specs.Support.{SupportHolds}
 use Rattle.script.specs.declared.fault.Fault.{Fault}
 use Rattle.script.specs.declared.fault.Fault.TheVariants.{NoMemory}
 use Rattle.script.specs.declared.running.Outcome.{Outcome}
@@ -62,10 +62,7 @@ EveryEnd text = (plan : FlowPlan) → parsed text ≡ Ok (FlowOf plan) → Keeps
 -- what holds after a run of these events: the headline, and what it depends on
 pub record RunHolds (l : Limits) (events : List Event) (st : State) : Type 0 where
   pub headline : HeadlineHolds l events st
-  pub tickets : TicketsHold st
-  pub rest : RestHolds st
-  pub table : TableHolds st
-  pub edges : EdgesHold st
+  pub support : SupportHolds st
 
 abbrev pub EveryRunIsSound : Type 0
 EveryRunIsSound = (l : Limits) (events : List Event) (st : State) → run (opening l) events ≡ Some st → RunHolds l events st

@@ -5,8 +5,9 @@ use Rattle.world.specs.declared.limits.Limits.{Limits}
 use Rattle.world.specs.States.{State, opening}
 use Rattle.world.specs.Runs.{run}
 use Rattle.world.specs.Headline.{HeadlineHolds}
+use Rattle.world.specs.Support.{SupportHolds}
 use Rattle.world.specs.CoreLaws.{CoreLaws}
-use Rattle.world.proofs.TurnsRun.{turns_after, own_after}
+use Rattle.world.proofs.TurnsRun.{turns_after, own_after, support_from}
 use Rattle.world.proofs.TurnsHeard.{listener_after}
 use Rattle.world.proofs.TurnsDue.{movable_is_due}
 use Rattle.world.proofs.EndsTheorem.{bytes_hold, edges_hold}
@@ -22,3 +23,6 @@ headline laws l events st ran = record {
   due = movable_is_due laws st (turns_after laws l events st ran) (edges_hold l events st ran);
   listener = listener_after l events st ran;
 }
+
+pub support : (laws : CoreLaws) (l : Limits) (events : List Event) (st : State) → run (opening l) events ≡ Some st → SupportHolds st
+support laws l events st ran = support_from st (turns_after laws l events st ran) (edges_hold l events st ran)

@@ -14,7 +14,7 @@ use Rattle.world.specs.States.{State, opening, unused, resting, numbers_below}
 use Rattle.world.specs.Steps.{connection_at, claimed, claim, worked, step}
 use Rattle.world.specs.Runs.{run}
 use Rattle.world.specs.Headline.{Throughout, TakesOwnNotes, ClaimsByOwnTicket, TriedOnOwn}
-use Rattle.world.specs.Support.{one, total, of_slot, tried, worker_tickets, tickets, TicketsHold, RestHolds, TableHolds}
+use Rattle.world.specs.Support.{one, total, of_slot, tried, worker_tickets, tickets, EdgesHold, SupportHolds}
 use Rattle.world.specs.CoreLaws.{CoreLaws}
 use Rattle.world.proofs.TurnsTotals.{total_push, total_none, total_le, total_le_at, get-replicate, get_beside}
 use Rattle.world.proofs.TurnsKept.{Kept, kept_some, kept_next, kept_at}
@@ -96,14 +96,13 @@ turns_after laws l events w ran = kept_at (run (opening l) events) w ran (run_tu
 
 -- what follows from it
 
-tickets_hold : (st : State) → Turns st → TicketsHold st
-tickets_hold st turns s p there = (turns.each s p there).tickets
-
-rest_holds : (st : State) → Turns st → RestHolds st
-rest_holds st turns s p c there is none empty = ((turns.each s p there).connection c is).rest none empty
-
-table_holds : (st : State) → Turns st → TableHolds st
-table_holds st turns s p there = (turns.each s p there).entry
+pub support_from : (st : State) → Turns st → EdgesHold st → SupportHolds st
+support_from st turns edges = record {
+  tickets = λ s p there. (turns.each s p there).tickets;
+  rest = λ s p c there is none empty. ((turns.each s p there).connection c is).rest none empty;
+  table = λ s p there. (turns.each s p there).entry;
+  edges = edges;
+}
 
 -- a connection is tried on its own notes and tickets
 
@@ -202,15 +201,6 @@ tried_throughout laws st (e ∷ events) w ran turns =
     )
 
 -- so it all holds after every run from the opening world
-
-pub tickets_after : (laws : CoreLaws) (l : Limits) (events : List Event) (w : State) → run (opening l) events ≡ Some w → TicketsHold w
-tickets_after laws l events w ran = tickets_hold w (turns_after laws l events w ran)
-
-pub rest_after : (laws : CoreLaws) (l : Limits) (events : List Event) (w : State) → run (opening l) events ≡ Some w → RestHolds w
-rest_after laws l events w ran = rest_holds w (turns_after laws l events w ran)
-
-pub table_after : (laws : CoreLaws) (l : Limits) (events : List Event) (w : State) → run (opening l) events ≡ Some w → TableHolds w
-table_after laws l events w ran = table_holds w (turns_after laws l events w ran)
 
 pub own_after : (laws : CoreLaws) (l : Limits) (events : List Event) (w : State) → run (opening l) events ≡ Some w → Throughout TriedOnOwn (opening l) events
 own_after laws l events w ran = tried_throughout laws (opening l) events w ran (opening_turns l)

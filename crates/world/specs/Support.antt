@@ -76,3 +76,10 @@ abbrev pub EdgesHold : State → Type 0
 EdgesHold st = (s : ℕ) (p : SlotState) (c : Connection) (side : Side) (x : Registered)
     → slice_get st.slots s ≡ Some p → p.connection ≡ Some c → end_of st c side ≡ Some x
     → EndCovered (flags_of c.pair side) x.socket (has_report st (record { slot = s; side = side; generation = c.pair.generation }) p.notes)
+
+-- all of it, of one state
+pub record SupportHolds (st : State) : Type 0 where
+  pub tickets : TicketsHold st
+  pub rest : RestHolds st
+  pub table : TableHolds st
+  pub edges : EdgesHold st

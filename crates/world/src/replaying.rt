@@ -3,7 +3,7 @@ ghost use Rattle.std.specs.Prelude.{◌≡◌, IfOk, IfErr, Some};
 ghost use Rattle.world.specs.States.{IsWithinLimits, opening};
 ghost use Rattle.world.specs.Runs.{run, Fails};
 ghost use Rattle.world.specs.Headline.{BytesAndEndsHold, ClosedHold, DueHolds, FailuresHold, ListenerHolds, Throughout, TriedOnOwn};
-ghost use Rattle.world.specs.Support.{EdgesHold, RestHolds, TableHolds, TicketsHold};
+ghost use Rattle.world.specs.Support.{SupportHolds};
 
 use crate::event::Event;
 use crate::laws::rests_on_core;
@@ -30,10 +30,11 @@ use std::alloc::Global;
 /// - A connection that could move is due to be tried (`due`). While the accept flag is down, nobody waits at the
 ///   listener, or its name is queued or in the batch (`listener`).
 ///
-/// And what this depends on: a slot with notes that is neither held nor free has one ticket, and every other slot
-/// none (`tickets`); a connection that nobody holds and that has no notes has no call to make (`rest`); the poller's
-/// table has each slot's generation (`table`); and if a pair's flag says that a call is not worth trying, its end is
-/// armed for it and not ready, or it is ready and a report of it is queued, in the batch or noted (`edges`).
+/// And what this depends on, the four parts of `support`: a slot with notes that is neither held nor free has one
+/// ticket, and every other slot none (`tickets`); a connection that nobody holds and that has no notes has no call to
+/// make (`rest`); the poller's table has each slot's generation (`table`); and if a pair's flag says that a call is not
+/// worth trying, its end is armed for it and not ready, or it is ready and a report of it is queued, in the batch or
+/// noted (`edges`).
 #[tactic(auto, using(std::proofs::lemmas::Grind::common_steps))]
 pub fn replay(alloc: Global, limits: Limits, events: &[Event]) -> Result<World, (usize, Refusal)>
     requires { IsWithinLimits limits }
@@ -44,10 +45,7 @@ pub fn replay(alloc: Global, limits: Limits, events: &[Event]) -> Result<World, 
     ensures failures { IfOk result (λ world. FailuresHold (opening limits) world events.now) }
     ensures due { IfOk result (λ world. DueHolds world) }
     ensures listener { IfOk result (λ world. ListenerHolds world) }
-    ensures tickets { IfOk result (λ world. TicketsHold world) }
-    ensures rest { IfOk result (λ world. RestHolds world) }
-    ensures table { IfOk result (λ world. TableHolds world) }
-    ensures edges { IfOk result (λ world. EdgesHold world) }
+    ensures support { IfOk result (λ world. SupportHolds world) }
     ensures fails { IfErr result (λ e. Fails limits events.now e.0 e.1) }
 {
     rests_on_core();

@@ -1,6 +1,5 @@
 use Rattle.world.specs.CoreLaws.{CoreLaws}
-use Rattle.world.proofs.TurnsRun.{tickets_after, rest_after, table_after}
-use Rattle.world.proofs.EndsTheorem.{edges_hold}
+use Rattle.world.proofs.Headline.{support}
 use Rattle.script.proofs.laws.every_run_is_sound.Goals as goal
 
 pub returns : goal.returns
@@ -13,8 +12,5 @@ returns c =
     } in
     λ l events st ran. record {
       headline = c.every_run_holds.ensures l events st ran;
-      tickets = tickets_after core l events st ran;
-      rest = rest_after core l events st ran;
-      table = table_after core l events st ran;
-      edges = edges_hold l events st ran;
+      support = support core l events st ran;
     }

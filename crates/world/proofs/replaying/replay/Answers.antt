@@ -4,9 +4,7 @@ use Rattle.world.specs.States.{opening}
 use Rattle.world.specs.Runs.{run}
 use Rattle.world.specs.Headline.{HeadlineHolds}
 use Rattle.world.specs.CoreLaws.{CoreLaws}
-use Rattle.world.proofs.TurnsRun.{tickets_after, rest_after, table_after}
-use Rattle.world.proofs.EndsTheorem.{edges_hold}
-use Rattle.world.proofs.Headline.{headline}
+use Rattle.world.proofs.Headline.{headline, support}
 use Rattle.world.proofs.replaying.replay.Goals as goal
 
 pub returns : goal.returns
@@ -24,9 +22,6 @@ returns c =
       failures = holds.failures;
       due = holds.due;
       listener = holds.listener;
-      tickets = tickets_after laws l events _ all;
-      rest = rest_after laws l events _ all;
-      table = table_after laws l events _ all;
-      edges = edges_hold l events _ all;
+      support = support laws l events _ all;
       fails = tt;
     }
