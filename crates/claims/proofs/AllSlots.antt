@@ -12,7 +12,8 @@ use lib.ListN.{get_elem?}
 use Rattle.atomic_table.proofs.Lists.{at_map, set_again}
 use Rattle.claims.specs.declared.view.Exchange.{Exchange}
 use Rattle.claims.specs.declared.view.View.{View}
-use Rattle.claims.specs.Views.{blank, posted_of, spare_of, account_of, accounts_of, trace_in, traces_at, account_in, column}
+use Rattle.claims.specs.Views.{blank, account_of, accounts_of, trace_in, traces_at, column}
+use Rattle.claims.proofs.Fields.{posted_of, spare_of, account_in}
 use Rattle.claims.specs.Rule.{SlotRule, ClaimRule}
 use Rattle.claims.proofs.Totals.{sum_by-map, sum_by-put, each_at}
 use Rattle.claims.proofs.Histories.{counts_of}

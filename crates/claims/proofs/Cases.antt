@@ -6,11 +6,10 @@ use Rattle.claims.specs.declared.answers.Posted.{Posted}
 use Rattle.claims.specs.declared.answers.Released.{Released}
 use Rattle.claims.specs.declared.answers.Posted.TheVariants.{Wake, Quiet}
 use Rattle.claims.specs.declared.answers.Released.TheVariants.{Wake as ReleaseWakes, Quiet as ReleaseQuiet}
-use Rattle.claims.specs.Words.{some_wait, wakes, answer_of, WordState, post, claim, adopt, wake, quiet, held, busy, adopted, not_free}
+use Rattle.claims.specs.Words.{some_wait, wakes, WordState, claim, adopt, made}
 use Rattle.claims.specs.Views.{after}
-use Rattle.claims.specs.Rule.{made}
-use Rattle.claims.specs.Seats.{SeatState, account_at, HoldsNot, Adds, Stepped}
-use Rattle.claims.specs.Calls.{PostChange, PostStep, ReleaseChange, release_answer}
+use Rattle.claims.specs.Seats.{SeatState, account_at, HoldsNot, Adds}
+use Rattle.claims.specs.Calls.{PostChange, ReleaseChange}
 
 module _ (slot : ℕ) (old new : SeatState) where
   pub post_change : (r : Posted) (woke : Bool) → r ≡ (if woke then Wake else Quiet) → Adds slot (exchange.Post woke ∷ []) old new → (woke ≡ true → HoldsNot old slot)
@@ -18,18 +17,10 @@ module _ (slot : ℕ) (old new : SeatState) where
   post_change r true is adds alone = subst (λ q. PostChange slot old q new) (sym is) (adds, alone refl)
   post_change r false is adds alone = subst (λ q. PostChange slot old q new) (sym is) adds
 
-  pub post_step : (r : Posted) (woke : Bool) → r ≡ (if woke then Wake else Quiet) → Stepped post slot old new (if woke then wake else quiet) → PostStep slot old r new
-  post_step r true is step = subst (λ q. PostStep slot old q new) (sym is) step
-  post_step r false is step = subst (λ q. PostStep slot old q new) (sym is) step
-
   pub release_change : (r : Released) (woke : Bool) → r ≡ (if woke then ReleaseWakes else ReleaseQuiet) → Adds slot (exchange.Release woke ∷ []) old new
       → (woke ≡ false → (account_at old slot).known ≡ 0) → ReleaseChange slot old r new
   release_change r true is adds none = subst (λ q. ReleaseChange slot old q new) (sym is) adds
   release_change r false is adds none = subst (λ q. ReleaseChange slot old q new) (sym is) (adds, none refl)
-
-pub release_says : (woke : Bool) → release_answer (if woke then ReleaseWakes else ReleaseQuiet) ≡ (if woke then wake else quiet)
-release_says true = refl
-release_says false = refl
 
 -- nobody holds a slot at which a post wakes
 pub wakes_no_holder : (w : WordState) → wakes w ≡ true → w.held ≡ false
@@ -68,15 +59,3 @@ module _ (w : WordState) where
 
     pub adopt_not_free : w.free ≡ false → after (made adopt w) a ≡ a
     adopt_not_free is = ap (λ e. after e a) (makes_not_free is)
-
-pub says_busy : (w : WordState) → w.held ≡ true → busy ≡ answer_of claim w
-says_busy w is = sym (ap (λ h. if h then busy else held) is)
-
-pub says_held : (w : WordState) → w.held ≡ false → held ≡ answer_of claim w
-says_held w is = sym (ap (λ h. if h then busy else held) is)
-
-pub says_adopted : (w : WordState) → w.free ≡ true → adopted ≡ answer_of adopt w
-says_adopted w is = sym (ap (λ f. if f then adopted else not_free) is)
-
-pub says_not_free : (w : WordState) → w.free ≡ false → not_free ≡ answer_of adopt w
-says_not_free w is = sym (ap (λ f. if f then adopted else not_free) is)

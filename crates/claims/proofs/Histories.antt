@@ -13,10 +13,11 @@ use lib.ListN.{get_elem?}
 use Rattle.claims.specs.declared.view.Account.{Account}
 use Rattle.claims.specs.declared.view.Exchange.{Exchange}
 use Rattle.claims.specs.declared.view.Exchange.TheVariants.{Busy, Held, Adopted, NotFree}
-use Rattle.claims.specs.Words.{word_of, word_after, WordState, StepKind, post, claim, take, release, retire, adopt}
-use Rattle.claims.specs.Views.{blank, posted_of, taken_of, minted_of, redeemed_of, holding_of, adopts_of, retires_of, after, after_all, account_of}
-use Rattle.claims.specs.Rule.{made, kind_of, History, Leads, by_seat, NeedsHolder, Keeps, unused, SlotRule}
-use Rattle.claims.specs.Laws.{Knows, Counts, HistoriesCount}
+use Rattle.claims.specs.Words.{word_of, word_after, WordState, StepKind, post, claim, take, release, retire, adopt, made, kind_of}
+use Rattle.claims.specs.Views.{blank, after, after_all, account_of}
+use Rattle.claims.proofs.Fields.{posted_of, taken_of, minted_of, redeemed_of, holding_of, adopts_of, retires_of}
+use Rattle.claims.specs.Rule.{History, Leads, by_seat, NeedsHolder, Keeps, unused, SlotRule}
+use Rattle.claims.specs.Laws.{Knows, Counts}
 use Rattle.claims.proofs.Totals.{found, each_at}
 use Rattle.claims.proofs.OneSlot.{counts_kept}
 
@@ -227,6 +228,3 @@ counts_of word traces rule =
     (λ seat lt. play_at rule.history first seat within ∙ ap (after_all (by_seat seat rule.history)) (blank_at n seat)
     ∙ ap (λ (es : List Exchange). after_all es blank) (rule.mine seat) ∙ sym (get_or-map account_of traces seat [])) in
     subst (λ (as_ : List Account). Counts rule.state as_) whole (play_counts rule.history unused rule.state first rule.folds within fair (counts_of_none n))
-
-pub histories_count : HistoriesCount
-histories_count slots words views rule slot inside = counts_of _ _ (rule.slot_rules slot inside)

@@ -8,14 +8,18 @@ use Rattle.atomic_table.specs.Table.{Me, Allows, keeps}
 use Rattle.claims.specs.declared.view.Account.{Account}
 use Rattle.claims.specs.declared.view.Exchange.{Exchange}
 use Rattle.claims.specs.declared.view.View.{View}
-use Rattle.claims.specs.Words.{word_of, word_after, WordState, StepKind, post, claim, take, release, retire, adopt}
-use Rattle.claims.specs.Views.{blank, posted_of, after, account_of, accounts_of, trace_in, traces_at, account_in}
-use Rattle.claims.specs.Rule.{made, NeedsHolder, ClaimRule}
-use Rattle.claims.specs.Steps.{view_after, StepEffect}
+use Rattle.claims.specs.Words.{word_of, word_after, WordState, StepKind, post, claim, take, release, retire, adopt, made}
+use Rattle.claims.specs.Views.{blank, after, account_of, accounts_of, trace_in, traces_at}
+use Rattle.claims.proofs.Fields.{posted_of, account_in}
+use Rattle.claims.specs.Rule.{NeedsHolder, ClaimRule, KeepsRule}
 use Rattle.claims.proofs.Totals.{inside, each_at}
 use Rattle.claims.proofs.Histories.{after_on, history_on}
 use Rattle.claims.proofs.AllSlots.{wide, few_pending, kept}
 use Rattle.atomic_table.proofs.Lists.{at_map}
+
+-- the view that a step of this kind leaves, with one exchange more
+abbrev view_after : StepKind → WordState → ℕ → View → View
+view_after kind w slot v = record v { traces = set v.traces slot (trace_in slot v ++ made kind w ∷ []) }
 
 -- what each kind of step asks of its seat
 abbrev pub MayDo : StepKind → ℕ → View → Type 0
@@ -68,7 +72,7 @@ module _ (s : WordState) (slot : ℕ) (v : View) (within : slot < length v.trace
 
 pub may_step : (kind : StepKind) (f : ℕ → ℕ) → ((w : WordState) → w.pending ≤ 2 ^ 61 → f (word_of w) ≡ word_of (word_after kind w))
     → (slots homes id : ℕ) (m : Me (Unit {0}) View) (slot : ℕ) → slot < slots → MayDo kind slot m.0
-    → Allows (λ s. ClaimRule slots s.words s.views) homes id m slot f (λ n m'. StepEffect kind slot n m.0 m'.0)
+    → Allows (λ s. ClaimRule slots s.words s.views) homes id m slot f (λ n m'. (slots : ℕ) × KeepsRule kind slots slot n m.0 m'.0)
 may_step kind f exchanges slots homes id m slot within may table rule homes_are at below =
     let v = m.0 in
     let here = rule.slot_rules slot within in
@@ -83,16 +87,19 @@ may_step kind f exchanges slots homes id m slot within may table rule homes_are 
       keeps,
       tt,
       subst (λ (n : ℕ). ClaimRule slots (set table.words slot n) (set table.views id (view_after kind here.state slot v))) (sym becomes) rule',
-      record {
-        slots = slots;
-        seat = id;
-        words = table.words;
-        views = table.views;
-        inside = within;
-        before = rule;
-        mine = at;
-        word_was = refl;
-        becomes = refl;
-        after = rule';
-      },
+      (
+        slots,
+        record {
+          words = table.words;
+          views = table.views;
+          seat = id;
+          state = here.state;
+          inside = within;
+          mine = at;
+          before = rule;
+          read = (refl, here.reads);
+          becomes = refl;
+          after = rule';
+        },
+      ),
     )

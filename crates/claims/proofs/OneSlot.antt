@@ -8,9 +8,10 @@ use native.Mathlib.Decide.{ℕ_discrete}
 use lib.ListN.{get_elem?}
 use Rattle.claims.specs.declared.view.Account.{Account}
 use Rattle.claims.specs.declared.view.Exchange.TheVariants.{Post, Held, Take, Release, Retire, Adopted}
-use Rattle.claims.specs.Words.{one, some_wait, wakes, word_after, WordState, StepKind, post, claim, take, release, retire, adopt}
-use Rattle.claims.specs.Views.{posted_of, taken_of, minted_of, redeemed_of, holding_of, adopts_of, retires_of, after}
-use Rattle.claims.specs.Rule.{made, NeedsHolder}
+use Rattle.claims.specs.Words.{one, some_wait, wakes, word_after, WordState, StepKind, post, claim, take, release, retire, adopt, made}
+use Rattle.claims.specs.Views.{after}
+use Rattle.claims.proofs.Fields.{posted_of, taken_of, minted_of, redeemed_of, holding_of, adopts_of, retires_of}
+use Rattle.claims.specs.Rule.{NeedsHolder}
 use Rattle.claims.specs.Laws.{due, Knows, Counts}
 use Rattle.claims.proofs.Totals.{sum_by-put, term-le, each_at}
 

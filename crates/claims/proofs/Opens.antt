@@ -12,12 +12,22 @@ use Rattle.claims.specs.declared.view.Account.{Account}
 use Rattle.claims.specs.declared.view.Exchange.{Exchange}
 use Rattle.claims.specs.declared.view.View.{View}
 use Rattle.claims.specs.Words.{word_of, WordState}
-use Rattle.claims.specs.Views.{blank, posted_of, holds_of, spare_of, unused_view, account_of, accounts_of, trace_in, traces_at}
+use Rattle.claims.specs.Views.{blank, unused_view, account_of, accounts_of, trace_in, traces_at}
+use Rattle.claims.proofs.Fields.{posted_of, holds_of, spare_of}
 use Rattle.claims.specs.Rule.{History, Leads, by_seat, unused, Keeps, SlotRule, ClaimRule}
-use Rattle.claims.specs.Steps.{first_view, one_spare_less, newcomer}
 use Rattle.claims.specs.Seats.{TableId, SeatState, view_of, fresh_seat, SeatOk}
 use Rattle.claims.specs.Opening.{OpensLawful}
 use Rattle.claims.proofs.Totals.{each_at, sum_by-put}
+
+-- the first seat, which may still make the others; and a seat that makes another, which has done nothing and makes none
+abbrev first_view : ℕ → ℕ → View
+first_view slots seats = unused_view slots (seats - 1)
+
+abbrev one_spare_less : View → View
+one_spare_less v = record v { spare = v.spare - 1 }
+
+abbrev newcomer : View → View
+newcomer v = unused_view (length v.traces) 0
 
 abbrev nothing_done : List Exchange
 nothing_done = []

@@ -1,13 +1,14 @@
 -- The laws of every state that meets the rule.
-use Rattle.std.proofs.Common.{◌≡◌, ◌≢◌, ℕ, zero, suc, ◌<◌, ◌≤◌, Bool, true, false, if◌then◌else◌, List, [], ◌∷◌, length, get_or, set, refl, sym, subst, ap, ◌∙◌, arith, get_or-set_other, length-set}
+use Rattle.std.proofs.Common.{◌≡◌, ◌≢◌, ℕ, zero, suc, ◌<◌, ◌≤◌, Bool, true, false, List, [], ◌∷◌, length, get_or, set, refl, sym, subst, ap, ◌∙◌, arith, get_or-set_other, length-set}
 use Rattle.std.specs.List.{sum_by}
 use Rattle.std.proofs.lemmas.List.Sums.{sum_by-set, get_or-le-sum_by}
 use mathlib.Core.Logic.{dite}
 use native.Mathlib.Decide.{ℕ_discrete}
 use Rattle.claims.specs.declared.view.Account.{Account}
-use Rattle.claims.specs.Words.{one, some_wait, word_of, WordState}
-use Rattle.claims.specs.Views.{blank, holding_of, column}
-use Rattle.claims.specs.Laws.{due, OneHolderEach, NotesAreKept, TicketsAreNeeded}
+use Rattle.claims.specs.Words.{one, word_of, WordState}
+use Rattle.claims.specs.Views.{blank, column}
+use Rattle.claims.proofs.Fields.{holding_of}
+use Rattle.claims.specs.Laws.{Counts, HistoriesCount, OneHolderEach, NotesAreKept, TicketsAreNeeded}
 use Rattle.claims.proofs.OneSlot.{one_le}
 use Rattle.claims.proofs.Histories.{counts_of}
 
@@ -40,33 +41,27 @@ one_holder_each slots words views rule slot inside seat other seat_holds other_h
     absurd (omega arith)))
 
 -- a word says one thing
-module _ (w v : WordState) (is : word_of w ≡ word_of v) where
-  same_pending : w.pending ≡ v.pending
-  same_pending = let a = one_le w.free in let b = one_le w.held in let c = one_le v.free in let d = one_le v.held in omega arith
+same_word : (w v : WordState) → word_of w ≡ word_of v → w ≡ v
+same_word w v is =
+    let a = one_le w.free in let b = one_le w.held in let c = one_le v.free in let d = one_le v.held in
+    let pending : w.pending ≡ v.pending = omega arith in
+    let free = same_bit w.free v.free (omega arith) in
+    let held = same_bit w.held v.held (omega arith) in
+    λ i. record { pending = pending i; free = free i; held = held i }
+  where
+    same_bit : (a b : Bool) → one a ≡ one b → a ≡ b
+    same_bit true true e = refl
+    same_bit true false e = absurd (omega arith)
+    same_bit false true e = absurd (omega arith)
+    same_bit false false e = refl
 
-  same_held : w.held ≡ v.held
-  same_held = same_bit w.held v.held (let a = one_le w.free in let b = one_le w.held in let c = one_le v.free in let d = one_le v.held in omega arith)
-    where
-      same_bit : (a b : Bool) → one a ≡ one b → a ≡ b
-      same_bit true true e = refl
-      same_bit true false e = absurd (omega arith)
-      same_bit false true e = absurd (omega arith)
-      same_bit false false e = refl
-
-  same_due : due w ≡ due v
-  same_due = ap (λ (p : ℕ). if w.held then 0 else one (some_wait p)) same_pending ∙ ap (λ (h : Bool). if h then 0 else one (some_wait v.pending)) same_held
+pub histories_count : HistoriesCount
+histories_count slots words views rule slot inside state is =
+    let here = rule.slot_rules slot inside in
+    subst (λ (w : WordState). Counts w (column slot views)) (same_word here.state state (sym here.reads ∙ is)) (counts_of _ _ here)
 
 pub notes_are_kept : NotesAreKept
-notes_are_kept slots words views rule slot inside state is =
-    let here = rule.slot_rules slot inside in
-    let reads = here.reads in
-    let notes = (counts_of _ _ here).notes in
-    let pending = same_pending state here.state (sym is ∙ reads) in
-    omega arith
+notes_are_kept slots words views rule slot inside state is = (histories_count slots words views rule slot inside state is).notes
 
 pub tickets_are_needed : TicketsAreNeeded
-tickets_are_needed slots words views rule slot inside state is =
-    let here = rule.slot_rules slot inside in
-    let tickets = (counts_of _ _ here).tickets in
-    let needed = same_due state here.state (sym is ∙ here.reads) in
-    omega arith
+tickets_are_needed slots words views rule slot inside state is = sym (histories_count slots words views rule slot inside state is).tickets

@@ -1,5 +1,5 @@
 -- What a step has told, in the words of the calls' contracts.
-use Rattle.std.proofs.Common.{◌≡◌, ℕ, ◌+◌, ◌^◌, ◌<◌, ◌≤◌, Bool, true, false, List, [], ◌∷◌, ◌++◌, length, map, set, get_or, refl, sym, subst, ap, ◌∙◌, arith, get_or-set_same, get_or-set_other, length-set, length-append}
+use Rattle.std.proofs.Common.{◌≡◌, ℕ, ◌+◌, ◌^◌, ◌<◌, ◌≤◌, Bool, true, false, List, [], ◌∷◌, ◌++◌, length, map, set, get_or, sym, subst, ap, ◌∙◌, arith, get_or-set_same, get_or-set_other, length-set}
 use Rattle.std.specs.List.{sum_by}
 use Rattle.std.proofs.Math.ListN.{get_or-map}
 use Rattle.std.proofs.lemmas.List.{map-set, set-get_or, length-map, get_or_default}
@@ -10,25 +10,26 @@ use Rattle.atomic_table.proofs.Lists.{at_map, set_here}
 use Rattle.claims.specs.declared.view.Account.{Account}
 use Rattle.claims.specs.declared.view.Exchange.{Exchange}
 use Rattle.claims.specs.declared.view.View.{View}
-use Rattle.claims.specs.Words.{one, word_of, word_after, answer_of, WordState, StepKind, Answer}
-use Rattle.claims.specs.Views.{blank, posted_of, taken_of, holds_of, holding_of, after, account_of, accounts_of, trace_in, traces_at, account_in, column}
-use Rattle.claims.specs.Rule.{made, ClaimRule}
+use Rattle.claims.specs.Words.{one, word_of, word_after, WordState, StepKind, made}
+use Rattle.claims.specs.Views.{blank, after, account_of, accounts_of, trace_in, traces_at, column}
+use Rattle.claims.proofs.Fields.{posted_of, taken_of, holds_of, holding_of, account_in}
+use Rattle.claims.specs.Rule.{ClaimRule, KeepsRule}
 use Rattle.claims.specs.Laws.{Knows, Counts}
-use Rattle.claims.specs.Steps.{state_at, StepEffect}
-use Rattle.claims.specs.Seats.{TableId, SeatState, seat_state, view_of, account_at, Holds, HoldsNot, Adds, KeepsRule, Stepped, SeatOk}
+use Rattle.claims.specs.Seats.{TableId, SeatState, seat_state, view_of, account_at, Holds, HoldsNot, Adds, Stepped, SeatOk}
 use Rattle.claims.proofs.Totals.{inside, each_at, term-le}
 use Rattle.claims.proofs.OneSlot.{false_from_zero}
 use Rattle.claims.proofs.AllSlots.{few_posts}
 use Rattle.claims.proofs.Histories.{counts_of}
+use Rattle.claims.proofs.States.{histories_count}
 use Rattle.claims.proofs.Moves.{accounts_on, account_there}
 
-module _ {kind : StepKind} {slot found : ℕ} {v w : View} (told : StepEffect kind slot found v w) where
+module _ {kind : StepKind} {slot found : ℕ} {v w : View} (told : (slots : ℕ) × KeepsRule kind slots slot found v w) where
   -- what the number found says
   abbrev pub state : WordState
-  state = state_at told.before told.inside
+  state = told.1.state
 
   pub reads : found ≡ word_of state
-  reads = told.word_was ∙ (told.before.slot_rules slot told.inside).reads
+  reads = told.1.read.1
 
   abbrev pub last : Exchange
   last = made kind state
@@ -36,17 +37,17 @@ module _ {kind : StepKind} {slot found : ℕ} {v w : View} (told : StepEffect ki
   abbrev pub next : Account
   next = after last (account_in slot v)
 
-  sized : length v.traces ≡ told.slots
-  sized = each_at (λ (u : View). length u.traces ≡ told.slots) told.views told.seat v told.mine told.before.one_trace_each
+  sized : length v.traces ≡ told.0
+  sized = each_at (λ (u : View). length u.traces ≡ told.0) told.1.views told.1.seat v told.1.mine told.1.before.one_trace_each
 
   wide : slot < length v.traces
-  wide = subst (λ n. slot < n) (sym sized) told.inside
+  wide = subst (λ n. slot < n) (sym sized) told.1.inside
 
   wide_accounts : slot < length (accounts_of v)
   wide_accounts = subst (λ n. slot < n) (sym (length-map v.traces account_of)) wide
 
   traces : w.traces ≡ set v.traces slot (trace_in slot v ++ last ∷ [])
-  traces = ap (λ (u : View). u.traces) told.becomes
+  traces = ap (λ (u : View). u.traces) told.1.becomes
 
   accounts : accounts_of w ≡ set (accounts_of v) slot next
   accounts = ap (λ (l : List (List Exchange)). map account_of l) traces ∙ accounts_on v slot last
@@ -54,34 +55,34 @@ module _ {kind : StepKind} {slot found : ℕ} {v w : View} (told : StepEffect ki
   trace_here : get_or w.traces slot [] ≡ trace_in slot v ++ last ∷ []
   trace_here = ap (λ (l : List (List Exchange)). get_or l slot []) traces ∙ get_or-set_same v.traces slot (trace_in slot v ++ last ∷ []) [] wide
 
-  my_account : get_elem? (column slot told.views) told.seat ≡ some (account_in slot v)
-  my_account = at_map account_of (traces_at slot told.views) told.seat (trace_in slot v) (at_map (trace_in slot) told.views told.seat v told.mine)
+  my_account : get_elem? (column slot told.1.views) told.1.seat ≡ some (account_in slot v)
+  my_account = at_map account_of (traces_at slot told.1.views) told.1.seat (trace_in slot v) (at_map (trace_in slot) told.1.views told.1.seat v told.1.mine)
 
-  counts : Counts state (column slot told.views)
-  counts = counts_of _ _ (told.before.slot_rules slot told.inside)
+  counts : Counts state (column slot told.1.views)
+  counts = histories_count _ _ _ told.1.before slot told.1.inside state (sym told.1.read.0 ∙ told.1.read.1)
 
   pub knows_few : (account_in slot v).known ≤ state.pending
-  knows_few = (each_at (Knows state.pending) (column slot told.views) told.seat (account_in slot v) my_account counts.known).0
+  knows_few = (each_at (Knows state.pending) (column slot told.1.views) told.1.seat (account_in slot v) my_account counts.known).0
 
   pub knows_none : (account_in slot v).holds ≡ false → (account_in slot v).known ≡ 0
-  knows_none = (each_at (Knows state.pending) (column slot told.views) told.seat (account_in slot v) my_account counts.known).1
+  knows_none = (each_at (Knows state.pending) (column slot told.1.views) told.1.seat (account_in slot v) my_account counts.known).1
 
   -- nobody holds a slot whose word says so, nor a free one
   pub not_mine : one state.held ≤ one state.free → (account_in slot v).holds ≡ false
   not_mine none =
-      let term = term-le holding_of (column slot told.views) told.seat (account_in slot v) my_account in
+      let term = term-le holding_of (column slot told.1.views) told.1.seat (account_in slot v) my_account in
       let holders = counts.holders in
       false_from_zero (account_in slot v).holds (omega arith)
 
   -- all that the seat ever took here
   pub took_few : (account_in slot w).taken ≤ 2 ^ 61
   took_few =
-      let views = set told.views told.seat w in
-      let there : get_elem? views told.seat ≡ some w = set_here told.views told.seat w (inside told.views told.seat v told.mine) in
-      let term = term-le taken_of (column slot views) told.seat (account_in slot w)
-      (at_map account_of (traces_at slot views) told.seat (trace_in slot w) (at_map (trace_in slot) views told.seat w there)) in
-      let notes = (counts_of _ _ (told.after.slot_rules slot told.inside)).notes in
-      let few = few_posts told.slots (set told.words slot (word_of (word_after kind state))) views told.after slot told.inside in
+      let views = set told.1.views told.1.seat w in
+      let there : get_elem? views told.1.seat ≡ some w = set_here told.1.views told.1.seat w (inside told.1.views told.1.seat v told.1.mine) in
+      let term = term-le taken_of (column slot views) told.1.seat (account_in slot w)
+      (at_map account_of (traces_at slot views) told.1.seat (trace_in slot w) (at_map (trace_in slot) views told.1.seat w there)) in
+      let notes = (counts_of _ _ (told.1.after.slot_rules slot told.1.inside)).notes in
+      let few = few_posts told.0 (set told.1.words slot (word_of (word_after kind state))) views told.1.after slot told.1.inside in
       omega arith
 
   pub mark_put : (held : List Bool) (b : Bool) → b ≡ next.holds → set held slot b ≡ set held slot next.holds
@@ -102,7 +103,7 @@ module _ {kind : StepKind} {slot found : ℕ} {v w : View} (told : StepEffect ki
           unworn = few;
           marked = marks ∙ ap (λ (l : List Bool). set l slot next.holds) ok.marked ∙ sym (map-set holds_of (accounts_of v) slot next)
               ∙ ap (λ (l : List Account). map holds_of l) (sym accounts);
-          splits_no_more = ap (λ (u : View). u.spare) told.becomes ∙ ok.splits_no_more;
+          splits_no_more = ap (λ (u : View). u.spare) told.1.becomes ∙ ok.splits_no_more;
           sized = ap length traces ∙ length-set v.traces slot (trace_in slot v ++ last ∷ []) ∙ ok.sized ∙ ap (λ (z : TableId). z.words) (sym same);
         }
 
@@ -125,24 +126,27 @@ module _ {kind : StepKind} {slot found : ℕ} {v w : View} (told : StepEffect ki
             };
           }))
 
-      pub stepped : (answer : Answer) → answer ≡ answer_of kind state → Stepped kind slot old (seat_state table' w) answer
+      pub stepped : Stepped kind slot old (seat_state table' w)
       unfolding Stepped
-      stepped answer is = subst (λ (s : SeatState). KeepsRule kind slot s (seat_state table' w) answer) was (
-          let slots : told.slots ≡ table.words = sym sized ∙ ok.sized in
+      stepped = subst (λ (s : SeatState). (n : ℕ) × KeepsRule kind s.table.words slot n (view_of s) (view_of (seat_state table' w))) was (
+          let slots : told.0 ≡ table.words = sym sized ∙ ok.sized in
           let whole : (u : View) → u.spare ≡ 0 → u ≡ record { traces = u.traces; spare = 0 } = λ u e i. record { traces = u.traces; spare = e i } in
-          let spare : w.spare ≡ 0 = ap (λ (u : View). u.spare) told.becomes ∙ ok.splits_no_more in
-          record {
-            words = told.words;
-            views = told.views;
-            seat = told.seat;
-            word = word_of (word_after kind state);
-            mine = told.mine ∙ ap some (whole v ok.splits_no_more);
-            before = subst (λ (n : ℕ). ClaimRule n told.words told.views) slots told.before;
-            step = record { found = state; old_is = (told.before.slot_rules slot told.inside).reads; new_is = refl; answer_is = is };
-            trace = trace_here;
-            after = subst (λ (n : ℕ). ClaimRule n (set told.words slot (word_of (word_after kind state))) (set told.views told.seat (view_of (seat_state table' w)))) slots
-                (subst (λ (u : View). ClaimRule told.slots (set told.words slot (word_of (word_after kind state))) (set told.views told.seat u)) (whole w spare) told.after);
-          })
+          let spare : w.spare ≡ 0 = ap (λ (u : View). u.spare) told.1.becomes ∙ ok.splits_no_more in (
+            found,
+            record {
+              words = told.1.words;
+              views = told.1.views;
+              seat = told.1.seat;
+              state = state;
+              inside = subst (λ (n : ℕ). slot < n) slots told.1.inside;
+              mine = told.1.mine ∙ ap some (whole v ok.splits_no_more);
+              before = subst (λ (n : ℕ). ClaimRule n told.1.words told.1.views) slots told.1.before;
+              read = told.1.read;
+              becomes = ap (λ (l : List (List Exchange)). record { traces = l; spare = 0 }) traces;
+              after = subst (λ (n : ℕ). ClaimRule n (set told.1.words slot (word_of (word_after kind state))) (set told.1.views told.1.seat (view_of (seat_state table' w)))) slots
+                  (subst (λ (u : View). ClaimRule told.0 (set told.1.words slot (word_of (word_after kind state))) (set told.1.views told.1.seat u)) (whole w spare) told.1.after);
+            },
+          ))
 
       pub known_few : (n : ℕ) → n ≡ state.pending → (account_at old slot).known ≤ n
       known_few n is = subst (λ (s : SeatState). (account_at s slot).known ≤ n) was (let few = knows_few in omega arith)

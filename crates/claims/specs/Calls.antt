@@ -1,4 +1,4 @@
--- The answers of the calls, and the exchange that each says the caller made. Part of the promises.
+-- Which exchange the caller made, by what the call answers. Part of the promises.
 use Rattle.std.specs.Prelude.{◌≡◌, ℕ, ◌^◌, true, false, [], ◌∷◌}
 use Rattle.claims.specs.declared.answers.Posted.{Posted}
 use Rattle.claims.specs.declared.answers.Posted.TheVariants.{Wake, Quiet, Worn}
@@ -9,43 +9,24 @@ use Rattle.claims.specs.declared.answers.Released.TheVariants.{Wake as ReleaseWa
 use Rattle.claims.specs.declared.answers.Adopted.{Adopted as AdoptAnswer}
 use Rattle.claims.specs.declared.answers.Adopted.TheVariants.{Adopted, NotFree}
 use Rattle.claims.specs.declared.view.Exchange.TheVariants as exchange
-use Rattle.claims.specs.Words.{Answer, wake, quiet, held, busy, adopted, not_free, post}
-use Rattle.claims.specs.Seats.{SeatState, account_at, posts_of, HoldsNot, Adds, Stepped}
+use Rattle.claims.specs.Seats.{SeatState, account_at, posts_of, HoldsNot, Adds}
 
--- Wake only where the caller does not hold the slot. Worn makes no exchange, and comes only once the seat has posted 2
--- ^ 56 times
+-- Wake only where the caller does not hold the slot. Worn makes no exchange, and comes only once the seat has posted 2 ^ 56 times
 abbrev pub PostChange : ℕ → SeatState → Posted → SeatState → Type 0
 PostChange slot old Wake new = Adds slot (exchange.Post true ∷ []) old new × HoldsNot old slot
 PostChange slot old Quiet new = Adds slot (exchange.Post false ∷ []) old new
 PostChange slot old Worn new = (new ≡ old) × (posts_of old ≡ 2 ^ 56)
-
-abbrev pub PostStep : ℕ → SeatState → Posted → SeatState → Type 0
-PostStep slot old Wake new = Stepped post slot old new wake
-PostStep slot old Quiet new = Stepped post slot old new quiet
-PostStep slot old Worn new = Unit {0}
 
 -- Held: some number of notes waited
 abbrev pub ClaimChange : ℕ → SeatState → Claimed → SeatState → Type 0
 ClaimChange slot old Held new = (pending : ℕ) × Adds slot (exchange.Held pending ∷ []) old new × HoldsNot old slot
 ClaimChange slot old Busy new = Adds slot (exchange.Busy ∷ []) old new
 
-abbrev pub claim_answer : Claimed → Answer
-claim_answer Held = held
-claim_answer Busy = busy
-
 -- Quiet only where the caller knew of no note
 abbrev pub ReleaseChange : ℕ → SeatState → Released → SeatState → Type 0
 ReleaseChange slot old ReleaseWakes new = Adds slot (exchange.Release true ∷ []) old new
 ReleaseChange slot old ReleaseQuiet new = Adds slot (exchange.Release false ∷ []) old new × ((account_at old slot).known ≡ 0)
 
-abbrev pub release_answer : Released → Answer
-release_answer ReleaseWakes = wake
-release_answer ReleaseQuiet = quiet
-
 abbrev pub AdoptChange : ℕ → SeatState → AdoptAnswer → SeatState → Type 0
 AdoptChange slot old Adopted new = (pending : ℕ) × Adds slot (exchange.Adopted pending ∷ []) old new × HoldsNot old slot
 AdoptChange slot old NotFree new = Adds slot (exchange.NotFree ∷ []) old new
-
-abbrev pub adopt_answer : AdoptAnswer → Answer
-adopt_answer Adopted = adopted
-adopt_answer NotFree = not_free

@@ -3,7 +3,7 @@ use Rattle.std.specs.Prelude.{◌≡◌, ℕ, ◌+◌, ◌<◌, ◌≤◌, true,
 use Rattle.claims.specs.declared.view.Account.{Account}
 use Rattle.claims.specs.declared.view.View.{View}
 use Rattle.claims.specs.Words.{one, some_wait, word_of, WordState}
-use Rattle.claims.specs.Views.{blank, posted_of, taken_of, minted_of, redeemed_of, holding_of, adopts_of, retires_of, column}
+use Rattle.claims.specs.Views.{blank, column}
 use Rattle.claims.specs.Rule.{ClaimRule}
 
 -- how many tickets a slot needs: one while notes wait and nobody holds it
@@ -14,45 +14,43 @@ due w = if w.held then 0 else one (some_wait w.pending)
 abbrev pub Knows : ℕ → Account → Type 0
 Knows pending a = (a.known ≤ pending) × (a.holds ≡ false → a.known ≡ 0)
 
+-- the seat of this number holds the slot
+abbrev pub IsHolder : List Account → ℕ → Type 0
+IsHolder accounts seat = (slice_index_or accounts seat blank).holds ≡ true
+
 -- what the word of a slot says, beside what all seats' accounts of it count
 pub record Counts (state : WordState) (accounts : List Account) : Type 0 where
   -- the notes that wait are those that were posted and not taken
-  pub notes : state.pending + sum_by taken_of accounts ≡ sum_by posted_of accounts
+  pub notes : state.pending + sum_by (λ a. a.taken) accounts ≡ sum_by (λ a. a.posted) accounts
   -- A free slot is held and nobody holds it. A slot that is held and not free has one holder, any other none
-  pub holders : sum_by holding_of accounts + one state.free ≡ one state.held
+  pub holders : sum_by (λ a. one a.holds) accounts + one state.free ≡ one state.held
   -- the tickets that were made and not redeemed are those that the slot needs
-  pub tickets : sum_by minted_of accounts ≡ sum_by redeemed_of accounts + due state
+  pub tickets : sum_by (λ a. a.minted) accounts ≡ sum_by (λ a. a.redeemed) accounts + due state
   pub known : All (Knows state.pending) accounts
   -- a slot is free at the start, each retire frees it, and each adopt of the free slot ends that
-  pub freed : one state.free + sum_by adopts_of accounts ≡ 1 + sum_by retires_of accounts
+  pub freed : one state.free + sum_by (λ a. a.adopts) accounts ≡ 1 + sum_by (λ a. a.retires) accounts
 
--- the history of each slot counts so
+-- in every state that meets the rule this law holds of the word of each slot, and of the accounts of all seats there
+abbrev pub OfEachSlot : (ℕ → List Account → Type 0) → Type 0
+OfEachSlot Law =
+    (slots : ℕ) (words : List ℕ) (views : List View) → ClaimRule slots words views →
+    (slot : ℕ) → slot < slots → Law (slice_index words slot) (column slot views)
+
+-- the seats' accounts count what the word says
 abbrev pub HistoriesCount : Type 0
-HistoriesCount =
-    (slots : ℕ) (words : List ℕ) (views : List View) (rule : ClaimRule slots words views) →
-    (slot : ℕ) (inside : slot < slots) → Counts (rule.slot_rules slot inside).state (column slot views)
-
--- the seat of this number holds the slot
-abbrev pub IsHolder : List View → ℕ → ℕ → Type 0
-IsHolder views slot seat = (slice_index_or (column slot views) seat blank).holds ≡ true
+HistoriesCount = OfEachSlot (λ word accounts. (state : WordState) → word ≡ word_of state → Counts state accounts)
 
 -- two seats that hold one slot are one seat
 abbrev pub OneHolderEach : Type 0
-OneHolderEach =
-    (slots : ℕ) (words : List ℕ) (views : List View) → ClaimRule slots words views →
-    (slot : ℕ) → slot < slots → (seat other : ℕ) → IsHolder views slot seat → IsHolder views slot other → seat ≡ other
+OneHolderEach = OfEachSlot (λ word accounts. (seat other : ℕ) → IsHolder accounts seat → IsHolder accounts other → seat ≡ other)
 
 -- the notes that wait at a slot, by its word, are those that were posted there and not taken
 abbrev pub NotesAreKept : Type 0
-NotesAreKept =
-    (slots : ℕ) (words : List ℕ) (views : List View) → ClaimRule slots words views →
-    (slot : ℕ) → slot < slots → (state : WordState) → slice_index words slot ≡ word_of state →
-    state.pending + sum_by taken_of (column slot views) ≡ sum_by posted_of (column slot views)
+NotesAreKept = OfEachSlot (λ word accounts. (state : WordState) → word ≡ word_of state →
+    state.pending + sum_by (λ a. a.taken) accounts ≡ sum_by (λ a. a.posted) accounts)
 
--- of the tickets that were made for a slot those that are still out are as many as it needs by its word: one while
--- notes wait and nobody holds it, otherwise none
+-- of the tickets that were made for a slot those that are still out are as many as it needs by its word: one while notes
+-- wait and nobody holds it, otherwise none
 abbrev pub TicketsAreNeeded : Type 0
-TicketsAreNeeded =
-    (slots : ℕ) (words : List ℕ) (views : List View) → ClaimRule slots words views →
-    (slot : ℕ) → slot < slots → (state : WordState) → slice_index words slot ≡ word_of state →
-    sum_by redeemed_of (column slot views) + due state ≡ sum_by minted_of (column slot views)
+TicketsAreNeeded = OfEachSlot (λ word accounts. (state : WordState) → word ≡ word_of state →
+    sum_by (λ a. a.redeemed) accounts + due state ≡ sum_by (λ a. a.minted) accounts)

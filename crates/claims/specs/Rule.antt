@@ -1,31 +1,13 @@
--- The claim rule. Part of the promises. It is true of all words and of the views of all seats between any two steps, in
--- every schedule.
-use Rattle.std.specs.Prelude.{◌≡◌, ℕ, ◌+◌, ◌^◌, ◌<◌, ◌≤◌, ◌==◌, true, List, [], ◌∷◌, length, All, sum_by, if◌then◌else◌, slice_index, slice_index_or}
+-- The claim rule, and what one step does. Part of the promises. The rule is true of all words and of the views of all seats
+-- between any two steps, in every schedule.
+use Rattle.std.specs.Prelude.{◌≡◌, ℕ, ◌+◌, ◌^◌, ◌<◌, ◌≤◌, ◌==◌, true, List, [], ◌∷◌, ◌++◌, length, All, sum_by, if◌then◌else◌, slice_index, slice_index_or, slice_set}
+use mathlib.Core.Option.{some}
+use lib.ListN.{get_elem?}
 use Rattle.claims.specs.declared.view.Account.{Account}
 use Rattle.claims.specs.declared.view.Exchange.{Exchange}
-use Rattle.claims.specs.declared.view.Exchange.TheVariants.{Post, Busy, Held, Take, Release, Retire, Adopted, NotFree}
 use Rattle.claims.specs.declared.view.View.{View}
-use Rattle.claims.specs.Words.{some_wait, wakes, word_of, word_after, WordState, StepKind, post, claim, take, release, retire, adopt}
-use Rattle.claims.specs.Views.{blank, after, posted_of, spare_of, accounts_of, traces_at}
-
--- the exchange that a step of this kind makes, by what the word said
-abbrev pub made : StepKind → WordState → Exchange
-made post w = Post (wakes w)
-made claim w = if w.held then Busy else Held w.pending
-made take w = Take w.pending
-made release w = Release (some_wait w.pending)
-made retire w = Retire
-made adopt w = if w.free then Adopted w.pending else NotFree
-
-abbrev pub kind_of : Exchange → StepKind
-kind_of (Post woke) = post
-kind_of Busy = claim
-kind_of (Held pending) = claim
-kind_of (Take count) = take
-kind_of (Release woke) = release
-kind_of Retire = retire
-kind_of (Adopted pending) = adopt
-kind_of NotFree = adopt
+use Rattle.claims.specs.Words.{WordState, StepKind, post, claim, adopt, word_of, word_after, made, kind_of}
+use Rattle.claims.specs.Views.{blank, after, accounts_of, trace_in, traces_at}
 
 -- the exchanges of all seats at one slot, in the order in which its word changed, each with its seat
 abbrev pub History : Type 0
@@ -45,10 +27,8 @@ by_seat seat (s ∷ rest) = if s.0 == seat then s.1 ∷ by_seat seat rest else b
 abbrev pub NeedsHolder : StepKind → Account → Type 0
 NeedsHolder post a = Unit {0}
 NeedsHolder claim a = Unit {0}
-NeedsHolder take a = a.holds ≡ true
-NeedsHolder release a = a.holds ≡ true
-NeedsHolder retire a = a.holds ≡ true
 NeedsHolder adopt a = Unit {0}
+NeedsHolder kind a = a.holds ≡ true
 
 -- from this account on the seat takes, releases and retires only what it holds
 abbrev pub Keeps : Account → List Exchange → Type 0
@@ -74,5 +54,20 @@ pub record ClaimRule (slots : ℕ) (words : List ℕ) (views : List View) : Type
   pub one_trace_each : All (λ v. length v.traces ≡ slots) views
   pub slot_rules : (slot : ℕ) → slot < slots → SlotRule (slice_index words slot) (traces_at slot views)
   -- few enough posts and seats that a word stays below 2 ^ 64
-  pub unworn : All (λ v. sum_by posted_of (accounts_of v) ≤ 2 ^ 56) views
-  pub few_seats : length views + sum_by spare_of views ≤ 32
+  pub unworn : All (λ v. sum_by (λ a. a.posted) (accounts_of v) ≤ 2 ^ 56) views
+  pub few_seats : length views + sum_by (λ v. v.spare) views ≤ 32
+
+-- In a state that met the rule the seat did one step of this kind at the slot's word, which it found so. Its trace of the
+-- slot got the exchange that the kind makes by what the word said, and the rule was kept. The state is some state, since no
+-- clause can name what other threads do, but the seat's own view stands in it, before and after
+pub record KeepsRule (kind : StepKind) (slots slot found : ℕ) (old new : View) : Type 0 where
+  pub words : List ℕ
+  pub views : List View
+  pub seat : ℕ
+  pub state : WordState
+  pub inside : slot < slots
+  pub mine : get_elem? views seat ≡ some old
+  pub before : ClaimRule slots words views
+  pub read : (found ≡ slice_index words slot) × (found ≡ word_of state)
+  pub becomes : new ≡ record old { traces = slice_set old.traces slot (trace_in slot old ++ made kind state ∷ []) }
+  pub after : ClaimRule slots (slice_set words slot (word_of (word_after kind state))) (slice_set views seat new)

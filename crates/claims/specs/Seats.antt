@@ -1,14 +1,12 @@
 -- What callers see of a seat, and how a call changes it. Part of the promises.
-use Rattle.std.specs.Prelude.{◌≡◌, ◌≢◌, ℕ, ◌+◌, ◌^◌, ◌≤◌, Bool, true, false, List, [], ◌∷◌, ◌++◌, map, length, sum_by, slice_index, slice_index_or, slice_set}
-use mathlib.Core.Option.{some}
-use lib.ListN.{get_elem?}
+use Rattle.std.specs.Prelude.{◌≡◌, ◌≢◌, ℕ, ◌^◌, ◌≤◌, Bool, true, false, List, [], ◌++◌, map, length, sum_by, slice_index_or}
 pub use Rattle.atomic_table.specs.Seated.{TableId}
 use Rattle.claims.specs.declared.view.Account.{Account}
 use Rattle.claims.specs.declared.view.Exchange.{Exchange}
 use Rattle.claims.specs.declared.view.View.{View}
-use Rattle.claims.specs.Words.{StepKind, Answer, WordStep}
-use Rattle.claims.specs.Views.{posted_of, holds_of, account_of, accounts_of, unused_view}
-use Rattle.claims.specs.Rule.{made, ClaimRule}
+use Rattle.claims.specs.Words.{StepKind}
+use Rattle.claims.specs.Views.{account_of, accounts_of, unused_view}
+use Rattle.claims.specs.Rule.{KeepsRule}
 
 -- the claim words that the seat belongs to, and its trace of each slot: its exchanges there, in order
 pub record SeatState : Type 0 where
@@ -32,7 +30,7 @@ account_at s slot = account_of (trace_at s slot)
 
 -- how often it has posted, at all slots
 abbrev pub posts_of : SeatState → ℕ
-posts_of s = sum_by posted_of (accounts_of (view_of s))
+posts_of s = sum_by (λ a. a.posted) (accounts_of (view_of s))
 
 abbrev pub Holds : SeatState → ℕ → Type 0
 Holds s slot = (account_at s slot).holds ≡ true
@@ -58,28 +56,14 @@ pub record Adds (slot : ℕ) (exchanges : List Exchange) (old new : SeatState) :
   pub here : trace_at new slot ≡ trace_at old slot ++ exchanges
   pub only : OnlyAt slot old new
 
--- In a state that met the rule the seat did one step of this kind at the slot's word, which answered so. Its trace got
--- the exchange that the kind makes by what the word said, and the rule was kept. The state is some state, since no
--- clause can name what other threads do, but the seat's own view stands in it, before and after
-pub record KeepsRule (kind : StepKind) (slot : ℕ) (old new : SeatState) (answer : Answer) : Type 0 where
-  pub words : List ℕ
-  pub views : List View
-  pub seat : ℕ
-  pub word : ℕ
-  pub mine : get_elem? views seat ≡ some (view_of old)
-  pub before : ClaimRule old.table.words words views
-  pub step : WordStep kind (slice_index words slot) word answer
-  pub trace : trace_at new slot ≡ trace_at old slot ++ made kind step.found ∷ []
-  pub after : ClaimRule old.table.words (slice_set words slot word) (slice_set views seat (view_of new))
-
--- the same, closed: a caller's proof does not open it unasked
-unfoldable pub Stepped : StepKind → ℕ → SeatState → SeatState → Answer → Type 0
-Stepped kind slot old new answer = KeepsRule kind slot old new answer
+-- The seat did one step of this kind, by which the rule was kept. It is closed: a caller's proof does not open it unasked
+unfoldable pub Stepped : StepKind → ℕ → SeatState → SeatState → Type 0
+Stepped kind slot old new = (found : ℕ) × KeepsRule kind old.table.words slot found (view_of old) (view_of new)
 
 -- what a seat keeps beside its view: how often it has posted, and which slots it holds
 pub record SeatOk (posts : ℕ) (held : List Bool) (table : TableId) (v : View) : Type 0 where
-  pub counted : posts ≡ sum_by posted_of (accounts_of v)
+  pub counted : posts ≡ sum_by (λ a. a.posted) (accounts_of v)
   pub unworn : posts ≤ 2 ^ 56
-  pub marked : held ≡ map holds_of (accounts_of v)
+  pub marked : held ≡ map (λ a. a.holds) (accounts_of v)
   pub splits_no_more : v.spare ≡ 0
   pub sized : length v.traces ≡ table.words

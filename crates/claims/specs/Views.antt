@@ -1,6 +1,6 @@
 -- What a seat has done. Part of the promises. Its trace of a slot is the list of its exchanges there, and its account
 -- what they say.
-use Rattle.std.specs.Prelude.{ℕ, ◌+◌, Bool, true, false, List, [], ◌∷◌, map, replicate, slice_index_or}
+use Rattle.std.specs.Prelude.{ℕ, ◌+◌, true, false, List, [], ◌∷◌, map, replicate, slice_index_or}
 use Rattle.claims.specs.declared.view.Account.{Account}
 use Rattle.claims.specs.declared.view.Exchange.{Exchange}
 use Rattle.claims.specs.declared.view.Exchange.TheVariants.{Post, Busy, Held, Take, Release, Retire, Adopted, NotFree}
@@ -35,35 +35,6 @@ account_of trace = after_all trace blank
 abbrev pub minted_by : List Exchange → ℕ
 minted_by exchanges = (account_of exchanges).minted
 
-abbrev pub posted_of : Account → ℕ
-posted_of a = a.posted
-
-abbrev pub taken_of : Account → ℕ
-taken_of a = a.taken
-
-abbrev pub minted_of : Account → ℕ
-minted_of a = a.minted
-
-abbrev pub redeemed_of : Account → ℕ
-redeemed_of a = a.redeemed
-
-abbrev pub holds_of : Account → Bool
-holds_of a = a.holds
-
--- 1 where the seat holds the slot
-abbrev pub holding_of : Account → ℕ
-holding_of a = one a.holds
-
-abbrev pub adopts_of : Account → ℕ
-adopts_of a = a.adopts
-
-abbrev pub retires_of : Account → ℕ
-retires_of a = a.retires
-
--- the seats that a seat may still make
-abbrev pub spare_of : View → ℕ
-spare_of v = v.spare
-
 -- a seat that has done nothing at this many slots, and may make this many seats
 abbrev pub unused_view : ℕ → ℕ → View
 unused_view slots spare = record { traces = replicate slots []; spare = spare }
@@ -72,17 +43,13 @@ unused_view slots spare = record { traces = replicate slots []; spare = spare }
 abbrev pub accounts_of : View → List Account
 accounts_of v = map account_of v.traces
 
--- its exchanges at this slot
+-- its trace of this slot
 abbrev pub trace_in : ℕ → View → List Exchange
 trace_in slot v = slice_index_or v.traces slot []
 
 -- the traces of this slot, one for each view
 abbrev pub traces_at : ℕ → List View → List (List Exchange)
 traces_at slot views = map (trace_in slot) views
-
--- the account of this slot
-abbrev pub account_in : ℕ → View → Account
-account_in slot v = account_of (trace_in slot v)
 
 -- the accounts of this slot, one for each view
 abbrev pub column : ℕ → List View → List Account

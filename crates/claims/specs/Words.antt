@@ -1,6 +1,8 @@
--- The claim word of a slot, how a step of each kind changes it, and what the step answers. Part of the promises. This
--- file stands alone, so that a model of the server can describe its own steps with the same words.
-use Rattle.std.specs.Prelude.{◌≡◌, ℕ, zero, suc, ◌+◌, ◌*◌, Bool, true, false, if◌then◌else◌}
+-- The claim word of a slot, how a step of each kind changes it, and which exchange that is. Part of the promises. This file
+-- stands alone, so that a model of the server can describe its own steps with the same words.
+use Rattle.std.specs.Prelude.{ℕ, zero, suc, ◌+◌, ◌*◌, Bool, true, false, if◌then◌else◌}
+use Rattle.claims.specs.declared.view.Exchange.{Exchange}
+use Rattle.claims.specs.declared.view.Exchange.TheVariants.{Post, Busy, Held, Take, Release, Retire, Adopted, NotFree}
 
 -- what a word says of its slot: how many notes wait, whether the slot is free, and whether it is held
 pub record WordState : Type 0 where
@@ -26,17 +28,6 @@ pub data StepKind : Type 0 where
   retire : StepKind
   adopt : StepKind
 
--- what a step answers, by the word that it found
-pub data Answer : Type 0 where
-  wake : Answer
-  quiet : Answer
-  held : Answer
-  busy : Answer
-  count : ℕ → Answer
-  nothing : Answer
-  adopted : Answer
-  not_free : Answer
-
 -- does a note wait
 abbrev pub some_wait : ℕ → Bool
 some_wait zero = false
@@ -56,19 +47,22 @@ word_after release w = record w { held = false }
 word_after retire w = record w { free = true }
 word_after adopt w = record w { free = false }
 
--- A claim of a free slot is answered busy, since a free slot is marked as held
-abbrev pub answer_of : StepKind → WordState → Answer
-answer_of post w = if wakes w then wake else quiet
-answer_of claim w = if w.held then busy else held
-answer_of take w = count w.pending
-answer_of release w = if some_wait w.pending then wake else quiet
-answer_of retire w = nothing
-answer_of adopt w = if w.free then adopted else not_free
+-- The exchange that a step of this kind makes, by what the word says. A claim of a free slot is answered Busy, since a free
+-- slot is marked as held
+abbrev pub made : StepKind → WordState → Exchange
+made post w = Post (wakes w)
+made claim w = if w.held then Busy else Held w.pending
+made take w = Take w.pending
+made release w = Release (some_wait w.pending)
+made retire w = Retire
+made adopt w = if w.free then Adopted w.pending else NotFree
 
--- A step of this kind makes `new` of the word `old`, and answers so. A number says one state, so kind and old word
--- determine both
-pub record WordStep (kind : StepKind) (old new : ℕ) (answer : Answer) : Type 0 where
-  pub found : WordState
-  pub old_is : old ≡ word_of found
-  pub new_is : new ≡ word_of (word_after kind found)
-  pub answer_is : answer ≡ answer_of kind found
+abbrev pub kind_of : Exchange → StepKind
+kind_of (Post woke) = post
+kind_of Busy = claim
+kind_of (Held pending) = claim
+kind_of (Take count) = take
+kind_of (Release woke) = release
+kind_of Retire = retire
+kind_of (Adopted pending) = adopt
+kind_of NotFree = adopt

@@ -1,9 +1,9 @@
 // The calls on the claim words, each one atomic exchange.
-ghost use Rattle.std.specs.Prelude.{◌≡◌, ◌<◌, ◌≤◌, ◌^◌, [], ◌∷◌};
+ghost use Rattle.std.specs.Prelude.{◌≡◌, ◌≢◌, ◌<◌, ◌≤◌, ◌^◌, [], ◌∷◌};
 ghost use Rattle.claims.specs.declared.view.Exchange.TheVariants as exchange;
-ghost use Rattle.claims.specs.Words.{claim, take, release, retire, adopt, count, nothing};
+ghost use Rattle.claims.specs.Words.{post, claim, take, release, retire, adopt};
 ghost use Rattle.claims.specs.Seats.{account_at, Holds, Adds, Stepped};
-ghost use Rattle.claims.specs.Calls.{PostChange, PostStep, ClaimChange, claim_answer, ReleaseChange, release_answer, AdoptChange, adopt_answer};
+ghost use Rattle.claims.specs.Calls.{PostChange, ClaimChange, ReleaseChange, AdoptChange};
 
 use crate::answers::{Adopted, Claimed, Posted, Released};
 use crate::limits::{FREE, HELD, MAX_POSTS, NOTE};
@@ -68,7 +68,7 @@ impl Claims {
         requires same { seat.old.table ≡ self.now }
         requires inside { slot < self.now.words }
         ensures change { PostChange slot seat.old result seat.new }
-        ensures lawful { PostStep slot seat.old result seat.new }
+        ensures lawful { result ≢ Posted.Worn → Stepped post slot seat.old seat.new }
     {
         if seat.posts == MAX_POSTS {
             return Posted::Worn;
@@ -86,7 +86,7 @@ impl Claims {
         requires same { seat.old.table ≡ self.now }
         requires inside { slot < self.now.words }
         ensures change { ClaimChange slot seat.old result seat.new }
-        ensures lawful { Stepped claim slot seat.old seat.new (claim_answer result) }
+        ensures lawful { Stepped claim slot seat.old seat.new }
     {
         let words = &self.table.shared;
         let found = words.fetch_or::<Claim>(&mut seat.seat, slot, HELD);
@@ -107,7 +107,7 @@ impl Claims {
         ensures change { Adds slot (exchange.Take result ∷ []) seat.old seat.new }
         ensures known { (account_at seat.old slot).known ≤ result }
         ensures few { (account_at seat.new slot).taken ≤ 2 ^ 61 }
-        ensures lawful { Stepped take slot seat.old seat.new (count result) }
+        ensures lawful { Stepped take slot seat.old seat.new }
     {
         let words = &self.table.shared;
         let found = words.fetch_and::<Take>(&mut seat.seat, slot, FREE + HELD);
@@ -122,7 +122,7 @@ impl Claims {
         requires inside { slot < self.now.words }
         requires holder { Holds seat.old slot }
         ensures change { ReleaseChange slot seat.old result seat.new }
-        ensures lawful { Stepped release slot seat.old seat.new (release_answer result) }
+        ensures lawful { Stepped release slot seat.old seat.new }
     {
         let words = &self.table.shared;
         let found = words.fetch_and::<Release>(&mut seat.seat, slot, !HELD);
@@ -136,7 +136,7 @@ impl Claims {
         requires inside { slot < self.now.words }
         requires holder { Holds seat.old slot }
         ensures change { Adds slot (exchange.Retire ∷ []) seat.old seat.new }
-        ensures lawful { Stepped retire slot seat.old seat.new nothing }
+        ensures lawful { Stepped retire slot seat.old seat.new }
     {
         let words = &self.table.shared;
         words.fetch_or::<Retire>(&mut seat.seat, slot, FREE);
@@ -148,7 +148,7 @@ impl Claims {
         requires same { seat.old.table ≡ self.now }
         requires inside { slot < self.now.words }
         ensures change { AdoptChange slot seat.old result seat.new }
-        ensures lawful { Stepped adopt slot seat.old seat.new (adopt_answer result) }
+        ensures lawful { Stepped adopt slot seat.old seat.new }
     {
         let words = &self.table.shared;
         let found = words.fetch_and::<Adopt>(&mut seat.seat, slot, !FREE);

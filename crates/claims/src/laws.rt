@@ -3,7 +3,7 @@
 
 ghost use Rattle.claims.specs.Laws.{HistoriesCount, OneHolderEach, NotesAreKept, TicketsAreNeeded};
 
-/// The history of a slot gives the counts of its notes, its holders and its tickets.
+/// The seats' traces of a slot count what its word says of notes, holders and tickets.
 pub fn histories_count()
     ensures { HistoriesCount }
 {}

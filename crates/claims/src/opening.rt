@@ -1,7 +1,6 @@
 // `Claims::open`: the words as they start, and a seat for each thread.
-ghost use Rattle.std.specs.Prelude.{◌≡◌, ◌+◌, ◌<◌, ◌≤◌, ◌↔◌, IfOk, OnOk, IsErrOf, false, replicate};
+ghost use Rattle.std.specs.Prelude.{◌≡◌, ◌+◌, ◌-◌, ◌<◌, ◌≤◌, ◌↔◌, IfOk, OnOk, IsErrOf, false, replicate};
 ghost use Rattle.claims.specs.Views.{unused_view};
-ghost use Rattle.claims.specs.Steps.{first_view};
 ghost use Rattle.claims.specs.Seats.{fresh_seat};
 ghost use Rattle.claims.specs.Opening.{IsWithin, IsOutside, OpensLawful};
 
@@ -82,7 +81,7 @@ fn words_and_first_seat(
     requires slots { IsWithin 1 32768 slots }
     requires seats { IsWithin 1 32 seats }
     ensures table { IfOk result (λ t. (t.0.shared.table_id.words ≡ slots) × (t.0.shared.key.0 ≡ slots)) }
-    ensures seat { IfOk result (λ t. (t.1.table_id ≡ t.0.shared.table_id) × (t.1.me.0 ≡ first_view slots seats)) }
+    ensures seat { IfOk result (λ t. (t.1.table_id ≡ t.0.shared.table_id) × (t.1.me.0 ≡ unused_view slots (seats - 1))) }
 {
     let words = vec![in alloc; UNUSED; slots]?;
     Table::of_words(alloc, words.as_slice(), &(slots, seats))
@@ -98,7 +97,7 @@ fn all_seats(
 ) -> Result<Vec<ClaimSeat>, AllocError>
     requires slots { IsWithin 1 32768 slots × (table.now.shared.table_id.words ≡ slots) × (table.now.shared.key.0 ≡ slots) }
     requires seats { IsWithin 1 32 seats }
-    requires first { (first.table_id ≡ table.now.shared.table_id) × (first.me.0 ≡ first_view slots seats) }
+    requires first { (first.table_id ≡ table.now.shared.table_id) × (first.me.0 ≡ unused_view slots (seats - 1)) }
     ensures { IfOk result (λ all. all.items ≡ replicate seats (fresh_seat table.now.shared.table_id)) }
 {
     let mut all = Vec::with_capacity(alloc, seats)?;

@@ -1,6 +1,7 @@
 // The claim rule, as the rule of a table of words.
+ghost use Rattle.std.specs.Prelude.{◌-◌, length};
 ghost use Rattle.claims.specs.Rule.{ClaimRule};
-ghost use Rattle.claims.specs.Steps.{first_view, one_spare_less, newcomer};
+ghost use Rattle.claims.specs.Views.{unused_view};
 
 use crate::view::View;
 use atomic_table::{Split, TableRule};
@@ -11,13 +12,13 @@ pub(crate) struct OneHolder;
 impl TableRule<(), View, (usize, usize)> for OneHolder {
     ghost holds = { λ size state. ClaimRule size.0 state.words state.views };
 
-    ghost first = { λ size. first_view size.0 size.1 };
+    ghost first = { λ size. unused_view size.0 (size.1 - 1) };
 }
 
 pub(crate) struct NextSeat;
 
 impl Split<View> for NextSeat {
-    ghost left = { one_spare_less };
+    ghost left = { λ v. record v { spare = v.spare - 1 } };
 
-    ghost right = { newcomer };
+    ghost right = { λ v. unused_view (length v.traces) 0 };
 }

@@ -5,7 +5,8 @@ use mathlib.Core.Logic.{dite}
 use native.Mathlib.Decide.{ℕ_discrete}
 use Rattle.std.proofs.lemmas.List.Sums.{sum_by-cons}
 use Rattle.claims.specs.declared.view.Exchange.{Exchange}
-use Rattle.claims.specs.Views.{account_of, posted_of}
+use Rattle.claims.specs.Views.{account_of}
+use Rattle.claims.proofs.Fields.{posted_of}
 use Rattle.claims.specs.Seats.{SeatState, account_at, OnlyAt}
 use Rattle.dispatch.specs.Posts.{IsWorn}
 

@@ -6,7 +6,7 @@ use Rattle.relay_core.specs.Order.{next_call}
 use Rattle.relay_core.specs.Replies.{fits}
 use Rattle.relay_core.specs.Idle.{is_overdue, expired}
 use Rattle.claims.specs.Words as word
-use Rattle.claims.specs.Words.{WordState, some_wait}
+use Rattle.claims.specs.Words.{WordState, some_wait, made as exchange_made}
 use Rattle.world.specs.declared.connection.Connection.{Connection}
 use Rattle.world.specs.declared.actors.Doing.TheVariants as doing
 use Rattle.world.specs.declared.event.Event.{Event}
@@ -25,7 +25,6 @@ use Rattle.world.proofs.TurnsKept.{Kept, kept_bind, kept_map, kept_when, kept_at
 use Rattle.interleaving.specs.Programs.{Call}
 use Rattle.interleaving.specs.Threads.{System, Thread, Acts, Calls, with_thread, heard, planned, notes_taken, after_call}
 use Rattle.claims.specs.declared.view.Exchange.{Exchange}
-use Rattle.claims.specs.Rule.{made as exchange_made}
 use Rattle.interleaving.specs.Histories.{exchanges_in}
 use Rattle.interleaving.specs.Likeness.{outside_among, Held, ThreadLike, Goes, machine_of, Settled, IsSettled, calls_in}
 use Rattle.interleaving.proofs.Frames.{Follows, apart, go_on, thread_goes_on, holder_apart}

@@ -8,7 +8,7 @@ use Rattle.kernel_model.specs.Kernel.{KernelState}
 use Rattle.kernel_model.specs.Ends.{is_nonempty}
 use Rattle.relay_core.specs.Pairs.{verdict, is_live}
 use Rattle.relay_core.specs.Order.{next_call}
-use Rattle.claims.specs.Words.{WordState, word_after, wakes, some_wait}
+use Rattle.claims.specs.Words.{WordState, word_after, wakes, some_wait, made as exchange_made}
 use Rattle.claims.specs.Words as word
 use Rattle.world.specs.declared.connection.Connection.{Connection}
 use Rattle.world.specs.declared.actors.Holder.TheVariants.{Nobody, By, Free}
@@ -24,7 +24,6 @@ use Rattle.world.proofs.TurnsKept.{Kept, kept_map}
 use Rattle.world.proofs.TurnsTotals.{get-set_same}
 use Rattle.interleaving.specs.Programs.{Act, Post, Release, Retire, Give}
 use Rattle.interleaving.specs.Threads.{System, Thread, Acts, with_thread, goes_on, posted, released, put_in, closed, given}
-use Rattle.claims.specs.Rule.{made as exchange_made}
 use Rattle.interleaving.specs.Likeness.{ticket, Held, HeldClosed, ThreadLike, Rests, Stays, Leaves, HasClosed, HasRetired, machine_of, Settled, IsSettled}
 use Rattle.interleaving.proofs.Frames.{Follows, apart, go_on, thread_goes_on, holder_apart, settles}
 use Rattle.interleaving.proofs.Posts.{some_notes, post_word, some_more, noted_like}

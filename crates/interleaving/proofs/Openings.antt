@@ -9,7 +9,7 @@ use Rattle.kernel_model.specs.Kernel as kernel
 use Rattle.kernel_model.specs.Kernel.{KernelState}
 use Rattle.relay_core.specs.Pairs.{fresh}
 use Rattle.claims.specs.Words as word
-use Rattle.claims.specs.Words.{WordState}
+use Rattle.claims.specs.Words.{WordState, made as exchange_made}
 use Rattle.world.specs.declared.connection.Connection.{Connection}
 use Rattle.world.specs.declared.actors.Holder.{Holder}
 use Rattle.world.specs.declared.actors.Holder.TheVariants.{Nobody, By, Free}
@@ -27,7 +27,6 @@ use Rattle.world.proofs.TurnsFacts.{Facts, facts, SlotOk, Turns, is_number, work
 use Rattle.interleaving.specs.Programs.{Release, open_slot}
 use Rattle.interleaving.specs.Threads.{System, Thread, Acts, with_thread, goes_on, registering, registered, acts, released}
 use Rattle.claims.specs.declared.view.Exchange.{Exchange}
-use Rattle.claims.specs.Rule.{made as exchange_made}
 use Rattle.interleaving.specs.Histories.{exchange, first_kind, left_of}
 use Rattle.interleaving.specs.Likeness.{ticket, ThreadLike, Rests, Opens, Tries, Holds, HasOut, Goes, Stays, Leaves, HasClosed, HasRetired, WorkerFor, machine_of, Settled, taken_word, Stage, Registered, Adopted, Entered, Emptied, Placed, Posted, opened_slot, HalfOpen, IsSettled, IsHalfOpen}
 use Rattle.interleaving.proofs.Frames.{Follows, settles}

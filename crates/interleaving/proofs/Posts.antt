@@ -10,7 +10,7 @@ use Rattle.token.specs.Names.{EndName}
 use Rattle.kernel_model.specs.Ends.{is_nonempty}
 use Rattle.relay_core.specs.Pairs.{verdict, is_live}
 use Rattle.relay_core.specs.Order.{next_call}
-use Rattle.claims.specs.Words.{WordState, word_after, wakes, some_wait}
+use Rattle.claims.specs.Words.{WordState, word_after, wakes, some_wait, made as exchange_made}
 use Rattle.claims.specs.Words as word
 use Rattle.world.specs.declared.connection.Connection.{Connection}
 use Rattle.world.specs.declared.event.Event.{Event}
@@ -23,7 +23,6 @@ use Rattle.world.specs.Words.{word_at}
 pub use Rattle.world.proofs.TurnsPoller.{some_more}
 use Rattle.world.proofs.TurnsKept.{Kept, kept_some, kept_none, kept_when, kept_guard}
 use Rattle.interleaving.specs.Threads.{System, Thread, Step, Deliver, Sweep, is_limited, poller_rests, posted, delivered, delivers, step}
-use Rattle.claims.specs.Rule.{made as exchange_made}
 use Rattle.interleaving.specs.Histories.{exchange, posts, kind_in, exchanges_of}
 use Rattle.interleaving.specs.Likeness.{outside_in, outside_of, ticket, Held, ThreadLike, Rests, Opens, Tries, Holds, HasOut, Goes, Stays, Leaves, HasClosed, HasRetired, WorkerFor, WorkersFor, machine_of, Settled, IsSettled, call_of, call_in}
 use Rattle.interleaving.proofs.Frames.{Follows, settled_frame}

@@ -4,7 +4,7 @@ use Rattle.std.proofs.lemmas.Bool.{and_parts}
 use Rattle.std.specs.Option.{is_none}
 use Rattle.relay_core.specs.Pairs.{PairState, verdict, is_live}
 use Rattle.relay_core.specs.Order.{next_call}
-use Rattle.claims.specs.Words.{WordState, word_after, wakes, some_wait}
+use Rattle.claims.specs.Words.{WordState, word_after, wakes, some_wait, made as exchange_made}
 use Rattle.claims.specs.Words as word
 use Rattle.world.specs.declared.connection.Connection.{Connection}
 use Rattle.world.specs.declared.actors.Holder.TheVariants.{Nobody, By}
@@ -22,7 +22,6 @@ use Rattle.world.proofs.TurnsEnded.{own_generation}
 use Rattle.world.proofs.TurnsRun.{names_it}
 use Rattle.interleaving.specs.Programs.{Act, TakeOut, TakeNotes, Call, turn, quiet, again, ended, plan, open_slot}
 use Rattle.interleaving.specs.Threads.{System, Thread, Begin, Acts, Open, is_over, rests, with_thread, goes_on, begun, claimed, taken_out, step}
-use Rattle.claims.specs.Rule.{made as exchange_made}
 use Rattle.interleaving.specs.Likeness.{ticket, Held, ThreadLike, Rests, Opens, Tries, Holds, HasOut, Goes, Stays, Leaves, HasClosed, HasRetired, WorkerFor, machine_of, Settled, IsSettled}
 use Rattle.interleaving.proofs.Frames.{Follows, apart, go_on, thread_goes_on, holder_apart, settles}
 

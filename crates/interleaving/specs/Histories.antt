@@ -4,9 +4,8 @@ use Rattle.std.specs.Prelude.{◌==◌, ◌&&◌, if◌then◌else◌, List, [],
 use Rattle.token.specs.declared.name.Name.{Name}
 use Rattle.token.specs.declared.name.Name.TheVariants as name
 use Rattle.claims.specs.declared.view.Exchange.{Exchange}
-use Rattle.claims.specs.Words.{WordState, StepKind, word_after}
+use Rattle.claims.specs.Words.{WordState, StepKind, word_after, made}
 use Rattle.claims.specs.Words as word
-use Rattle.claims.specs.Rule.{made}
 use Rattle.world.specs.declared.event.Event.{Event}
 use Rattle.world.specs.Slots.{SlotState}
 use Rattle.world.specs.States.{State}

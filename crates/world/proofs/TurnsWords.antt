@@ -34,7 +34,7 @@ use Rattle.world.specs.Slots.{SlotState, WorkerState, is_held}
 use Rattle.world.specs.States.{State, is_entry}
 use Rattle.world.specs.Steps.{connection_at, over_kernel, watched_of, may_accept, after_accept, listen, with_note, brings_ticket, with_ticket, posted, post_at, delivered_at, delivered, put_by_poller, batched, opened_place, opened_world, opening_of, token_of, polled, is_limited, sweep, expired_place, expire, with_worker, with_place, doing, put_by_worker, popped, pop, claim, heard, take, OpenSlot, slot_call, call, post, may_release, release, closed_world, close, retire, freed, free, acted, step}
 use Rattle.world.specs.Support.{one, total, of_slot, tried, worker_tickets, tickets}
-use Rattle.world.specs.Words.{word_at, after_all, is_wake, count_wakes, claims, at_slot, delivery_steps, steps, WordMoves, WordsMove, WordsMoveInRuns}
+use Rattle.world.specs.Words.{word_at, after_all, count_wakes, claims, at_slot, delivery_steps, steps, WordMoves, WordsMove, WordsMoveInRuns}
 use Rattle.claims.specs.Words as words
 use Rattle.claims.specs.Words.{StepKind, some_wait}
 use Rattle.world.specs.CoreLaws.{CoreLaws}
@@ -137,11 +137,6 @@ one_longer xs g = let more : length (xs ++ g ∷ []) ≡ length xs + 1 = length-
 noted_word : (p : SlotState) (g : ℕ) → word_at (with_note p g) ≡ after_all (words.post ∷ []) (word_at p)
 noted_word p g = rw (one_longer p.notes g) refl
 
--- the one step that makes a ticket
-wake_once : (b : Bool) → one (is_wake (if b then words.wake else words.quiet)) ≡ one b
-wake_once true = refl
-wake_once false = refl
-
 waits : (n : ℕ) → some_wait n ≡ nat_lt 0 n
 waits zero = refl
 waits (suc n) = rw (lt-ltb 0 (suc n) (omega arith)) refl
@@ -156,8 +151,7 @@ posted_words : (st : State) (e : Event) (s g : ℕ) (p : SlotState) → ((i : �
 posted_words st e s g p made there =
     let more : total (of_slot s) (with_ticket (brings_ticket p) s g st.hand) ≡ total (of_slot s) st.hand + one (brings_ticket p) =
     hand_own (of_slot s) (brings_ticket p) s g st.hand (one_same s) in
-    let woken : one (is_wake (if words.wakes (word_at p) then words.wake else words.quiet)) ≡ one (brings_ticket p) =
-    rw (wakes_so (is_held p.holder) (length p.notes)) (wake_once (brings_ticket p)) in
+    let woken : one (words.wakes (word_at p)) ≡ one (brings_ticket p) = rw (wakes_so (is_held p.holder) (length p.notes)) refl in
     touched st (posted st s g p) e s p (with_note p g) (words.post ∷ []) there refl made (noted_word p g) (omega arith) (λ i apart.
     let same : total (of_slot i) (with_ticket (brings_ticket p) s g st.hand) ≡ total (of_slot i) st.hand =
     hand_other (of_slot i) (brings_ticket p) s g st.hand (one_other s i apart) in
@@ -364,8 +358,7 @@ released_words st w k s left p there does lies turns =
     let did : tried s k.doing ≡ 0 = ap (tried s) does in
     let more : total (of_slot s) (with_ticket (is_nonempty p.notes) s p.generation k.hand) ≡ total (of_slot s) k.hand + one (is_nonempty p.notes) =
     hand_own (of_slot s) (is_nonempty p.notes) s p.generation k.hand (one_same s) in
-    let woken : one (is_wake (if some_wait (length p.notes) then words.wake else words.quiet)) ≡ one (is_nonempty p.notes) =
-    rw (waits (length p.notes)) (wake_once (is_nonempty p.notes)) in
+    let woken : one (some_wait (length p.notes)) ≡ one (is_nonempty p.notes) = rw (waits (length p.notes)) refl in
     touched st (with_worker (with_place st s (record p { holder = Nobody })) w (record { doing = Idle; hand = with_ticket (is_nonempty p.notes) s p.generation k.hand }))
     (event.Work w act.Release) s p (record p { holder = Nobody }) (words.release ∷ []) lies refl (λ i. rw (there, does) refl) (rw h.free refl) (omega arith) (λ i apart.
     let m : Replaced st w k (record { doing = Idle; hand = with_ticket (is_nonempty p.notes) s p.generation k.hand }) i 0 =

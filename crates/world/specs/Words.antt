@@ -1,7 +1,9 @@
 -- The claim word of a slot. Part of the promises, for the clause `words` of `World::step` alone. It has the word of a
 -- place, and which steps an event makes. What a step makes of a word and answers is defined in `claims`.
 use Rattle.std.specs.Prelude.{◌≡◌, ℕ, ◌+◌, ◌==◌, Bool, true, false, if◌then◌else◌, List, [], ◌∷◌, length, slice_get, Option, Some, None}
-use Rattle.claims.specs.Words.{WordState, StepKind, post, claim, take, release, retire, adopt, Answer, wake, word_of, word_after, answer_of}
+use Rattle.claims.specs.declared.view.Exchange.{Exchange}
+use Rattle.claims.specs.declared.view.Exchange.TheVariants.{Post, Release}
+use Rattle.claims.specs.Words.{WordState, StepKind, post, claim, take, release, retire, adopt, word_of, word_after, made}
 use Rattle.token.specs.declared.name.Name.{Name}
 use Rattle.token.specs.declared.name.Name.TheVariants as name
 use Rattle.world.specs.declared.actors.Holder.{Holder}
@@ -33,14 +35,15 @@ abbrev pub after_all : List StepKind → WordState → WordState
 after_all [] w = w
 after_all (k ∷ ks) w = after_all ks (word_after k w)
 
-abbrev pub is_wake : Answer → Bool
-is_wake wake = true
-is_wake a = false
+abbrev pub is_wake : Exchange → Bool
+is_wake (Post woke) = woke
+is_wake (Release woke) = woke
+is_wake e = false
 
 -- how many of them answer that a ticket must be made
 abbrev pub count_wakes : List StepKind → WordState → ℕ
 count_wakes [] w = 0
-count_wakes (k ∷ ks) w = one (is_wake (answer_of k w)) + count_wakes ks (word_after k w)
+count_wakes (k ∷ ks) w = one (is_wake (made k w)) + count_wakes ks (word_after k w)
 
 abbrev pub is_claim : StepKind → Bool
 is_claim claim = true

@@ -1,9 +1,9 @@
 use Rattle.std.proofs.Common.{◌+◌, rules, arith, bit_and, sym, ap, ◌∙◌}
-use Rattle.claims.specs.Words.{one, adopt, adopted, not_free}
-use Rattle.claims.specs.Views.{holds_of, posted_of}
+use Rattle.claims.specs.Words.{one, adopt}
+use Rattle.claims.proofs.Fields.{holds_of, posted_of}
 use Rattle.claims.proofs.Bits.{adopt_clears}
 use Rattle.claims.proofs.OneSlot.{one_le}
-use Rattle.claims.proofs.Cases.{adopt_gains, adopt_not_free, makes_adopted, makes_not_free, says_adopted, says_not_free}
+use Rattle.claims.proofs.Cases.{adopt_gains, adopt_not_free, makes_adopted, makes_not_free}
 use Rattle.claims.proofs.Moves.{may_step}
 use Rattle.claims.proofs.Tells.{state, reads, adds, stepped, held_by_none, mark_kept, mark_put, kept_beside, within}
 use Rattle.claims.proofs.calls.Claims.adopt.Goals as goal
@@ -36,10 +36,7 @@ returns-then-is_free-clause-change c =
     )
 
 pub returns-then-is_free-clause-lawful : goal.returns-then-is_free-clause-lawful
-returns-then-is_free-clause-lawful c =
-    let told = c.fetch_and-found.ensures.2 in
-    stepped told _ _ c.fetch_and-found.ensures.0 _ _ c.seat.invariant _ c.seat.view_is adopted
-    (says_adopted (state told) (sym (c.is_free.ensures (state told) (reads told)) ∙ c.if-is_free.true))
+returns-then-is_free-clause-lawful c = stepped c.fetch_and-found.ensures.2 _ _ c.fetch_and-found.ensures.0 _ _ c.seat.invariant _ c.seat.view_is
 
 pub returns-else-is_free-clause-change : goal.returns-else-is_free-clause-change
 returns-else-is_free-clause-change c =
@@ -48,7 +45,4 @@ returns-else-is_free-clause-change c =
     (makes_not_free (state told) (sym (c.is_free.ensures (state told) (reads told)) ∙ c.if-is_free.false))
 
 pub returns-else-is_free-clause-lawful : goal.returns-else-is_free-clause-lawful
-returns-else-is_free-clause-lawful c =
-    let told = c.fetch_and-found.ensures.2 in
-    stepped told _ _ c.fetch_and-found.ensures.0 _ _ c.seat.invariant _ c.seat.view_is not_free
-    (says_not_free (state told) (sym (c.is_free.ensures (state told) (reads told)) ∙ c.if-is_free.false))
+returns-else-is_free-clause-lawful c = stepped c.fetch_and-found.ensures.2 _ _ c.fetch_and-found.ensures.0 _ _ c.seat.invariant _ c.seat.view_is

@@ -1,8 +1,8 @@
 use Rattle.std.proofs.Common.{◌+◌, rules, arith, bit_or, sym, ap, ◌∙◌}
-use Rattle.claims.specs.Words.{one, claim, held, busy}
-use Rattle.claims.specs.Views.{holds_of, posted_of}
+use Rattle.claims.specs.Words.{one, claim}
+use Rattle.claims.proofs.Fields.{holds_of, posted_of}
 use Rattle.claims.proofs.Bits.{claim_sets}
-use Rattle.claims.proofs.Cases.{claim_busy, claim_gains, makes_busy, makes_held, says_busy, says_held}
+use Rattle.claims.proofs.Cases.{claim_busy, claim_gains, makes_busy, makes_held}
 use Rattle.claims.proofs.Moves.{may_step}
 use Rattle.claims.proofs.Tells.{state, reads, adds, stepped, held_by_none, mark_kept, mark_put, kept_beside, within}
 use Rattle.claims.proofs.calls.Claims.claim.Goals as goal
@@ -25,10 +25,7 @@ returns-then-is_held-clause-change c =
     (makes_busy (state told) (sym (c.is_held.ensures (state told) (reads told)) ∙ c.if-is_held.true))
 
 pub returns-then-is_held-clause-lawful : goal.returns-then-is_held-clause-lawful
-returns-then-is_held-clause-lawful c =
-    let told = c.fetch_or-found.ensures.2 in
-    stepped told _ _ c.fetch_or-found.ensures.0 _ _ c.seat.invariant _ c.seat.view_is busy
-    (says_busy (state told) (sym (c.is_held.ensures (state told) (reads told)) ∙ c.if-is_held.true))
+returns-then-is_held-clause-lawful c = stepped c.fetch_or-found.ensures.2 _ _ c.fetch_or-found.ensures.0 _ _ c.seat.invariant _ c.seat.view_is
 
 pub invariant_of-seat-2 : goal.invariant_of-seat-2
 invariant_of-seat-2 c =
@@ -47,7 +44,4 @@ returns-clause-change c =
     )
 
 pub returns-clause-lawful : goal.returns-clause-lawful
-returns-clause-lawful c =
-    let told = c.fetch_or-found.ensures.2 in
-    stepped told _ _ c.fetch_or-found.ensures.0 _ _ c.seat.invariant _ c.seat.view_is held
-    (says_held (state told) (sym (c.is_held.ensures (state told) (reads told)) ∙ c.if-is_held.false))
+returns-clause-lawful c = stepped c.fetch_or-found.ensures.2 _ _ c.fetch_or-found.ensures.0 _ _ c.seat.invariant _ c.seat.view_is

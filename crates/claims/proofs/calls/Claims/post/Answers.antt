@@ -1,7 +1,7 @@
 use Rattle.std.proofs.Common.{◌+◌, ◌%◌, ◌^◌, rules, arith, refl, ap}
-use Rattle.claims.specs.Words.{one, wakes, post, answer_of}
+use Rattle.claims.specs.Words.{one, wakes, post}
 use Rattle.claims.proofs.Bits.{post_adds}
-use Rattle.claims.proofs.Cases.{post_change, post_step, wakes_no_holder}
+use Rattle.claims.proofs.Cases.{post_change, wakes_no_holder}
 use Rattle.claims.proofs.Moves.{may_step}
 use Rattle.claims.proofs.Tells.{state, reads, adds, stepped, held_by_none, mark_kept, kept_beside, within}
 use Rattle.claims.proofs.calls.Claims.post.Goals as goal
@@ -23,7 +23,4 @@ returns-clause-change c =
     (λ woke. held_by_none told _ _ c.fetch_add-found.ensures.0 _ _ c.seat.invariant _ c.seat.view_is (let none = ap one (wakes_no_holder (state told) woke) in omega arith))
 
 pub returns-clause-lawful : goal.returns-clause-lawful
-returns-clause-lawful c =
-    let told = c.fetch_add-found.ensures.2 in
-    post_step c.args.slot c.args.seat.now _ _ (wakes (state told)) (c.posted.ensures (state told) (reads told))
-    (stepped told _ _ c.fetch_add-found.ensures.0 _ _ c.seat.invariant _ c.seat.view_is (answer_of post (state told)) refl)
+returns-clause-lawful c = λ wears. stepped c.fetch_add-found.ensures.2 _ _ c.fetch_add-found.ensures.0 _ _ c.seat.invariant _ c.seat.view_is

@@ -1,9 +1,7 @@
-use Rattle.std.proofs.Common.{rules, bit_and, refl, sym, ap, ◌∙◌}
-use Rattle.claims.specs.declared.view.Exchange.TheVariants as exchange
+use Rattle.std.proofs.Common.{rules, bit_and, refl}
 use Rattle.claims.specs.Words.{some_wait, release}
-use Rattle.claims.specs.Calls.{release_answer}
 use Rattle.claims.proofs.Bits.{release_clears}
-use Rattle.claims.proofs.Cases.{release_change, release_says, none_wait}
+use Rattle.claims.proofs.Cases.{release_change, none_wait}
 use Rattle.claims.proofs.Moves.{may_step}
 use Rattle.claims.proofs.Tells.{state, reads, adds, stepped, knew_none, kept_beside, within, holds_now}
 use Rattle.claims.proofs.calls.Claims.release.Goals as goal
@@ -27,7 +25,4 @@ returns-clause-change c =
     (λ none. knew_none told _ _ c.fetch_and-found.ensures.0 _ _ c.seat.invariant _ c.seat.view_is (none_wait _ none))
 
 pub returns-clause-lawful : goal.returns-clause-lawful
-returns-clause-lawful c =
-    let told = c.fetch_and-found.ensures.2 in
-    stepped told _ _ c.fetch_and-found.ensures.0 _ _ c.seat.invariant _ c.seat.view_is (release_answer c.released.result)
-    (ap release_answer (c.released.ensures (state told) (reads told)) ∙ release_says (some_wait (state told).pending))
+returns-clause-lawful c = stepped c.fetch_and-found.ensures.2 _ _ c.fetch_and-found.ensures.0 _ _ c.seat.invariant _ c.seat.view_is

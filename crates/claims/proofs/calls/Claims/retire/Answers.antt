@@ -1,5 +1,5 @@
 use Rattle.std.proofs.Common.{rules, bit_or, refl}
-use Rattle.claims.specs.Words.{retire, nothing}
+use Rattle.claims.specs.Words.{retire}
 use Rattle.claims.proofs.Bits.{retire_sets}
 use Rattle.claims.proofs.Moves.{may_step}
 use Rattle.claims.proofs.Tells.{kept_beside, adds, stepped, within, holds_now}
@@ -20,4 +20,4 @@ pub returns-clause-change : goal.returns-clause-change
 returns-clause-change c = adds c.fetch_or.ensures.2 _ _ c.fetch_or.ensures.0 _ _ c.seat.invariant _ c.seat.view_is _ refl
 
 pub returns-clause-lawful : goal.returns-clause-lawful
-returns-clause-lawful c = stepped c.fetch_or.ensures.2 _ _ c.fetch_or.ensures.0 _ _ c.seat.invariant _ c.seat.view_is nothing refl
+returns-clause-lawful c = stepped c.fetch_or.ensures.2 _ _ c.fetch_or.ensures.0 _ _ c.seat.invariant _ c.seat.view_is

@@ -1,6 +1,6 @@
 use Rattle.std.proofs.Common.{rules, bit_and, refl, sym, ap}
 use Rattle.claims.specs.declared.view.Exchange.TheVariants as exchange
-use Rattle.claims.specs.Words.{take, count}
+use Rattle.claims.specs.Words.{take}
 use Rattle.claims.proofs.Bits.{take_keeps}
 use Rattle.claims.proofs.Moves.{may_step}
 use Rattle.claims.proofs.Tells.{state, reads, took_few, mark_kept, kept_beside, adds, stepped, known_few, within, holds_now}
@@ -34,6 +34,4 @@ pub returns-clause-few : goal.returns-clause-few
 returns-clause-few c = took_few c.fetch_and-found.ensures.2
 
 pub returns-clause-lawful : goal.returns-clause-lawful
-returns-clause-lawful c =
-    let told = c.fetch_and-found.ensures.2 in
-    stepped told _ _ c.fetch_and-found.ensures.0 _ _ c.seat.invariant _ c.seat.view_is (count c.notes.result) (ap count (c.notes.ensures (state told) (reads told)))
+returns-clause-lawful c = stepped c.fetch_and-found.ensures.2 _ _ c.fetch_and-found.ensures.0 _ _ c.seat.invariant _ c.seat.view_is
