@@ -32,10 +32,6 @@ pub false_from_zero : (b : Bool) → one b ≡ 0 → b ≡ false
 false_from_zero true e = absurd (omega arith)
 false_from_zero false e = refl
 
-true_from_one : (b : Bool) → 1 ≤ one b → b ≡ true
-true_from_one true h = refl
-true_from_one false h = absurd (omega arith)
-
 abbrev word_state : ℕ → Bool → Bool → WordState
 word_state p f h = record { pending = p; free = f; held = h }
 

@@ -1,8 +1,6 @@
 -- For callers: where a seat has changed, and that it holds nothing.
 use Rattle.std.proofs.Common.{◌≡◌, ℕ, zero, suc, ◌+◌, List, [], ◌∷◌, ◌++◌, replicate, get_or, refl, sym, subst, ap, ◌∙◌, arith, append_assoc}
-use Rattle.std.specs.List.{All}
 use Rattle.std.proofs.lemmas.List.{append-nil}
-use Rattle.std.proofs.lemmas.List.Elements.{All-replicate}
 use mathlib.Core.Logic.{dite}
 use native.Mathlib.Decide.{ℕ_discrete}
 use Rattle.claims.specs.declared.view.Account.{Account}
@@ -10,17 +8,11 @@ use Rattle.claims.specs.declared.view.Exchange.{Exchange}
 use Rattle.claims.specs.declared.view.Exchange.TheVariants as exchange
 use Rattle.claims.specs.declared.answers.Posted.{Posted}
 use Rattle.claims.specs.declared.answers.Posted.TheVariants.{Wake, Quiet, Worn}
-use Rattle.claims.specs.declared.answers.Claimed.{Claimed}
-use Rattle.claims.specs.declared.answers.Claimed.TheVariants.{Held, Busy}
-use Rattle.claims.specs.declared.answers.Released.{Released}
-use Rattle.claims.specs.declared.answers.Released.TheVariants.{Wake as ReleaseWakes, Quiet as ReleaseQuiet}
-use Rattle.claims.specs.declared.answers.Adopted.{Adopted as AdoptAnswer}
-use Rattle.claims.specs.declared.answers.Adopted.TheVariants.{Adopted, NotFree}
 use Rattle.claims.specs.Words.{one}
 use Rattle.claims.specs.Views.{blank, after, after_all, account_of, minted_by}
 use Rattle.claims.proofs.Histories.{after_both}
 use Rattle.claims.specs.Seats.{TableId, SeatState, account_at, HoldsNot, HoldsNothing, OnlyAt, Adds, fresh_seat, trace_at}
-use Rattle.claims.specs.Calls.{PostChange, ClaimChange, ReleaseChange, AdoptChange}
+use Rattle.claims.specs.Calls.{PostChange}
 
 nothing_at : (n slot : ℕ) → account_of (get_or (replicate n []) slot []) ≡ blank
 nothing_at zero slot = refl
@@ -32,11 +24,6 @@ pub fresh_holds_nothing : (table : TableId) (s : SeatState) → s ≡ fresh_seat
 fresh_holds_nothing table s is =
     subst HoldsNothing (sym is) (record { nowhere = λ slot. ap (λ (a : Account). a.holds) (nothing_at table.words slot) })
 
--- all seats of an `open`
-pub fresh_seats_hold_nothing : (count : ℕ) (table : TableId) (seats : List SeatState) → seats ≡ replicate count (fresh_seat table) → All HoldsNothing seats
-fresh_seats_hold_nothing count table seats is =
-    subst (λ (l : List SeatState). All HoldsNothing l) (sym is) (All-replicate HoldsNothing count (fresh_seat table) (fresh_holds_nothing table (fresh_seat table) refl))
-
 module _ {slot : ℕ} where
   pub only_at_none : {old new : SeatState} → new ≡ old → OnlyAt slot old new
   only_at_none is = record { table = ap (λ (s : SeatState). s.table) is; others = λ other ne. ap (λ (s : SeatState). trace_at s other) is }
@@ -45,9 +32,6 @@ module _ {slot : ℕ} where
   pub only_at_twice : {first second third : SeatState} → OnlyAt slot first second → OnlyAt slot second third → OnlyAt slot first third
   only_at_twice one two = record { table = two.table ∙ one.table; others = λ other ne. two.others other ne ∙ one.others other ne }
 
-  pub only_at_adds : {old new : SeatState} {es : List Exchange} → Adds slot es old new → OnlyAt slot old new
-  only_at_adds adds = adds.only
-
   -- who held nothing, and holds nothing at the one slot where it changed
   pub holds_nothing_again : {old new : SeatState} → HoldsNothing old → OnlyAt slot old new → HoldsNot new slot → HoldsNothing new
   holds_nothing_again {old} {new} nothing only here = record {
@@ -55,8 +39,6 @@ module _ {slot : ℕ} where
         (λ same. subst (λ (i : ℕ). HoldsNot new i) (sym same) here)
         (λ ne. ap (λ (t : List Exchange). (account_of t).holds) (only.others other ne) ∙ nothing.nowhere other);
   }
-
-pub ruleset at_one_slot = (only_at_none, only_at_adds, only_at_twice, holds_nothing_again)
 
 -- no exchange, and some after others
 pub adds_none : (slot : ℕ) (s : SeatState) → Adds slot [] s s
@@ -72,24 +54,12 @@ adds_both slot es fs a b c one two = record {
 pub account_after : (slot : ℕ) (es : List Exchange) (old new : SeatState) → Adds slot es old new → account_at new slot ≡ after_all es (account_at old slot)
 account_after slot es old new adds = ap account_of adds.here ∙ after_both (trace_at old slot) es blank
 
--- each call, whatever it answers
+-- a post, whatever it answers
 module _ (slot : ℕ) (old new : SeatState) where
   pub only_at_post : (r : Posted) → PostChange slot old r new → OnlyAt slot old new
   only_at_post Wake change = change.0.only
   only_at_post Quiet change = change.only
   only_at_post Worn change = only_at_none change.0
-
-  pub only_at_claim : (r : Claimed) → ClaimChange slot old r new → OnlyAt slot old new
-  only_at_claim Held change = change.1.only
-  only_at_claim Busy change = change.only
-
-  pub only_at_release : (r : Released) → ReleaseChange slot old r new → OnlyAt slot old new
-  only_at_release ReleaseWakes change = change.only
-  only_at_release ReleaseQuiet change = change.0.only
-
-  pub only_at_adopt : (r : AdoptAnswer) → AdoptChange slot old r new → OnlyAt slot old new
-  only_at_adopt Adopted change = change.1.only
-  only_at_adopt NotFree change = change.only
 
 -- the tickets of exchanges after others
 minted_on : (e : Exchange) (a : Account) → (after e a).minted ≡ a.minted + (after e blank).minted

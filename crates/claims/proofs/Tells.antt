@@ -64,9 +64,6 @@ module _ {kind : StepKind} {slot found : ℕ} {v w : View} (told : (slots : ℕ)
   pub knows_few : (account_in slot v).known ≤ state.pending
   knows_few = (each_at (Knows state.pending) (column slot told.1.views) told.1.seat (account_in slot v) my_account counts.known).0
 
-  pub knows_none : (account_in slot v).holds ≡ false → (account_in slot v).known ≡ 0
-  knows_none = (each_at (Knows state.pending) (column slot told.1.views) told.1.seat (account_in slot v) my_account counts.known).1
-
   -- nobody holds a slot whose word says so, nor a free one
   pub not_mine : one state.held ≤ one state.free → (account_in slot v).holds ≡ false
   not_mine none =
