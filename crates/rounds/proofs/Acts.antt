@@ -15,7 +15,7 @@ use Rattle.claims.specs.Views.{blank, after_all, account_of, minted_by}
 use Rattle.claims.specs.Seats.{SeatState, trace_at, account_at, HoldsNothing, Adds}
 use Rattle.claims.proofs.Histories.{after_both}
 use Rattle.ready.specs.declared.ticket.Ticket.{Ticket}
-use Rattle.rounds.specs.Acts.{Act, tickets_of, exchanges_at, made_by, due_of, ActsMade, IsPost, ArePosts, opening, IsTry, AreTries}
+use Rattle.rounds.specs.Acts.{Act, tickets_of, exchanges_at, made_by, due_of, ActsMade, IsPost, ArePosts, opening, IsTry, found_held, held_of, AreTries}
 use Rattle.rounds.specs.Deliveries.{at_slot}
 
 pub at_slot-append : (slot : ℕ) (xs ys : List Ticket) → at_slot slot (xs ++ ys) ≡ at_slot slot xs + at_slot slot ys
@@ -111,18 +111,24 @@ posts_le xs acts posts =
     let few = due_le acts in
     omega arith
 
-pub tries_both : (xs ys : List Ticket) (h k : ℕ) (us bs : List Act) → AreTries xs h us → AreTries ys k bs → AreTries (xs ++ ys) (h + k) (us ++ bs)
+held-append : (xs ys : List Act) → held_of (xs ++ ys) ≡ held_of xs ++ held_of ys
+held-append [] ys = refl
+held-append (x ∷ xs) ys =
+    let first : List ℕ = found_held x.exchanges x.ticket.slot in
+    ap (λ (slots : List ℕ). first ++ slots) (held-append xs ys) ∙ sym (append_assoc first (held_of xs) (held_of ys))
+
+pub tries_both : (xs ys : List Ticket) (h k : List ℕ) (us bs : List Act) → AreTries xs h us → AreTries ys k bs → AreTries (xs ++ ys) (h ++ k) (us ++ bs)
 tries_both xs ys h k us bs one two = record {
   each = All-append IsTry us bs one.each two.each;
   made = due-append us bs ∙ ap (λ (ts : List Ticket). ts ++ due_of bs) one.made ∙ ap (λ (ts : List Ticket). xs ++ ts) two.made;
-  count = (let first = one.count in let second = two.count in let acts = length-append us bs in let opened = length-append xs ys in omega arith);
+  found = held-append us bs ∙ ap (λ (slots : List ℕ). slots ++ held_of bs) one.found ∙ ap (λ (slots : List ℕ). h ++ slots) two.found;
 }
 
-pub tries_none : AreTries [] 0 []
-tries_none = record { each = all_none IsTry; made = refl; count = omega arith }
+pub tries_none : AreTries [] [] []
+tries_none = record { each = all_none IsTry; made = refl; found = refl }
 
-pub try_opened : (t : Ticket) (found noted : ℕ) → AreTries (t ∷ []) 0 (record { ticket = t; exchanges = opening found noted } ∷ [])
-try_opened t found noted = record { each = all_one IsTry (record { ticket = t; exchanges = opening found noted }) (inl (found, noted, refl)); made = refl; count = omega arith }
+pub try_opened : (t : Ticket) (found noted : ℕ) → AreTries (t ∷ []) [] (record { ticket = t; exchanges = opening found noted } ∷ [])
+try_opened t found noted = record { each = all_one IsTry (record { ticket = t; exchanges = opening found noted }) (inl (found, noted, refl)); made = refl; found = refl }
 
-pub try_held : (t : Ticket) → AreTries [] 1 (record { ticket = t; exchanges = NotFree ∷ [] } ∷ [])
-try_held t = record { each = all_one IsTry (record { ticket = t; exchanges = NotFree ∷ [] }) (inr refl); made = refl; count = omega arith }
+pub try_held : (t : Ticket) → AreTries [] (t.slot ∷ []) (record { ticket = t; exchanges = NotFree ∷ [] } ∷ [])
+try_held t = record { each = all_one IsTry (record { ticket = t; exchanges = NotFree ∷ [] }) (inr refl); made = refl; found = refl }

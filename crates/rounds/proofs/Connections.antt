@@ -2,7 +2,8 @@
 use Rattle.std.proofs.Common.{◌≡◌, ◌⊎◌, ℕ, ◌+◌, ◌-◌, ◌<◌, ◌≤◌, List, [], ◌∷◌, ◌++◌, length, drop, slice_get, slice_set, min, cond, Bool, true, false, refl, sym, subst, ap, ◌∙◌, arith, inl, inr, append_assoc, length-append, Option, Some, None}
 use Rattle.std.specs.Prelude.{◌==◌, Option, Some, None, Result, Ok, Err, OnOk, IfSome, IfErr, OnErr, IsErr, IsErrAnd, map, slice_index}
 use Rattle.std.proofs.lemmas.Bool.{cases_lt, false≢true}
-use Rattle.std.proofs.lemmas.List.{append-nil, length-set}
+use Rattle.std.proofs.lemmas.List.{append-nil, length-set, get_or-set_other, get_or_past}
+use Rattle.std.proofs.lemmas.Grind.{get_or-set_at}
 use Rattle.std.proofs.lemmas.List.Sums.{sum_by-append}
 use Rattle.std.proofs.lemmas.Option.{none-some, same_Some}
 use mathlib.Core.Logic.{dite}
@@ -22,7 +23,7 @@ use Rattle.ready.specs.Steps.{EndState}
 use Rattle.dispatch.specs.Hands.{HandState, ticket_room}
 use Rattle.dispatch.specs.Limits.{last_generation}
 use Rattle.rounds.specs.Deliveries.{at_slot}
-use Rattle.rounds.specs.Openings.{times, slots_in, AreIn, AreOpened, SlotsCounted, OnlyTook, Between, LetGo, Started, Connected, AcceptDone, IsOpened, IsLost, IsSpent, Fate, Opened, Dropped, Lost, DropsFor}
+use Rattle.rounds.specs.Openings.{times, slots_in, AreIn, AreOpened, SlotsCounted, OnlyTook, Between, LetGo, Started, Connected, AcceptDone, IsOpened, IsLost, IsSpent, AreLost, Fate, Opened, Dropped, Lost, DropsFor}
 use Rattle.dispatch.specs.Splits.{IsIn}
 use Rattle.rounds.specs.Pollers.{PollerState, Counted, counted_up}
 use Rattle.dispatch.specs.declared.part.Part.{Part}
@@ -88,11 +89,50 @@ slots_both a b c xs ys ls ms one two slot =
     let lost = times-append slot ls ms in
     omega arith
 
+-- why slots are lost
+
+raised : (xs : List ℕ) (i n slot : ℕ) → n ≡ slice_index xs i + 1 → slice_index xs slot ≤ slice_index (slice_set xs i n) slot
+raised xs i n slot next = dite (ℕ_discrete slot i) here (λ other. omega (arith, get_or-set_other xs i slot n 0 other)) where
+  by_length : slot ≡ i → (i < length xs) ⊎ (length xs ≤ i) → slice_index xs slot ≤ slice_index (slice_set xs i n) slot
+  by_length same (inl inside) = (let now = get_or-set_at xs i slot n 0 same inside in let was = ap (λ (k : ℕ). slice_index xs k) same in omega arith)
+  by_length same (inr outside) = (let was = get_or_past xs slot 0 (omega arith) in omega arith)
+
+  here : slot ≡ i → slice_index xs slot ≤ slice_index (slice_set xs i n) slot
+  here same = by_length same (cases_lt i (length xs))
+
+-- an opening leaves the size of the table, and no generation gets less
+opened_rises : (ts : List Ticket) (a b : List ℕ) → AreOpened a ts b → (slot : ℕ) → (length b ≡ length a) × (slice_index a slot ≤ slice_index b slot)
+opened_rises [] a b same slot = (ap length same, subst (λ (t : List ℕ). slice_index a slot ≤ slice_index t slot) (sym same) (omega arith))
+opened_rises (t ∷ ts) a b opened slot =
+    let rest = opened_rises ts (slice_set a t.slot t.generation) b opened.1 slot in
+    let first = raised a t.slot t.generation slot opened.0 in
+    (rest.0 ∙ length-set a t.slot t.generation, omega (arith, rest.1, first))
+
+-- a slot that is spent stays so
+spent_still : (p q : PollerState) (ts : List Ticket) (slot : ℕ) → q.part ≡ p.part → AreOpened p.table ts q.table → IsSpent p slot → IsSpent q slot
+spent_still p q ts slot part opened spent = by_reason (opened_rises ts p.table q.table opened slot) spent where
+  by_reason : (length q.table ≡ length p.table) × (slice_index p.table slot ≤ slice_index q.table slot) → IsSpent p slot → IsSpent q slot
+  by_reason same (inl others) = inl (λ here. others (subst (λ (part : Part). IsIn part slot) part here))
+  by_reason same (inr (inl outside)) = inr (inl (omega (arith, same.0, outside)))
+  by_reason same (inr (inr (inl wide))) = inr (inr (inl wide))
+  by_reason same (inr (inr (inr last))) = inr (inr (inr (omega (arith, same.1, last))))
+
+lost_still : (p q : PollerState) (ts : List Ticket) (held lost : List ℕ) → q.part ≡ p.part → AreOpened p.table ts q.table → AreLost p held lost → AreLost q held lost
+lost_still p q ts held [] part opened none = none
+lost_still p q ts held (slot ∷ lost) part opened (inl spent) = inl (spent_still p q ts slot part opened spent.0, lost_still p q ts held lost part opened spent.1)
+lost_still p q ts held (slot ∷ lost) part opened (inr found) = inr (found.0, found.1, lost_still p q ts found.0 lost part opened found.2)
+
+lost_both : (p : PollerState) (h k ls ms : List ℕ) → AreLost p h ls → AreLost p k ms → AreLost p (h ++ k) (ls ++ ms)
+lost_both p h k [] ms none two = subst (λ (held : List ℕ). AreLost p (held ++ k) ms) (sym none) two
+lost_both p h k (slot ∷ ls) ms (inl spent) two = inl (spent.0, lost_both p h k ls ms spent.1 two)
+lost_both p h k (slot ∷ ls) ms (inr found) two =
+    inr (found.0 ++ k, ap (λ (held : List ℕ). held ++ k) found.1, lost_both p found.0 k ls ms found.2 two)
+
 module _ {p q r : PollerState} {a b c : Own} where
   -- connections, and then others
-  pub connected_both : (xs ys : List Ticket) (ls ms : List ℕ) (h k : ℕ) → Connected xs ls h p q a b → Connected ys ms k q r b c → Connected (xs ++ ys) (ls ++ ms) (h + k) p r a c
+  pub connected_both : (xs ys : List Ticket) (ls ms h k : List ℕ) → Connected xs ls h p q a b → Connected ys ms k q r b c → Connected (xs ++ ys) (ls ++ ms) (h ++ k) p r a c
   connected_both xs ys ls ms h k one two = record {
-    some = (let first = one.some in let second = two.some in let both = length-append ls ms in omega arith);
+    why = lost_both r h k ls ms (lost_still q r ys h ls two.part two.table one.why) two.why;
     tries = one.tries ++ two.tries;
     are = tries_both xs ys h k one.tries two.tries one.are two.are;
     made = acts_both one.tries two.tries a.seat b.seat c.seat one.made two.made;
@@ -113,7 +153,7 @@ module _ {p q r : PollerState} {a b c : Own} where
   accept_both one two = record {
     opened = one.opened ++ two.opened;
     lost = one.lost ++ two.lost;
-    held = one.held + two.held;
+    held = one.held ++ two.held;
     connected = connected_both one.opened two.opened one.lost two.lost one.held two.held one.connected two.connected;
     slots = slots_both a b c one.opened two.opened one.lost two.lost one.slots two.slots;
   }
@@ -134,9 +174,9 @@ pub accept_took : (p q : PollerState) (a b : Own) → SamePoller p q → OnlyToo
 accept_took p q a b same took = record {
   opened = [];
   lost = [];
-  held = 0;
+  held = [];
   connected = record {
-    some = omega arith;
+    why = refl;
     tries = [];
     are = tries_none;
     made = subst (λ (s : SeatState). ActsMade [] a.seat s) (sym took.seat) (acts_none a.seat);
@@ -184,9 +224,9 @@ module _ (p q : PollerState) (a : Own) (hand : HandState) (taken : hand ≡ reco
   at_is_times s t slot here = ap (λ (i : ℕ). 0 + cond (i == s) 1 0) here
 
   -- that the slot was taken in hand changes nothing that a connection says
-  from_hand : (ts : List Ticket) (ls : List ℕ) (h : ℕ) (b : Own) → Connected ts ls h p q (record a { hand = hand }) b → Connected ts ls h p q a b
+  from_hand : (ts : List Ticket) (ls h : List ℕ) (b : Own) → Connected ts ls h p q (record a { hand = hand }) b → Connected ts ls h p q a b
   from_hand ts ls h b one = record {
-    some = one.some;
+    why = one.why;
     tries = one.tries;
     are = one.are;
     made = one.made;
@@ -203,13 +243,13 @@ module _ (p q : PollerState) (a : Own) (hand : HandState) (taken : hand ≡ reco
 
   module _ (slot : ℕ) (is : slice_get a.hand.slots 0 ≡ Some slot) where
     -- the slot cannot be opened any more
-    pub opened_never : q ≡ record p { lost = counted_up p.lost 1 } → AcceptDone p q a (record a { hand = hand })
-    opened_never lost = record {
+    pub opened_never : IsSpent p slot → q ≡ record p { lost = counted_up p.lost 1 } → AcceptDone p q a (record a { hand = hand })
+    opened_never spent lost = record {
       opened = [];
       lost = slot ∷ [];
-      held = 0;
+      held = [];
       connected = record {
-        some = omega arith;
+        why = inl (subst (λ (s : PollerState). IsSpent s slot) (sym lost) spent, refl);
         tries = [];
         are = tries_none;
         made = acts_none a.seat;
@@ -253,13 +293,13 @@ module _ (p q : PollerState) (a : Own) (hand : HandState) (taken : hand ≡ reco
         omega arith
 
     there : (b : Own) (t : Ticket) → t.slot ≡ slot
-        → Connected (t ∷ []) [] 0 p q (record a { hand = hand }) b ⊎ Connected [] (t.slot ∷ []) 1 p q (record a { hand = hand }) b
+        → Connected (t ∷ []) [] [] p q (record a { hand = hand }) b ⊎ Connected [] (t.slot ∷ []) (t.slot ∷ []) p q (record a { hand = hand }) b
         → b.free ≡ a.free → b.hand.slots ≡ hand.slots → AcceptDone p q a b
     there b t here (inl one) free slots = record {
       opened = t ∷ [];
       lost = [];
-      held = 0;
-      connected = from_hand (t ∷ []) [] 0 b one;
+      held = [];
+      connected = from_hand (t ∷ []) [] [] b one;
       slots = λ s.
           (let counted = slot_left s b free slots in
           let same : at_slot s (t ∷ []) ≡ times s (slot ∷ []) = at_is_times s t slot here in
@@ -268,8 +308,8 @@ module _ (p q : PollerState) (a : Own) (hand : HandState) (taken : hand ≡ reco
     there b t here (inr none) free slots = record {
       opened = [];
       lost = t.slot ∷ [];
-      held = 1;
-      connected = from_hand [] (t.slot ∷ []) 1 b none;
+      held = t.slot ∷ [];
+      connected = from_hand [] (t.slot ∷ []) (t.slot ∷ []) b none;
       slots = λ s.
           (let counted = slot_left s b free slots in
           let same : times s (t.slot ∷ []) ≡ times s (slot ∷ []) = ap (λ (i : ℕ). times s (i ∷ [])) here in
@@ -278,10 +318,10 @@ module _ (p q : PollerState) (a : Own) (hand : HandState) (taken : hand ≡ reco
 
     -- a connection was placed in it, or it is no longer used
     pub opened_there : (s : PollerState) (b : Own) (t : Ticket) → s ≡ p → t.slot ≡ slot
-        → Connected (t ∷ []) [] 0 s q (record a { hand = hand }) b ⊎ Connected [] (t.slot ∷ []) 1 s q (record a { hand = hand }) b
+        → Connected (t ∷ []) [] [] s q (record a { hand = hand }) b ⊎ Connected [] (t.slot ∷ []) (t.slot ∷ []) s q (record a { hand = hand }) b
         → b.free ≡ a.free → b.hand.slots ≡ hand.slots → AcceptDone p q a b
     opened_there s b t still here placed free slots =
-        there b t here (subst (λ (x : PollerState). Connected (t ∷ []) [] 0 x q (record a { hand = hand }) b ⊎ Connected [] (t.slot ∷ []) 1 x q (record a { hand = hand }) b) still
+        there b t here (subst (λ (x : PollerState). Connected (t ∷ []) [] [] x q (record a { hand = hand }) b ⊎ Connected [] (t.slot ∷ []) (t.slot ∷ []) x q (record a { hand = hand }) b) still
         placed) free slots
 
 -- a clause of a call that answered Ok gives another
@@ -419,13 +459,13 @@ placed_counts r p s q a b slots slot there first same here =
 
 -- a slot that has no next names
 pub no_names : (table : List ℕ) (slot : ℕ) → (slot ≤ 32767 → slot < length table → slice_index table slot ≡ last_generation)
-    → (length table ≤ slot) ⊎ ((32768 ≤ slot) ⊎ (slice_index table slot ≡ last_generation))
+    → (length table ≤ slot) ⊎ ((32768 ≤ slot) ⊎ (last_generation ≤ slice_index table slot))
 no_names table slot last = by_table (cases_lt slot (length table)) where
-  by_width : slot < length table → (slot < 32768) ⊎ (32768 ≤ slot) → (length table ≤ slot) ⊎ ((32768 ≤ slot) ⊎ (slice_index table slot ≡ last_generation))
-  by_width inside (inl narrow) = inr (inr (last (omega arith) inside))
+  by_width : slot < length table → (slot < 32768) ⊎ (32768 ≤ slot) → (length table ≤ slot) ⊎ ((32768 ≤ slot) ⊎ (last_generation ≤ slice_index table slot))
+  by_width inside (inl narrow) = inr (inr (let is = last (omega arith) inside in omega (arith, is)))
   by_width inside (inr wide) = inr (inl wide)
 
-  by_table : (slot < length table) ⊎ (length table ≤ slot) → (length table ≤ slot) ⊎ ((32768 ≤ slot) ⊎ (slice_index table slot ≡ last_generation))
+  by_table : (slot < length table) ⊎ (length table ≤ slot) → (length table ≤ slot) ⊎ ((32768 ≤ slot) ⊎ (last_generation ≤ slice_index table slot))
   by_table (inl inside) = by_width inside (cases_lt slot 32768)
   by_table (inr outside) = inl outside
 
@@ -464,9 +504,9 @@ places_told p r q episodes one two = subst (λ (s : PollerState). s ≡ places p
 
 -- no connection was placed, since the slot was not free
 pub not_placed : (p q : PollerState) (a : Own) (seat : SeatState) (t : Ticket) → q ≡ record p { lost = counted_up p.lost 1 } → Adds t.slot (exchange.NotFree ∷ []) a.seat seat
-    → Connected [] (t.slot ∷ []) 1 p q a (record a { seat = seat })
+    → Connected [] (t.slot ∷ []) (t.slot ∷ []) p q a (record a { seat = seat })
 not_placed p q a seat t lost adds = record {
-  some = omega arith;
+  why = inr ([], refl, refl);
   tries = record { ticket = t; exchanges = exchange.NotFree ∷ [] } ∷ [];
   are = try_held t;
   made = acts_one (record { ticket = t; exchanges = exchange.NotFree ∷ [] }) a.seat seat adds;
@@ -497,9 +537,9 @@ module _ (p r : PollerState) (t : Ticket) (counted : r ≡ record p { table = sl
     -- the connection was placed in a slot that was adopted for it, and started
     pub placed : (a b : Own) (found noted : ℕ) → IsIn p.part t.slot → t.generation ≡ slice_index p.table t.slot + 1
         → Adds t.slot (opening found noted) a.seat b.seat → b.hand ≡ record a.hand { tickets = a.hand.tickets ++ t ∷ [] } → b.ready ≡ a.ready → b.free ≡ a.free
-        → Connected (t ∷ []) [] 0 p q a b
+        → Connected (t ∷ []) [] [] p q a b
     placed a b found noted here next adds hand ready free = record {
-      some = omega arith;
+      why = refl;
       tries = record { ticket = t; exchanges = opening found noted } ∷ [];
       are = try_opened t found noted;
       made = acts_one (record { ticket = t; exchanges = opening found noted }) a.seat b.seat adds;

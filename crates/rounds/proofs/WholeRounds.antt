@@ -111,7 +111,7 @@ module _ (p q r v t : PollerState) (a b c d e : Own) (begun : SameTable p q) (to
     opened = accepted.opened;
     lost = accepted.lost;
     held = accepted.held;
-    some = accepted.connected.some;
+    why = accepted.connected.why;
     reported = subst (λ (ts : List Ticket). ArePosts ts delivered.posts) (sym reported_is) delivered.are;
     swept = subst (λ (ts : List Ticket). ArePosts ts posted.posts) (sym sweep_is) posted.are;
     tried = accepted.connected.are;

@@ -1,5 +1,5 @@
 -- What a thread's seat did, act by act: the exchanges of each at the slot of its ticket. Part of the promises.
-use Rattle.std.specs.Prelude.{◌≡◌, ◌⊎◌, ℕ, zero, suc, ◌+◌, ◌==◌, Bool, true, false, if◌then◌else◌, List, [], ◌∷◌, ◌++◌, length, map}
+use Rattle.std.specs.Prelude.{◌≡◌, ◌⊎◌, ℕ, zero, suc, ◌==◌, Bool, true, false, if◌then◌else◌, List, [], ◌∷◌, ◌++◌, map}
 use Rattle.std.specs.List.{All}
 use Rattle.claims.specs.declared.view.Exchange.{Exchange}
 use Rattle.claims.specs.declared.view.Exchange.TheVariants.{Post, Take, Release, Adopted, NotFree}
@@ -52,8 +52,18 @@ opening found noted = Adopted found ∷ Take noted ∷ Post false ∷ Release tr
 abbrev pub IsTry : Act → Type 0
 IsTry act = ((found : ℕ) × (noted : ℕ) × (act.exchanges ≡ opening found noted)) ⊎ (act.exchanges ≡ NotFree ∷ [])
 
--- by these acts these connections were opened, and this many slots were found not to be free
-pub record AreTries (opened : List Ticket) (held : ℕ) (tries : List Act) : Type 0 where
+-- the slot, if these exchanges found that it is not free
+abbrev pub found_held : List Exchange → ℕ → List ℕ
+found_held (NotFree ∷ rest) slot = slot ∷ []
+found_held exchanges slot = []
+
+-- the slots that they found not to be free, in order
+abbrev pub held_of : List Act → List ℕ
+held_of [] = []
+held_of (act ∷ acts) = found_held act.exchanges act.ticket.slot ++ held_of acts
+
+-- by these acts these connections were opened, and these slots were found not to be free
+pub record AreTries (opened : List Ticket) (held : List ℕ) (tries : List Act) : Type 0 where
   pub each : All IsTry tries
   pub made : due_of tries ≡ opened
-  pub count : length tries ≡ length opened + held
+  pub found : held_of tries ≡ held

@@ -75,14 +75,25 @@ pub record Started (ticket : Ticket) (old new : Own) : Type 0 where
   pub seat : Adds ticket.slot (drop 1 (opening 0 noted)) old.seat new.seat
   pub hand : new.hand ≡ record old.hand { tickets = old.hand.tickets ++ ticket ∷ [] }
 
+-- no connection can be opened in this slot: it is another poller's, or the table or the names lack it, or its
+-- generation is the last
+abbrev pub IsSpent : PollerState → ℕ → Type 0
+IsSpent p slot = (IsIn p.part slot → ⊥) ⊎ ((length p.table ≤ slot) ⊎ ((32768 ≤ slot) ⊎ (last_generation ≤ slice_index p.table slot)))
+
+-- Why each of these slots is no longer used, in order: it is spent, or it is the next of those that were found not to be
+-- free, which are all among them
+abbrev pub AreLost : PollerState → List ℕ → List ℕ → Type 0
+AreLost p held [] = held ≡ []
+AreLost p held (slot ∷ lost) = (IsSpent p slot × AreLost p held lost) ⊎ ((rest : List ℕ) × (held ≡ slot ∷ rest) × AreLost p rest lost)
+
 -- These connections were opened in the poller's own slots, each with the next generation of its slot, with one note and
--- with one ticket, which is in hand after the others. And these slots are no longer used, this many of which were found
--- not to be free. That is all that the seat did
-pub record Connected (opened : List Ticket) (lost : List ℕ) (held : ℕ) (old new : PollerState) (had has : Own) : Type 0 where
+-- with one ticket, which is in hand after the others. And these slots are no longer used, since they are spent, or are
+-- among those that were found not to be free. That is all that the seat did
+pub record Connected (opened : List Ticket) (lost held : List ℕ) (old new : PollerState) (had has : Own) : Type 0 where
   pub table : AreOpened old.table opened new.table
   pub counted : Counted old.opened (length opened) new.opened
   pub unused : Counted old.lost (length lost) new.lost
-  pub some : held ≤ length lost
+  pub why : AreLost new held lost
   pub tries : List Act
   pub are : AreTries opened held tries
   pub made : ActsMade tries had.seat has.seat
@@ -119,11 +130,6 @@ DropsFor may_refuse may_tell proxy cause.Connect = may_refuse unopened.Connect
 DropsFor may_refuse may_tell proxy cause.Register = may_refuse unopened.Register
 DropsFor may_refuse may_tell proxy cause.Address = LeadTold may_tell proxy None
 
--- no connection can be opened in this slot: it is another poller's, or the table or the names lack it, or its
--- generation is the last
-abbrev pub IsSpent : PollerState → ℕ → Type 0
-IsSpent p slot = (IsIn p.part slot → ⊥) ⊎ ((length p.table ≤ slot) ⊎ ((32768 ≤ slot) ⊎ (slice_index p.table slot ≡ last_generation)))
-
 -- why a slot is lost: it is spent, or one exchange found that it is not free
 abbrev pub LostFor : PollerState → ℕ → SeatState → SeatState → Type 0
 LostFor p slot old new = IsSpent p slot ⊎ Adds slot (exchange.NotFree ∷ []) old new
@@ -144,7 +150,7 @@ pub record IsNext (p : PollerState) (t : Ticket) : Type 0 where
 -- Placing a connection in a free slot: it was opened there, or the slot was found not to be free and is no longer used.
 -- At most one ticket more is in hand
 pub record Placed (t : Ticket) (old new : PollerState) (had has : Own) : Type 0 where
-  pub done : Connected (t ∷ []) [] 0 old new had has ⊎ Connected [] (t.slot ∷ []) 1 old new had has
+  pub done : Connected (t ∷ []) [] [] old new had has ⊎ Connected [] (t.slot ∷ []) (t.slot ∷ []) old new had has
   pub counted : IsOpened old new ⊎ (IsLost old new × Adds t.slot (exchange.NotFree ∷ []) had.seat has.seat)
   pub free : has.free ≡ had.free
   pub slots : has.hand.slots ≡ had.hand.slots
@@ -155,7 +161,7 @@ pub record Placed (t : Ticket) (old new : PollerState) (had has : Own) : Type 0 
 pub record AcceptDone (old new : PollerState) (had has : Own) : Type 0 where
   pub opened : List Ticket
   pub lost : List ℕ
-  pub held : ℕ
+  pub held : List ℕ
   pub connected : Connected opened lost held old new had has
   pub slots : SlotsCounted had has opened lost
 

@@ -6,7 +6,7 @@ use Rattle.dispatch.specs.declared.shared.Own.{Own}
 use Rattle.rounds.specs.Acts.{Act, due_of, ActsMade, ArePosts, AreTries}
 use Rattle.rounds.specs.Deliveries.{all_reported, ArePosted}
 use Rattle.dispatch.specs.Hands.{HasRoom, ticket_room}
-use Rattle.rounds.specs.Openings.{AreIn, AreOpened, SlotsCounted}
+use Rattle.rounds.specs.Openings.{AreIn, AreLost, AreOpened, SlotsCounted}
 use Rattle.dispatch.specs.Outgoing.{tickets_out}
 use Rattle.rounds.specs.Pollers.{PollerState, HasOpenedAll, Counted}
 use Rattle.rounds.specs.Drops.{AreTold}
@@ -20,20 +20,21 @@ use Rattle.relay_log.specs.declared.faults.ServerFault.TheVariants as server_fau
 -- made their tickets. Then came the posts of a sweep, if one was made, and those that woke made theirs. Then
 -- connections were opened, each with one post and one ticket at its slot. All tickets that were to be put before, then
 -- those of the reports, of the sweep and of the openings are put or in hand, in this order. Each slot that was taken
--- was opened, or is in hand, or is no longer used. These acts, in this order, are all that the seat did: this many of
--- the last found a slot held. Nothing was posted or opened at a slot of another poller
+-- was opened, or is in hand, or is no longer used: then no connection can be opened in it, or one of the last acts found
+-- it held. These acts, in this order, are all that the seat did. Nothing was posted or opened at a slot of another
+-- poller
 pub record RoundDone (old new : PollerState) (had has : Own) : Type 0 where
   pub reports : List Act
   pub sweep : List Act
   pub tries : List Act
   pub opened : List Ticket
   pub lost : List ℕ
-  pub held : ℕ
+  pub held : List ℕ
   pub reported : ArePosts (all_reported old.table new.batch) reports
   pub swept : ArePosts (sweep_of old new) sweep
   pub tried : AreTries opened held tries
   pub made : ActsMade (reports ++ (sweep ++ tries)) had.seat has.seat
-  pub some : held ≤ length lost
+  pub why : AreLost new held lost
   pub part : new.part ≡ old.part
   pub own_reports : AreIn old.part (all_reported old.table new.batch)
   pub own_sweep : AreIn old.part (sweep_of old new)

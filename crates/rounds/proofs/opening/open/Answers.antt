@@ -1,4 +1,4 @@
-use Rattle.std.proofs.Common.{rules, ◌≡◌, ◌+◌, ◌<◌, ◌≤◌, ℕ, List, slice_index, length, refl, subst, inr, ◌++◌, ◌∷◌, [], ap, sym, ◌∙◌}
+use Rattle.std.proofs.Common.{rules, ◌≡◌, ◌+◌, ◌<◌, ◌≤◌, ℕ, List, slice_index, length, refl, subst, inl, inr, ◌++◌, ◌∷◌, [], ap, sym, ◌∙◌}
 use Rattle.dispatch.specs.Hands.{HandState, ticket_room}
 use Rattle.dispatch.specs.Limits.{last_generation}
 use Rattle.rounds.specs.Pollers.{PollerState}
@@ -13,7 +13,7 @@ returns-in_default g c =
 pub returns-then-not-has-clause-done : goal.returns-then-not-has-clause-done
 returns-then-not-has-clause-done g c = record {
   done = opened_never c.args.poller.now c.count_lost-then-not-has.new.self c.args.own.now c.take_slot.new.self c.take_slot.ensures.left c.in-Some.slot
-      (sym c.take_slot.ensures.value ∙ c.in-Some.is) c.count_lost-then-not-has.ensures;
+      (sym c.take_slot.ensures.value ∙ c.in-Some.is) (inl (search rules)) c.count_lost-then-not-has.ensures;
   room = room_still c.args.own.now.hand c.take_slot.new.self _ c.take_slot.ensures.left;
 }
 
@@ -34,7 +34,7 @@ returns-in_default-next_names g c =
           c.count_lost-in_default-next_names.ensures (inr spent);
       done = record {
         done = opened_never c.args.poller.now c.count_lost-in_default-next_names.new.self c.args.own.now c.take_slot.new.self c.take_slot.ensures.left c.in-Some.slot first
-            c.count_lost-in_default-next_names.ensures;
+            (inr spent) c.count_lost-in_default-next_names.ensures;
         room = room_still c.args.own.now.hand c.take_slot.new.self _ c.take_slot.ensures.left;
       };
       ready = refl;

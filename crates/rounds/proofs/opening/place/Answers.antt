@@ -30,7 +30,7 @@ returns-in_ok-start-in-Adopted g c =
       };
       worn = tt;
       placed = record {
-        done = inl (subst (λ (t : Ticket). Connected (t ∷ []) [] 0 c.args.poller.now c.end_episodes.new.self c.args.own.now c.start.new.own) named
+        done = inl (subst (λ (t : Ticket). Connected (t ∷ []) [] [] c.args.poller.now c.end_episodes.new.self c.args.own.now c.start.new.own) named
             (placed c.args.poller.now c.count_opened.new.self ticket c.count_opened.ensures c.end_episodes.new.self c.end_episodes.ensures c.args.own.now c.start.new.own change.0
             started.noted
             (subst (λ (t : Ticket). IsIn c.args.poller.now.part t.slot) (sym named) c.requires.next.own)
