@@ -1,5 +1,8 @@
 """Many connections at once: slots, pollers, workers, and what they do while nothing comes."""
 
+import contextlib
+import ctypes
+import os
 import resource
 import socket
 import tempfile
@@ -7,7 +10,9 @@ import threading
 import time
 
 from loopback import WAIT, Relay, echo, in_thread, port_of, target, unheard, until
-from shared import answer_and_read, asked, having, is_silent, left_out, move_much, served
+from shared import answer_and_read, asked, having, is_silent, left_out, move_much, numbers_in, served
+
+PTRACE_SEIZE, PTRACE_INTERRUPT, PTRACE_DETACH, WALL = 0x4206, 0x4207, 17, 0x40000000  # ptrace(2), waitpid(2)
 
 
 def send_at_once(pairs):
@@ -102,6 +107,60 @@ def wakes_the_poller_of_a_freed_slot():
         clients.append(waiting)
     # A poller that nobody wakes waits for 200 ms, unless the slot is free before it begins to wait, as about half of these are.
     assert slow < 4
+
+
+# refuses clients_are_not_dealt: a poller takes each client that it can, however many more than others it has
+def deals_clients_to_pollers_with_fewer():
+    # Four pollers have 256 slots each. One keeps its clients and the others lose theirs, before 24 come at once, ten times.
+    with tempfile.NamedTemporaryFile("w") as errors:
+        relay = Relay(target(echo), errors=errors, slots=1024)
+
+        def pollers():
+            with open(errors.name, encoding="utf-8") as lines:
+                return [numbers_in(line)["s"] // 256 for line in having(lines, "] open ")]
+
+        clients = [served(relay, 1)[0] for _ in range(64)]
+        assert until(lambda: len(pollers()) == 64)
+        full = pollers()[0]
+        kept = [client for client, poller in zip(clients, pollers()) if poller == full]
+        for client in set(clients) - set(kept):
+            client.close()
+        for many in range(64, 304, 24):
+            time.sleep(0.1)
+            for client in served(relay, 24):
+                client.close()
+            assert until(lambda: len(pollers()) == many + 24)
+        # It takes one where others wake after more than a millisecond, and about 60 if it leaves none.
+        assert len(kept) >= 8 and pollers()[64:].count(full) < 30
+
+
+@contextlib.contextmanager
+def halted(task):
+    """A thread stands still meanwhile, and all others go on."""
+    trace = ctypes.CDLL(None).ptrace
+    trace.argtypes = [ctypes.c_long, ctypes.c_long, ctypes.c_void_p, ctypes.c_void_p]
+    is_halted = trace(PTRACE_SEIZE, task, None, None) == 0
+    if is_halted:
+        trace(PTRACE_INTERRUPT, task, None, None)
+        os.waitpid(task, WALL)
+    yield is_halted
+    if is_halted:
+        trace(PTRACE_DETACH, task, None, None)
+
+
+# refuses left_client_waits_long: a poller that leaves a client to others waits for reports as long as without one
+def serves_clients_that_another_poller_leaves():
+    # The first thread polls for one of four pollers. While it stands still it has the fewest clients, and takes none.
+    relay = Relay(target(echo), slots=256)
+    with halted(relay.process.pid) as is_halted:
+        if not is_halted:
+            return left_out("ptrace")
+        clients, times = [], []
+        for _ in range(32):
+            before = time.monotonic()
+            clients += served(relay, 1)
+            times.append(time.monotonic() - before)
+    assert sorted(times)[24] < 0.05
 
 
 def burst(relay, clients):

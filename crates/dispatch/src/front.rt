@@ -71,6 +71,17 @@ pub struct Opened<T> {
     pub route: Route,
 }
 
+/// How long a poller may wait for reports.
+#[derive(Clone, Copy, PartialEq, Eq)]
+pub enum Waiting {
+    /// Not at all.
+    No,
+    /// A millisecond at most.
+    Brief,
+    /// For as long as its front waits.
+    Long,
+}
+
 /// Where connections and reports come from: the system's sockets, or an in-memory fake.
 pub trait Front {
     ghost use Rattle.dispatch.specs.declared.front.Unopened.{Unopened};
@@ -109,15 +120,26 @@ pub trait Front {
     /// Waits for reports, for a time that ends by itself, or not at all, and replaces the contents of the batch by
     /// the numbers of their tokens, at most [`MAX_BATCH`] (epoll_wait(2)). After an error the batch is empty. It
     /// allocates no memory.
-    fn poll(&mut self, batch: &mut Vec<u64>, wait: bool) -> io::Result<()>
+    fn poll(&mut self, batch: &mut Vec<u64>, wait: Waiting) -> io::Result<()>
         requires room { MAX_BATCH ≤ vec_capacity batch.old }
         ensures most { vec_len batch.new ≤ MAX_BATCH }
         ensures capacity { vec_capacity batch.new ≡ vec_capacity batch.old }
         ensures reported { batch.new.items ≡ reported self.new }
         ensures listens { listens self.new ≡ listens self.old }
-        ensures waited { wait ≡ false → waited self.new ≡ 0 }
+        ensures waited { wait ≡ Waiting.No → waited self.new ≡ 0 }
+        ensures brief { wait ≡ Waiting.Brief → waited self.new ≤ 1 }
         ensures failed { OnErr result (batch.new.items ≡ []) }
         ensures fault { IfErr result (λ error. error_kind error ≢ Interrupted → failed self.new ≡ true) };
+
+    /// Whether the next client is better left to another poller for now. A front that never says so leaves none.
+    fn leaves(&mut self) -> bool
+        ensures reported { reported self.new ≡ reported self.old }
+        ensures failed { failed self.new ≡ failed self.old }
+        ensures waited { waited self.new ≡ waited self.old }
+        ensures listens { listens self.new ≡ listens self.old }
+    {
+        false
+    }
 
     /// The next connection that waits (accept(2)).
     fn accept(&mut self) -> io::Result<Self::Client>

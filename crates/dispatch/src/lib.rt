@@ -33,7 +33,7 @@ mod shared;
 mod split;
 
 pub use clock::{Clock, Timing};
-pub use front::{Front, Opened, Settle, Unopened};
+pub use front::{Front, Opened, Settle, Unopened, Waiting};
 pub use fullness::Fullness;
 pub use gate::{Gate, OpenGate};
 pub use hand::Hand;

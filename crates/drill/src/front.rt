@@ -3,7 +3,7 @@ ghost use Rattle.std.specs.Prelude.{◌≡◌, ◌≤◌, [], OnErr, length, vec
 
 use crate::outside::OutsideCell;
 use crate::wire::EndWire;
-use dispatch::{Front, MAX_BATCH, Opened, Unopened};
+use dispatch::{Front, MAX_BATCH, Opened, Unopened, Waiting};
 use kernel_model::Accepting;
 use log::Log;
 use std::alloc::{AllocError, Global};
@@ -96,7 +96,7 @@ impl Front for KernelFront {
     type Waker = OutsideCell;
 
     /// Never waits: no report could come while the only thread waits.
-    fn poll(&mut self, batch: &mut Vec<u64>, _wait: bool) -> io::Result<()> {
+    fn poll(&mut self, batch: &mut Vec<u64>, _wait: Waiting) -> io::Result<()> {
         batch.clear();
         self.reported.clear();
         let answer = take_reports(&self.outside, self.poller, &mut self.reported);

@@ -1,6 +1,6 @@
 // What fronts and wires over sockets answer, on loopback.
 use crate::all_well;
-use dispatch::{Front, MAX_BATCH, ServerFault, Settle, Split, Unopened};
+use dispatch::{Front, MAX_BATCH, ServerFault, Settle, Split, Unopened, Waiting};
 use engine::Wire;
 use log::sink::{Lines, Memory};
 use log::{Level, Log, Logged};
@@ -44,7 +44,7 @@ fn reports<F: Front>(alloc: Global, front: &mut F, numbers: &[u64]) -> io::Resul
     let mut seen = Vec::new(alloc);
     let mut batch = Vec::with_capacity(alloc, MAX_BATCH)?;
     for _ in 0..100 {
-        front.poll(&mut batch, true)?;
+        front.poll(&mut batch, Waiting::Long)?;
         seen.extend_from_slice(batch.as_slice())?;
         if numbers.iter().all(|number| seen.contains(number)) {
             return Ok(());

@@ -8,7 +8,7 @@ ghost use Rattle.recording.specs.Records.{accept_answer, accepted, not_waited, o
 
 use crate::recorder::{Begun, Inner, Recorder, Sink};
 use crate::wire::RecordedWire;
-use dispatch::{Front, MAX_BATCH, Opened, Unopened};
+use dispatch::{Front, MAX_BATCH, Opened, Unopened, Waiting};
 use log::Log;
 use records::{Accepted, Act, Opening, Polling};
 use std::alloc::{AllocError, Global};
@@ -131,13 +131,14 @@ impl<F: Front + Drop, S: Sink> Front for RecordedFront<F, S> {
 
     type Waker = F::Waker;
 
-    fn poll(&mut self, batch: &mut Vec<u64>, wait: bool) -> io::Result<()>
+    fn poll(&mut self, batch: &mut Vec<u64>, wait: Waiting) -> io::Result<()>
         requires room { MAX_BATCH ≤ vec_capacity batch.old }
         ensures most { vec_len batch.new ≤ MAX_BATCH }
         ensures capacity { vec_capacity batch.new ≡ vec_capacity batch.old }
         ensures reported { batch.new.items ≡ F.reported self.new.inner }
         ensures listens { F.listens self.new.inner ≡ F.listens self.old.inner }
-        ensures waited { wait ≡ false → F.waited self.new.inner ≡ 0 }
+        ensures waited { wait ≡ Waiting.No → F.waited self.new.inner ≡ 0 }
+        ensures brief { wait ≡ Waiting.Brief → F.waited self.new.inner ≤ 1 }
         ensures failed { OnErr result (batch.new.items ≡ []) }
         ensures fault { IfErr result (λ error. error_kind error ≢ Interrupted → F.failed self.new.inner ≡ true) }
         ensures recorded { Records S.did (polled self.old.poller result batch.new.items) self.old.recorder.sink self.new.recorder.sink }
@@ -155,6 +156,13 @@ impl<F: Front + Drop, S: Sink> Front for RecordedFront<F, S> {
         };
         self.recorder.record(begun, Act::Poller(poller, failed));
         result
+    }
+
+    fn leaves(&mut self) -> bool {
+        let begun = Begun::unrecorded();
+        let leaves = self.inner.during(&begun).leaves();
+        begun.skip();
+        leaves
     }
 
     fn accept(&mut self) -> io::Result<RecordedWire<F::Client, S>>

@@ -40,6 +40,7 @@ use Rattle.dispatch.specs.declared.front.Unopened.{Unopened}
 use Rattle.dispatch.specs.declared.front.Unopened.TheVariants as unopened
 use Rattle.dispatch.specs.declared.route.Route.{Route}
 use Rattle.rounds.specs.Leads.{lacks, lead_of}
+use Rattle.rounds.specs.Rounds.{AcceptEnded, HasLeft}
 
 -- counts
 
@@ -354,8 +355,17 @@ same_two p a q tries accepting starved episodes one two = record {
   part = ap (λ (s : PollerState). s.part) two ∙ ap (λ (s : PollerState). s.part) one;
 }
 
-pub same_tries : (p q : PollerState) (tries : ℕ) → q ≡ record p { tries = tries } → SamePoller p q
-same_tries p q tries is = same_two p q q tries q.accepting q.starved q.episodes is refl
+pub same_tries : (p q : PollerState) (tries : ℕ) (left : Bool) → q ≡ record p { tries = tries; left = left } → SamePoller p q
+same_tries p q tries left is = record {
+  table = ap (λ (s : PollerState). s.table) is;
+  opened = ap (λ (s : PollerState). s.opened) is;
+  lost = ap (λ (s : PollerState). s.lost) is;
+  batch = ap (λ (s : PollerState). s.batch) is;
+  part = ap (λ (s : PollerState). s.part) is;
+}
+
+pub same_left : (p q : PollerState) (left : Bool) → q ≡ record p { left = left } → SamePoller p q
+same_left p q left is = same_tries p q p.tries left is
 
 same_still : (p : PollerState) → SamePoller p p
 same_still p = record { table = refl; opened = refl; lost = refl; batch = refl; part = refl }
@@ -375,12 +385,18 @@ room_same a b took = ap (λ (n : ℕ). n - length b.hand.tickets) took.capacity 
 pub room_left : (try : ℕ) (a b c : Own) → OnlyTook a b → ticket_room b.hand ≤ ticket_room c.hand + 1 → 4 ≤ try + ticket_room a.hand → 4 ≤ try + 1 + ticket_room c.hand
 room_left try a b c took one room = let same = room_same a b took in omega arith
 
+-- the next try is not worth making
+pub ended_by : (p : PollerState) (own : Own) → (p.starved ≡ true) ⊎ HasLeft p → AcceptEnded p own
+ended_by p own (inl starved) = inl (inl starved)
+ended_by p own (inr left) = inr (inl left)
+
 -- what trying accept(2) may change of what the poller keeps
 abbrev pub tried : PollerState → PollerState → PollerState
 tried p q = record p {
   table = q.table;
   accepting = q.accepting;
   starved = q.starved;
+  left = q.left;
   tries = q.tries;
   opened = q.opened;
   dropped = q.dropped;
@@ -391,13 +407,16 @@ tried p q = record p {
 pub accept_again : (p q r : PollerState) → q ≡ tried p q → r ≡ tried q r → r ≡ tried p r
 accept_again p q r one two = two ∙ ap (λ (s : PollerState). tried s r) one
 
-pub accept_still : (p q : PollerState) (tries : ℕ) → q ≡ record p { tries = tries } → q ≡ tried p q
-accept_still p q tries is = subst (λ (s : PollerState). s ≡ tried p s) (sym is) refl
+pub accept_still : (p q : PollerState) (tries : ℕ) (left : Bool) → q ≡ record p { tries = tries; left = left } → q ≡ tried p q
+accept_still p q tries left is = subst (λ (s : PollerState). s ≡ tried p s) (sym is) refl
+
+pub accept_left : (p q : PollerState) (left : Bool) → q ≡ record p { left = left } → q ≡ tried p q
+accept_left p q left is = accept_still p q p.tries left is
 
 pub accept_refused : (p a q : PollerState) (tries : ℕ) (accepting starved : Bool) (episodes : Episodes)
     → a ≡ record p { tries = tries } → q ≡ record a { accepting = accepting; starved = starved; episodes = episodes } → q ≡ tried p q
 accept_refused p a q tries accepting starved episodes one two =
-    accept_again p a q (accept_still p a tries one) (subst (λ (s : PollerState). s ≡ tried a s) (sym two) refl)
+    accept_again p a q (accept_still p a tries p.left one) (subst (λ (s : PollerState). s ≡ tried a s) (sym two) refl)
 
 pub accept_opened : (p a q : PollerState) (tries : ℕ) (starved : Bool) (table : List ℕ) (opened dropped lost : ℕ) (episodes : Episodes)
     → a ≡ record p { tries = tries; starved = starved } → q ≡ record a { table = table; opened = opened; dropped = dropped; lost = lost; episodes = episodes } → q ≡ tried p q

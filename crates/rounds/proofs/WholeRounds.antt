@@ -10,13 +10,15 @@ use Rattle.rounds.specs.Acts.{due_of, ActsMade, ArePosts}
 use Rattle.rounds.proofs.Acts.{acts_both}
 use Rattle.rounds.specs.Deliveries.{all_reported, at_slot, ArePosted, Delivered}
 use Rattle.dispatch.specs.Hands.{HandState}
+use Rattle.dispatch.specs.declared.front.Waiting.{Waiting}
+use Rattle.dispatch.specs.declared.front.Waiting.TheVariants.{No, Brief, Long}
 use Rattle.rounds.specs.Openings.{times, slots_in, AreIn, AreOpened, SlotsCounted, OnlyTook, AcceptDone}
 use Rattle.dispatch.specs.Outgoing.{outgoing, tickets_out}
 use Rattle.rounds.specs.Pollers.{PollerState, Counted, HasOpenedAll}
 use Rattle.dispatch.specs.declared.part.Part.{Part}
 use Rattle.relay_log.specs.declared.faults.ServerFault.{ServerFault}
 use Rattle.relay_log.specs.declared.faults.ServerFault.TheVariants.{Worn}
-use Rattle.rounds.specs.Rounds.{RoundDone, RoundKeeps, AcceptEnded, ListenerKept, ListensToOpen, MayWait, WaitedAsMay}
+use Rattle.rounds.specs.Rounds.{RoundDone, RoundKeeps, AcceptEnded, ListenerKept, ListensToOpen, MayWait, MayWaitBriefly, WaitedAsMay}
 use Rattle.std.proofs.lemmas.Bool.{cases_lt}
 use Rattle.rounds.specs.Sweeps.{swept_after, sweep_of}
 use Rattle.rounds.proofs.Connections.{SamePoller, accept_none, tried}
@@ -164,12 +166,16 @@ pub kept : (p q : PollerState) → Listens p q → ListenerKept p q
 kept p q (inl same) = inl same
 kept p q (inr closed) = inr (inl closed.0, closed.1)
 
--- the poller waits only where it may
-pub waits_if : (wait : Bool) (limit : ℕ) (p q r : PollerState) (a b : Own) → q ≡ record p { listening = q.listening } → (wait ≡ true → MayWait limit q b)
-    → (wait ≡ true → b ≡ a) → (wait ≡ false → r.waited ≡ 0) → WaitedAsMay limit p r a
-waits_if true limit p q r a b same may still none some =
-    subst (λ (o : Own). MayWait limit p o) (still refl) (subst (λ (s : PollerState). MayWait limit s b) same (may refl))
-waits_if false limit p q r a b same may still none some = absurd (some (none refl))
+-- the poller waits only where it may, and for as long
+pub waits_if : (waiting : Waiting) (limit : ℕ) (p q r : PollerState) (a b : Own) → q ≡ record p { listening = q.listening }
+    → (waiting ≡ Long → MayWait limit q b × (b ≡ a)) → (waiting ≡ Brief → MayWaitBriefly limit q b) → OnlyTook a b
+    → (waiting ≡ No → r.waited ≡ 0) → (waiting ≡ Brief → r.waited ≤ 1) → WaitedAsMay limit p r a
+waits_if Long limit p q r a b same may brief took none short some =
+    inl (subst (λ (o : Own). MayWait limit p o) (may refl).1 (subst (λ (s : PollerState). MayWait limit s b) same (may refl).0))
+waits_if Brief limit p q r a b same may brief took none short some =
+    let left = subst (λ (s : PollerState). MayWaitBriefly limit s b) same (brief refl) in
+    inr (short refl, (left.0, sym took.tickets ∙ left.1, left.2))
+waits_if No limit p q r a b same may brief took none short some = absurd (some (none refl))
 
 -- what the steps of a round leave as it is, but that a front may listen no longer; the end of a round may change the
 -- last two
@@ -188,7 +194,7 @@ looked_lasts {limit} {had} p q r begun looked listens waits = record {
   opening = ap (λ (s : PollerState). s.opening) looked ∙ ap (λ (s : PollerState). s.opening) begun;
   most = ap (λ (s : PollerState). s.most) looked ∙ ap (λ (s : PollerState). s.most) begun;
   heavy = ap (λ (s : PollerState). s.heavy) looked ∙ ap (λ (s : PollerState). s.heavy) begun;
-  waits = λ some. subst (λ (s : PollerState). MayWait limit s had) begun (waits some);
+  waits = λ some. subst (λ (s : PollerState). MayWait limit s had ⊎ ((r.waited ≤ 1) × MayWaitBriefly limit s had)) begun (waits some);
   over = ap (λ (s : PollerState). s.over) looked ∙ ap (λ (s : PollerState). s.over) begun;
   listening = subst (λ (s : PollerState). Listens s r) begun listens;
 }

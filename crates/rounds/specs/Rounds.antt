@@ -71,13 +71,21 @@ AcceptMayEnd p own = (p.starved ≡ true) ⊎ NoneToAccept p own
 abbrev pub MayWait : ℕ → PollerState → Own → Type 0
 MayWait limit p own = (is_due limit p ≡ false) × (own.hand.tickets ≡ []) × AcceptMayEnd p own
 
--- a round waited for reports only if it might, by what the poller kept and its thread had in hand before
-abbrev pub WaitedAsMay : ℕ → PollerState → PollerState → Own → Type 0
-WaitedAsMay limit old new had = new.waited ≢ 0 → MayWait limit old had
+-- a client was left to other pollers, and may still be accepted: the flag is up
+abbrev pub HasLeft : PollerState → Type 0
+HasLeft p = (p.left ≡ true) × (p.accepting ≡ true)
 
--- why accepting ends: it may, or it was tried 4 times
+-- where it left a client, the poller waits for a millisecond at most
+abbrev pub MayWaitBriefly : ℕ → PollerState → Own → Type 0
+MayWaitBriefly limit p own = (is_due limit p ≡ false) × (own.hand.tickets ≡ []) × HasLeft p
+
+-- a round waited for reports only if it might, and for as long, by what the poller kept and its thread had in hand before
+abbrev pub WaitedAsMay : ℕ → PollerState → PollerState → Own → Type 0
+WaitedAsMay limit old new had = new.waited ≢ 0 → MayWait limit old had ⊎ ((new.waited ≤ 1) × MayWaitBriefly limit old had)
+
+-- why accepting ends: it may, or a client was left to other pollers, or it was tried 4 times
 abbrev pub AcceptEnded : PollerState → Own → Type 0
-AcceptEnded p own = AcceptMayEnd p own ⊎ (p.tries ≡ 0)
+AcceptEnded p own = AcceptMayEnd p own ⊎ (HasLeft p ⊎ (p.tries ≡ 0))
 
 -- a round does not begin if its hand has no room for a ticket of each slot and 512 more
 abbrev pub EndedEarly : ℕ → Own → Type 0
@@ -94,10 +102,10 @@ pub record MayAccept (p : PollerState) (own : Own) : Type 0 where
   pub left : HasOpenedAll p → ⊥
   pub slot : 1 ≤ length own.hand.slots
 
--- why the poller does not wait: a sweep is due, or a ticket is in hand, or a connection may be accepted now, and the
--- system did not lack what that needs
+-- why the poller does not wait: a sweep is due, or a ticket is in hand, or a connection may be accepted now, the system
+-- did not lack what that needs, and no client was left to other pollers
 abbrev pub MayNotWait : ℕ → PollerState → Own → Type 0
-MayNotWait limit p own = (is_due limit p ≡ true) ⊎ ((own.hand.tickets ≢ []) ⊎ ((p.starved ≡ false) × MayAccept p own))
+MayNotWait limit p own = (is_due limit p ≡ true) ⊎ ((own.hand.tickets ≢ []) ⊎ ((p.starved ≡ false) × (p.left ≡ false) × MayAccept p own))
 
 -- a client waits for a slot: the listener was reported, and connections would be opened, but no slot was free even
 -- before any was

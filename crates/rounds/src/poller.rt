@@ -32,6 +32,8 @@ pub struct Poller<F: Front> {
     pub(crate) accepting: bool,
     // Whether accept(2) was starved at its last answer. A round waits for reports then.
     pub(crate) starved: bool,
+    // Whether the last round left a client to other pollers.
+    pub(crate) left: bool,
     // How many tries of accept(2) the last round left.
     pub(crate) tries: usize,
     pub(crate) opening: Opening,
@@ -75,6 +77,7 @@ impl<F: Front> Model for Poller<F> {
       batch = p.batch.items;
       accepting = p.accepting;
       starved = p.starved;
+      left = p.left;
       tries = p.tries;
       opening = p.opening;
       part = p.part;
@@ -119,6 +122,7 @@ impl<F: Front> Poller<F> {
           batch = [];
           accepting = true;
           starved = false;
+          left = false;
           tries = 0;
           opening = opening;
           part = part;
@@ -139,6 +143,7 @@ impl<F: Front> Poller<F> {
             batch: Vec::with_capacity(alloc, MAX_BATCH)?,
             accepting: true,
             starved: false,
+            left: false,
             tries: 0,
             opening,
             part,
@@ -248,11 +253,20 @@ impl<F: Front> Poller<F> {
         self.swept = self.second;
     }
 
-    /// A round may try accept(2) this many times again.
+    /// A round may try accept(2) this many times again, and has left no client.
     pub(crate) fn reset_tries(&mut self)
-        ensures { self.new ≡ record self.old { tries = max_accepts } }
+        ensures { self.new ≡ record self.old { tries = max_accepts; left = false } }
     {
         self.tries = MAX_ACCEPTS;
+        self.left = false;
+    }
+
+    /// Whether the next client is left to other pollers ([`Front::leaves`]).
+    pub(crate) fn leaves(&mut self) -> bool
+        ensures { self.new ≡ record self.old { left = result } }
+    {
+        self.left = self.front.leaves();
+        self.left
     }
 
     /// Tries accept(2) once ([`Front::accept`]), which counts as one of the round's tries if any is left.

@@ -11,7 +11,7 @@ ghost use Rattle.dispatch.specs.Hands.{ticket_room};
 ghost use Rattle.rounds.specs.Limits.{max_accepts, spare_room};
 ghost use Rattle.rounds.specs.Openings.{AreIn, Between, OnlyTook, AcceptDone, OneAccepted};
 ghost use Rattle.rounds.specs.Pollers.{HasOpenedAll};
-ghost use Rattle.rounds.specs.Rounds.{AcceptEnded, EndedEarly, IsFull, IsOver, ListensToOpen, LooksForAll, MayAccept, MayNotWait, MayWait, NoSlot, NoneToAccept, NotBegun, RoundDone, RoundEnded, RoundKeeps, RoundRefused, TookAll, WaitedAsMay};
+ghost use Rattle.rounds.specs.Rounds.{AcceptEnded, EndedEarly, HasLeft, IsFull, IsOver, ListensToOpen, LooksForAll, MayAccept, MayNotWait, MayWait, MayWaitBriefly, NoSlot, NoneToAccept, NotBegun, RoundDone, RoundEnded, RoundKeeps, RoundRefused, TookAll, WaitedAsMay};
 ghost use Rattle.dispatch.specs.Posts.{OnlyWorn};
 
 use crate::accepting::{Accepted, accepted_of};
@@ -20,7 +20,7 @@ use crate::limits::{MAX_ACCEPTS, SPARE_ROOM};
 use crate::opening::open;
 use crate::poller::Poller;
 use crate::sweeping::{is_due, keep_time};
-use dispatch::{Clock, Front, Hand, LISTENER, Own, Shared, Timing};
+use dispatch::{Clock, Front, Hand, LISTENER, Own, Shared, Timing, Waiting};
 use log::{Log, error};
 use relay_log::{ServerFault, log_all_taken};
 use std::alloc::Global;
@@ -32,10 +32,11 @@ use std::sync::Wait;
 /// If the hand has no room for a ticket of each slot and 512 more, the round ends at once, and nothing happens. Else
 /// the tickets in hand stay there, in front of those of the round. The round asks once for reports and delivers them
 /// ([`deliver`]); it waits for them only if no sweep is due, no ticket is in hand and no connection can be accepted
-/// now. A sweep is due if at the second of the round before at least the idle limit had passed since the last sweep,
-/// or since the poller began: it posts a note at each slot in which it has opened a connection, in rising order.
-/// Without a limit none is made. Then the round reads its second. While connections may be waiting and a slot is free,
-/// it accepts and opens them, with at most 4 calls of accept(2).
+/// now, or for a millisecond at most if the round before left one to other pollers. A sweep is due if at the second of
+/// the round before at least the idle limit had passed since the last sweep, or since the poller began: it posts a note
+/// at each slot in which it has opened a connection, in rising order. Without a limit none is made. Then the round
+/// reads its second. While connections may be waiting and a slot is free, it accepts and opens them, with at most 4
+/// calls of accept(2), until its front leaves one to other pollers.
 ///
 /// Once all connections that the poller may open were opened, its front no longer listens: neither at the round's
 /// end, nor while it asks for reports, if they were opened before.
@@ -89,7 +90,7 @@ fn begin<F: Front>(hand: &Hand, poller: &mut Poller<F>, slots: usize) -> bool
 }
 
 /// Takes the reports, with a front that listens no longer where no connection is to be opened. It waits for them,
-/// unless a sweep is due, a ticket is in hand, or a connection can be accepted now.
+/// unless a sweep is due, a ticket is in hand, or a connection can be accepted now and was not left to other pollers.
 fn look<F: Front, R: Wait + Log>(
     rt: &R,
     own: &mut Own,
@@ -127,31 +128,38 @@ fn listen_to_open<F: Front>(poller: &mut Poller<F>)
     }
 }
 
-/// Whether the poller may wait for reports.
-fn may_wait<F: Front, R: Wait>(rt: &R, own: &mut Own, poller: &Poller<F>, limit: u64) -> bool
+/// How long the poller may wait for reports.
+fn may_wait<F: Front, R: Wait>(rt: &R, own: &mut Own, poller: &Poller<F>, limit: u64) -> Waiting
     requires room { 1 ≤ ticket_room own.old.hand }
     ensures took { OnlyTook own.old own.new }
-    ensures reason { result ≡ true → MayWait limit poller.now own.new }
-    ensures still { result ≡ true → own.new ≡ own.old }
-    ensures haste { result ≡ false → MayNotWait limit poller.now own.new }
+    ensures reason { result ≡ Waiting.Long → MayWait limit poller.now own.new × (own.new ≡ own.old) }
+    ensures brief { result ≡ Waiting.Brief → MayWaitBriefly limit poller.now own.new }
+    ensures haste { result ≡ Waiting.No → MayNotWait limit poller.now own.new }
 {
-    !is_due(poller, limit)
-        && own.hand.tickets() == 0
-        && (poller.starved || !may_accept(rt, own, poller))
+    if is_due(poller, limit) || own.hand.tickets() > 0 {
+        Waiting::No
+    } else if poller.starved || !may_accept(rt, own, poller) {
+        Waiting::Long
+    } else if poller.left {
+        Waiting::Brief
+    } else {
+        Waiting::No
+    }
 }
 
 /// Asks for reports, with a front that does not listen where all was opened. After a signal the batch is empty. While
 /// it waits no sweep is due, no ticket is in hand, and no connection is to be accepted, unless the system lacked what
-/// accept(2) needs.
+/// accept(2) needs, or the connection was left to other pollers and the wait is brief.
 fn poll<F: Front, R: Log>(
     rt: &R,
     _own: &Own,
     poller: &mut Poller<F>,
     _limit: u64,
-    wait: bool,
+    wait: Waiting,
 ) -> Result<(), ServerFault>
-    requires wait { wait ≡ true → MayWait _limit poller.old _own.now }
-    requires haste { wait ≡ false → MayNotWait _limit poller.old _own.now }
+    requires wait { wait ≡ Waiting.Long → MayWait _limit poller.old _own.now }
+    requires brief { wait ≡ Waiting.Brief → MayWaitBriefly _limit poller.old _own.now }
+    requires haste { wait ≡ Waiting.No → MayNotWait _limit poller.old _own.now }
     requires closed { ListensToOpen poller.old }
     ensures same { poller.new ≡ record poller.old {
       reported = poller.new.reported;
@@ -159,7 +167,8 @@ fn poll<F: Front, R: Log>(
       waited = poller.new.waited;
       batch = poller.new.batch;
     } }
-    ensures waited { wait ≡ false → poller.new.waited ≡ 0 }
+    ensures waited { wait ≡ Waiting.No → poller.new.waited ≡ 0 }
+    ensures brief { wait ≡ Waiting.Brief → poller.new.waited ≤ 1 }
     ensures batch { poller.new.batch ≡ poller.new.reported }
     ensures failed { OnErr result ((poller.new.failed ≡ true) × (poller.new.batch ≡ [])) }
     ensures fault { IfErr result (λ fault. fault ≡ ServerFault.Poll) }
@@ -235,6 +244,7 @@ fn accept<F: Front, R: Wait + Log>(
       table = poller.new.table;
       accepting = poller.new.accepting;
       starved = poller.new.starved;
+      left = poller.new.left;
       tries = poller.new.tries;
       opened = poller.new.opened;
       dropped = poller.new.dropped;
@@ -305,6 +315,7 @@ fn accept_all<F: Front, R: Wait + Log>(
       table = poller.new.table;
       accepting = poller.new.accepting;
       starved = poller.new.starved;
+      left = poller.new.left;
       tries = poller.new.tries;
       opened = poller.new.opened;
       dropped = poller.new.dropped;
@@ -336,8 +347,8 @@ fn may_accept<F: Front, R: Wait>(rt: &R, own: &mut Own, poller: &Poller<F>) -> b
     poller.accepting && !poller.has_opened_all() && has_slot(rt, own)
 }
 
-/// Tries accept(2), and opens the connection that it gives. Answers whether the next try is worth making: not if the
-/// system lacked what accept(2) needs.
+/// Tries accept(2), and opens the connection that it gives, unless the client is better left to another poller. Answers
+/// whether the next try is worth making: not then, nor if the system lacked what accept(2) needs.
 fn accept_next<F: Front, R: Wait + Log>(
     rt: &R,
     alloc: Global,
@@ -348,16 +359,18 @@ fn accept_next<F: Front, R: Wait + Log>(
     requires between { Between shared.now.claims own.old poller.old }
     requires room { 1 ≤ ticket_room own.old.hand }
     requires slot { 1 ≤ length own.old.hand.slots }
+    requires flag { poller.old.accepting ≡ true }
     ensures between { Between shared.now.claims own.new poller.new }
     ensures worn { IfErr result (λ fault. OnlyWorn fault own.new.seat) }
     ensures done { OnOk result (OneAccepted poller.old poller.new own.old own.new) }
     ensures ready { own.new.ready ≡ own.old.ready }
-    ensures tries { poller.new.tries ≡ poller.old.tries - 1 }
-    ensures starved { IfOk result (λ more. more ≡ false → poller.new.starved ≡ true) }
+    ensures tries { IfOk result (λ more. more ≡ true → poller.new.tries ≡ poller.old.tries - 1) }
+    ensures ended { IfOk result (λ more. more ≡ false → (poller.new.starved ≡ true) ⊎ HasLeft poller.new) }
     ensures poller { poller.new ≡ record poller.old {
       table = poller.new.table;
       accepting = poller.new.accepting;
       starved = poller.new.starved;
+      left = poller.new.left;
       tries = poller.new.tries;
       opened = poller.new.opened;
       dropped = poller.new.dropped;
@@ -365,6 +378,9 @@ fn accept_next<F: Front, R: Wait + Log>(
       episodes = poller.new.episodes;
     } }
 {
+    if poller.leaves() {
+        return Ok(false);
+    }
     match poller.accept() {
         Ok((client, uncounted)) => {
             open(rt, alloc, shared, own, poller, client, uncounted)?;

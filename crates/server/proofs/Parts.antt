@@ -40,6 +40,7 @@ pub begun_one : (slots : ℕ) (opening : Opening) (ps qs : List PollerState) {p 
       batch = [];
       accepting = true;
       starved = false;
+      left = false;
       tries = 0;
       opening = opening;
       part = part;

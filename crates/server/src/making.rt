@@ -168,6 +168,7 @@ fn poller_of<F: Front + Drop>(
       batch = [];
       accepting = true;
       starved = false;
+      left = false;
       tries = 0;
       opening = record { ring = settings.now.ring; proxy = settings.now.proxy };
       part = part_of split.slots split.size number;

@@ -50,8 +50,8 @@ Fails (Ok done) = ⊥
 Fails (Err error) = error_kind error ≢ Interrupted
 
 -- how a front's connections are forwarded, the most milliseconds that it waits for reports, the numbers that its last
--- poll was told, whether that failed, how many milliseconds it could take, and whether the front has a share of the
--- listening socket
+-- poll was told, whether that failed, how many milliseconds it could take, whether the front has a share of the listening
+-- socket, and how many times in a row it has left a client to other pollers
 pub record Watched : Type 0 where
   pub forwarding : Forwarding
   pub wait : ℕ
@@ -59,11 +59,16 @@ pub record Watched : Type 0 where
   pub failed : Bool
   pub waited : ℕ
   pub listening : Bool
+  pub left : ℕ
 
 -- the longest wait for reports of each of this many pollers, 16 at most, in milliseconds: together they wake at most 10
 -- times a second by themselves
 abbrev pub wait_of : ℕ → ℕ
 wait_of pollers = 100 * max (min pollers 16) 2
+
+-- how many times in a row a front leaves a client at most
+abbrev pub most_left : ℕ
+most_left = 16
 
 -- a socket that listens: the address that the system was asked for, and the one that it told, which has its port where
 -- any port was asked for

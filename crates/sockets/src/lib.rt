@@ -21,6 +21,7 @@ mod dial;
 mod failure;
 mod forwarding;
 mod limits;
+mod loads;
 mod options;
 mod patience;
 mod poll;

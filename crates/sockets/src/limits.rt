@@ -13,3 +13,12 @@ pub(crate) const BULK: u8 = 4;
 
 /// This many probes without an answer end a connection.
 pub(crate) const PROBES: u32 = 5;
+
+/// A poller leaves no client to another that has fewer by this many or less.
+pub(crate) const LEAST_MARGIN: usize = 2;
+
+/// Nor to one that has fewer by this part of its own number or less.
+pub(crate) const MARGIN_PART: usize = 8;
+
+/// A poller that has left a client this many times in a row takes the next one.
+pub(crate) const MOST_LEFT: u8 = 16;

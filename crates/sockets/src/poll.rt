@@ -1,10 +1,10 @@
-ghost use Rattle.std.specs.Prelude.{◌≡◌, ◌≢◌, ◌↔◌, ◌⊎◌, IsTrue, ◌+◌, ◌≤◌, ◌++◌, [], length, replicate, true, false, Some, None, IfOk, OnOk, IfErr, OnErr, vec_len, vec_capacity};
+ghost use Rattle.std.specs.Prelude.{◌≡◌, ◌≢◌, ◌↔◌, ◌⊎◌, IsTrue, if◌then◌else◌, ◌+◌, ◌<◌, ◌≤◌, ◌++◌, [], length, replicate, true, false, Some, None, IfOk, OnOk, IfErr, OnErr, vec_len, vec_capacity};
 ghost use Rattle.std.specs.IoError.{error_kind};
 ghost use Rattle.std.specs.declared.io.ErrorKind.TheVariants.{Interrupted};
 ghost use Rattle.mio.specs.Event.{event_token};
 ghost use Rattle.mio.specs.Events.{items};
 ghost use Rattle.token.specs.Numbers.{name_of};
-ghost use Rattle.sockets.specs.Fronts.{Fails, end_in, heard_of, names_reading, numbers, v4_of, wait_of, IsRoute, MayTell};
+ghost use Rattle.sockets.specs.Fronts.{Fails, end_in, heard_of, most_left, names_reading, numbers, v4_of, wait_of, IsRoute, MayTell};
 ghost use Rattle.dispatch.specs.Splits.{parts_of};
 ghost use Rattle.dispatch.specs.declared.front.Unopened.TheVariants.{Connect, Register};
 ghost use Rattle.sockets.specs.Wires.{SameButWatched, fresh_wire, patient, under, unlimited};
@@ -13,11 +13,12 @@ use crate::bound::Bound;
 use crate::dial::Dial;
 use crate::failure::{log_failure, log_failure_at};
 use crate::forwarding::Forwarding;
-use crate::limits::{MAX_POLLERS, WAIT_MILLIS};
+use crate::limits::{MAX_POLLERS, MOST_LEFT, WAIT_MILLIS};
+use crate::loads::Loads;
 use crate::socket::Socket;
 use crate::wire::SocketWire;
 use dispatch::{
-    Front, LISTENER, MAX_BATCH, Opened, Route, ServerFault, Settle, Split, Unopened, WAKER,
+    Front, LISTENER, MAX_BATCH, Opened, Route, ServerFault, Settle, Split, Unopened, WAKER, Waiting,
 };
 use log::{Level, Log};
 use mio::event::Event;
@@ -52,6 +53,11 @@ pub struct Sockets<'r, R> {
     failed: bool,
     // How many milliseconds it could take.
     waited: u64,
+    // How many clients each poller has, and which of these this one is.
+    loads: Arc<Loads>,
+    poller: usize,
+    // How many times in a row it has left a client.
+    left: u8,
 }
 
 impl<'r, R> Model for Sockets<'r, R> {
@@ -69,6 +75,7 @@ impl<'r, R> Model for Sockets<'r, R> {
       failed = s.failed;
       waited = s.waited;
       listening = is_some s.listener;
+      left = s.left;
     } };
 
     // The most reports that one wait gives, MAX_BATCH.
@@ -103,6 +110,7 @@ pub fn open_all<'r, R: Net + Log>(
           failed = false;
           waited = 0;
           listening = true;
+          left = 0;
         })) }
     ensures wakers { IfOk result (λ made. made.1.split ≡ split) }
     ensures refused { IfErr result (λ fault. (fault ≡ ServerFault.Poll) ⊎ (fault ≡ ServerFault.NoMemory)) }
@@ -110,7 +118,8 @@ pub fn open_all<'r, R: Net + Log>(
     let told = Arc::new(alloc, Reports::new(alloc, split.slots())?)?;
     let mut listener = bound.listener;
     let (polls, each) = watched_by_all(rt, alloc, &mut listener, split.pollers())?;
-    let fronts = fronts_of(rt, alloc, listener, &told, polls, forwarding)?;
+    let loads = Arc::new(alloc, Loads::new(alloc, split)?)?;
+    let fronts = fronts_of(rt, alloc, listener, &told, &loads, polls, forwarding)?;
     Ok((fronts, Wakers { split, each }))
 }
 
@@ -140,6 +149,7 @@ fn fronts_of<'r, R>(
     alloc: Global,
     listener: TcpListener,
     told: &Arc<Reports>,
+    loads: &Arc<Loads>,
     mut polls: Vec<Poll>,
     forwarding: Forwarding,
 ) -> Result<Vec<Sockets<'r, R>>, AllocError>
@@ -151,6 +161,7 @@ fn fronts_of<'r, R>(
           failed = false;
           waited = 0;
           listening = true;
+          left = 0;
         })) }
 {
     let listener = Arc::new(alloc, listener)?;
@@ -158,7 +169,7 @@ fn fronts_of<'r, R>(
     let wait = wait_of(count);
     let mut fronts = Vec::with_capacity(alloc, count)?;
     polls.reverse();
-    for _front in 0..count {
+    for poller in 0..count {
         match polls.pop() {
             Some(poll) => fronts.push_reserved(Sockets {
                 rt,
@@ -170,6 +181,9 @@ fn fronts_of<'r, R>(
                 wait,
                 failed: false,
                 waited: 0,
+                loads: Arc::try_clone(loads)?,
+                poller,
+                left: 0,
             }),
             None => unreachable!(),
         }
@@ -178,11 +192,16 @@ fn fronts_of<'r, R>(
 }
 
 /// How many milliseconds a poll may take, if a wait takes at most the longest.
-fn millis_of(wait: bool, longest: u64) -> u64
-    ensures longest { wait ≡ true → result ≡ longest }
-    ensures none { wait ≡ false → result ≡ 0 }
+fn millis_of(wait: Waiting, longest: u64) -> u64
+    ensures longest { wait ≡ Waiting.Long → result ≡ longest }
+    ensures brief { wait ≡ Waiting.Brief → result ≡ 1 }
+    ensures none { wait ≡ Waiting.No → result ≡ 0 }
 {
-    if wait { longest } else { 0 }
+    match wait {
+        Waiting::No => 0,
+        Waiting::Brief => 1,
+        Waiting::Long => longest,
+    }
 }
 
 /// The longest wait for reports of each of this many pollers, in milliseconds.
@@ -357,7 +376,7 @@ impl<R: Dial> Front for Sockets<'_, R> {
 
     type Waker = Wakers;
 
-    fn poll(&mut self, batch: &mut Vec<u64>, wait: bool) -> io::Result<()>
+    fn poll(&mut self, batch: &mut Vec<u64>, wait: Waiting) -> io::Result<()>
         requires room { MAX_BATCH ≤ vec_capacity batch.old }
         ensures most { vec_len batch.new ≤ MAX_BATCH }
         ensures capacity { vec_capacity batch.new ≡ vec_capacity batch.old }
@@ -365,12 +384,16 @@ impl<R: Dial> Front for Sockets<'_, R> {
         ensures reported { batch.new.items ≡ self.new.reported }
         ensures fault { IfErr result (λ error. error_kind error ≢ Interrupted → self.new.failed ≡ true) }
         ensures fails { IsTrue self.new.failed ↔ Fails result }
-        ensures asked { wait ≡ true → self.new.waited ≡ self.old.wait }
-        ensures waited { wait ≡ false → self.new.waited ≡ 0 }
+        ensures asked { wait ≡ Waiting.Long → self.new.waited ≡ self.old.wait }
+        ensures waited { wait ≡ Waiting.No → self.new.waited ≡ 0 }
+        ensures brief { wait ≡ Waiting.Brief → self.new.waited ≤ 1 }
+        ensures quiet { OnOk result (wait ≡ Waiting.Brief → batch.new.items ≡ [] → self.new.left ≡ most_left) }
+        ensures kept { wait ≢ Waiting.Brief → self.new.left ≡ self.old.left }
         ensures same { self.new ≡ record self.old {
           reported = self.new.reported;
           failed = self.new.failed;
           waited = self.new.waited;
+          left = self.new.left;
         } }
     {
         batch.clear();
@@ -380,7 +403,24 @@ impl<R: Dial> Front for Sockets<'_, R> {
         self.failed = has_failed(&answer);
         answer?;
         put_numbers(batch, &self.events, &self.told);
+        if wait == Waiting::Brief && batch.is_empty() {
+            self.left = MOST_LEFT;
+        }
         Ok(())
+    }
+
+    /// It leaves one while another that can take it has fewer clients by more than a margin, but not 17 times in a row,
+    /// and not after a brief wait in which nothing was reported.
+    fn leaves(&mut self) -> bool
+        ensures few { result ≡ true → self.old.left < most_left }
+        ensures left { self.new ≡ record self.old { left = if result then self.old.left + 1 else 0 } }
+    {
+        if self.left >= MOST_LEFT || !self.loads.is_ahead(self.poller) {
+            self.left = 0;
+            return false;
+        }
+        self.left += 1;
+        true
     }
 
     fn accept(&mut self) -> io::Result<SocketWire>
@@ -391,7 +431,8 @@ impl<R: Dial> Front for Sockets<'_, R> {
             return Err(io::Error::from(io::ErrorKind::WouldBlock));
         };
         let (stream, peer) = listener.accept()?;
-        Ok(SocketWire::accepted(Socket::new(stream), peer))
+        let share = self.loads.share(self.poller);
+        Ok(SocketWire::accepted(Socket::of(stream, share), peer))
     }
 
     fn stop_listening(&mut self)
@@ -401,6 +442,7 @@ impl<R: Dial> Front for Sockets<'_, R> {
             // Others may go on to listen: without this the socket would still be reported here.
             let socket = listener.as_raw_fd();
             let _ = self.poll.registry().deregister(&mut SourceFd(&socket));
+            self.loads.close(self.poller);
         }
     }
 

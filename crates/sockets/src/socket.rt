@@ -1,3 +1,4 @@
+use crate::loads::Load;
 use crate::options;
 use crate::stream::Stream;
 use mio::net::TcpStream;
@@ -5,18 +6,30 @@ use mio::{Interest, Registry, Token};
 use readiness::Told;
 use std::io;
 use std::net::{Shutdown, SocketAddr};
+use std::sync::Arc;
 
 /// A TCP socket of the system, and what is told of its reports.
 #[derive(Drop)]
 pub struct Socket {
     stream: TcpStream,
     told: Option<Told>,
+    // A client's share of its poller's load.
+    _share: Option<Arc<Load>>,
 }
 
 impl Socket {
     /// A socket that is not reported yet.
     pub fn new(stream: TcpStream) -> Socket {
-        Socket { stream, told: None }
+        Socket::of(stream, None)
+    }
+
+    /// A client's socket that is not reported yet, with its share of its poller's load.
+    pub(crate) fn of(stream: TcpStream, share: Option<Arc<Load>>) -> Socket {
+        Socket {
+            stream,
+            told: None,
+            _share: share,
+        }
     }
 
     /// Whether the socket sends at once (TCP_NODELAY of tcp(7)), as the system says.

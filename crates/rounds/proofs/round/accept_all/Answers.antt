@@ -1,6 +1,6 @@
-use Rattle.std.proofs.Common.{refl, inl, inr, ◌+◌, ◌∙◌, ap, length, arith}
+use Rattle.std.proofs.Common.{refl, false, inl, inr, ◌+◌, ◌∙◌, ap, length, arith}
 use Rattle.rounds.specs.Pollers.{PollerState}
-use Rattle.rounds.proofs.Connections.{between_took, not_ok, passed_up, room_same, accept_none, accept_again, accept_still, same_tries, accept_and_took, accept_and_next, room_left}
+use Rattle.rounds.proofs.Connections.{between_took, not_ok, passed_up, room_same, accept_none, accept_again, accept_still, same_tries, accept_and_took, accept_and_next, ended_by, room_left}
 use Rattle.rounds.proofs.round.accept_all.Goals as goal
 
 pub loop-try-init : goal.loop-try-init
@@ -12,8 +12,8 @@ loop-try-init g c = record {
   };
   room = omega arith;
   tries = ap (λ (s : PollerState). 0 + s.tries) c.reset_tries.ensures;
-  done = accept_none c.args.poller.now c.reset_tries.new.self c.args.own.now (same_tries c.args.poller.now c.reset_tries.new.self 4 c.reset_tries.ensures);
-  poller = accept_still c.args.poller.now c.reset_tries.new.self 4 c.reset_tries.ensures;
+  done = accept_none c.args.poller.now c.reset_tries.new.self c.args.own.now (same_tries c.args.poller.now c.reset_tries.new.self 4 false c.reset_tries.ensures);
+  poller = accept_still c.args.poller.now c.reset_tries.new.self 4 false c.reset_tries.ensures;
 }
 
 pub accept_next-requires : goal.accept_next-requires
@@ -26,6 +26,7 @@ accept_next-requires g c =
           refl;
       room = omega arith;
       slot = c.may_accept.ensures.slot c.if-not-may_accept.false;
+      flag = (c.may_accept.ensures.may c.if-not-may_accept.false).flag;
     }
 
 pub returns-then-not-may_accept : goal.returns-then-not-may_accept
@@ -54,7 +55,7 @@ returns-then-not-branch g c = record {
   between = c.accept_next.ensures.between;
   worn = tt;
   done = accept_and_next c.loop-try.invariant.done c.may_accept.ensures.took c.in_ok-accept_next.ensures.done.done;
-  ended = inl (inl (c.in_ok-accept_next.ensures.starved c.if-not-branch.true));
+  ended = ended_by c.accept_next.new.poller c.accept_next.new.own (c.in_ok-accept_next.ensures.ended c.if-not-branch.true);
   ready = c.accept_next.ensures.ready ∙ c.may_accept.ensures.took.ready ∙ c.loop-try.invariant.done.connected.ready;
   poller = accept_again c.args.poller.now c.loop-try.poller c.accept_next.new.poller c.loop-try.invariant.poller c.in_ok-accept_next.ensures.poller;
 }
@@ -63,7 +64,7 @@ pub loop-try-preserved : goal.loop-try-preserved
 loop-try-preserved g c = record {
   between = c.in_ok-accept_next.ensures.between;
   room = room_left c.loop-try._try c.loop-try.own c.may_accept.new.own c.accept_next.new.own c.may_accept.ensures.took c.in_ok-accept_next.ensures.done.room c.loop-try.invariant.room;
-  tries = (let less = c.in_ok-accept_next.ensures.tries in let sum = c.loop-try.invariant.tries in let more = c.loop-try-test.true in omega arith);
+  tries = (let less = c.in_ok-accept_next.ensures.tries c.if-not-branch.false in let sum = c.loop-try.invariant.tries in let more = c.loop-try-test.true in omega arith);
   done = accept_and_next c.loop-try.invariant.done c.may_accept.ensures.took c.in_ok-accept_next.ensures.done.done;
   poller = accept_again c.args.poller.now c.loop-try.poller c.accept_next.new.poller c.loop-try.invariant.poller c.in_ok-accept_next.ensures.poller;
 }

@@ -14,6 +14,7 @@ invariant-loop-try g l = record {
     table = l.poller.table;
     accepting = l.poller.accepting;
     starved = l.poller.starved;
+    left = l.poller.left;
     tries = l.poller.tries;
     opened = l.poller.opened;
     dropped = l.poller.dropped;

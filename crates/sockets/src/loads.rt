@@ -1,0 +1,82 @@
+//! How many clients each poller has, by which they are dealt.
+ghost use Rattle.std.specs.Prelude.{◌≤◌};
+
+use crate::limits::{LEAST_MARGIN, MARGIN_PART};
+use dispatch::Split;
+use std::alloc::{AllocError, Global};
+use std::sync::Arc;
+use std::sync::atomic::AtomicBool;
+use std::sync::atomic::Ordering::SeqCst;
+
+/// Whether a poller takes clients. Each client that it has is a share of this one.
+#[derive(Drop)]
+pub(crate) struct Load {
+    /// The most clients that it can have.
+    most: usize,
+    listens: AtomicBool,
+}
+
+/// For each poller how many clients it has, as far as all others know. Nothing depends on these counts but which poller
+/// takes a client first.
+#[derive(Drop)]
+pub(crate) struct Loads {
+    each: Vec<Arc<Load>>,
+}
+
+impl Loads {
+    /// For each part of the slots a poller that listens and has no client.
+    pub(crate) fn new(alloc: Global, split: Split) -> Result<Loads, AllocError> {
+        let pollers = split.pollers();
+        let mut each = Vec::with_capacity(alloc, pollers)?;
+        for poller in 0..pollers {
+            let load = Load {
+                most: split.part(poller).slots,
+                listens: AtomicBool::new(true),
+            };
+            each.push_reserved(Arc::new(alloc, load)?);
+        }
+        Ok(Loads { each })
+    }
+
+    /// A share of a poller's load: one client more, until it is dropped.
+    pub(crate) fn share(&self, poller: usize) -> Option<Arc<Load>> {
+        Arc::try_clone(self.each.get(poller)?).ok()
+    }
+
+    /// This poller takes no more clients.
+    pub(crate) fn close(&self, poller: usize) {
+        if let Some(load) = self.each.get(poller) {
+            load.listens.store(false, SeqCst);
+        }
+    }
+
+    /// Whether this poller has more clients than another that can take one, by more than the margin.
+    pub(crate) fn is_ahead(&self, poller: usize) -> bool {
+        let Some(load) = self.each.get(poller) else {
+            return false;
+        };
+        let own = clients(load);
+        for other in self.each.iter() {
+            let count = clients(other);
+            if count < other.most
+                && other.listens.load(SeqCst)
+                && own > count.saturating_add(margin(count))
+            {
+                return true;
+            }
+        }
+        false
+    }
+}
+
+/// How many clients a poller has: the list of all has a share of its load, too.
+fn clients(load: &Arc<Load>) -> usize {
+    Arc::strong_count(load).saturating_sub(1)
+}
+
+/// By how many more than this a poller may have and still take the next client.
+fn margin(count: usize) -> usize
+    ensures { 2 ≤ result }
+{
+    (count / MARGIN_PART).max(LEAST_MARGIN)
+}
