@@ -3,6 +3,7 @@
 import contextlib
 import ctypes
 import os
+import pathlib
 import resource
 import socket
 import tempfile
@@ -115,52 +116,52 @@ def deals_clients_to_pollers_with_fewer():
     with tempfile.NamedTemporaryFile("w") as errors:
         relay = Relay(target(echo), errors=errors, slots=1024)
 
-        def pollers():
-            with open(errors.name, encoding="utf-8") as lines:
-                return [numbers_in(line)["s"] // 256 for line in having(lines, "] open ")]
+        def opened():
+            return having(pathlib.Path(errors.name).read_text().splitlines(), "] open ")
+
+        def pollers(many):
+            """The poller of each client so far, once there are this many."""
+            assert until(lambda: len(opened()) == many)
+            return [numbers_in(line)["s"] // 256 for line in opened()]
 
         clients = [served(relay, 1)[0] for _ in range(64)]
-        assert until(lambda: len(pollers()) == 64)
-        full = pollers()[0]
-        kept = [client for client, poller in zip(clients, pollers()) if poller == full]
-        for client in set(clients) - set(kept):
-            client.close()
-        for many in range(64, 304, 24):
+        first, *others = pollers(64)
+        for client, poller in zip(clients[1:], others):
+            if poller != first:
+                client.close()
+        for many in range(88, 328, 24):
             time.sleep(0.1)
             for client in served(relay, 24):
                 client.close()
-            assert until(lambda: len(pollers()) == many + 24)
-        # It takes one where others wake after more than a millisecond, and about 60 if it leaves none.
-        assert len(kept) >= 8 and pollers()[64:].count(full) < 30
+            last = pollers(many)
+    # It takes one where others wake after more than a millisecond, and about 60 if it leaves none.
+    assert others.count(first) > 6 and last[64:].count(first) < 30
 
 
 @contextlib.contextmanager
 def halted(task):
-    """A thread stands still meanwhile, and all others go on."""
+    """A thread stands still meanwhile, and all others go on. Answers whether that can be had."""
     trace = ctypes.CDLL(None).ptrace
     trace.argtypes = [ctypes.c_long, ctypes.c_long, ctypes.c_void_p, ctypes.c_void_p]
-    is_halted = trace(PTRACE_SEIZE, task, None, None) == 0
-    if is_halted:
-        trace(PTRACE_INTERRUPT, task, None, None)
-        os.waitpid(task, WALL)
-    yield is_halted
-    if is_halted:
-        trace(PTRACE_DETACH, task, None, None)
+    if trace(PTRACE_SEIZE, task, None, None) != 0:
+        yield False
+        return
+    trace(PTRACE_INTERRUPT, task, None, None)
+    os.waitpid(task, WALL)
+    yield True
+    trace(PTRACE_DETACH, task, None, None)
 
 
 # refuses left_client_waits_long: a poller that leaves a client to others waits for reports as long as without one
 def serves_clients_that_another_poller_leaves():
     # The first thread polls for one of four pollers. While it stands still it has the fewest clients, and takes none.
-    relay = Relay(target(echo), slots=256)
+    relay, clients, times = Relay(target(echo), slots=256), [], []
     with halted(relay.process.pid) as is_halted:
-        if not is_halted:
-            return left_out("ptrace")
-        clients, times = [], []
-        for _ in range(32):
+        for _ in range(32 if is_halted else left_out("ptrace") or 0):
             before = time.monotonic()
             clients += served(relay, 1)
             times.append(time.monotonic() - before)
-    assert sorted(times)[24] < 0.05
+    assert not is_halted or sorted(times)[24] < 0.05
 
 
 def burst(relay, clients):
