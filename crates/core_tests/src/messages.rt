@@ -1,4 +1,5 @@
-// What a log is handed, at each level. The texts are promised by clauses; the calls promise nothing of what they log.
+// What a log is handed, at each level. Clauses promise of any log which text a call passes on, and at which level; only a
+// run shows what this one then has.
 use crate::passing::all_well;
 use log::sink::{Lines, Memory};
 use log::{Level, Log, Logged};

@@ -1,13 +1,20 @@
 -- The exact bytes of the log messages. Part of the promises.
 use Rattle.std.specs.Prelude.{ℕ, Bool, true, false, List, ◌++◌, codes, Option, Some, None}
-use Rattle.std.specs.Fmt.{decimal}
+use Rattle.std.specs.Fmt.{decimal, ◌++?◌}
+use Rattle.log.specs.declared.level.Level.{Level}
+use Rattle.log.specs.declared.level.Level.TheVariants as level
 use Rattle.token.specs.Sides.{side_name}
 use Rattle.token.specs.Kinds.{kind_name}
 use Rattle.relay_core.specs.Calls.{call_name}
+use Rattle.relay_core.specs.Pairs.{PairState}
 use Rattle.relay_core.specs.declared.verdict.Fault.{Fault}
 use Rattle.relay_core.specs.declared.verdict.Fault.TheVariants.{Broken, Idle}
+use Rattle.relay_core.specs.declared.verdict.Verdict.{Verdict}
+use Rattle.relay_core.specs.declared.verdict.Verdict.TheVariants.{Live, Done, Failed}
 use Rattle.relay_log.specs.declared.cause.Cause.{Cause}
 use Rattle.relay_log.specs.declared.cause.Cause.TheVariants.{Memory, Connect, Register, Address}
+use Rattle.relay_log.specs.declared.gone.ClientsAt.{ClientsAt}
+use Rattle.relay_log.specs.declared.gone.ClientsAt.TheVariants as clients
 
 abbrev pub open_message : ℕ → ℕ → List ℕ
 open_message slot generation = codes "open s=" ++ (decimal slot ++ (codes " g=" ++ decimal generation))
@@ -31,6 +38,12 @@ fault_text Idle = codes " idle"
 abbrev pub fail_message : ℕ → ℕ → Fault → List ℕ
 fail_message slot generation fault =
     codes "fail s=" ++ (decimal slot ++ (codes " g=" ++ (decimal generation ++ fault_text fault)))
+
+-- what a log is passed of a connection that has ended, by its verdict
+abbrev pub EndLogged : (Level → Option (List ℕ) → Type 0) → Verdict → PairState → Type 0
+EndLogged logged Done p = logged level.Info (Some (done_message p.slot p.generation p.sent_up p.sent_down))
+EndLogged logged (Failed fault) p = logged level.Warn (Some (fail_message p.slot p.generation fault))
+EndLogged logged Live p = Unit {0}
 
 abbrev pub cause_name : Cause → List ℕ
 cause_name Memory = codes "memory"
@@ -70,3 +83,13 @@ gone_counts connected up down seconds =
 
 abbrev pub gone_between : Option Bool → ℕ → ℕ → ℕ → List ℕ
 gone_between connected up down seconds = gone_counts (yes_or_no connected) up down seconds
+
+-- the whole line, with the address and the cause as they print
+abbrev pub gone_text : Option (List ℕ) → Option (List ℕ) → Option (ℕ × ℕ) → Option Bool → ℕ → ℕ → ℕ → Option (List ℕ)
+gone_text from cause opened connected up down seconds =
+    Some (gone_begins opened) ++? from ++? Some (gone_between connected up down seconds) ++? cause
+
+-- the level of what the log has of clients
+abbrev pub client_level : ClientsAt → Level
+client_level clients.Debug = level.Debug
+client_level clients.Info = level.Info

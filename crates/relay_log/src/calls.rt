@@ -1,11 +1,16 @@
-// Each call asks the log first: a message that is off is never printed, and none takes memory.
-ghost use Rattle.std.specs.Prelude.{◌≡◌};
+// The calls that pass a message to a log. None takes memory.
+ghost use Rattle.std.specs.Prelude.{◌≡◌, Some, []};
+ghost use Rattle.std.specs.Fmt.{◌++?◌};
+ghost use Rattle.log.specs.declared.level.Level.TheVariants as level;
+ghost use Rattle.relay_core.specs.Pairs.{verdict};
+ghost use Rattle.relay_log.specs.Messages.{client_level, done_message, drop_message, drops_message, fail_message, full_message, gone_text, open_message, peer_message, EndLogged};
 
 use crate::{
-    AllTaken, Cause, ClientsAt, Done, Dropped, Failed, Gone, MoreDropped, Opened, Peer, ServerFault,
+    AllTaken, Cause, ClientsAt, Done, Dropped, Failed, Gone, Logs, MoreDropped, Opened, Peer,
+    ServerFault,
 };
-use log::{Log, error, info, log_enabled, warn};
-use relay_core::Fault;
+use log::{Level, Log, error, log_enabled};
+use relay_core::{Fault, Pair, Verdict};
 use std::fmt::Display;
 use std::io;
 
@@ -14,49 +19,98 @@ use std::io;
 const NO_THREAD: i32 = 11;
 
 /// Passes the `open` message to the log, at level info.
-pub fn log_open(rt: &impl Log, slot: usize, generation: u64) {
-    info!(rt; target: "relayd", "{}", Opened { slot, generation });
+pub fn log_open<L: Logs>(rt: &L, slot: usize, generation: u64)
+    ensures { L.logged rt.now level.Info (Some (open_message slot generation)) }
+{
+    rt.message(Level::Info, &Opened { slot, generation });
 }
 
 /// Passes the `peer` message to the log, at the level of what it has of clients.
-pub fn log_peer<D: Display>(
-    rt: &impl Log,
+pub fn log_peer<L: Logs, D: Display>(
+    rt: &L,
     clients: ClientsAt,
     slot: usize,
     generation: u64,
     from: &D,
-) {
-    log::log!(rt; target: "relayd", clients.level(), "{}", Peer { slot, generation, from });
+)
+    ensures { L.logged rt.now (client_level clients) (Some (peer_message slot generation []) ++? D.output from.now) }
+{
+    let peer = Peer {
+        slot,
+        generation,
+        from,
+    };
+    rt.message(clients.level(), &peer);
+}
+
+/// Passes the message of a connection's end to the log: `done` at level info, or `fail` at level warn. Of a connection
+/// that is live nothing is logged.
+pub fn log_end<L: Logs>(rt: &L, pair: &Pair)
+    ensures { EndLogged (L.logged rt.now) (verdict pair.now) pair.now }
+{
+    let (slot, generation) = (pair.slot(), pair.generation());
+    match pair.verdict() {
+        Verdict::Failed(fault) => log_fail(rt, slot, generation, fault),
+        Verdict::Done => {
+            let (up, down) = pair.counts();
+            log_done(rt, slot, generation, up, down);
+        }
+        Verdict::Live => {}
+    }
 }
 
 /// Passes the `done` message to the log, at level info.
-pub fn log_done(rt: &impl Log, slot: usize, generation: u64, up: u64, down: u64) {
-    info!(rt; target: "relayd", "{}", Done { slot, generation, up, down });
+pub fn log_done<L: Logs>(rt: &L, slot: usize, generation: u64, up: u64, down: u64)
+    ensures { L.logged rt.now level.Info (Some (done_message slot generation up down)) }
+{
+    let done = Done {
+        slot,
+        generation,
+        up,
+        down,
+    };
+    rt.message(Level::Info, &done);
 }
 
 /// Passes the `fail` message to the log, at level warn.
-pub fn log_fail(rt: &impl Log, slot: usize, generation: u64, fault: Fault) {
-    warn!(rt; target: "relayd", "{}", Failed { slot, generation, fault });
+pub fn log_fail<L: Logs>(rt: &L, slot: usize, generation: u64, fault: Fault)
+    ensures { L.logged rt.now level.Warn (Some (fail_message slot generation fault)) }
+{
+    let failed = Failed {
+        slot,
+        generation,
+        fault,
+    };
+    rt.message(Level::Warn, &failed);
 }
 
 /// Passes the `drop` message to the log, at level warn.
-pub fn log_drop(rt: &impl Log, cause: Cause) {
-    warn!(rt; target: "relayd", "{}", Dropped { cause });
+pub fn log_drop<L: Logs>(rt: &L, cause: Cause)
+    ensures { L.logged rt.now level.Warn (Some (drop_message cause)) }
+{
+    rt.message(Level::Warn, &Dropped { cause });
 }
 
 /// Passes the `drops` message to the log, at level warn.
-pub fn log_drops(rt: &impl Log, cause: Cause, more: u64) {
-    warn!(rt; target: "relayd", "{}", MoreDropped { cause, more });
+pub fn log_drops<L: Logs>(rt: &L, cause: Cause, more: u64)
+    ensures { L.logged rt.now level.Warn (Some (drops_message cause more)) }
+{
+    rt.message(Level::Warn, &MoreDropped { cause, more });
 }
 
 /// Passes the message that all slots are taken to the log, at level warn.
-pub fn log_all_taken(rt: &impl Log, slots: usize) {
-    warn!(rt; target: "relayd", "{}", AllTaken { slots });
+pub fn log_all_taken<L: Logs>(rt: &L, slots: usize)
+    ensures { L.logged rt.now level.Warn (Some (full_message slots)) }
+{
+    rt.message(Level::Warn, &AllTaken { slots });
 }
 
 /// Passes the `gone` message to the log, at the level of what it has of clients.
-pub fn log_gone<D: Display, E: Display>(rt: &impl Log, clients: ClientsAt, gone: Gone<'_, D, E>) {
-    log::log!(rt; target: "relayd", clients.level(), "{}", gone);
+pub fn log_gone<L: Logs, D: Display, E: Display>(rt: &L, clients: ClientsAt, gone: Gone<'_, D, E>)
+    ensures { let g = gone.entry in L.logged rt.now (client_level clients)
+        (gone_text (D.output g.from.now) (E.output g.cause.now) g.opened g.connected g.up g.down g.seconds) }
+{
+    rt.message(clients.level(), &gone);
 }
 
 /// Whether the log takes messages at that level.

@@ -1,9 +1,9 @@
 // What the log has of clients: a connection that has ended, and at which level.
-ghost use Rattle.std.specs.Prelude.{◌≡◌, Some};
-ghost use Rattle.std.specs.Fmt.{◌++?◌};
-ghost use Rattle.relay_log.specs.Messages.{gone_begins, gone_between, gone_counts, yes_or_no};
+ghost use Rattle.std.specs.Prelude.{◌≡◌, ◌-◌, Some};
+ghost use Rattle.relay_log.specs.Messages.{client_level, gone_begins, gone_counts, gone_text, yes_or_no};
 
 use log::Level;
+use relay_core::Pair;
 use std::fmt::{self, Display};
 use std::io;
 
@@ -18,7 +18,9 @@ pub enum ClientsAt {
 
 impl ClientsAt {
     /// The level.
-    pub fn level(self) -> Level {
+    pub fn level(self) -> Level
+        ensures { result ≡ client_level self }
+    {
         match self {
             ClientsAt::Debug => Level::Debug,
             ClientsAt::Info => Level::Info,
@@ -50,9 +52,38 @@ pub struct Gone<'a, D, E> {
     pub cause: &'a E,
 }
 
+impl<'a, D, E> Gone<'a, D, E> {
+    /// Of a connection that has ended by this second, and was opened in the other one.
+    pub fn ended(
+        pair: &Pair,
+        opened: u64,
+        second: u64,
+        from: &'a D,
+        connected: Option<bool>,
+        cause: &'a E,
+    ) -> Gone<'a, D, E>
+        ensures name { result.opened ≡ Some (pair.now.slot, pair.now.generation) }
+        ensures connected { result.connected ≡ connected }
+        ensures up { result.up ≡ pair.now.sent_up }
+        ensures down { result.down ≡ pair.now.sent_down }
+        ensures seconds { result.seconds ≡ second - opened }
+    {
+        let (up, down) = pair.counts();
+        Gone {
+            opened: Some((pair.slot(), pair.generation())),
+            from,
+            connected,
+            up,
+            down,
+            seconds: second.saturating_sub(opened),
+            cause,
+        }
+    }
+}
+
 impl<'a, D: Display, E: Display> Display for Gone<'a, D, E> {
-    ghost output = { λ gone. Some (gone_begins gone.opened) ++? D.output gone.from.now ++? Some
-        (gone_between gone.connected gone.up gone.down gone.seconds) ++? E.output gone.cause.now };
+    ghost output = { λ gone. gone_text (D.output gone.from.now) (E.output gone.cause.now) gone.opened gone.connected gone.up gone.down
+        gone.seconds };
 
     fn fmt<W: fmt::Write>(&self, f: &mut fmt::Formatter<W>) -> fmt::Result {
         let (begins, from, cause) = (Begins(self.opened), self.from, self.cause);

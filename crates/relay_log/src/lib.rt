@@ -15,22 +15,25 @@
 //! | `drops kind=memory more=12` | warn | this many more were closed so, which have no line of their own |
 //! | `slots: all 1024 are taken; further clients wait` | warn | a client waits for a slot |
 //!
-//! A message is a value that prints itself, so passing one to a log takes no memory.
+//! A message is a value that prints itself, so passing one to a log takes no memory. Which one a call passes, and at
+//! which level, its clause says of any log ([`Logs`]).
 #![tactic(auto)]
 
 mod calls;
 mod cause;
 mod faults;
+mod given;
 mod gone;
 mod messages;
 mod texts;
 
 pub use calls::{
-    log_all_taken, log_done, log_drop, log_drops, log_fail, log_gone, log_no_thread, log_open,
-    log_peer, logs_gone,
+    log_all_taken, log_done, log_drop, log_drops, log_end, log_fail, log_gone, log_no_thread,
+    log_open, log_peer, logs_gone,
 };
 pub use cause::Cause;
 pub use faults::ServerFault;
+pub use given::Logs;
 pub use gone::{ClientsAt, Gone, Known, Why};
 pub use messages::{AllTaken, Done, Dropped, Failed, MoreDropped, Opened, Peer};
 pub use texts::{done_text, drop_text, fail_text, open_text};
