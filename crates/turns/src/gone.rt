@@ -32,17 +32,15 @@ fn log_ended<F: Front, R: Log>(
     cause: Why,
     second: u64,
 ) {
-    let pair = visit.pair();
-    let (up, down) = pair.counts();
-    let gone = Gone {
-        opened: Some((pair.slot(), pair.generation())),
-        from: &Known(visit.peer()),
-        connected: connected(visit),
-        up,
-        down,
-        seconds: second.saturating_sub(visit.opened()),
-        cause: &cause,
-    };
+    let (from, opened) = (Known(visit.peer()), visit.opened());
+    let gone = Gone::ended(
+        visit.pair(),
+        opened,
+        second,
+        &from,
+        connected(visit),
+        &cause,
+    );
     relay_log::log_gone(rt, clients, gone);
 }
 

@@ -19,8 +19,8 @@ use dispatch::{Clock, Front, Gate, Own, Shared, Timing, give_slots, put_tickets}
 use engine::Turn;
 use log::Log;
 use ready::Ticket;
-use relay_core::{MAX_READ, Pair, Verdict};
-use relay_log::{ServerFault, log_done, log_fail};
+use relay_core::MAX_READ;
+use relay_log::{ServerFault, log_end};
 use std::sync::Wait;
 
 /// The outcome of a worker's turn.
@@ -311,18 +311,4 @@ fn wake_poller<F: Front>(shared: &Shared<F>, _own: &Own, ended: Ticket)
     ensures woken { F.woke shared.now.waker ended.slot }
 {
     F::wake(&shared.waker, ended.slot);
-}
-
-/// Logs what became of a connection.
-fn log_end<R: Log>(rt: &R, pair: &Pair) {
-    let (slot, generation) = (pair.slot(), pair.generation());
-    match pair.verdict() {
-        Verdict::Failed(fault) => log_fail(rt, slot, generation, fault),
-        Verdict::Done => {
-            let (up, down) = pair.counts();
-            log_done(rt, slot, generation, up, down);
-        }
-        // Only a connection that has ended is logged here.
-        Verdict::Live => {}
-    }
 }
