@@ -13,7 +13,7 @@ use Rattle.claims.specs.declared.answers.Posted.{Posted}
 use Rattle.claims.specs.declared.answers.Posted.TheVariants as posted
 use Rattle.claims.specs.Calls.{PostChange}
 use Rattle.claims.specs.Views.{minted_by}
-use Rattle.claims.specs.Seats.{SeatState, TableId, HoldsNothing, Adds, account_at}
+use Rattle.claims.specs.Seats.{SeatState, TableId, HoldsNothing, Adds}
 use Rattle.claims.proofs.Seats.{adds_both}
 use Rattle.dispatch.specs.Posts.{HoldsOnly}
 use Rattle.dispatch.proofs.Holding.{holds_still, woke_behind_post}
@@ -203,16 +203,6 @@ took_none a = record {
   capacity = refl;
   gave = refl;
   slots = λ slot. omega arith;
-}
-
-pub took_both : (a b c : Own) → OnlyTook a b → OnlyTook b c → OnlyTook a c
-took_both a b c one two = record {
-  seat = two.seat ∙ one.seat;
-  ready = two.ready ∙ one.ready;
-  tickets = two.tickets ∙ one.tickets;
-  capacity = two.capacity ∙ one.capacity;
-  gave = two.gave ∙ one.gave;
-  slots = λ slot. (let first = one.slots slot in let second = two.slots slot in omega arith);
 }
 
 -- where there are some, there is a first one
@@ -572,18 +562,6 @@ module _ (p r : PollerState) (t : Ticket) (counted : r ≡ record p { table = sl
       ready = ready;
       gave = ap (λ (f : EndState ℕ). f.history.put) free;
     }
-
--- the slot was released, whatever that answered
-pub let_go_awake : (t : Ticket) (a b : Own) → Adds t.slot (exchange.Release true ∷ []) a.seat b.seat → b.hand ≡ record a.hand { tickets = a.hand.tickets ++ t ∷ [] } → LetGo t a b
-let_go_awake t a b adds hand = record { woke = true; quiet = λ is. absurd (false≢true (sym is)); seat = adds; hand = hand }
-
-pub let_go_quiet : (t : Ticket) (a b : Own) → Adds t.slot (exchange.Release false ∷ []) a.seat b.seat → (account_at a.seat t.slot).known ≡ 0 → b.hand ≡ a.hand → LetGo t a b
-let_go_quiet t a b adds none hand = record {
-  woke = false;
-  quiet = λ is. none;
-  seat = adds;
-  hand = hand ∙ ap (λ (ts : List Ticket). record a.hand { tickets = ts }) (sym (append-nil a.hand.tickets));
-}
 
 -- the note of an opening was posted by the slot's holder, who then let it go
 pub started_by : (t : Ticket) (noted : ℕ) (r : Posted) (a : Own) (first second : SeatState) (b : Own) → HoldsOnly t.slot a.seat

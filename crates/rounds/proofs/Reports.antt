@@ -201,11 +201,6 @@ module _ (p : PollerState) (limit : ℕ) (due : Bool) (test : due ≡ is_due lim
     pub sweep_is : sweep_of p r ≡ all_opened p.table
     sweep_is = a_sweep p r limit (subst (λ (n : ℕ). is_past n limit p.swept ≡ true) (sym swept_is_second) late)
 
--- a sweep or none, and then the second was read
-pub second_read : (p q r : PollerState) (second : ℕ) → q ≡ record p { swept = q.swept } → r ≡ record q { second = second } → r ≡ record p { second = r.second; swept = r.swept }
-second_read p q r second swept read = subst (λ (s : PollerState). s ≡ record p { second = s.second; swept = s.swept }) (sym read)
-    (subst (λ (s : PollerState). record s { second = second } ≡ record p { second = second; swept = s.swept }) (sym swept) refl)
-
 -- the listener was not reported
 pub flag_still : (told flag : Bool) (batch : List ℕ) → (IsTrue told ↔ Contains batch 0) → told ≡ false → IsTrue flag ↔ (IsTrue flag ⊎ Contains batch 0)
 flag_still told flag batch is not = (λ up. inl up, by_either) where

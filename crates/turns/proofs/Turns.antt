@@ -337,15 +337,6 @@ pub record SharedSoFar (all : List Ticket) (marks : List ℕ) (queue : EndState 
   pub left : length rest + done ≡ length all
   pub whole : (last : List Ticket) (left : List ℕ) (end : EndState Ticket) → AreShared stayed heavy rest now last left end → AreShared 0 marks all queue (kept ++ last) left end
 
-pub shared_none : (all : List Ticket) (marks : List ℕ) (queue : EndState Ticket) → SharedSoFar all marks queue 0 0 all marks queue
-shared_none all marks queue = record {
-  rest = all;
-  kept = [];
-  is = sym (append-nil all);
-  left = omega arith;
-  whole = λ last left end given. given;
-}
-
 -- what became of the ticket that was taken out of a hand, of which this is left
 pub record OneMoved (stayed : ℕ) (heavy : List ℕ) (t : Ticket) (old : Own) (left : HandState) (then : ℕ) (new : Own) : Type 0 where
   pub behind : List Ticket
