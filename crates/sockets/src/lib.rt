@@ -3,7 +3,8 @@
 //! [`Front::poll`](dispatch::Front::poll).
 //!
 //! - [`Sockets`] is the front of one poller, and [`Forwarding`] says where it connects clients, and whether it tells their
-//!   addresses. All fronts have one listening socket ([`Bound`]), and [`Wakers`] wakes the poller of a slot.
+//!   addresses. All fronts have one listening socket ([`Bound`]), and each leaves clients to those that have fewer
+//!   (`loads`). [`Wakers`] wakes the poller of a slot.
 //! - [`SocketWire`] is one end of a connection: a socket, and what is known of it. After a read that would block it reads
 //!   again only once its front has reported something to read (`readiness`).
 //!

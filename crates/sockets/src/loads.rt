@@ -26,14 +26,13 @@ pub(crate) struct Loads {
 impl Loads {
     /// For each part of the slots a poller that listens and has no client.
     pub(crate) fn new(alloc: Global, split: Split) -> Result<Loads, AllocError> {
-        let pollers = split.pollers();
-        let mut each = Vec::with_capacity(alloc, pollers)?;
-        for poller in 0..pollers {
+        let mut each = Vec::with_capacity(alloc, split.pollers())?;
+        for poller in 0..split.pollers() {
             let load = Load {
                 most: split.part(poller).slots,
                 listens: AtomicBool::new(true),
             };
-            each.push_reserved(Arc::new(alloc, load)?);
+            each.push(Arc::new(alloc, load)?)?;
         }
         Ok(Loads { each })
     }
