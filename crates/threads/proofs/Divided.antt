@@ -163,7 +163,7 @@ none_all {X = X} P made none = λ k d less. let e : length made ≡ 0 = ap (λ (
 
 -- a worker exchanges two of its ends, uses one, and exchanges them again
 module _ {X : Type 0} where
-  set_at : (xs : List X) (n : ℕ) (y : X) → n < length xs → slice_get (slice_set xs n y) n ≡ Some y
+  pub set_at : (xs : List X) (n : ℕ) (y : X) → n < length xs → slice_get (slice_set xs n y) n ≡ Some y
   set_at xs n y within =
       let long = length-set xs n y in
       slice_get-get_or (slice_set xs n y) n y (omega arith) ∙ ap (λ (x : X). Some x) (get_or-set_same xs n y y within)

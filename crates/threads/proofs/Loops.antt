@@ -1,10 +1,13 @@
 -- What the calls of a thread's loop do with the tickets that it is obliged to put.
-use Rattle.std.proofs.Common.{◌≡◌, ◌≢◌, ℕ, zero, suc, ◌+◌, ◌<◌, ◌≤◌, Bool, true, false, cond, List, [], ◌∷◌, ◌++◌, length, length-append, drop, sym, ◌∙◌, refl, subst, ap, arith, inl, inr, append_assoc}
-use Rattle.std.specs.List.{All}
+use Rattle.std.proofs.Common.{◌≡◌, ◌≢◌, ℕ, zero, suc, ◌+◌, ◌-◌, ◌<◌, ◌≤◌, Bool, true, false, cond, List, [], ◌∷◌, ◌++◌, length, length-append, drop, sym, ◌∙◌, refl, subst, ap, arith, inl, inr, append_assoc}
+use Rattle.std.specs.List.{All, slice_set, sum_by}
 use Rattle.std.proofs.lemmas.List.Elements.{All-append}
 use Rattle.std.specs.Prelude.{◌==◌, ◌&&◌, Option, Some, None, Result, Ok, Err, IfOk, IfSome, OnOk, slice_get, map, nat_lt, if◌then◌else◌, OnSome, IfErr, ◌⊎◌}
-use Rattle.std.proofs.lemmas.List.{map-append, append-nil}
-use Rattle.std.proofs.lemmas.List.Sums.{sum_by-append}
+use Rattle.std.proofs.lemmas.List.{map-append, append-nil, set-set}
+use Rattle.std.proofs.lemmas.Option.{get_or_from_slice_get, slice_get_within}
+use Rattle.std.proofs.Math.ListN.{get_or}
+use Rattle.std.proofs.Math.Seq.{map-set_same}
+use Rattle.std.proofs.lemmas.List.Sums.{sum_by-append, sum_by-cons, sum_by-set}
 use Rattle.std.proofs.lemmas.Bool.{ltb-true, ltb-false, cases_lt}
 use mathlib.Core.Logic.{dite}
 use native.Mathlib.Decide.{ℕ_discrete}
@@ -21,6 +24,7 @@ use Rattle.turns.specs.declared.worker.Worked.{Worked}
 use Rattle.turns.specs.declared.worker.Worked.TheVariants as worked
 use Rattle.dispatch.specs.Hands.{HandState}
 use Rattle.dispatch.specs.Outgoing.{outgoing, Inserted, tickets_out, slots_out, without_first, TookNothing}
+use Rattle.threads.proofs.Divided.{End, set_at}
 use Rattle.dispatch.specs.Heavy.{looked_at}
 use Rattle.rounds.specs.Pollers.{PollerState}
 use Rattle.rounds.specs.Rounds.{RoundDone, RoundRefused, EndedEarly, ListenerKept, ListensToOpen}
@@ -35,7 +39,7 @@ use Rattle.threads.specs.declared.ending.Ended.{Ended}
 use Rattle.threads.specs.declared.ending.Why.{Why}
 use Rattle.threads.specs.declared.ending.Why.TheVariants.{FaultFound, QueueClosed, Met}
 use Rattle.threads.specs.Endings.{faults_by}
-use Rattle.threads.specs.Loops.{times_of, times_in, freed_by, freed, Run, tickets_of, acts_of, fault_in, faults_of, TurnsMade, OneRan, tickets_in, Took, WorkerMayEnd, WorkerEnded, WorkerRan, OwnTurnsRan, SharedAndRan, TurnsCut, WornEnd, NoTicketTaken, Asked, RoundMade, RoundCut, StepMade, StepCut, StepsMade, LoopMade, IsPollerAct, PollerRan, PollerEnded, opened_by, openings_of}
+use Rattle.threads.specs.Loops.{times_of, times_in, freed_by, freed, Run, tickets_of, acts_of, fault_in, faults_of, TurnsMade, takes_of, times_by, SlotsGiven, OneRan, tickets_in, Took, WorkerMayEnd, WorkerEnded, WorkerRan, OwnTurnsRan, SharedAndRan, TurnsCut, WornEnd, NoTicketTaken, Asked, RoundMade, RoundCut, StepMade, StepCut, StepsMade, LoopMade, RunMade, IsPollerAct, PollerRan, PollerEnded, opened_by, openings_of}
 
 -- how often a ticket stands in lists one after the other
 times-append : (u : Ticket) (xs ys : List Ticket) → times_of u (xs ++ ys) ≡ times_of u xs + times_of u ys
@@ -94,6 +98,124 @@ slots_one t (Ok worked.Again) a b same es s = slots_same s a b same
 slots_one t (Ok worked.Quiet) a b same es s = slots_same s a b same
 slots_one t (Err fault) a b same es s = slots_same s a b same
 
+-- A worker's ends of the queues of free slots
+
+-- the end in use took nothing, and these slots are free now and given or in hand
+abbrev Used : List ℕ → Own → Own → Type 0
+Used fs b d = (d.free.history.taken ≡ b.free.history.taken) × ((s : ℕ) → times_in s (slots_out d) ≡ times_in s (slots_out b) + times_in s fs)
+
+-- it is the end that was in use before
+gave_own : (fs : List ℕ) (a b d e : Own) (xs zs : List End) → b.free ≡ a.free → b.hand ≡ a.hand → Used fs b d → e.free ≡ d.free → e.hand ≡ d.hand → zs ≡ xs
+    → SlotsGiven fs a e xs zs
+gave_own fs a b d e xs zs is hand used back hand_then others = record {
+  took = ap (λ (end : End). end.history.taken ∷ takes_of zs) back ∙ ap (λ (takes : List (ℕ × ℕ)). takes ∷ takes_of zs) used.0
+      ∙ ap (λ (end : End). end.history.taken ∷ takes_of zs) is ∙ ap (λ (ends : List End). a.free.history.taken ∷ takes_of ends) others;
+  slots = λ s. (
+      let law = used.1 s in
+      let out = slots-append s (map (λ (put : ℕ × ℕ). put.1) d.free.history.put) d.hand.slots in
+      let was = slots-append s (map (λ (put : ℕ × ℕ). put.1) b.free.history.put) b.hand.slots in
+      let in_use : times_by s b.free ≡ times_by s a.free = ap (λ (end : End). times_by s end) is in
+      let held : times_in s b.hand.slots ≡ times_in s a.hand.slots = ap (λ (h : HandState). times_in s h.slots) hand in
+      let kept : times_in s e.hand.slots ≡ times_in s d.hand.slots = ap (λ (h : HandState). times_in s h.slots) hand_then in
+      let own : times_by s e.free ≡ times_by s d.free = ap (λ (end : End). times_by s end) back in
+      let all : sum_by (λ (end : End). times_by s end) zs ≡ sum_by (λ (end : End). times_by s end) xs = ap (λ (ends : List End). sum_by (λ (end : End). times_by s end) ends) others in
+      let one = sum_by-cons (λ (end : End). times_by s end) e.free zs in
+      let two = sum_by-cons (λ (end : End). times_by s end) a.free xs in
+      omega arith);
+}
+
+-- it was exchanged with another one, and exchanged again
+gave_other : (fs : List ℕ) (n : ℕ) (o : End) (a b d e : Own) (xs zs : List End) → slice_get xs n ≡ Some o → b.free ≡ o → b.hand ≡ a.hand → Used fs b d
+    → e.free ≡ a.free → e.hand ≡ d.hand → zs ≡ slice_set (slice_set xs n a.free) n d.free → SlotsGiven fs a e xs zs
+gave_other fs n o a b d e xs zs there is hand used back hand_then others =
+    let got : get_or xs n o ≡ o = get_or_from_slice_get xs n o o there in
+    let once : zs ≡ slice_set xs n d.free = others ∙ set-set xs n a.free d.free in
+    record {
+      took = ap (λ (end : End). end.history.taken ∷ takes_of zs) back ∙ ap (λ (takes : List (List (ℕ × ℕ))). a.free.history.taken ∷ takes) (ap (λ (ends : List End). takes_of ends) once
+          ∙ map-set_same (λ (end : End). end.history.taken) xs n d.free o (used.0 ∙ ap (λ (end : End). end.history.taken) (is ∙ sym got)));
+      slots = λ s. (
+          let law = used.1 s in
+          let out = slots-append s (map (λ (put : ℕ × ℕ). put.1) d.free.history.put) d.hand.slots in
+          let was = slots-append s (map (λ (put : ℕ × ℕ). put.1) b.free.history.put) b.hand.slots in
+          let in_use : times_by s b.free ≡ times_by s o = ap (λ (end : End). times_by s end) is in
+          let held : times_in s b.hand.slots ≡ times_in s a.hand.slots = ap (λ (h : HandState). times_in s h.slots) hand in
+          let kept : times_in s e.hand.slots ≡ times_in s d.hand.slots = ap (λ (h : HandState). times_in s h.slots) hand_then in
+          let own : times_by s e.free ≡ times_by s a.free = ap (λ (end : End). times_by s end) back in
+          let all : sum_by (λ (end : End). times_by s end) zs ≡ sum_by (λ (end : End). times_by s end) (slice_set xs n d.free) = ap (λ (ends : List End). sum_by (λ (end : End). times_by s end) ends) once in
+          let sum = sum_by-set (λ (end : End). times_by s end) xs n d.free o (slice_get_within xs n o there) in
+          let old : times_by s (get_or xs n o) ≡ times_by s o = ap (λ (end : End). times_by s end) got in
+          let one = sum_by-cons (λ (end : End). times_by s end) e.free zs in
+          let two = sum_by-cons (λ (end : End). times_by s end) a.free xs in
+          omega arith);
+    }
+
+-- what an exchange of ends does
+pub record Changes (p : ℕ) (a b : Own) (xs ys : List End) : Type 0 where
+  pub hand : b.hand ≡ a.hand
+  pub first : p ≡ 0 → (b.free ≡ a.free) × (ys ≡ xs)
+  pub other : p ≢ 0 → IfSome (slice_get xs (p - 1)) (λ o. (b.free ≡ o) × (ys ≡ slice_set xs (p - 1) a.free))
+  pub none : slice_get xs (p - 1) ≡ None → (b.free ≡ a.free) × (ys ≡ xs)
+
+gave_by : (fs : List ℕ) (p : ℕ) (a b d e : Own) (xs ys us zs : List End) → Changes p a b xs ys → Used fs b d → us ≡ ys → Changes p d e us zs
+    → (got : Option End) → slice_get xs (p - 1) ≡ got → p ≢ 0 → SlotsGiven fs a e xs zs
+gave_by fs p a b d e xs ys us zs one used same two None is some =
+    let was = one.none is in
+    let next = two.none (ap (λ (ends : List End). slice_get ends (p - 1)) (same ∙ was.1) ∙ is) in
+    gave_own fs a b d e xs zs was.0 one.hand used next.0 two.hand (next.1 ∙ same ∙ was.1)
+gave_by fs p a b d e xs ys us zs one used same two (Some o) is some =
+    let was = subst (λ (got : Option End). IfSome got (λ o. (b.free ≡ o) × (ys ≡ slice_set xs (p - 1) a.free))) is (one.other some) in
+    let there : slice_get us (p - 1) ≡ Some a.free = ap (λ (ends : List End). slice_get ends (p - 1)) (same ∙ was.1)
+    ∙ set_at xs (p - 1) a.free (slice_get_within xs (p - 1) o is) in
+    let next = subst (λ (got : Option End). IfSome got (λ o. (e.free ≡ o) × (zs ≡ slice_set us (p - 1) d.free))) there (two.other some) in
+    gave_other fs (p - 1) o a b d e xs zs is was.0 one.hand used next.0 two.hand
+    (next.1 ∙ ap (λ (ends : List End). slice_set ends (p - 1) d.free) (same ∙ was.1))
+
+-- a worker exchanges two of its ends, uses one, and exchanges them again
+pub gave_turn : (t : Ticket) (answer : Result Worked ServerFault) (p : ℕ) (a b c d e : Own) (xs ys us zs : List End) → Changes p a b xs ys
+    → c.free.history.taken ≡ b.free.history.taken → SlotsKept t answer b c → d.free.history.taken ≡ c.free.history.taken → slots_out d ≡ slots_out c
+    → us ≡ ys → Changes p d e us zs → SlotsGiven (freed_by t answer) a e xs zs
+gave_turn t answer p a b c d e xs ys us zs one took kept took_then out same two =
+    let used : Used (freed_by t answer) b d = (
+      took_then ∙ took,
+      λ s. (
+          let turn = slots_one t answer b c kept [] s in
+          let all = ap (λ (fs : List ℕ). times_in s fs) (append-nil (freed_by t answer)) in
+          let given : times_in s (slots_out d) ≡ times_in s (slots_out c) = ap (λ (slots : List ℕ). times_in s slots) out in
+          omega arith),
+    ) in
+    dite (ℕ_discrete p 0)
+    (λ first. (
+    let was = one.first first in
+    let next = two.first first in
+    gave_own (freed_by t answer) a b d e xs zs was.0 one.hand used next.0 two.hand (next.1 ∙ same ∙ was.1)))
+    (λ other. gave_by (freed_by t answer) p a b d e xs ys us zs one used same two (slice_get xs (p - 1)) refl other)
+
+-- where nothing is free that was not
+gave_none : (a b : Own) (xs ys : List End) → b.free.history.taken ≡ a.free.history.taken → slots_out b ≡ slots_out a → ys ≡ xs → SlotsGiven [] a b xs ys
+gave_none a b xs ys took out others =
+    gave_own [] a a b b xs ys refl refl (took, λ s. (let same : times_in s (slots_out b) ≡ times_in s (slots_out a) = ap (λ (slots : List ℕ). times_in s slots) out in omega arith)) refl refl others
+
+-- one after the other
+gave_both : (ran more : List Run) (a b c : Own) (xs ys zs : List End) → SlotsGiven (freed ran) a b xs ys → SlotsGiven (freed more) b c ys zs
+    → SlotsGiven (freed (ran ++ more)) a c xs zs
+gave_both ran more a b c xs ys zs one two = record {
+  took = two.took ∙ one.took;
+  slots = λ s. (let first = one.slots s in let second = two.slots s in let both = freed-append s ran more in omega arith);
+}
+
+-- a ticket was taken before
+gave_after : (fs : List ℕ) (a b c : Own) (xs ys : List End) → b.free ≡ a.free → b.hand ≡ a.hand → SlotsGiven fs b c xs ys → SlotsGiven fs a c xs ys
+gave_after fs a b c xs ys free hand gave = record {
+  took = gave.took ∙ ap (λ (end : End). end.history.taken ∷ takes_of xs) free;
+  slots = λ s. (
+      let law = gave.slots s in
+      let held : times_in s b.hand.slots ≡ times_in s a.hand.slots = ap (λ (h : HandState). times_in s h.slots) hand in
+      let own : times_by s b.free ≡ times_by s a.free = ap (λ (end : End). times_by s end) free in
+      let one = sum_by-cons (λ (end : End). times_by s end) b.free xs in
+      let two = sum_by-cons (λ (end : End). times_by s end) a.free xs in
+      omega arith);
+}
+
 -- Turns, one after the other
 
 faults-append : (xs ys : List Run) → faults_of (xs ++ ys) ≡ faults_of xs ++ faults_of ys
@@ -125,30 +247,28 @@ tickets_one : (t : Ticket) (minted : ℕ) (old new : Own) → TicketsKept t mint
 tickets_one t zero old new same u = let out : times_of u (tickets_out new) ≡ times_of u (tickets_out old) = ap (λ (ts : List Ticket). times_of u ts) same in omega arith
 tickets_one t (suc n) old new put u = let more = times_inserted u t (tickets_out old) (tickets_out new) put.tickets in omega arith
 
-pub one_ran : (words : ℕ) (t : Ticket) (answer : Result Worked ServerFault) (old new : Own) → old.seat.table.words ≡ words → TurnMade words t answer old new
-    → OneRan t answer old new
-one_ran words t answer old new same made = record {
-  exchanges = made.exchanges;
-  due = made_by (minted_by made.exchanges) t;
-  turns = record {
-    each = all_one (λ (run : Run). IsTurnOf old.seat.table.words run.ticket.slot run.answer run.exchanges) (record { ticket = t; answer = answer; exchanges = made.exchanges })
-        (subst (λ (n : ℕ). IsTurnOf n t.slot answer made.exchanges) (sym same) made.are);
-    made = acts_one (record { ticket = t; exchanges = made.exchanges }) old.seat new.seat made.done.seat;
-    due_are = sym (append-nil (made_by (minted_by made.exchanges) t));
-  };
-  tickets = tickets_one t (minted_by made.exchanges) old new made.done.tickets;
+one_turn : (words : ℕ) (t : Ticket) (answer : Result Worked ServerFault) (old new : Own) → old.seat.table.words ≡ words → (made : TurnMade words t answer old new)
+    → TurnsMade (record { ticket = t; answer = answer; exchanges = made.exchanges } ∷ []) (made_by (minted_by made.exchanges) t) old.seat new.seat
+one_turn words t answer old new same made = record {
+  each = all_one (λ (run : Run). IsTurnOf old.seat.table.words run.ticket.slot run.answer run.exchanges) (record { ticket = t; answer = answer; exchanges = made.exchanges })
+      (subst (λ (n : ℕ). IsTurnOf n t.slot answer made.exchanges) (sym same) made.are);
+  made = acts_one (record { ticket = t; exchanges = made.exchanges }) old.seat new.seat made.done.seat;
+  due_are = sym (append-nil (made_by (minted_by made.exchanges) t));
 }
 
--- between two states whose seats are these, and where the same was to be put
-pub one_between : (t : Ticket) (answer : Result Worked ServerFault) (a b c d : Own) → b.seat ≡ a.seat → tickets_out b ≡ tickets_out a → OneRan t answer b c
-    → d.seat ≡ c.seat → tickets_out d ≡ tickets_out c → OneRan t answer a d
-one_between t answer a b c d seat out ran seat_then out_then = record {
-  exchanges = ran.exchanges;
-  due = ran.due;
-  turns = subst (λ (s : SeatState). TurnsMade (record { ticket = t; answer = answer; exchanges = ran.exchanges } ∷ []) ran.due s d.seat) seat
-      (subst (λ (s : SeatState). TurnsMade (record { ticket = t; answer = answer; exchanges = ran.exchanges } ∷ []) ran.due b.seat s) (sym seat_then) ran.turns);
+-- a turn, between two states whose seats are these, and where the same was to be put
+pub one_ran : (words : ℕ) (t : Ticket) (answer : Result Worked ServerFault) (a b c d : Own) (xs ys : List End) → b.seat.table.words ≡ words → b.seat ≡ a.seat
+    → tickets_out b ≡ tickets_out a → TurnMade words t answer b c → d.seat ≡ c.seat → tickets_out d ≡ tickets_out c → SlotsGiven (freed_by t answer) a d xs ys
+    → OneRan t answer a d xs ys
+one_ran words t answer a b c d xs ys same seat out made seat_then out_then gave = record {
+  exchanges = made.exchanges;
+  due = made_by (minted_by made.exchanges) t;
+  slots = gave;
+  turns = subst (λ (s : SeatState). TurnsMade (record { ticket = t; answer = answer; exchanges = made.exchanges } ∷ []) (made_by (minted_by made.exchanges) t) s d.seat) seat
+      (subst (λ (s : SeatState). TurnsMade (record { ticket = t; answer = answer; exchanges = made.exchanges } ∷ []) (made_by (minted_by made.exchanges) t) b.seat s) (sym seat_then)
+      (one_turn words t answer b c same made));
   tickets = λ u. (
-      let turn = ran.tickets u in
+      let turn = tickets_one t (minted_by made.exchanges) b c made.done.tickets u in
       let before : times_of u (tickets_out b) ≡ times_of u (tickets_out a) = ap (λ (ts : List Ticket). times_of u ts) out in
       let after : times_of u (tickets_out d) ≡ times_of u (tickets_out c) = ap (λ (ts : List Ticket). times_of u ts) out_then in
       omega arith);
@@ -165,8 +285,10 @@ out_same a b ready hand = ap (λ (q : EndState Ticket). outgoing q.history b.han
 -- A worker
 
 -- nothing was taken and nothing was run, and what was to be put is put or in hand
-pub worker_none : (a b : Own) → b.seat ≡ a.seat → tickets_out b ≡ tickets_out a → b.ready.history.taken ≡ a.ready.history.taken → WorkerRan [] [] a b
-worker_none a b seat out taken = record {
+pub worker_none : (a b : Own) (xs ys : List End) → b.seat ≡ a.seat → tickets_out b ≡ tickets_out a → b.ready.history.taken ≡ a.ready.history.taken
+    → b.free.history.taken ≡ a.free.history.taken → slots_out b ≡ slots_out a → ys ≡ xs → WorkerRan [] [] a b xs ys
+worker_none a b xs ys seat out taken took given others = record {
+  slots = gave_none a b xs ys took given others;
   ran = [];
   due = [];
   turns = subst (λ (s : SeatState). TurnsMade [] [] a.seat s) (sym seat) (turns_none a.seat);
@@ -175,8 +297,10 @@ worker_none a b seat out taken = record {
   tickets = λ u. (let same : times_of u (tickets_out b) ≡ times_of u (tickets_out a) = ap (λ (ts : List Ticket). times_of u ts) out in omega arith);
 }
 
-pub worker_both : (left : List Ticket) (faults : List ServerFault) (a b c : Own) → WorkerRan [] [] a b → WorkerRan left faults b c → WorkerRan left faults a c
-worker_both left faults a b c one two = record {
+pub worker_both : (left : List Ticket) (faults : List ServerFault) (a b c : Own) (xs ys zs : List End) → WorkerRan [] [] a b xs ys → WorkerRan left faults b c ys zs
+    → WorkerRan left faults a c xs zs
+worker_both left faults a b c xs ys zs one two = record {
+  slots = gave_both one.ran two.ran a b c xs ys zs one.slots two.slots;
   ran = one.ran ++ two.ran;
   due = one.due ++ two.due;
   turns = turns_both one.ran two.ran one.due two.due a.seat b.seat c.seat one.turns two.turns;
@@ -197,9 +321,11 @@ took_out : (t : Ticket) (a b : Own) → Took t a b → tickets_out b ≡ tickets
 took_out t a b took = ap (λ (h : History Ticket). outgoing h b.hand.tickets) took.took.taken ∙ ap (λ (h : HandState). outgoing a.ready.history h.tickets) took.hand
 
 -- a ticket was taken, and its turn was run
-pub worker_one : (t : Ticket) (answer : Result Worked ServerFault) (a b c : Own) → Took t a b
-    → OneRan t answer b c → c.ready.history.taken ≡ b.ready.history.taken → WorkerRan [] (fault_in answer) a c
-worker_one t answer a b c took ran taken = record {
+pub worker_one : (t : Ticket) (answer : Result Worked ServerFault) (a b c : Own) (xs ys : List End) → Took t a b
+    → OneRan t answer b c xs ys → c.ready.history.taken ≡ b.ready.history.taken → WorkerRan [] (fault_in answer) a c xs ys
+worker_one t answer a b c xs ys took ran taken = record {
+  slots = gave_after (freed_by t answer ++ []) a b c xs ys took.free took.hand
+      (subst (λ (fs : List ℕ). SlotsGiven fs b c xs ys) (sym (append-nil (freed_by t answer))) ran.slots);
   ran = record { ticket = t; answer = answer; exchanges = ran.exchanges } ∷ [];
   due = ran.due;
   turns = subst (λ (s : SeatState). TurnsMade (record { ticket = t; answer = answer; exchanges = ran.exchanges } ∷ []) ran.due s c.seat) took.seat ran.turns;
@@ -212,9 +338,9 @@ worker_one t answer a b c took ran taken = record {
 }
 
 -- a look found a fault once a ticket was taken, which stays in hand
-pub worker_kept : (t : Ticket) (why : Why) (a b c : Own) → why ≡ FaultFound → Took t a b → c.seat ≡ b.seat → c.ready ≡ b.ready
-    → c.hand ≡ record b.hand { tickets = b.hand.tickets ++ t ∷ [] } → WorkerEnded why a c
-worker_kept t why a b c is took seat ready hand = record {
+pub worker_kept : (t : Ticket) (why : Why) (a b c : Own) (xs : List End) → why ≡ FaultFound → Took t a b → c.seat ≡ b.seat → c.ready ≡ b.ready → c.free ≡ b.free
+    → c.hand ≡ record b.hand { tickets = b.hand.tickets ++ t ∷ [] } → WorkerEnded why a c xs xs
+worker_kept t why a b c xs is took seat ready free hand = record {
   left = t ∷ [];
   few = inr (is, refl);
   made = record {
@@ -222,6 +348,9 @@ worker_kept t why a b c is took seat ready hand = record {
     due = [];
     turns = subst (λ (s : SeatState). TurnsMade [] [] a.seat s) (sym (seat ∙ took.seat)) (turns_none a.seat);
     met = sym (ap faults_by is);
+    slots = gave_none a c xs xs (ap (λ (end : End). end.history.taken) (free ∙ took.free))
+        (ap (λ (end : End). outgoing end.history c.hand.slots) (free ∙ took.free) ∙ ap (λ (h : HandState). outgoing a.free.history h.slots) hand
+        ∙ ap (λ (h : HandState). outgoing a.free.history h.slots) took.hand) refl;
     taken = ap (λ (q : EndState Ticket). map (λ (take : ℕ × Ticket). take.1) q.history.taken) ready ∙ taken_one t a b took;
     tickets = λ u. (
         let out : tickets_out c ≡ tickets_out b ++ t ∷ [] =
@@ -236,50 +365,51 @@ worker_kept t why a b c is took seat ready hand = record {
 }
 
 -- no ticket was left
-worker_ends : (why : Why) (a b : Own) → WorkerRan [] (faults_by why) a b → WorkerMayEnd why b → WorkerEnded why a b
-worker_ends why a b made reason = record { left = []; few = inl refl; made = made; reason = reason }
+worker_ends : (why : Why) (a b : Own) (xs ys : List End) → WorkerRan [] (faults_by why) a b xs ys → WorkerMayEnd why b → WorkerEnded why a b xs ys
+worker_ends why a b xs ys made reason = record { left = []; few = inl refl; made = made; reason = reason }
 
-worker_did_nothing : (why : Why) (a b : Own) → faults_by why ≡ [] → b ≡ a → WorkerMayEnd why b → WorkerEnded why a b
-worker_did_nothing why a b none same reason = worker_ends why a b
-    (subst (λ (fs : List ServerFault). WorkerRan [] fs a b) (sym none)
-    (worker_none a b (ap (λ (o : Own). o.seat) same) (ap (λ (o : Own). tickets_out o) same) (ap (λ (o : Own). o.ready.history.taken) same))) reason
+worker_did_nothing : (why : Why) (a b : Own) (xs : List End) → faults_by why ≡ [] → b ≡ a → WorkerMayEnd why b → WorkerEnded why a b xs xs
+worker_did_nothing why a b xs none same reason = worker_ends why a b xs xs
+    (subst (λ (fs : List ServerFault). WorkerRan [] fs a b xs xs) (sym none)
+    (worker_none a b xs xs (ap (λ (o : Own). o.seat) same) (ap (λ (o : Own). tickets_out o) same) (ap (λ (o : Own). o.ready.history.taken) same)
+    (ap (λ (o : Own). o.free.history.taken) same) (ap (λ (o : Own). slots_out o) same) refl)) reason
 
 -- a look found a fault before a ticket was taken
-pub worker_found : (why : Why) (a : Own) → why ≡ FaultFound → WorkerEnded why a a
-worker_found why a is = worker_did_nothing why a a (ap faults_by is) refl (subst (λ (w : Why). WorkerMayEnd w a) (sym is) tt)
+pub worker_found : (why : Why) (a : Own) (xs : List End) → why ≡ FaultFound → WorkerEnded why a a xs xs
+worker_found why a xs is = worker_did_nothing why a a xs (ap faults_by is) refl (subst (λ (w : Why). WorkerMayEnd w a) (sym is) tt)
 
 -- the queue of tickets was found closed
-pub worker_closed : (why : Why) (a b : Own) → why ≡ QueueClosed → b ≡ a → HeldOnce 0 b.ready.history → WorkerEnded why a b
-worker_closed why a b is same empty = worker_did_nothing why a b (ap faults_by is) same (subst (λ (w : Why). WorkerMayEnd w b) (sym is) empty)
+pub worker_closed : (why : Why) (a b : Own) (xs : List End) → why ≡ QueueClosed → b ≡ a → HeldOnce 0 b.ready.history → WorkerEnded why a b xs xs
+worker_closed why a b xs is same empty = worker_did_nothing why a b xs (ap faults_by is) same (subst (λ (w : Why). WorkerMayEnd w b) (sym is) empty)
 
 -- a turn was the last
-pub worker_worn : (t : Ticket) (why : Why) (a b c : Own) → Took t a b → OneRan t (Err Worn) b c → c.ready.history.taken ≡ b.ready.history.taken → WornEnd why c
-    → WorkerEnded why a c
-worker_worn t why a b c took ran taken worn = worker_ends why a c
-    (subst (λ (fs : List ServerFault). WorkerRan [] fs a c) (sym (ap faults_by worn.0)) (worker_one t (Err Worn) a b c took ran taken))
+pub worker_worn : (t : Ticket) (why : Why) (a b c : Own) (xs ys : List End) → Took t a b → OneRan t (Err Worn) b c xs ys → c.ready.history.taken ≡ b.ready.history.taken
+    → WornEnd why c → WorkerEnded why a c xs ys
+worker_worn t why a b c xs ys took ran taken worn = worker_ends why a c xs ys
+    (subst (λ (fs : List ServerFault). WorkerRan [] fs a c xs ys) (sym (ap faults_by worn.0)) (worker_one t (Err Worn) a b c xs ys took ran taken))
     (subst (λ (w : Why). WorkerMayEnd w c) (sym worn.0) (refl, worn.1))
 
-pub worker_then_ends : (why : Why) (a b c : Own) → WorkerRan [] [] a b → WorkerEnded why b c → WorkerEnded why a c
-worker_then_ends why a b c one two = record {
+pub worker_then_ends : (why : Why) (a b c : Own) (xs ys zs : List End) → WorkerRan [] [] a b xs ys → WorkerEnded why b c ys zs → WorkerEnded why a c xs zs
+worker_then_ends why a b c xs ys zs one two = record {
   left = two.left;
   few = two.few;
-  made = worker_both two.left (faults_by why) a b c one two.made;
+  made = worker_both two.left (faults_by why) a b c xs ys zs one two.made;
   reason = two.reason;
 }
 
 -- what a turn answered is what its caller returns, or ends by
-pub turn_well : (said : Result Worked Ended) (t : Ticket) (answer : Result Worked ServerFault) (a b : Own) → IfOk said (λ worked. answer ≡ Ok worked) → OneRan t answer a b
-    → IfOk said (λ worked. OneRan t (Ok worked) a b)
-turn_well (Ok worked) t answer a b is ran = subst (λ (r : Result Worked ServerFault). OneRan t r a b) is ran
-turn_well (Err ended) t answer a b is ran = tt
+pub turn_well : (said : Result Worked Ended) (t : Ticket) (answer : Result Worked ServerFault) (a b : Own) (xs ys : List End) → IfOk said (λ worked. answer ≡ Ok worked)
+    → OneRan t answer a b xs ys → IfOk said (λ worked. OneRan t (Ok worked) a b xs ys)
+turn_well (Ok worked) t answer a b xs ys is ran = subst (λ (r : Result Worked ServerFault). OneRan t r a b xs ys) is ran
+turn_well (Err ended) t answer a b xs ys is ran = tt
 
-pub turn_worn : (said : Result Worked Ended) (t : Ticket) (answer : Result Worked ServerFault) (a b : Own)
-    → IfErr said (λ ended. (fault : ServerFault) × (answer ≡ Err fault) × (ended.why ≡ Met fault)) → IfErr answer (λ fault. OnlyWorn fault b.seat) → OneRan t answer a b
-    → IfErr said (λ ended. OneRan t (Err Worn) a b × WornEnd ended.why b)
-turn_worn (Ok worked) t answer a b met worn ran = tt
-turn_worn (Err ended) t answer a b (fault, is, was) worn ran =
+pub turn_worn : (said : Result Worked Ended) (t : Ticket) (answer : Result Worked ServerFault) (a b : Own) (xs ys : List End)
+    → IfErr said (λ ended. (fault : ServerFault) × (answer ≡ Err fault) × (ended.why ≡ Met fault)) → IfErr answer (λ fault. OnlyWorn fault b.seat) → OneRan t answer a b xs ys
+    → IfErr said (λ ended. OneRan t (Err Worn) a b xs ys × WornEnd ended.why b)
+turn_worn (Ok worked) t answer a b xs ys met worn ran = tt
+turn_worn (Err ended) t answer a b xs ys (fault, is, was) worn ran =
     let only : OnlyWorn fault b.seat = subst (λ (r : Result Worked ServerFault). IfErr r (λ fault. OnlyWorn fault b.seat)) is worn in (
-      subst (λ (f : ServerFault). OneRan t (Err f) a b) only.0 (subst (λ (r : Result Worked ServerFault). OneRan t r a b) is ran),
+      subst (λ (f : ServerFault). OneRan t (Err f) a b xs ys) only.0 (subst (λ (r : Result Worked ServerFault). OneRan t r a b xs ys) is ran),
       (was ∙ ap (λ (f : ServerFault). Met f) only.0, only.1),
     )
 
@@ -352,18 +482,17 @@ own_both n m faults a b c one two = record {
 }
 
 -- the oldest ticket in hand was run
-own_one : (t : Ticket) (ts : List Ticket) (answer : Result Worked ServerFault) (a b : Own) → a.hand.tickets ≡ t ∷ ts → OneRan t answer (without_first a) b
-    → SlotsKept t answer (without_first a) b → TookNothing a b
-    → OwnTurnsRan 1 (fault_in answer) a b
-own_one t ts answer a b is ran kept took = record {
-  ran = record { ticket = t; answer = answer; exchanges = ran.exchanges } ∷ [];
-  due = ran.due;
+own_one : (words : ℕ) (t : Ticket) (ts : List Ticket) (answer : Result Worked ServerFault) (a b : Own) → a.seat.table.words ≡ words → a.hand.tickets ≡ t ∷ ts
+    → TookNothing a b → TurnMade words t answer (without_first a) b → OwnTurnsRan 1 (fault_in answer) a b
+own_one words t ts answer a b same is took made = record {
+  ran = record { ticket = t; answer = answer; exchanges = made.exchanges } ∷ [];
+  due = made_by (minted_by made.exchanges) t;
   each = refl;
   met = append-nil (fault_in answer);
   took = took;
-  turns = ran.turns;
+  turns = one_turn words t answer (without_first a) b same made;
   tickets = λ u. (
-      let turn = ran.tickets u in
+      let turn = tickets_one t (minted_by made.exchanges) (without_first a) b made.done.tickets u in
       let had : times_of u (tickets_out a) ≡ times_of u (outgoing a.ready.history (t ∷ ts)) = ap (λ (us : List Ticket). times_of u (outgoing a.ready.history us)) is in
       let left : times_of u (tickets_out (without_first a)) ≡ times_of u (outgoing a.ready.history ts) =
       ap (λ (us : List Ticket). times_of u (outgoing a.ready.history (drop 1 us))) is in
@@ -371,12 +500,8 @@ own_one t ts answer a b is ran kept took = record {
       let second = times-append u (puts a.ready) ts in
       let whole = times-append u (t ∷ []) ts in
       omega arith);
-  slots = slots_one t answer (without_first a) b kept ran.exchanges;
+  slots = slots_one t answer (without_first a) b made.done.slots made.exchanges;
 }
-
-turn_ran : (words : ℕ) (t : Ticket) (ts : List Ticket) (answer : Result Worked ServerFault) (a b : Own) → a.seat.table.words ≡ words → a.hand.tickets ≡ t ∷ ts
-    → TookNothing a b → TurnMade words t answer (without_first a) b → OwnTurnsRan 1 (fault_in answer) a b
-turn_ran words t ts answer a b same is took turn = own_one t ts answer a b is (one_ran words t answer (without_first a) b same turn) turn.done.slots took
 
 -- what an own turn did, by its answer
 abbrev pub OwnRan : Result (Option Worked) ServerFault → Own → Own → Type 0
@@ -387,8 +512,8 @@ OwnRan (Err fault) a b = OwnTurnsRan 1 (fault ∷ []) a b
 own_turn_of : (words : ℕ) (t : Ticket) (ts : List Ticket) (result : Result (Option Worked) ServerFault) (a b : Own) → a.seat.table.words ≡ words → a.hand.tickets ≡ t ∷ ts
     → TookNothing a b → OwnTurn words t result a b → OwnRan result a b
 own_turn_of words t ts (Ok None) a b same is took turn = tt
-own_turn_of words t ts (Ok (Some worked)) a b same is took turn = turn_ran words t ts (Ok worked) a b same is took turn
-own_turn_of words t ts (Err fault) a b same is took turn = turn_ran words t ts (Err fault) a b same is took turn
+own_turn_of words t ts (Ok (Some worked)) a b same is took turn = own_one words t ts (Ok worked) a b same is took turn
+own_turn_of words t ts (Err fault) a b same is took turn = own_one words t ts (Err fault) a b same is took turn
 
 own_turn_by : (words : ℕ) (us : List Ticket) (result : Result (Option Worked) ServerFault) (a b : Own) → a.seat.table.words ≡ words → a.hand.tickets ≡ us → TookNothing a b
     → IfSome (slice_get us 0) (λ t. OwnTurn words t result a b) → (a.hand.tickets ≡ [] → result ≡ Ok None) → OwnRan result a b
@@ -607,6 +732,18 @@ steps_ran said (suc steps) p q a b (r, c, before, last) = ran_both a c b (steps_
 ran_then : (why : Why) (a b c : Own) → PollerRan a b → PollerEnded why b c → PollerEnded why a c
 ran_then why a b c before (inl last) = inl (ran_both a b c before last)
 ran_then why a b c before (inr worn) = inr (record { reason = worn.reason; took = worn.took ∙ before.took })
+
+-- all steps, from where the thread began
+pub run_made : (said : Bool → Type 0) (tells : ℕ → Type 0) (why : Why) (p begun q : PollerState) (a b c d : Own) → b ≡ a
+    → (second : ℕ) × tells second × (begun ≡ record p { swept = second }) → LoopMade said why begun q b c → d ≡ c → RunMade said tells p a d
+run_made said tells why p begun q a b c d same (second, told, is) made last = (
+  why,
+  second,
+  q,
+  told,
+  subst (λ (r : PollerState). LoopMade said why r q a d) is (subst (λ (o : Own). LoopMade said why begun q o d) same
+      (subst (λ (o : Own). LoopMade said why begun q b o) (sym last) made)),
+)
 
 pub loop_ran : (said : Bool → Type 0) (why : Why) (p q : PollerState) (a b : Own) → LoopMade said why p q a b → PollerEnded why a b
 loop_ran said why p q a b (steps, r, c, before, last) = ran_then why a c b (steps_ran said steps p r a c before) (cut_ran said why r q c b last)

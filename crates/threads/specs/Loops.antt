@@ -1,6 +1,6 @@
 -- What a thread's loop does with tickets, and with free slots. Part of the promises.
 use Rattle.std.specs.Prelude.{◌≡◌, ◌≢◌, ◌⊎◌, ℕ, zero, suc, ◌+◌, ◌<◌, ◌≤◌, ◌==◌, ◌&&◌, Bool, true, false, nat_lt, if◌then◌else◌, List, [], ◌∷◌, ◌++◌, length, map, Result, Ok, Err, slice_get}
-use Rattle.std.specs.List.{count_by, All}
+use Rattle.std.specs.List.{count_by, sum_by, All}
 use Rattle.claims.specs.declared.view.Exchange.{Exchange}
 use Rattle.claims.specs.declared.view.Exchange.TheVariants.{Adopted}
 use Rattle.claims.specs.Seats.{SeatState}
@@ -73,27 +73,50 @@ pub record TurnsMade (ran : List Run) (due : List Ticket) (old new : SeatState) 
   pub made : ActsMade (acts_of ran) old new
   pub due_are : due ≡ due_of (acts_of ran)
 
+-- what each of these ends of queues of free slots has taken
+abbrev pub takes_of : List (EndState ℕ) → List (List (ℕ × ℕ))
+takes_of ends = map (λ (end : EndState ℕ). end.history.taken) ends
+
+-- how often one has given a slot
+abbrev pub times_by : ℕ → EndState ℕ → ℕ
+times_by slot end = times_in slot (map (λ (put : ℕ × ℕ). put.1) end.history.put)
+
+-- how often these ends have given it, all together
+abbrev pub times_given : ℕ → List (EndState ℕ) → ℕ
+times_given slot ends = sum_by (λ (end : EndState ℕ). times_by slot end) ends
+
+-- What a worker did with free slots, by its ends of the queues of all pollers: it took none, and each that it was to
+-- give before, or that is free now, is given or in hand, once
+pub record SlotsGiven (now_free : List ℕ) (old new : Own) (others others_new : List (EndState ℕ)) : Type 0 where
+  pub took : takes_of (new.free ∷ others_new) ≡ takes_of (old.free ∷ others)
+  pub slots : (slot : ℕ) → times_in slot new.hand.slots + times_given slot (new.free ∷ others_new)
+      ≡ times_in slot old.hand.slots + times_given slot (old.free ∷ others) + times_in slot now_free
+
 -- One turn with this ticket, by its answer. What was to be put before, and the ticket if it is due again, are put or in
--- hand
-pub record OneRan (ticket : Ticket) (answer : Result Worked ServerFault) (old new : Own) : Type 0 where
+-- hand, and so are free slots
+pub record OneRan (ticket : Ticket) (answer : Result Worked ServerFault) (old new : Own)
+    (others others_new : List (EndState ℕ)) : Type 0 where
   pub exchanges : List Exchange
   pub due : List Ticket
   pub turns : TurnsMade (record { ticket = ticket; answer = answer; exchanges = exchanges } ∷ []) due old.seat new.seat
   pub tickets : (t : Ticket) → times_of t (tickets_out new) ≡ times_of t (tickets_out old) + times_of t due
+  pub slots : SlotsGiven (freed_by ticket answer) old new others others_new
 
 -- the tickets that a thread has taken out of their queue so far
 abbrev pub tickets_in : Own → List Ticket
 tickets_in own = map (λ (take : ℕ × Ticket). take.1) own.ready.history.taken
 
 -- A worker's thread ran each ticket that it took, in order, but for these, which it took last, and its turns met these
--- faults. What it was to put before, the tickets that are due again, and these, are put or in hand
-pub record WorkerRan (left : List Ticket) (faults : List ServerFault) (old new : Own) : Type 0 where
+-- faults. What it was to put before, the tickets that are due again, and these, are put or in hand. It took no free
+-- slot, and those that it was to give before, and those that its turns freed, are given or in hand
+pub record WorkerRan (left : List Ticket) (faults : List ServerFault) (old new : Own) (others others_new : List (EndState ℕ)) : Type 0 where
   pub ran : List Run
   pub due : List Ticket
   pub turns : TurnsMade ran due old.seat new.seat
   pub met : faults_of ran ≡ faults
   pub taken : tickets_in new ≡ tickets_in old ++ (tickets_of ran ++ left)
   pub tickets : (t : Ticket) → times_of t (tickets_out new) ≡ times_of t (tickets_out old) + (times_of t due + times_of t left)
+  pub slots : SlotsGiven (freed ran) old new others others_new
 
 -- why a worker's thread ends: a look found a fault recorded, or it found the queue of tickets closed, and empty at one
 -- moment, or its seat is worn
@@ -105,10 +128,10 @@ WorkerMayEnd (Met fault) own = OnlyWorn fault own.seat
 
 -- A worker's thread ran to its end. The fault that a turn met is the one by which it ended. If a look found a fault, one
 -- ticket at most was taken and not run
-pub record WorkerEnded (why : Why) (old new : Own) : Type 0 where
+pub record WorkerEnded (why : Why) (old new : Own) (others others_new : List (EndState ℕ)) : Type 0 where
   pub left : List Ticket
   pub few : (left ≡ []) ⊎ ((why ≡ FaultFound) × (length left ≡ 1))
-  pub made : WorkerRan left (faults_by why) old new
+  pub made : WorkerRan left (faults_by why) old new others others_new
   pub reason : WorkerMayEnd why new
 
 -- it took this ticket, and did nothing else
@@ -231,6 +254,11 @@ StepsMade said (suc steps) p q a b = (r : PollerState) × (c : Own) × StepsMade
 -- steps, and the last one
 abbrev pub LoopMade : (Bool → Type 0) → Why → PollerState → PollerState → Own → Own → Type 0
 LoopMade said why p q a b = (steps : ℕ) × (r : PollerState) × (c : Own) × StepsMade said steps p r a c × StepCut said why r q c b
+
+-- all of a thread's steps, from the second that its clock told as it began, from which its sweeps are counted
+abbrev pub RunMade : (Bool → Type 0) → (ℕ → Type 0) → PollerState → Own → Own → Type 0
+RunMade said tells p a b = (why : Why) × (second : ℕ) × (q : PollerState) × tells second
+    × LoopMade said why (record p { swept = second }) q a b
 
 -- a note was posted, or a connection opened, or a turn made
 abbrev pub IsPollerAct : ℕ → Act → Type 0

@@ -7,8 +7,8 @@
 //!
 //! # Inside
 //!
-//! A worker's turn puts a free slot into no other queue than that of the poller whose slot it is (`Worker::turn`:
-//! `gives`) and leaves none in hand (`given`), of which none is lost (`give_all`: `slots`). Why a loop ended is a
+//! A worker takes no free slot out of any queue, and loses none (`SlotsGiven`). Its turn puts one into no other queue
+//! than that of the poller whose slot it is (`Worker::turn`: `gives`) and leaves none in hand (`given`). Why a loop ended is a
 //! value that cannot be dropped, and that nothing outside of `ending.rt` makes or takes apart (`Ended`).
 //! `Context::end` takes it: a fault is recorded under its thread's number (`recorded`), of two faults the first
 //! thread's is kept (`Earliest::keep`), and every poller is woken (`woken`). Each round, each turn and each taking of

@@ -8,7 +8,7 @@ ghost use Rattle.rounds.specs.Rounds.{EndedEarly, ListensToOpen};
 ghost use Rattle.turns.specs.Turns.{NoOwnTurn};
 ghost use Rattle.threads.specs.declared.ending.Why.{Why};
 ghost use Rattle.threads.specs.Endings.{AllWoken, faults_by};
-ghost use Rattle.threads.specs.Loops.{Asked, LoopMade, OwnTurnsRan, PollerEnded, PollerRan, RoundCut, RoundMade, StepCut, StepMade, TurnsAfter, TurnsCut, WornEnd};
+ghost use Rattle.threads.specs.Loops.{Asked, LoopMade, OwnTurnsRan, PollerEnded, PollerRan, RoundCut, RoundMade, RunMade, StepCut, StepMade, TurnsAfter, TurnsCut, WornEnd};
 
 use crate::context::Context;
 use crate::ending::{Ended, NoFault, end_if_over};
@@ -41,6 +41,8 @@ where
         &mut self,
         context: &Context<'_, G, C, R, S>,
     )
+        ensures made { RunMade (S.said context.now.is_stopped.now) (C.tells context.now.timing.clock.now) self.old.poller
+            self.old.own self.new.own }
         ensures ran { (why : Why) × PollerEnded why self.old.own self.new.own }
     {
         self.begin(context);

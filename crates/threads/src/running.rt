@@ -1,10 +1,11 @@
 //! A server's threads, from the first to the last.
+ghost use Rattle.std.specs.Prelude.{◌≡◌};
 ghost use Rattle.dispatch.specs.Parts.{AreFresh};
 
 use crate::context::Context;
 use crate::dividing::{Rest, ServerThreads, divide};
 use crate::ending::Ending;
-use crate::faults::Outcome;
+use crate::faults::{Outcome, Recorded};
 use dispatch::{Clock, Front, Gate, Parts, ServerFault, Shared, Split, Timing};
 use log::Log;
 use ready::FreeQueue;
@@ -118,7 +119,7 @@ where
         for number in 0..started {
             let is_worker = number < workers;
             if scope.spawn(move || startup.run(is_worker)).is_err() {
-                not_started(&startup.context);
+                not_started(&startup.context).spend();
             }
         }
         startup.announce();
@@ -168,8 +169,10 @@ where
     }
 }
 
-/// A thread that was not started is a fault.
-fn not_started<G, C, R: Wait + Log>(context: &Context<G, C, R>) {
+/// A thread that was not started is a fault, which goes before those of all threads but the first.
+fn not_started<G, C, R: Wait + Log>(context: &Context<G, C, R>) -> Recorded
+    ensures { result ≡ (0, ServerFault.Threads) }
+{
     let fault = log_no_thread(context.rt);
-    context.ending.record(context.rt, 0, fault).spend();
+    context.ending.record(context.rt, 0, fault)
 }

@@ -1,5 +1,5 @@
 //! The steps of a worker's thread.
-ghost use Rattle.std.specs.Prelude.{◌≡◌, ◌≢◌, ◌<◌, ◌-◌, [], ◌∷◌, Ok, Err, slice_get, slice_set, IfErr, IfOk, IfSome, OnOk};
+ghost use Rattle.std.specs.Prelude.{◌≡◌, ◌≢◌, ◌<◌, ◌-◌, [], ◌∷◌, Ok, Err, None, slice_get, slice_set, IfErr, IfOk, IfSome, OnOk};
 ghost use Rattle.std.specs.Arc.{arc_value};
 ghost use Rattle.claims.specs.Seats.{HoldsNothing};
 ghost use Rattle.dispatch.specs.Hands.{HasRoom};
@@ -37,7 +37,7 @@ where
 {
     /// Makes its steps until one ends the thread.
     pub fn run<G: Gate, C: Clock, R: Wait + Log, S>(&mut self, context: &Context<'_, G, C, R, S>)
-        ensures ran { (why : Why) × WorkerEnded why self.old.own self.new.own }
+        ensures ran { (why : Why) × WorkerEnded why self.old.own self.new.own self.old.others.items self.new.others.items }
     {
         let ended = self.run_turns(context);
         self.finish(context, ended);
@@ -49,7 +49,8 @@ where
         context: &Context<'_, G, C, R, S>,
         ended: Ended,
     )
-        ensures { self.new.own ≡ self.old.own }
+        ensures own { self.new.own ≡ self.old.own }
+        ensures others { self.new.others.items ≡ self.old.others.items }
     {
         if let Some(recorded) = context.end(&self.shared, self.number, &mut self.own.ready, ended) {
             recorded.spend();
@@ -61,7 +62,7 @@ where
         &mut self,
         context: &Context<'_, G, C, R, S>,
     ) -> Ended
-        ensures ran { WorkerEnded result.why self.old.own self.new.own }
+        ensures ran { WorkerEnded result.why self.old.own self.new.own self.old.others.items self.new.others.items }
     {
         for _turn in context.rt.forever() {
             if let Err(ended) = self.step(context) {
@@ -78,8 +79,8 @@ where
         &mut self,
         context: &Context<'_, G, C, R, S>,
     ) -> Result<(), Ended>
-        ensures ran { OnOk result (WorkerRan [] [] self.old.own self.new.own) }
-        ensures cut { IfErr result (λ ended. WorkerEnded ended.why self.old.own self.new.own) }
+        ensures ran { OnOk result (WorkerRan [] [] self.old.own self.new.own self.old.others.items self.new.others.items) }
+        ensures cut { IfErr result (λ ended. WorkerEnded ended.why self.old.own self.new.own self.old.others.items self.new.others.items) }
     {
         let seen = match context.ending.look() {
             Ok(seen) => seen,
@@ -107,7 +108,7 @@ where
 
     /// Puts and gives all in hand, as far as the queues have room, and lets other threads go on.
     fn empty_hand(&mut self, rt: &impl Wait)
-        ensures ran { WorkerRan [] [] self.old.own self.new.own }
+        ensures ran { WorkerRan [] [] self.old.own self.new.own self.old.others.items self.new.others.items }
     {
         put_tickets(rt, &mut self.own.ready, &mut self.own.hand);
         self.give_all(rt);
@@ -121,8 +122,10 @@ where
         cleared: Cleared,
     ) -> Result<Worked, Ended>
         requires { HasRoom self.old.own.hand }
-        ensures ran { IfOk result (λ worked. OneRan cleared.ticket (Ok worked) self.old.own self.new.own) }
-        ensures cut { IfErr result (λ ended. OneRan cleared.ticket (Err Worn) self.old.own self.new.own × WornEnd ended.why self.new.own) }
+        ensures ran { IfOk result (λ worked. OneRan cleared.ticket (Ok worked) self.old.own self.new.own self.old.others.items
+            self.new.others.items) }
+        ensures cut { IfErr result (λ ended. OneRan cleared.ticket (Err Worn) self.old.own self.new.own self.old.others.items
+            self.new.others.items × WornEnd ended.why self.new.own) }
         ensures took { self.new.own.ready.history.taken ≡ self.old.own.ready.history.taken }
         ensures given { self.new.own.hand.slots ≡ [] }
         ensures gives { cleared.ticket.slot < context.now.split.slots
@@ -145,7 +148,8 @@ where
         Ended::on_fault(worked)
     }
 
-    /// Exchanges its end of the queue of the first poller and that of this one. Done again, each is in its place.
+    /// Exchanges its end of the queue of the first poller and that of this one, if it has one. Done again, each is in
+    /// its place.
     fn change_queue(&mut self, poller: usize)
         ensures seat { self.new.own.seat ≡ self.old.own.seat }
         ensures hand { self.new.own.hand ≡ self.old.own.hand }
@@ -154,6 +158,8 @@ where
         ensures first { poller ≡ 0 → (self.new.own.free ≡ self.old.own.free) × (self.new.others.items ≡ self.old.others.items) }
         ensures other { poller ≢ 0 → IfSome (slice_get self.old.others.items (poller - 1)) (λ other. (self.new.own.free ≡ other)
             × (self.new.others.items ≡ slice_set self.old.others.items (poller - 1) self.old.own.free)) }
+        ensures none { slice_get self.old.others.items (poller - 1) ≡ None
+            → (self.new.own.free ≡ self.old.own.free) × (self.new.others.items ≡ self.old.others.items) }
     {
         if poller == 0 {
             return;
@@ -168,6 +174,7 @@ where
         ensures seat { self.new.own.seat ≡ self.old.own.seat }
         ensures given { self.new.own.hand.slots ≡ [] }
         ensures slots { slots_out self.new.own ≡ slots_out self.old.own }
+        ensures took { self.new.own.free.history.taken ≡ self.old.own.free.history.taken }
         ensures tickets { self.new.own.hand.tickets ≡ self.old.own.hand.tickets }
         ensures ready { self.new.own.ready ≡ self.old.own.ready }
         ensures shared { self.new.shared ≡ self.old.shared }
@@ -181,6 +188,7 @@ where
 fn give_until_empty(rt: &impl Wait, free: &mut FreeQueue, hand: &mut Hand)
     ensures given { hand.new.slots ≡ [] }
     ensures slots { outgoing free.new.history hand.new.slots ≡ outgoing free.old.history hand.old.slots }
+    ensures took { free.new.history.taken ≡ free.old.history.taken }
     ensures tickets { hand.new.tickets ≡ hand.old.tickets }
 {
     for _try in rt.forever() {

@@ -6,22 +6,27 @@ use mathlib.Core.Logic.{dite}
 use native.Mathlib.Decide.{ℕ_discrete}
 use Rattle.dispatch.specs.Hands.{HandState}
 use Rattle.threads.proofs.Divided.{first_used, other_used}
-use Rattle.threads.proofs.Loops.{one_between, one_ran, out_same, turn_well, turn_worn}
+use Rattle.threads.proofs.Loops.{gave_turn, one_ran, out_same, turn_well, turn_worn}
 use Rattle.threads.proofs.working.Worker.turn.Goals as goal
 
 pub returns : goal.returns
 returns g c =
     let seat = c.change_queue-2.ensures.seat ∙ c.give_all.ensures.seat in
-    let ran = one_between c.args.cleared.ticket c.worker_turn-worked.result c.args.self.now.own c.change_queue.new.self.own c.worker_turn-worked.new.own c.change_queue-2.new.self.own
-    c.change_queue.ensures.seat (out_same c.args.self.now.own c.change_queue.new.self.own c.change_queue.ensures.ready
-    (ap (λ (h : HandState). h.tickets) c.change_queue.ensures.hand))
-    (one_ran _ c.args.cleared.ticket c.worker_turn-worked.result c.change_queue.new.self.own c.worker_turn-worked.new.own (search rules) c.worker_turn-worked.ensures.made)
-    seat
+    let gave = gave_turn c.args.cleared.ticket c.worker_turn-worked.result c.poller_of-poller.result c.args.self.now.own c.change_queue.new.self.own c.worker_turn-worked.new.own
+    c.give_all.new.self.own c.change_queue-2.new.self.own c.args.self.now.others.items c.change_queue.new.self.others.items c.give_all.new.self.others.items
+    c.change_queue-2.new.self.others.items
+    (record { hand = c.change_queue.ensures.hand; first = c.change_queue.ensures.first; other = c.change_queue.ensures.other; none = c.change_queue.ensures.none })
+    c.worker_turn-worked.ensures.took.slots c.worker_turn-worked.ensures.made.done.slots c.give_all.ensures.took c.give_all.ensures.slots c.give_all.ensures.others
+    (record { hand = c.change_queue-2.ensures.hand; first = c.change_queue-2.ensures.first; other = c.change_queue-2.ensures.other; none = c.change_queue-2.ensures.none }) in
+    let ran = one_ran _ c.args.cleared.ticket c.worker_turn-worked.result c.args.self.now.own c.change_queue.new.self.own c.worker_turn-worked.new.own c.change_queue-2.new.self.own
+    _ _ (search rules) c.change_queue.ensures.seat
+    (out_same c.args.self.now.own c.change_queue.new.self.own c.change_queue.ensures.ready (ap (λ (h : HandState). h.tickets) c.change_queue.ensures.hand))
+    c.worker_turn-worked.ensures.made seat
     (out_same c.worker_turn-worked.new.own c.change_queue-2.new.self.own (c.change_queue-2.ensures.ready ∙ c.give_all.ensures.ready)
-    (ap (λ (h : HandState). h.tickets) c.change_queue-2.ensures.hand ∙ c.give_all.ensures.tickets)) in
+    (ap (λ (h : HandState). h.tickets) c.change_queue-2.ensures.hand ∙ c.give_all.ensures.tickets)) gave in
     record {
-      ran = turn_well c.on_fault.result c.args.cleared.ticket c.worker_turn-worked.result c.args.self.now.own c.change_queue-2.new.self.own c.on_fault.ensures.good ran;
-      cut = turn_worn c.on_fault.result c.args.cleared.ticket c.worker_turn-worked.result c.args.self.now.own c.change_queue-2.new.self.own c.on_fault.ensures.met
+      ran = turn_well c.on_fault.result c.args.cleared.ticket c.worker_turn-worked.result c.args.self.now.own c.change_queue-2.new.self.own _ _ c.on_fault.ensures.good ran;
+      cut = turn_worn c.on_fault.result c.args.cleared.ticket c.worker_turn-worked.result c.args.self.now.own c.change_queue-2.new.self.own _ _ c.on_fault.ensures.met
           (subst (λ (s : SeatState). IfErr c.worker_turn-worked.result (λ fault. OnlyWorn fault s)) (sym seat) c.worker_turn-worked.ensures.worn) ran;
       took = search rules;
       given = ap (λ (h : HandState). h.slots) c.change_queue-2.ensures.hand ∙ c.give_all.ensures.given;
