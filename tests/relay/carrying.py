@@ -131,6 +131,18 @@ def sends_a_line_first():
         assert relay.end()[-1].endswith(f" up={len(wanted)} down={len(wanted)}")
 
 
+# refuses accepted_address_is_kept: a poller asks only for the accepted address of its first client
+def tells_each_target_its_own_client():
+    # Five workers and as many pollers; all clients come at once, each from its own address to its own.
+    relay = Relay(proxy=True, listen="0.0.0.0:0", slots=320, workers=5)
+    clients = [relay.connect(own=f"127.0.1.{number}", to=f"127.0.2.{number}") for number in range(1, 101)]
+    lines = [line_of(client) for client in clients]
+    for client, line in zip(clients, lines):
+        send_and_shut(client, line)
+    told = [read_all(relay.listener.accept()[0]) for _ in clients]
+    assert sorted(told) == sorted(2 * line for line in lines)
+
+
 # Servers that read the line, and answer and log what it says: how each is started, with which settings.
 HAPROXY = """
 defaults

@@ -6,6 +6,7 @@ use Rattle.std.specs.declared.io.ErrorKind.TheVariants.{Interrupted}
 use Rattle.std.specs.declared.net.SocketAddr.{SocketAddr}
 use Rattle.std.specs.declared.net.SocketAddr.TheVariants.{V4, V6}
 use Rattle.std.specs.declared.net.SocketAddrV4.{SocketAddrV4}
+use Rattle.std.specs.Result.{result_ok}
 use Rattle.std.specs.Net.Addr.{IsV4And, ipv4_octets}
 use Rattle.std.specs.Net.Socket.{socket_ip, IsPlainSocket}
 use Rattle.token.specs.Names.{EndName}
@@ -16,6 +17,7 @@ use Rattle.readiness.specs.Words.{WordName, word_of}
 use Rattle.settings.specs.Addresses.{SocketAddress}
 use Rattle.dispatch.specs.declared.route.Route.{Route}
 use Rattle.sockets.specs.declared.forwarding.Forwarding.{Forwarding}
+use Rattle.sockets.specs.Wires.{Made, NamedHere}
 use Rattle.mio.specs.declared.event.event.Event.{Event}
 use Rattle.mio.specs.Event.{event_token, is_readable, is_error, is_read_closed, is_write_closed}
 
@@ -86,6 +88,10 @@ abbrev pub v4_of : Option SocketAddr → Option SocketAddrV4
 v4_of (Some (V4 address)) = Some address
 v4_of (Some (V6 address)) = None
 v4_of None = None
+
+-- the address at a socket's own end, as the system says it
+abbrev pub IsLocal : {S : Type 0} → (Made → S → S → Type 0) → S → Option SocketAddrV4 → Type 0
+IsLocal did socket address = (named : Result SocketAddr Error) × did (NamedHere named) socket socket × (address ≡ v4_of (result_ok named))
 
 -- What a front tells of a client's connection: no address unless targets are sent a line, and else the client's own, as
 -- it was told at accept(2). The one on which it was accepted only the system knows

@@ -121,14 +121,16 @@ pub record IsCalled (asked : Asked) (given : Given) (old new : Socket) : Type 0 
   pub patience : new.patience ≡ old.patience
 
 -- One system call on a socket, with its answer: read(2), write(2) or shutdown(2); SO_ERROR of socket(7);
--- getpeername(2); TCP_NODELAY of tcp(7), on or off; TCP_USER_TIMEOUT, in milliseconds, where 0 is no limit of the
--- socket's own; and epoll_ctl(2), which registered the socket under this number, to be told at this word, if at any.
+-- getpeername(2), getsockname(2); TCP_NODELAY of tcp(7), on or off; TCP_USER_TIMEOUT, in milliseconds, where 0 is no
+-- limit of the socket's own; and epoll_ctl(2), which registered the socket under this number, to be told at this word,
+-- if at any.
 -- And SO_KEEPALIVE of socket(7), with the first probe after this many seconds, which takes a call for each of its
 -- numbers. And a look, which is no system call: whether a report that names reading was told since the last one
 pub data Made : Type 0 where
   Called : Asked → Given → Made
   Pending : Result (Option Error) Error → Made
   Named : Result SocketAddr Error → Made
+  NamedHere : Result SocketAddr Error → Made
   SentAtOnce : Bool → Made
   GivesUpAfter : ℕ → Made
   Probes : ℕ → Made

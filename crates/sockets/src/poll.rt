@@ -4,7 +4,7 @@ ghost use Rattle.std.specs.declared.io.ErrorKind.TheVariants.{Interrupted};
 ghost use Rattle.mio.specs.Event.{event_token};
 ghost use Rattle.mio.specs.Events.{items};
 ghost use Rattle.token.specs.Numbers.{name_of};
-ghost use Rattle.sockets.specs.Fronts.{Fails, end_in, heard_of, most_left, names_reading, numbers, v4_of, wait_of, IsRoute, MayTell};
+ghost use Rattle.sockets.specs.Fronts.{Fails, end_in, heard_of, most_left, names_reading, numbers, v4_of, wait_of, IsLocal, IsRoute, MayTell};
 ghost use Rattle.dispatch.specs.Splits.{parts_of};
 ghost use Rattle.dispatch.specs.declared.front.Unopened.TheVariants.{Connect, Register};
 ghost use Rattle.sockets.specs.Wires.{SameButWatched, fresh_wire, patient, under, unlimited};
@@ -16,6 +16,7 @@ use crate::forwarding::Forwarding;
 use crate::limits::{MAX_POLLERS, MOST_LEFT, WAIT_MILLIS};
 use crate::loads::Loads;
 use crate::socket::Socket;
+use crate::stream::Stream;
 use crate::wire::SocketWire;
 use dispatch::{
     Front, LISTENER, MAX_BATCH, Opened, Route, ServerFault, Settle, Split, Unopened, WAKER, Waiting,
@@ -263,19 +264,20 @@ impl<R: Dial> Sockets<'_, R> {
             }
         }
     }
+}
 
-    /// The addresses of a client's connection, if they are to be told. The client's own came with accept(2), and the
-    /// system is asked for the other one.
-    fn route(&self, client: &SocketWire) -> Route
-        ensures { IsRoute self.now.forwarding.proxy client.now.socket.peer result }
-    {
-        if !self.forwarding.proxy {
-            return Route::UNTOLD;
-        }
-        Route {
-            client: v4(client.peer()),
-            accepted: v4(client.stream().local().ok()),
-        }
+/// The addresses of a client's connection, if they are to be told. The client's own came with accept(2), and the
+/// socket is asked for the other one.
+fn route_of<S: Stream>(is_told: bool, client: &SocketWire<S>) -> Route
+    ensures client { IsRoute is_told client.now.socket.peer result }
+    ensures accepted { is_told ≡ true → IsLocal S.did client.now.stream result.accepted }
+{
+    if !is_told {
+        return Route::UNTOLD;
+    }
+    Route {
+        client: v4(client.peer()),
+        accepted: v4(client.stream().local().ok()),
     }
 }
 
@@ -469,7 +471,7 @@ impl<R: Dial> Front for Sockets<'_, R> {
         self.watch(rt, client, client_token)?;
         self.watch(rt, &mut target, target_token)?;
         client.wait_for_peer(rt, self.forwarding.patience.of_client());
-        let route = self.route(client);
+        let route = route_of(self.forwarding.proxy, client);
         Ok(Opened { target, route })
     }
 

@@ -36,11 +36,6 @@ impl Socket {
     pub fn sends_at_once(&self) -> io::Result<bool> {
         self.stream.nodelay()
     }
-
-    /// The address at this end (getsockname(2)): for a client's socket, the one on which the client was accepted.
-    pub(crate) fn local(&self) -> io::Result<SocketAddr> {
-        self.stream.local_addr()
-    }
 }
 
 impl Stream for Socket {
@@ -64,6 +59,10 @@ impl Stream for Socket {
 
     fn peer(&self) -> io::Result<SocketAddr> {
         self.stream.peer_addr()
+    }
+
+    fn local(&self) -> io::Result<SocketAddr> {
+        self.stream.local_addr()
     }
 
     fn send_at_once(&mut self, at_once: bool) {

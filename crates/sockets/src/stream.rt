@@ -2,7 +2,7 @@ ghost use Rattle.std.specs.Prelude.{◌≡◌, length, OnOk};
 ghost use Rattle.std.specs.Io.{WritesAtMost};
 ghost use Rattle.engine.specs.Asked as ask;
 ghost use Rattle.engine.specs.Wires.{read_gave, write_gave, call_gave};
-ghost use Rattle.sockets.specs.Wires.{Made, Called, Pending, Named, SentAtOnce, GivesUpAfter, Probes, Registered, Looked};
+ghost use Rattle.sockets.specs.Wires.{Made, Called, Pending, Named, NamedHere, SentAtOnce, GivesUpAfter, Probes, Registered, Looked};
 
 use mio::{Registry, Token};
 use readiness::Told;
@@ -40,6 +40,10 @@ pub trait Stream {
     /// The address at the other end (getpeername(2)).
     fn peer(&self) -> io::Result<SocketAddr>
         ensures { did (Named result) self.now self.now };
+
+    /// The address at this end (getsockname(2)): for a client's socket, the one on which the client was accepted.
+    fn local(&self) -> io::Result<SocketAddr>
+        ensures { did (NamedHere result) self.now self.now };
 
     /// Has the socket send at once, or wait for more to send along (TCP_NODELAY of tcp(7)). It stays as it was if the
     /// system refuses.
