@@ -26,10 +26,11 @@ in which nothing has happened: lists are empty, workers idle, directions have no
 `causes` has scripts with a fault in their last line. WANTED is `WHY: CAUSE`: WHY is `malformed`, `not allowed`, `no world` or
 `script too long`, and CAUSE is what the log tells, without the number of the line.
 
-`largest` has rows of both kinds, at the largest of everything. Of a world with a report each step is then shown, too.
+`largest` has rows of both kinds, at the largest of everything. Of each world with a report each step is then shown, too.
 
 `recordings` has the acts of recordings. They get the counts from 0 up, but for one with counts before it, which has those;
-reports get those of their poll. Behind `rests:`, in place of `begins:`, all has come to rest when the relay is stopped.
+reports get those of their poll. Behind `rests:`, in place of `begins:`, all has come to rest when the relay is stopped; behind
+`scripts:` the script of 0.1 is wanted, which WANTED `too long` says that it is for `sim`.
 WANTED is `N connections; LINES`, lines of the output, or `WHOSE: ACT: WHY` of the act that can stand nowhere, or `malformed: CAUSE`,
 where CAUSE has the act in place of its line.
 
@@ -164,7 +165,7 @@ def sides(lines):
     """The rows of a table: how their section is marked, the name of each, and its two sides."""
     mark, begins = "begins", ""
     for number, line in lines:
-        section = re.fullmatch(r"(begins|rests): ?(.*)", line)
+        section = re.fullmatch(r"(begins|rests|scripts): ?(.*)", line)
         if section:
             mark, begins = section.groups()
             continue
@@ -220,18 +221,21 @@ def scripts(lines):
 
 
 def with_each_step(row):
-    """The row of a script whose steps are all shown: each has its line, and the report after the last one is shown."""
-    script, report = row.given.decode().split("\n"), row.output.decode().split("\n")
+    """The row of a world's script whose steps are all shown: each has its line, and what is shown last of everything is the
+    report."""
+    script = [line for line in row.given.decode().split("\n") if line and line[0] != "#"]
+    report = row.output.decode().splitlines()
 
     def will_do(status, wrote, complained):
         lines = wrote.decode().split("\n")
         steps = [line[2:] for line in lines if line.startswith("> ")]
-        return (status, steps, complained) == (0, script, b"") and set(report) <= set(lines)
+        last = {about(line): line for line in lines if not line.startswith("> ")}
+        return (status, steps, complained) == (0, script, b"") and [last.get(about(line)) for line in report] == report
 
     return replace(row, name=f"each step of {row.name}", words=[b"sim", b"--each"], will_do=will_do)
 
 
-def largest(lines):
+def reports(lines):
     """The rows of scripts, and those of worlds of which each step is shown."""
     for row in scripts(lines):
         yield row
@@ -266,6 +270,9 @@ def is_malformed(wanted, text, status, output, errors):
 
 def is_told(wanted, text, status, output, errors):
     """Whether this is told of a recording."""
+    if wanted == "too long":
+        warning = f"[WARN  relayd] output: the script has {len(output)} bytes, and relayd sim takes at most 1048576\n"
+        return (status, errors) == (0, warning.encode()) and len(output) > 1_048_576
     if wanted.startswith("malformed: "):
         return is_malformed(wanted[11:], text, status, output, errors)
     first, *lines = output.decode().split("\n")
@@ -281,7 +288,7 @@ def is_told(wanted, text, status, output, errors):
 def recordings(lines):
     """The rows of a table of recordings."""
     for mark, name, acts, wanted in sides(lines):
-        words = [b"replay", *([b"--rest"] if mark == "rests" else []), b"t.record"]
+        words = [b"replay", *{"rests": [b"--rest"], "scripts": [b"--script", b"0.1"]}.get(mark, []), b"t.record"]
         text = numbered(acts.split(" | "))
         yield Row(name, words, files={"t.record": bytes_of(text)}, will_do=functools.partial(is_told, wanted, text))
 
@@ -327,10 +334,10 @@ READERS = {
     "help": transcript,
     "words": words,
     "settings": settings,
-    "reports": scripts,
+    "reports": reports,
     "causes": scripts,
     "recordings": recordings,
-    "largest": largest,
+    "largest": reports,
 }
 
 

@@ -1,6 +1,5 @@
 //! What the program does, from its arguments to its status.
 ghost use Rattle.std.specs.Prelude.{◌≡◌, ◌⊎◌, IfSome, IfOk, IfErr, Ok};
-ghost use Rattle.script.specs.Each.{WritesEach, WritesEachFault};
 ghost use Rattle.script.specs.Runs.{WritesReport, WritesFault};
 ghost use Rattle.program.specs.Statuses.{IsCarriedOut, status_of};
 
@@ -217,10 +216,18 @@ fn simulate_by<L: Log, I: Read, O: Write>(
 {
     let mut reader = stream("input", reader, log);
     let mut writer = stream("output", writer, log);
-    if each {
-        simulate_each(alloc, log, &mut reader, &mut writer)
-    } else {
-        simulate(alloc, log, &mut reader, &mut writer)
+    if !each {
+        return simulate(alloc, log, &mut reader, &mut writer);
+    }
+    match script::run_each(
+        alloc,
+        &mut reader,
+        &mut writer,
+        &LoggedCauses { alloc, log },
+    ) {
+        Ok(Outcome::Report) => Ok(DONE),
+        Ok(Outcome::Refused) => Ok(FAULT),
+        Err(fault) => Err(ProgramFault::Script(fault)),
     }
 }
 
@@ -249,28 +256,6 @@ fn simulate<L: Log, I: Read, O: Write>(
         (λ text. WritesFault text (O.contents writer.old) (O.contents writer.new)) }
 {
     match script::run(alloc, reader, writer, &LoggedCauses { alloc, log }) {
-        Ok(Outcome::Report) => Ok(DONE),
-        Ok(Outcome::Refused) => Ok(FAULT),
-        Err(fault) => Err(ProgramFault::Script(fault)),
-    }
-}
-
-/// Runs a script and shows each step. Returns 0 if all of it was shown, and 1 if the line of its fault was written.
-/// The cause of a fault is logged.
-fn simulate_each<L: Log, I: Read, O: Write>(
-    alloc: Global,
-    log: &L,
-    reader: &mut I,
-    writer: &mut O,
-) -> Result<u8, ProgramFault>
-    ensures report { result ≡ Ok 0 → IfSome (I.remaining reader.old)
-        (λ text. WritesEach text (O.contents writer.old) (O.contents writer.new)) }
-    ensures done { IfOk result (λ status. IsCarriedOut status) }
-    ensures fault { IfErr result (λ fault. status_of fault ≡ 1) }
-    ensures refused { result ≡ Ok 1 → IfSome (I.remaining reader.old)
-        (λ text. WritesEachFault text (O.contents writer.old) (O.contents writer.new)) }
-{
-    match script::run_each(alloc, reader, writer, &LoggedCauses { alloc, log }) {
         Ok(Outcome::Report) => Ok(DONE),
         Ok(Outcome::Refused) => Ok(FAULT),
         Err(fault) => Err(ProgramFault::Script(fault)),

@@ -21,7 +21,7 @@ use Rattle.script.specs.Runs.{LeadsTo, Tells, WritesReport, AnswersFault, Writes
 use Rattle.script.proofs.Keeping.{keeps_bytes, keeps_end}
 
 -- a text that is too long is no script
-pub long_is_none : (text : List ℕ) (p : Plan) → most_bytes < length text → parsed text ≡ Ok p → ⊥
+long_is_none : (text : List ℕ) (p : Plan) → most_bytes < length text → parsed text ≡ Ok p → ⊥
 long_is_none text p long is =
     let clash : Err TooLong ≡ Ok p = rw (lt-ltb most_bytes (length text) long) at is in
     absurd (cc)
@@ -44,7 +44,7 @@ by_script text script (Err (NotAllowed line word)) is to = inr (script, (is, to)
 by_script text script (Err NoMemory) is to = inl (script, is)
 
 -- a front that is one byte longer than a script may be is as long as the input, or too long as the input is
-pub long_parsed : (input : List ℕ) → most_bytes < length input → parsed (take (most_bytes + 1) input) ≡ parsed input
+long_parsed : (input : List ℕ) → most_bytes < length input → parsed (take (most_bytes + 1) input) ≡ parsed input
 long_parsed input long =
     let longer : most_bytes < length (take (most_bytes + 1) input) = omega (arith, length-take-le (most_bytes + 1) input (omega (arith, long))) in
     rw (lt-ltb most_bytes (length (take (most_bytes + 1) input)) longer, lt-ltb most_bytes (length input) long) refl
@@ -67,7 +67,7 @@ leads_too text input (Err (NotAllowed line word)) same may (inl is) = inl (sym s
 leads_too text input (Err (NotAllowed line word)) same may (inr (script, (is, to))) = inr (script, (sym same ∙ is, to))
 
 -- what was computed of the front holds of the whole input
-pub of_front : (input : List ℕ) (r : Result Reached Fault) → LeadsTo (take (most_bytes + 1) input) r → LeadsTo input r
+of_front : (input : List ℕ) (r : Result Reached Fault) → LeadsTo (take (most_bytes + 1) input) r → LeadsTo input r
 of_front input r to = by_length (cases_lt most_bytes (length input))
   where
     by_length : (most_bytes < length input) ⊎ (length input ≤ most_bytes) → LeadsTo input r
@@ -98,7 +98,7 @@ refuses (Some input) text front r old new same cut told is = whole (told is)
     whole (fault, (to, wrote)) = inl (fault, (of_input text input (Err fault) (same ∙ cut) to, wrote))
 
 -- memory ran out before the script was read
-pub some_taken : (a b : Option (List ℕ)) → TakesSome a b → IfSome a (λ input. input ≢ [])
+some_taken : (a b : Option (List ℕ)) → TakesSome a b → IfSome a (λ input. input ≢ [])
 some_taken None b taken = tt
 some_taken (Some input) None (bytes, (consumed, some)) = absurd consumed
 some_taken (Some input) (Some rest) (bytes, (consumed, some)) =

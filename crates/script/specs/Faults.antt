@@ -1,5 +1,5 @@
 -- The faults of a script, and the one line that tells each. Part of the promises.
-use Rattle.std.specs.Prelude.{◌≡◌, ℕ, Bool, true, IsTrue, List, [], ◌∷◌, ◌++◌, codes, take, slice_get, Option, Some, None, Result, Ok, Err}
+use Rattle.std.specs.Prelude.{◌≡◌, ℕ, Bool, IsTrue, List, [], ◌∷◌, ◌++◌, codes, take, slice_get, Option, Some, None, Result, Ok, Err}
 use Rattle.std.specs.Fmt.{decimal}
 use Rattle.script_text.specs.declared.word.Word.{Word}
 use Rattle.script_text.specs.Words.{word_text}
@@ -65,7 +65,3 @@ pub record StopsAt {X L : Type 0} (stepped : X → L → Result X Fault) (takes 
 abbrev pub Plays : {X L : Type 0} → (X → L → Result X Fault) → (X → L → Bool) → X → List L → Result (Unit {0}) Fault → X → Type 0
 Plays stepped takes old ls (Ok x) new = played stepped old ls ≡ Ok new
 Plays stepped takes old ls (Err fault) new = StopsAt stepped takes old ls fault new
-
--- any line may take memory: so where a report is made after each
-abbrev pub always : {X L : Type 0} → X → L → Bool
-always x l = true

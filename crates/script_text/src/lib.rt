@@ -4,9 +4,9 @@
 //! reads the first line, and [`read_step`] and [`read_event`] read the others, by what the header covers. A line that
 //! says none of these has a first word from the left that is [`Wrong`], with what is expected there.
 //!
-//! [`print`] gives the report of a world, and [`event_reason`] says why an event is not allowed in it. [`put_header`]
-//! and [`put_event`] add the lines of a script to a [`Page`], which is what all these texts are written on, and
-//! [`Counts`] counts events by kinds.
+//! [`print`] gives the report of a world, [`Outline`] the lines of it that an event changes, and [`event_reason`] says
+//! why an event is not allowed in it. [`put_header`] and [`put_event`] add the lines of a script to a [`Page`], which
+//! is what all these texts are written on, and [`Counts`] counts events by kinds.
 //!
 //! `docs/FORMATS.md` describes lines and reports; `specs/` has the same as definitions: `Texts` and `Reading` for
 //! lines and words, `Headers`, `Steps` and `Events` for what they say, and `Words` for the word by which a fault
@@ -14,6 +14,7 @@
 //! to a page.
 #![tactic(auto)]
 
+mod changes;
 mod counts;
 mod ends;
 mod event_line;
@@ -34,6 +35,7 @@ mod values;
 mod word;
 mod wrong;
 
+pub use changes::Outline;
 pub use counts::Counts;
 pub use ends::{NOT_HERE, end_reason, ended_reason, read_reason, room_reason, wrote_reason};
 pub use event_line::{put_event, put_header};

@@ -1,0 +1,140 @@
+//! The lines of a report that an event changes.
+
+use crate::page::{Page, Piece};
+use crate::report::{
+    put_past, put_place, put_queue_lines, put_rest_line, put_standing, put_way, put_worker, taken,
+    unread,
+};
+use std::alloc::{AllocError, Global};
+use token::{Direction, Name};
+use world::{Doing, Event, Polling, Reported, Slot, World};
+
+/// What a report has, before an event, of all that this event may change: no other slot and worker, and no byte that is
+/// carried. So the time for an event does not depend on these.
+#[derive(Drop)]
+pub struct Outline {
+    worker: usize,
+    slot: usize,
+    /// The lines of the queues, of the worker and of the slot.
+    lines: String,
+    up: Way,
+    down: Way,
+    past: usize,
+}
+
+/// The number of no worker and no slot.
+const NONE: usize = usize::MAX;
+
+/// Whether a slot has a connection, how many bytes each part of the line of one direction has, and how far its end is.
+/// An event either adds bytes to a part or takes some from it.
+type Way = [usize; 7];
+
+impl Outline {
+    /// Of what this event may change, before it.
+    pub fn new(alloc: Global, world: &World, event: &Event) -> Result<Outline, AllocError> {
+        let worker = match event {
+            Event::Work(worker, _) => *worker,
+            _ => NONE,
+        };
+        let slot = slot_of(world, event).unwrap_or(NONE);
+        Ok(Outline {
+            worker,
+            slot,
+            lines: lines(alloc, world, worker, slot)?,
+            up: way(world, slot, Direction::Up),
+            down: way(world, slot, Direction::Down),
+            past: world.past().len(),
+        })
+    }
+
+    /// The lines of the report after the event that are not in the report before, in their order.
+    pub fn changes(&self, alloc: Global, world: &World) -> Result<String, AllocError> {
+        let mut page = Page::new(alloc);
+        let after = lines(alloc, world, self.worker, self.slot)?;
+        let mut before = self.lines.as_str().split('\n');
+        for line in after.as_str().split('\n') {
+            if before.next() != Some(line) {
+                page.put(&[Piece::Text(line), Piece::Text("\n")]);
+            }
+        }
+        self.put_way(&mut page, world, self.up, Direction::Up);
+        self.put_way(&mut page, world, self.down, Direction::Down);
+        if let Some(past) = world.past().get(self.past..) {
+            put_past(&mut page, past);
+        }
+        page.finish()
+    }
+
+    /// Adds the line of one direction, if it was another one before.
+    fn put_way(&self, page: &mut Page, world: &World, before: Way, direction: Direction) {
+        if let Some(connection) = world.connection(self.slot) {
+            if way(world, self.slot, direction) != before {
+                put_way(page, self.slot, world, connection, direction);
+            }
+        }
+    }
+}
+
+/// The slot whose lines an event may change.
+fn slot_of(world: &World, event: &Event) -> Option<usize> {
+    match event {
+        Event::Network(slot, _, _)
+        | Event::Spurious(Reported::End(slot, _))
+        | Event::Vanish(Reported::End(slot, _))
+        | Event::Poll(Polling::Sweep(slot)) => Some(*slot),
+        Event::Poll(Polling::Open) => world.free_slots().first().copied(),
+        Event::Poll(Polling::Deliver) => match world.batch().first() {
+            Some(Name::End(token)) => Some(token.slot()),
+            _ => None,
+        },
+        Event::Work(worker, _) => match world.workers().get(*worker)?.doing() {
+            Doing::Idle => None,
+            Doing::Tries(ticket) => Some(ticket.slot),
+            Doing::Holds(slot, _) | Doing::Closed(slot) | Doing::Retired(slot) => Some(slot),
+        },
+        // A report or a ticket that is passed on is still one of the same connection.
+        Event::Poll(Polling::Poll(_) | Polling::Put)
+        | Event::Tick(_)
+        | Event::Spurious(_)
+        | Event::Vanish(_)
+        | Event::Listen(_) => None,
+    }
+}
+
+fn lines(alloc: Global, world: &World, worker: usize, slot: usize) -> Result<String, AllocError> {
+    let mut page = Page::new(alloc);
+    put_queue_lines(&mut page, world);
+    if let Some(there) = world.workers().get(worker) {
+        put_worker(&mut page, worker, there);
+    }
+    if let Some(there) = world.slots().get(slot) {
+        put_slot_line(&mut page, world, slot, there);
+    }
+    page.finish()
+}
+
+fn put_slot_line(page: &mut Page, world: &World, number: usize, slot: &Slot) {
+    match slot.connection() {
+        None => put_rest_line(page, number, slot),
+        Some(connection) => {
+            put_place(page, number, slot, connection);
+            put_standing(page, world, number, slot);
+        }
+    }
+}
+
+fn way(world: &World, slot: usize, direction: Direction) -> Way {
+    let Some(connection) = world.connection(slot) else {
+        return [0; 7];
+    };
+    let (kernel, pair) = (world.kernel(), &connection.pair);
+    [
+        1,
+        taken(kernel.end(connection.descriptor(direction.destination()))).len(),
+        pair.lead_len(direction),
+        pair.ring_len(direction),
+        unread(kernel.end(connection.descriptor(direction.source()))).len(),
+        pair.end_seen(direction) as usize,
+        pair.is_shut(direction) as usize,
+    ]
+}
