@@ -7,11 +7,12 @@ use crate::constants::{DONE, FAULT};
 use crate::faults::ProgramFault;
 use crate::recording_file::is_recording;
 use crate::streams::{Stream, Unopened, log_error};
-use log::Log;
+use log::{Log, warn};
 use records::{Outcome, Replay, ReplayFault, Wanted};
+use script::MAX_BYTES;
 use settings::EndOfLine;
 use std::fs::{self, File};
-use std::io::Write;
+use std::io::{self, Write};
 use std::rt::Files;
 
 /// Replays the recording in a file. Returns 0 if it is of runs of the machine, and 1 if not. What is wrong with the
@@ -45,15 +46,52 @@ pub(crate) fn replay_file<R: AllocGlobal + Files, L: Log, O: Write, P: Replay>(
         inner: file,
         log,
     };
-    match player.replay(rt.alloc(), &mut file, wanted, replayed.rests, writer) {
-        Ok(Outcome::Run) => Ok(DONE),
-        Ok(Outcome::NoRun) => Ok(FAULT),
+    let mut writer = Counted { writer, bytes: 0 };
+    let outcome = player.replay(rt.alloc(), &mut file, wanted, replayed.rests, &mut writer);
+    match outcome {
+        Ok(Outcome::Run) => {
+            if matches!(wanted, Wanted::Script(..)) {
+                warn_if_long(log, writer.bytes);
+            }
+            Ok(DONE)
+        }
+        Ok(Outcome::NoRun) => {
+            warn_if_long(log, writer.bytes);
+            Ok(FAULT)
+        }
         Err(fault) => {
             if let ReplayFault::Broken(cause) = &fault {
                 log_error(log, &name, cause);
             }
             Err(ProgramFault::Replay(fault))
         }
+    }
+}
+
+/// Warns of a script that `sim` does not take.
+fn warn_if_long(log: &impl Log, bytes: usize) {
+    let most = MAX_BYTES;
+    if bytes > most {
+        warn!(log; target: "relayd", "output: the script has {bytes} bytes, and relayd sim takes at most {most}");
+    }
+}
+
+/// A writer, and how many bytes were written to it.
+#[derive(Drop)]
+struct Counted<W> {
+    writer: W,
+    bytes: usize,
+}
+
+impl<W: Write> Write for Counted<W> {
+    fn write(&mut self, bytes: &[u8]) -> io::Result<usize> {
+        let written = self.writer.write(bytes)?;
+        self.bytes = self.bytes.saturating_add(written);
+        Ok(written)
+    }
+
+    fn flush(&mut self) -> io::Result<()> {
+        self.writer.flush()
     }
 }
 
