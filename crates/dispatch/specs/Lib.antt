@@ -1,4 +1,5 @@
 -- The crate's definitions. The first line of each file says whether the promises need it.
+pub mod Acts
 pub mod Counted
 pub mod Fronts
 pub mod Hands

@@ -9,6 +9,7 @@
 //!   are made from [`Parts`].
 //! - There may be several pollers, each with a [`Part`] of the slots, as [`Split`] deals them, and with [`HeavyMarks`],
 //!   by which its thread leaves tickets to the workers.
+//! - [`Acts`] and [`Moves`] are the acts of a thread at a slot, by which a turn says in which order it makes them.
 //! - [`Gate`] lets a test hold a turn back.
 //! - [`Clock`] shows the second, for the idle limit ([`Timing`]).
 //!
@@ -18,6 +19,7 @@
 //! `specs/Counted.antt`).
 #![tactic(auto)]
 
+mod acts;
 mod clock;
 mod front;
 mod fullness;
@@ -32,6 +34,7 @@ mod route;
 mod shared;
 mod split;
 
+pub use acts::{Acts, Moves};
 pub use clock::{Clock, Timing};
 pub use front::{Front, Opened, Settle, Unopened, Waiting};
 pub use fullness::Fullness;

@@ -1,6 +1,6 @@
 -- The end of a turn, after the steps that took the notes and ran the connection; a turn of a poller's own; and the
 -- tickets in hand of which some were looked at: each of those is put, or after the others in hand.
-use Rattle.std.proofs.Common.{◌≡◌, ◌⊎◌, ◌+◌, ◌↔◌, ◌<◌, ◌≤◌, ℕ, List, [], ◌∷◌, length, drop, slice_get, Bool, true, false, IsTrue, Option, Some, None, Result, Ok, Err, IfErr, IfSome, IsErrAnd, inl, inr, refl, sym, ap, subst, ◌∙◌, arith, suc, ◌++◌, append_assoc, zero, nat_lt}
+use Rattle.std.proofs.Common.{◌≡◌, ◌⊎◌, ◌+◌, ◌↔◌, ◌<◌, ◌≤◌, ℕ, List, [], ◌∷◌, length, drop, slice_get, Bool, true, false, IsTrue, Option, Some, None, Result, Ok, Err, IfErr, IfOk, IfSome, IsErrAnd, inl, inr, refl, sym, ap, subst, ◌∙◌, arith, suc, ◌++◌, append_assoc, zero, nat_lt}
 use Rattle.std.proofs.lemmas.Option.{none-some, same_Some}
 use denote.Enum.Bare.{sameb}
 use Rattle.turns.specs.contracts.worker.Worked.{the_type}
@@ -10,6 +10,9 @@ use Rattle.claims.specs.declared.view.Exchange.TheVariants.{Busy, Held, Take, Re
 use Rattle.claims.specs.declared.answers.Posted.{Posted}
 use Rattle.claims.specs.declared.answers.Posted.TheVariants as posted
 use Rattle.claims.specs.Calls.{PostChange}
+use Rattle.claims.specs.declared.answers.Released.{Released}
+use Rattle.claims.specs.declared.answers.Released.TheVariants as released
+use Rattle.claims.specs.contracts.answers.Released.{the_type as released_type}
 use Rattle.dispatch.proofs.Holding.{holds_still, holds_from, holds_behind_post, woke_behind_post}
 use Rattle.claims.specs.Views.{after_all, minted_by}
 use Rattle.claims.specs.Seats.{TableId, SeatState, account_at, Holds, HoldsNothing, OnlyAt, Adds}
@@ -20,10 +23,13 @@ use Rattle.relay_log.specs.declared.faults.ServerFault.{ServerFault}
 use Rattle.dispatch.specs.declared.shared.Own.{Own}
 use Rattle.turns.specs.declared.worker.Worked.{Worked}
 use Rattle.turns.specs.declared.worker.Worked.TheVariants as worked
-use Rattle.dispatch.specs.Outgoing.{Inserted, TookNothing, outgoing, tickets_out, slots_out, without_first}
+use Rattle.dispatch.specs.Outgoing.{Inserted, KeepsTicket, TookNothing, outgoing, tickets_out, slots_out, without_first}
 use Rattle.dispatch.specs.Posts.{HoldsOnly}
 use Rattle.dispatch.specs.Hands.{HandState, HasRoom}
-use Rattle.turns.specs.Turns.{WasHeld, program, AtWork, TicketsKept, SlotsKept, SlotGiven, TurnDone, ClaimedTurn, TurnEnd, LeftSlot, TurnMade, NoOwnTurn, marks_after}
+use Rattle.dispatch.specs.Limits.{last_generation}
+use Rattle.dispatch.specs.Acts.{Act, AreMade, leaving, giving}
+use Rattle.dispatch.specs.Acts as act
+use Rattle.turns.specs.Turns.{WasHeld, ActsLeft, TurnInOrder, OwnTurnInOrder, program, AtWork, TicketsKept, SlotsKept, SlotGiven, TurnDone, ClaimedTurn, TurnEnd, LeftSlot, TurnMade, OwnTurn, NoOwnTurn, marks_after}
 use Rattle.std.specs.Prelude.{Some}
 use Rattle.std.proofs.lemmas.List.{append-nil}
 use Rattle.ready.specs.declared.history.History.{History}
@@ -75,74 +81,239 @@ claim_first (Ok worked.Again) found notes woke held = refl
 claim_first (Ok worked.Quiet) found notes woke held = refl
 claim_first (Err fault) found notes woke held = refl
 
--- the notes were taken, and then the turn came to its end
-pub taken_then : (t : Ticket) (r : Result Worked ServerFault) (notes : ℕ) (a b c : Own) → Adds t.slot (Take notes ∷ []) a.seat b.seat → tickets_out b ≡ tickets_out a
-    → slots_out b ≡ slots_out a
-    → TookNothing a b → TurnEnd t r b c → ClaimedTurn t r a c
-taken_then t r notes a b c adds tickets slots took end = record {
-  noted = notes;
-  woke = end.woke;
-  held = end.held;
-  done = subst (λ (es : List Exchange). TurnDone t es r a c) (take_first r notes end.woke end.held)
-      (done_after t (Take notes ∷ []) (drop 2 (program r 0 0 end.woke)) r a b c adds refl tickets slots took end.done);
-}
+-- The acts of a turn that come before those that are left
 
-pub played_then : {a b c : Own} {s t : Ticket} {r : Result Worked ServerFault} {notes : ℕ} → TurnEnd s r b c → s ≡ t → Adds t.slot (Take notes ∷ []) a.seat b.seat
-    → tickets_out b ≡ tickets_out a → slots_out b ≡ slots_out a
-    → TookNothing a b → ClaimedTurn t r a c
-played_then {a} {b} {c} {s} {t} {r} {notes} end same adds tickets slots took =
-    taken_then t r notes a b c adds tickets slots took (subst (λ (u : Ticket). TurnEnd u r b c) same end)
+abbrev pub HasPlayed : Result Worked ServerFault → Type 0
+HasPlayed (Ok worked.Busy) = ⊥
+HasPlayed (Ok worked.Gone) = ⊥
+HasPlayed (Ok worked.Ended) = Unit {0}
+HasPlayed (Ok worked.Again) = Unit {0}
+HasPlayed (Ok worked.Quiet) = Unit {0}
+HasPlayed (Err fault) = Unit {0}
+
+pub has_played : (r : Result Worked ServerFault) → IfOk r (λ w. w ≡ worked.Again) → HasPlayed r
+has_played (Ok worked.Busy) is = cc
+has_played (Ok worked.Gone) is = cc
+has_played (Ok worked.Ended) is = tt
+has_played (Ok worked.Again) is = tt
+has_played (Ok worked.Quiet) is = tt
+has_played (Err fault) is = tt
+
+module _ {S : Type 0} (made : Act → ℕ → S → S → Type 0) where
+  notes_first : (t : Ticket) (r : Result Worked ServerFault) (woke : Bool) (a b c : S) → HasPlayed r → made act.TakeNotes t.slot a b → ActsLeft made t r 3 false woke b c
+      → ActsLeft made t r 2 false woke a c
+  notes_first t (Ok worked.Busy) woke a b c played first left = absurd played
+  notes_first t (Ok worked.Gone) woke a b c played first left = absurd played
+  notes_first t (Ok worked.Ended) woke a b c played first left = (b, first, left)
+  notes_first t (Ok worked.Again) woke a b c played first left = (b, first, left)
+  notes_first t (Ok worked.Quiet) woke a b c played first left = (b, first, left)
+  notes_first t (Err fault) woke a b c played first left = (b, first, left)
+
+  out_first : (t : Ticket) (r : Result Worked ServerFault) (woke : Bool) (a b c : S) → WasHeld r → made act.TakeOut t.slot a b → ActsLeft made t r 2 false woke b c
+      → ActsLeft made t r 1 false woke a c
+  out_first t (Ok worked.Busy) woke a b c held first left = absurd held
+  out_first t (Ok worked.Gone) woke a b c held first left = (b, first, left)
+  out_first t (Ok worked.Ended) woke a b c held first left = (b, first, left)
+  out_first t (Ok worked.Again) woke a b c held first left = (b, first, left)
+  out_first t (Ok worked.Quiet) woke a b c held first left = (b, first, left)
+  out_first t (Err fault) woke a b c held first left = (b, first, left)
+
+  claimed_first : (t : Ticket) (r : Result Worked ServerFault) (other woke : Bool) (a b c : S) → made act.Claim t.slot a b → ActsLeft made t r 1 other woke b c
+      → ActsLeft made t r 0 other woke a c
+  claimed_first t (Ok worked.Busy) other woke a b c first left = (b, first, left)
+  claimed_first t (Ok worked.Gone) other woke a b c first left = (b, first, left)
+  claimed_first t (Ok worked.Ended) other woke a b c first left = (b, first, left)
+  claimed_first t (Ok worked.Again) other woke a b c first left = (b, first, left)
+  claimed_first t (Ok worked.Quiet) other woke a b c first left = (b, first, left)
+  claimed_first t (Err fault) other woke a b c first left = (b, first, left)
+
+  -- the connection was taken out, and was the ticket's own; or another one was put in again; or the place was empty
+
+  pub own_out : {s t : Ticket} {r : Result Worked ServerFault} {old new : Own} (a b c : S) → s ≡ t → made act.TakeOut t.slot a b
+      → (turn : ClaimedTurn s r old new) × ActsLeft made s r 2 false turn.woke b c
+      → (turn : ClaimedTurn t r old new) × (other : Bool) × ActsLeft made t r 1 other turn.woke a c
+  own_out {s} {t} {r} {old} {new} a b c same first whole =
+      let own = subst (λ (u : Ticket). (turn : ClaimedTurn u r old new) × ActsLeft made u r 2 false turn.woke b c) same whole in
+      (own.0, false, out_first t r own.0.woke a b c own.0.held first own.1)
+
+  pub none_out : (t : Ticket) (old new : Own) (a b c : S) → made act.TakeOut t.slot a b
+      → (turn : ClaimedTurn t (Ok worked.Gone) old new) × AreMade made t.slot (act.Discard ∷ leaving turn.woke) b c
+      → (turn : ClaimedTurn t (Ok worked.Gone) old new) × (other : Bool) × ActsLeft made t (Ok worked.Gone) 1 other turn.woke a c
+  none_out t old new a b c first whole = (whole.0, false, (b, first, whole.1))
+
+  pub other_out : (s t : Ticket) (old new : Own) (a b c d : S) → s ≡ t → made act.TakeOut t.slot a b → made act.PutIn s.slot b c
+      → (turn : ClaimedTurn t (Ok worked.Gone) old new) × AreMade made t.slot (act.Discard ∷ leaving turn.woke) c d
+      → (turn : ClaimedTurn t (Ok worked.Gone) old new) × (other : Bool) × ActsLeft made t (Ok worked.Gone) 1 other turn.woke a d
+  other_out s t old new a b c d same first then whole = (whole.0, true, (b, first, (c, subst (λ (u : Ticket). made act.PutIn u.slot b c) same then, whole.1)))
+
+  -- without one, the notes were thrown away, and the slot was released
+  pub given_up : (t : Ticket) (notes : ℕ) (a b c : Own) (from mid to : S) → Adds t.slot (Take notes ∷ []) a.seat b.seat → tickets_out b ≡ tickets_out a
+      → slots_out b ≡ slots_out a → TookNothing a b → made act.Discard t.slot from mid → (left : LeftSlot t b c) × AreMade made t.slot (leaving left.woke) mid to
+      → (turn : ClaimedTurn t (Ok worked.Gone) a c) × AreMade made t.slot (act.Discard ∷ leaving turn.woke) from to
+  given_up t notes a b c from mid to adds tickets slots took first whole =
+      let left = whole.0 in
+      let done : TurnDone t (Release left.woke ∷ []) (Ok worked.Gone) b c =
+      record { seat = left.done.seat; tickets = left.done.tickets; slots = left.done.slots; took = left.done.took } in (
+        record {
+          noted = notes;
+          woke = left.woke;
+          held = tt;
+          done = done_after t (Take notes ∷ []) (Release left.woke ∷ []) (Ok worked.Gone) a b c adds refl tickets slots took done;
+        },
+        (mid, first, whole.1),
+      )
+
+  -- the release woke, and the ticket was put; or it did not
+
+  pub left_put : (t : Ticket) (a d e : Own) (s : SeatState) (from mid last to : S) → e ≡ d → to ≡ last → Adds t.slot (Release true ∷ []) a.seat s → d.seat ≡ s
+      → KeepsTicket t d.ready.history d.hand → Inserted t (tickets_out a) (tickets_out d) → d.ready.history.taken ≡ a.ready.history.taken → d.free ≡ a.free
+      → d.hand.slots ≡ a.hand.slots → made act.Release t.slot from mid → made act.PutTicket t.slot mid last
+      → (left : LeftSlot t a e) × AreMade made t.slot (leaving left.woke) from to
+  left_put t a d e s from mid last to e_is to_is adds seat kept inserted taken free slots first then =
+      subst (λ (o : Own). (left : LeftSlot t a o) × AreMade made t.slot (leaving left.woke) from to) (sym e_is)
+      (subst (λ (x : S). (left : LeftSlot t a d) × AreMade made t.slot (leaving left.woke) from x) (sym to_is) (
+        record {
+          woke = true;
+          quiet = λ is. absurd (false≢true (sym is));
+          done = record {
+            seat = subst (λ (q : SeatState). Adds t.slot (Release true ∷ []) a.seat q) (sym seat) adds;
+            tickets = record { kept = kept; tickets = inserted };
+            slots = ap (λ (q : EndState ℕ). outgoing q.history d.hand.slots) free ∙ ap (λ (xs : List ℕ). outgoing a.free.history xs) slots;
+            took = record { tickets = taken; slots = ap (λ (q : EndState ℕ). q.history.taken) free };
+          };
+        },
+        (mid, first, (last, then, refl)),
+      ))
+
+  pub left_quiet : (t : Ticket) (a e : Own) (s : SeatState) (from mid to : S) → e ≡ record a { seat = s } → to ≡ mid → Adds t.slot (Release false ∷ []) a.seat s
+      → (account_at a.seat t.slot).known ≡ 0 → made act.Release t.slot from mid → (left : LeftSlot t a e) × AreMade made t.slot (leaving left.woke) from to
+  left_quiet t a e s from mid to e_is to_is adds known first =
+      subst (λ (o : Own). (left : LeftSlot t a o) × AreMade made t.slot (leaving left.woke) from to) (sym e_is)
+      (subst (λ (x : S). (left : LeftSlot t a (record a { seat = s })) × AreMade made t.slot (leaving left.woke) from x) (sym to_is) (
+        record {
+          woke = false;
+          quiet = λ is. known;
+          done = record { seat = adds; tickets = refl; slots = refl; took = record { tickets = refl; slots = refl } };
+        },
+        (mid, first, refl),
+      ))
+
+  -- the connection was put in before the slot was left
+  pub put_first : {s t : Ticket} {r : Result Worked ServerFault} {old new : Own} (a b c : S) → s ≡ t → IfOk r (λ w. w ≡ worked.Again) → made act.PutIn t.slot a b
+      → (turn : TurnEnd s r old new) × ActsLeft made s r 4 false turn.woke b c → (turn : TurnEnd t r old new) × ActsLeft made t r 3 false turn.woke a c
+  put_first {s} {t} {r} {old} {new} a b c same is first whole =
+      by_answer r is (subst (λ (u : Ticket). (turn : TurnEnd u r old new) × ActsLeft made u r 4 false turn.woke b c) same whole)
+    where
+      by_answer : (q : Result Worked ServerFault) → IfOk q (λ w. w ≡ worked.Again) → (turn : TurnEnd t q old new) × ActsLeft made t q 4 false turn.woke b c
+          → (turn : TurnEnd t q old new) × ActsLeft made t q 3 false turn.woke a c
+      by_answer (Ok worked.Busy) is own = absurd (cc)
+      by_answer (Ok worked.Gone) is own = absurd (cc)
+      by_answer (Ok worked.Ended) is own = absurd (cc)
+      by_answer (Ok worked.Again) is own = (own.0, (b, first, own.1))
+      by_answer (Ok worked.Quiet) is own = absurd (cc)
+      by_answer (Err fault) is own = (own.0, (b, first, own.1))
+
+  pub quiet_put : {s t : Ticket} {old new : Own} (a b c : S) → s ≡ t → made act.PutIn t.slot a b
+      → (left : LeftSlot s old new) × AreMade made s.slot (leaving left.woke) b c
+      → (turn : TurnEnd t (Ok worked.Quiet) old new) × ActsLeft made t (Ok worked.Quiet) 4 false turn.woke a c
+  quiet_put {s} {t} {old} {new} a b c same first whole =
+      let own = subst (λ (u : Ticket). (left : LeftSlot u old new) × AreMade made u.slot (leaving left.woke) b c) same whole in
+      (record { woke = own.0.woke; held = tt; done = own.0.done }, (b, first, own.1))
+
+  pub settled_first : {s t : Ticket} {old new : Own} (a b c : S) → s ≡ t → made act.Settle t.slot a b
+      → (turn : TurnEnd s (Ok worked.Quiet) old new) × ActsLeft made s (Ok worked.Quiet) 4 false turn.woke b c
+      → (turn : TurnEnd t (Ok worked.Quiet) old new) × ActsLeft made t (Ok worked.Quiet) 3 false turn.woke a c
+  settled_first {s} {t} {old} {new} a b c same first whole =
+      let own = subst (λ (u : Ticket). (turn : TurnEnd u (Ok worked.Quiet) old new) × ActsLeft made u (Ok worked.Quiet) 4 false turn.woke b c) same whole in
+      (own.0, (b, first, own.1))
+
+-- the notes were taken, and then the turn came to its end
+pub played_then : {S : Type 0} (made : Act → ℕ → S → S → Type 0) (from mid to : S) {a b c : Own} {s t : Ticket} {r : Result Worked ServerFault} {notes : ℕ}
+    → (end : TurnEnd s r b c) × ActsLeft made s r 3 false end.woke mid to
+    → s ≡ t → HasPlayed r → made act.TakeNotes t.slot from mid → Adds t.slot (Take notes ∷ []) a.seat b.seat → tickets_out b ≡ tickets_out a → slots_out b ≡ slots_out a
+    → TookNothing a b → (turn : ClaimedTurn t r a c) × ActsLeft made t r 2 false turn.woke from to
+played_then {S} made from mid to {a} {b} {c} {s} {t} {r} {notes} whole same played first adds tickets slots took =
+    let own = subst (λ (u : Ticket). (end : TurnEnd u r b c) × ActsLeft made u r 3 false end.woke mid to) same whole in (
+      record {
+        noted = notes;
+        woke = own.0.woke;
+        held = own.0.held;
+        done = subst (λ (es : List Exchange). TurnDone t es r a c) (take_first r notes own.0.woke own.0.held)
+            (done_after t (Take notes ∷ []) (drop 2 (program r 0 0 own.0.woke)) r a b c adds refl tickets slots took own.0.done);
+      },
+      notes_first made t r own.0.woke from mid to played first own.1,
+    )
 
 -- the slot was claimed, and then the turn went on
-pub claimed_then : (words : ℕ) (t : Ticket) (r : Result Worked ServerFault) (found : ℕ) (a b c : Own) → t.slot < words → Adds t.slot (Held found ∷ []) a.seat b.seat
-    → tickets_out b ≡ tickets_out a → slots_out b ≡ slots_out a
-    → TookNothing a b → ClaimedTurn t r b c → TurnMade words t r a c
-claimed_then words t r found a b c within adds tickets slots took claimed = record {
-  exchanges = Held found ∷ drop 1 (program r 0 claimed.noted claimed.woke);
-  are = record {
-    found = found;
-    noted = claimed.noted;
-    woke = claimed.woke;
-    inside = λ lt. claim_first r found claimed.noted claimed.woke claimed.held;
-    outside = λ past. absurd (omega arith);
-  };
-  done = done_after t (Held found ∷ []) (drop 1 (program r 0 claimed.noted claimed.woke)) r a b c adds refl tickets slots took claimed.done;
-  outside = λ past. absurd (omega arith);
-}
+pub claimed_then : {S : Type 0} (made : Act → ℕ → S → S → Type 0) (from mid to : S) (words : ℕ) (t : Ticket) (r : Result Worked ServerFault) (found : ℕ) (a b c : Own)
+    → t.slot < words → made act.Claim t.slot from mid → Adds t.slot (Held found ∷ []) a.seat b.seat → tickets_out b ≡ tickets_out a → slots_out b ≡ slots_out a
+    → TookNothing a b → (claimed : ClaimedTurn t r b c) × (other : Bool) × ActsLeft made t r 1 other claimed.woke mid to → TurnInOrder made words t r a c from to
+claimed_then made from mid to words t r found a b c within first adds tickets slots took whole =
+    let claimed = whole.0 in (
+      record {
+        exchanges = Held found ∷ drop 1 (program r 0 claimed.noted claimed.woke);
+        are = record {
+          found = found;
+          noted = claimed.noted;
+          woke = claimed.woke;
+          inside = λ lt. claim_first r found claimed.noted claimed.woke claimed.held;
+          outside = λ past. absurd (omega arith);
+        };
+        done = done_after t (Held found ∷ []) (drop 1 (program r 0 claimed.noted claimed.woke)) r a b c adds refl tickets slots took claimed.done;
+        outside = λ past. absurd (omega arith);
+      },
+      λ lt. (whole.1, claimed_first made t r whole.1 claimed.woke from mid to first whole.2),
+      λ past. absurd (omega arith),
+    )
 
 -- the slot was held by another
-pub busy_made : (words : ℕ) (t : Ticket) (a b : Own) → t.slot < words → Adds t.slot (Busy ∷ []) a.seat b.seat → tickets_out b ≡ tickets_out a → slots_out b ≡ slots_out a
-    → TookNothing a b → TurnMade words t (Ok worked.Busy) a b
-busy_made words t a b within adds tickets slots took = record {
-  exchanges = Busy ∷ [];
-  are = record { found = 0; noted = 0; woke = false; inside = λ lt. refl; outside = λ past. absurd (omega arith) };
-  done = record { seat = adds; tickets = tickets; slots = slots; took = took };
-  outside = λ past. absurd (omega arith);
-}
+pub busy_made : {S : Type 0} (made : Act → ℕ → S → S → Type 0) (from to : S) (words : ℕ) (t : Ticket) (a b : Own) → t.slot < words → made act.Claim t.slot from to
+    → Adds t.slot (Busy ∷ []) a.seat b.seat → tickets_out b ≡ tickets_out a → slots_out b ≡ slots_out a
+    → TookNothing a b → TurnInOrder made words t (Ok worked.Busy) a b from to
+busy_made made from to words t a b within first adds tickets slots took = (
+  record {
+    exchanges = Busy ∷ [];
+    are = record { found = 0; noted = 0; woke = false; inside = λ lt. refl; outside = λ past. absurd (omega arith) };
+    done = record { seat = adds; tickets = tickets; slots = slots; took = took };
+    outside = λ past. absurd (omega arith);
+  },
+  λ lt. (false, (to, first, refl)),
+  λ past. absurd (omega arith),
+)
 
 -- the claim words lack the slot
-pub none_made : (words : ℕ) (t : Ticket) (a : Own) → words ≤ t.slot → TurnMade words t (Ok worked.Gone) a a
-none_made words t a past = record {
-  exchanges = [];
-  are = record { found = 0; noted = 0; woke = false; inside = λ lt. absurd (omega arith); outside = λ gone. (refl, refl) };
-  done = record { seat = adds_none t.slot a.seat; tickets = refl; slots = refl; took = record { tickets = refl; slots = refl } };
-  outside = λ gone. refl;
-}
+pub none_made : {S : Type 0} (made : Act → ℕ → S → S → Type 0) (from : S) (words : ℕ) (t : Ticket) (a : Own) → words ≤ t.slot
+    → TurnInOrder made words t (Ok worked.Gone) a a from from
+none_made made from words t a past = (
+  record {
+    exchanges = [];
+    are = record { found = 0; noted = 0; woke = false; inside = λ lt. absurd (omega arith); outside = λ gone. (refl, refl) };
+    done = record { seat = adds_none t.slot a.seat; tickets = refl; slots = refl; took = record { tickets = refl; slots = refl } };
+    outside = λ gone. refl;
+  },
+  λ lt. absurd (omega arith),
+  λ gone. refl,
+)
 
 -- nothing but what is in hand was put before the turn
-pub made_after : (words : ℕ) (t : Ticket) (r : Result Worked ServerFault) (a b c : Own) → b.seat ≡ a.seat → tickets_out b ≡ tickets_out a → slots_out b ≡ slots_out a
-    → TookNothing a b → TurnMade words t r b c → TurnMade words t r a c
-made_after words t r a b c same tickets slots took made = record {
-  exchanges = made.exchanges;
-  are = made.are;
-  done = record {
-    seat = subst (λ (s : SeatState). Adds t.slot made.exchanges s c.seat) same made.done.seat;
-    tickets = tickets_after t (minted_by made.exchanges) a b c tickets made.done.tickets;
-    slots = slots_after t r a b c slots made.done.slots;
-    took = record { tickets = made.done.took.tickets ∙ took.tickets; slots = made.done.took.slots ∙ took.slots };
-  };
-  outside = λ past. made.outside past ∙ same;
-}
+pub made_after : {S : Type 0} (made : Act → ℕ → S → S → Type 0) (from to : S) (words : ℕ) (t : Ticket) (r : Result Worked ServerFault) (a b c : Own) → b.seat ≡ a.seat
+    → tickets_out b ≡ tickets_out a → slots_out b ≡ slots_out a → TookNothing a b → TurnInOrder made words t r b c from to → TurnInOrder made words t r a c from to
+made_after made from to words t r a b c same tickets slots took whole =
+    let turn = whole.0 in (
+      record {
+        exchanges = turn.exchanges;
+        are = turn.are;
+        done = record {
+          seat = subst (λ (s : SeatState). Adds t.slot turn.exchanges s c.seat) same turn.done.seat;
+          tickets = tickets_after t (minted_by turn.exchanges) a b c tickets turn.done.tickets;
+          slots = slots_after t r a b c slots turn.done.slots;
+          took = record { tickets = turn.done.took.tickets ∙ took.tickets; slots = turn.done.took.slots ∙ took.slots };
+        };
+        outside = λ past. turn.outside past ∙ same;
+      },
+      whole.1,
+      whole.2,
+    )
 
 program_lets_go : (r : Result Worked ServerFault) (found noted : ℕ) (woke : Bool) (a : Account) → a.holds ≡ false → (after_all (program r found noted woke) a).holds ≡ false
 program_lets_go (Ok worked.Busy) found noted woke a none = none
@@ -223,9 +394,22 @@ marks_fault o t r fault heavy first is =
     subst (λ (p : Option Ticket). heavy ≡ marks_after p r heavy) (sym first) (subst (λ (q : Result (Option Worked) ServerFault). heavy ≡ marks_after (Some t) q heavy) (sym is)
     refl)
 
-pub own_made : (words : ℕ) (t : Ticket) (r : Result Worked ServerFault) (old new : Own) (hand : HandState) → hand ≡ record old.hand { tickets = drop 1 old.hand.tickets }
-    → TurnMade words t r (record old { hand = hand }) new → TurnMade words t r (without_first old) new
-own_made words t r old new hand is made = subst (λ (h : HandState). TurnMade words t r (record old { hand = h }) new) is made
+pub own_made : {S : Type 0} (made : Act → ℕ → S → S → Type 0) (from to : S) (words : ℕ) (t : Ticket) (r : Result Worked ServerFault) (old new : Own) (hand : HandState)
+    → hand ≡ record old.hand { tickets = drop 1 old.hand.tickets } → TurnInOrder made words t r (record old { hand = hand }) new from to
+    → TurnInOrder made words t r (without_first old) new from to
+own_made made from to words t r old new hand is whole = subst (λ (h : HandState). TurnInOrder made words t r (record old { hand = h }) new from to) is whole
+
+-- what its order is, beside
+pub without_order : {S : Type 0} (made : Act → ℕ → S → S → Type 0) (words : ℕ) (t : Ticket) (r : Result (Option Worked) ServerFault) (old new : Own) (from to : S)
+    → OwnTurnInOrder made words t r old new from to → OwnTurn words t r old new
+without_order made words t (Ok None) old new from to whole = whole.0
+without_order made words t (Ok (Some w)) old new from to whole = whole.0
+without_order made words t (Err fault) old new from to whole = whole.0
+
+pub without_orders : {S : Type 0} (made : Act → ℕ → S → S → Type 0) (words : ℕ) (o : Option Ticket) (r : Result (Option Worked) ServerFault) (old new : Own) (from to : S)
+    → IfSome o (λ t. OwnTurnInOrder made words t r old new from to) → IfSome o (λ t. OwnTurn words t r old new)
+without_orders made words (Some t) r old new from to whole = without_order made words t r old new from to whole
+without_orders made words None r old new from to whole = tt
 
 -- the test whether the connection has ended
 pub ended_is : (w : Worked) (is_ended : Bool) → is_ended ≡ sameb the_type w worked.Ended → is_ended ≡ true → w ≡ worked.Ended
@@ -241,6 +425,15 @@ not_ended w b test is same =
     let ended : w ≡ worked.Ended = cc in
     let tested : b ≡ true = test ∙ ap (λ (v : Worked). sameb the_type v worked.Ended) ended in
     cc
+
+-- the test whether a release woke
+pub wake_is : (r : Released) (wakes : Bool) → wakes ≡ sameb released_type r released.Wake → wakes ≡ true → r ≡ released.Wake
+wake_is released.Wake b test is = refl
+wake_is released.Quiet b test is = absurd (cc)
+
+pub quiet_is : (r : Released) (wakes : Bool) → wakes ≡ sameb released_type r released.Wake → wakes ≡ false → r ≡ released.Quiet
+quiet_is released.Wake b test is = absurd (cc)
+quiet_is released.Quiet b test is = refl
 
 -- the slot stays held, and is worked on still
 pub still_working : (claims : TableId) (slot : ℕ) (es : List Exchange) (a b : Own) → AtWork claims slot a → Adds slot es a.seat b.seat
@@ -262,19 +455,24 @@ work_begins claims slot found a b same nothing room inside adds hand = record {
   room = subst (λ (h : HandState). HasRoom h) (sym hand) room;
 }
 
--- the slot was retired, and given back
-pub end_of : (t : Ticket) (a b : Own) → Adds t.slot (Retire ∷ []) a.seat b.seat → SlotGiven t a b → b.free.history.taken ≡ a.free.history.taken → b.ready ≡ a.ready
-    → b.hand.tickets ≡ a.hand.tickets → TurnEnd t (Ok worked.Ended) a b
-end_of t a b adds given took ready tickets = record {
-  woke = false;
-  held = tt;
-  done = record {
-    seat = adds;
-    tickets = ap (λ (q : EndState Ticket). outgoing q.history b.hand.tickets) ready ∙ ap (λ (ts : List Ticket). outgoing a.ready.history ts) tickets;
-    slots = given;
-    took = record { tickets = ap (λ (q : EndState Ticket). q.history.taken) ready; slots = took };
-  };
-}
+-- the connection was closed, and the slot retired and given back
+pub end_of : {S : Type 0} (made : Act → ℕ → S → S → Type 0) (from over past to : S) (t : Ticket) (a b : Own) → made act.Close t.slot from over → made act.Retire t.slot over past
+    → AreMade made t.slot (giving (nat_lt t.generation last_generation)) past to
+    → Adds t.slot (Retire ∷ []) a.seat b.seat → SlotGiven t a b → b.free.history.taken ≡ a.free.history.taken → b.ready ≡ a.ready
+    → b.hand.tickets ≡ a.hand.tickets → (turn : TurnEnd t (Ok worked.Ended) a b) × ActsLeft made t (Ok worked.Ended) 3 false turn.woke from to
+end_of made from over past to t a b closed retired gives adds given took ready tickets = (
+  record {
+    woke = false;
+    held = tt;
+    done = record {
+      seat = adds;
+      tickets = ap (λ (q : EndState Ticket). outgoing q.history b.hand.tickets) ready ∙ ap (λ (ts : List Ticket). outgoing a.ready.history ts) tickets;
+      slots = given;
+      took = record { tickets = ap (λ (q : EndState Ticket). q.history.taken) ready; slots = took };
+    };
+  },
+  (over, closed, (past, retired, gives)),
+)
 
 -- so it is after a post
 pub still_posting : (claims : TableId) (slot : ℕ) (r : Posted) (a b : Own) → AtWork claims slot a → PostChange slot a.seat r b.seat → b.hand ≡ a.hand → AtWork claims slot b
@@ -286,35 +484,48 @@ still_posting claims slot r a b work change hand = record {
 }
 
 -- the release of who has just posted makes the ticket
-pub due_again : (t : Ticket) (a b c : Own) → Adds t.slot (Post false ∷ []) a.seat b.seat → Holds a.seat t.slot → tickets_out b ≡ tickets_out a → slots_out b ≡ slots_out a
-    → TookNothing a b → LeftSlot t b c → TurnEnd t (Ok worked.Again) a c
-due_again t a b c adds holds tickets slots took left =
+due_again : {S : Type 0} (made : Act → ℕ → S → S → Type 0) (from mid to : S) (t : Ticket) (a b c : Own) → made act.Post t.slot from mid
+    → Adds t.slot (Post false ∷ []) a.seat b.seat → Holds a.seat t.slot → tickets_out b ≡ tickets_out a → slots_out b ≡ slots_out a
+    → TookNothing a b → (left : LeftSlot t b c) × AreMade made t.slot (leaving left.woke) mid to
+    → (turn : TurnEnd t (Ok worked.Again) a c) × ActsLeft made t (Ok worked.Again) 4 false turn.woke from to
+due_again made from mid to t a b c posted adds holds tickets slots took whole =
+    let left = whole.0 in
     let due = woke_behind_post t.slot a.seat b.seat left.woke adds holds left.quiet in
     let done = done_after t (Post false ∷ []) (Release left.woke ∷ []) (Ok worked.Quiet) a b c adds refl tickets slots took left.done in
-    let woken : TurnDone t (Post false ∷ Release true ∷ []) (Ok worked.Quiet) a c = subst (λ (w : Bool). TurnDone t (Post false ∷ Release w ∷ []) (Ok worked.Quiet) a c) due done in
-    record { woke = true; held = tt; done = record { seat = woken.seat; tickets = woken.tickets; slots = woken.slots; took = woken.took } }
+    let woken : TurnDone t (Post false ∷ Release true ∷ []) (Ok worked.Quiet) a c = subst (λ (w : Bool). TurnDone t (Post false ∷ Release w ∷ []) (Ok worked.Quiet) a c) due done in (
+      record { woke = true; held = tt; done = record { seat = woken.seat; tickets = woken.tickets; slots = woken.slots; took = woken.took } },
+      (mid, posted, subst (λ (w : Bool). AreMade made t.slot (leaving w) mid to) due whole.1),
+    )
 
-pub posted_again : (t : Ticket) (r : Posted) (a b c : Own) → (r ≡ posted.Wake) ⊎ (r ≡ posted.Quiet) → PostChange t.slot a.seat r b.seat → Holds a.seat t.slot
+pub posted_again : {S : Type 0} (made : Act → ℕ → S → S → Type 0) (from mid to : S) (t : Ticket) (r : Posted) (a b c : Own) → (r ≡ posted.Wake) ⊎ (r ≡ posted.Quiet)
+    → made act.Post t.slot from mid → PostChange t.slot a.seat r b.seat → Holds a.seat t.slot
     → tickets_out b ≡ tickets_out a → slots_out b ≡ slots_out a → TookNothing a b
-    → LeftSlot t b c → TurnEnd t (Ok worked.Again) a c
-posted_again t posted.Wake a b c is change holds tickets slots took left = absurd (false≢true (sym change.1 ∙ holds))
-posted_again t posted.Quiet a b c is change holds tickets slots took left = due_again t a b c change holds tickets slots took left
-posted_again t posted.Worn a b c (inl is) change holds tickets slots took left = cc
-posted_again t posted.Worn a b c (inr is) change holds tickets slots took left = cc
+    → (left : LeftSlot t b c) × AreMade made t.slot (leaving left.woke) mid to
+    → (turn : TurnEnd t (Ok worked.Again) a c) × ActsLeft made t (Ok worked.Again) 4 false turn.woke from to
+posted_again made from mid to t posted.Wake a b c is first change holds tickets slots took left = absurd (false≢true (sym change.1 ∙ holds))
+posted_again made from mid to t posted.Quiet a b c is first change holds tickets slots took left = due_again made from mid to t a b c first change holds tickets slots took left
+posted_again made from mid to t posted.Worn a b c (inl is) first change holds tickets slots took left = absurd (cc)
+posted_again made from mid to t posted.Worn a b c (inr is) first change holds tickets slots took left = absurd (cc)
 
 -- the seat was worn, and the slot was only released
-pub left_worn : (t : Ticket) (fault : ServerFault) (a b c : Own) → b.seat ≡ a.seat → tickets_out b ≡ tickets_out a → slots_out b ≡ slots_out a → TookNothing a b → LeftSlot t b c
-    → TurnEnd t (Err fault) a c
-left_worn t fault a b c same tickets slots took left = record {
-  woke = left.woke;
-  held = tt;
-  done = record {
-    seat = subst (λ (s : SeatState). Adds t.slot (Release left.woke ∷ []) s c.seat) same left.done.seat;
-    tickets = tickets_after t (minted_by (Release left.woke ∷ [])) a b c tickets left.done.tickets;
-    slots = left.done.slots ∙ slots;
-    took = record { tickets = left.done.took.tickets ∙ took.tickets; slots = left.done.took.slots ∙ took.slots };
-  };
-}
+pub left_worn : {S : Type 0} (made : Act → ℕ → S → S → Type 0) (from mid to : S) (t : Ticket) (fault : ServerFault) (a b c : Own) → made act.Post t.slot from mid
+    → b.seat ≡ a.seat → tickets_out b ≡ tickets_out a → slots_out b ≡ slots_out a → TookNothing a b
+    → (left : LeftSlot t b c) × AreMade made t.slot (leaving left.woke) mid to
+    → (turn : TurnEnd t (Err fault) a c) × ActsLeft made t (Err fault) 4 false turn.woke from to
+left_worn made from mid to t fault a b c first same tickets slots took whole =
+    let left = whole.0 in (
+      record {
+        woke = left.woke;
+        held = tt;
+        done = record {
+          seat = subst (λ (s : SeatState). Adds t.slot (Release left.woke ∷ []) s c.seat) same left.done.seat;
+          tickets = tickets_after t (minted_by (Release left.woke ∷ [])) a b c tickets left.done.tickets;
+          slots = left.done.slots ∙ slots;
+          took = record { tickets = left.done.took.tickets ∙ took.tickets; slots = left.done.took.slots ∙ took.slots };
+        };
+      },
+      (mid, first, whole.1),
+    )
 
 -- while its connection is played the slot stays held
 pub still_at_work : (claims : TableId) (s t : Ticket) (a b : Own) → s ≡ t → AtWork claims t.slot a → HoldsOnly t.slot b.seat → OnlyAt t.slot a.seat b.seat → b.hand ≡ a.hand

@@ -15,6 +15,7 @@ use Rattle.relay_log.specs.declared.faults.ServerFault.{ServerFault}
 use Rattle.dispatch.specs.declared.shared.Own.{Own}
 use Rattle.turns.specs.declared.worker.Worked.{Worked}
 use Rattle.turns.specs.declared.worker.Worked.TheVariants as worked
+use Rattle.dispatch.specs.Acts.{Act, AreMade, busy_turn, gone_turn, quiet_turn, again_turn, ended_turn}
 use Rattle.dispatch.specs.Hands.{HasRoom}
 use Rattle.dispatch.specs.Limits.{heavy_marks, last_generation}
 use Rattle.dispatch.specs.Posts.{HoldsOnly}
@@ -38,6 +39,20 @@ program (Ok worked.Quiet) found noted woke = Held found ∷ Take noted ∷ Relea
 program (Ok worked.Again) found noted woke = Held found ∷ Take noted ∷ Post false ∷ Release true ∷ []
 program (Ok worked.Ended) found noted woke = Held found ∷ Take noted ∷ Retire ∷ []
 program (Err fault) found noted woke = Held found ∷ Take noted ∷ Release woke ∷ []
+
+-- The acts of a turn but its calls, in order, by its answer, for a ticket of this generation: where another connection was
+-- in the place or not, and its release answered Wake or not
+abbrev pub acts_of : Result Worked ServerFault → ℕ → Bool → Bool → List Act
+acts_of (Ok worked.Busy) generation other woke = busy_turn
+acts_of (Ok worked.Gone) generation other woke = gone_turn other woke
+acts_of (Ok worked.Quiet) generation other woke = quiet_turn woke
+acts_of (Ok worked.Again) generation other woke = again_turn true
+acts_of (Ok worked.Ended) generation other woke = ended_turn (nat_lt generation last_generation)
+acts_of (Err fault) generation other woke = again_turn woke
+
+-- what is left of them after the first n was made
+abbrev pub ActsLeft : {S : Type 0} → (Act → ℕ → S → S → Type 0) → Ticket → Result Worked ServerFault → ℕ → Bool → Bool → S → S → Type 0
+ActsLeft made ticket result n other woke from to = AreMade made ticket.slot (drop n (acts_of result ticket.generation other woke)) from to
 
 -- the thread holds this slot of these claim words and no other, and its hand has room
 pub record AtWork (claims : TableId) (slot : ℕ) (own : Own) : Type 0 where
@@ -114,12 +129,25 @@ pub record TurnMade (words : ℕ) (ticket : Ticket) (result : Result Worked Serv
   pub done : TurnDone ticket exchanges result old new
   pub outside : words ≤ ticket.slot → new.seat ≡ old.seat
 
+-- All the acts of a turn, but its calls: what they make of the slot's word and of what the thread owns, and their order.
+-- Where the claim words lack the slot, none is made
+abbrev pub TurnInOrder : {S : Type 0} → (Act → ℕ → S → S → Type 0) → ℕ → Ticket → Result Worked ServerFault → Own → Own → S → S → Type 0
+TurnInOrder made words ticket result old new from to =
+    (turn : TurnMade words ticket result old new)
+    × (ticket.slot < words → (other : Bool) × ActsLeft made ticket result 0 other turn.are.woke from to)
+    × (words ≤ ticket.slot → to ≡ from)
+
 -- A poller's own turn with the oldest ticket in hand, by its answer: where it answers None nothing changes, and else it
 -- is a turn with that ticket, which is no longer in hand
 abbrev pub OwnTurn : ℕ → Ticket → Result (Option Worked) ServerFault → Own → Own → Type 0
 OwnTurn words ticket (Ok None) old new = new ≡ old
 OwnTurn words ticket (Ok (Some worked)) old new = TurnMade words ticket (Ok worked) (without_first old) new
 OwnTurn words ticket (Err fault) old new = TurnMade words ticket (Err fault) (without_first old) new
+
+abbrev pub OwnTurnInOrder : {S : Type 0} → (Act → ℕ → S → S → Type 0) → ℕ → Ticket → Result (Option Worked) ServerFault → Own → Own → S → S → Type 0
+OwnTurnInOrder made words ticket (Ok None) old new from to = (new ≡ old) × (to ≡ from)
+OwnTurnInOrder made words ticket (Ok (Some worked)) old new from to = TurnInOrder made words ticket (Ok worked) (without_first old) new from to
+OwnTurnInOrder made words ticket (Err fault) old new from to = TurnInOrder made words ticket (Err fault) (without_first old) new from to
 
 -- the heavy marks after an own turn: a connection that spent its budget has all of them, and the others have what they had
 abbrev pub marks_after : Option Ticket → Result (Option Worked) ServerFault → List ℕ → List ℕ

@@ -1,21 +1,25 @@
 //! What a turn puts into the queues: the ticket of its slot, or the slot. What a queue refuses stays in hand.
-ghost use Rattle.std.specs.Prelude.{◌≡◌, ◌<◌, length};
+ghost use Rattle.std.specs.Prelude.{◌≡◌, ◌<◌, nat_lt, length};
 ghost use Rattle.claims.specs.Seats.{HoldsNot};
+ghost use Rattle.dispatch.specs.Acts as act;
+ghost use Rattle.dispatch.specs.Acts.{AreMade, giving};
+ghost use Rattle.dispatch.specs.Limits.{last_generation};
 ghost use Rattle.dispatch.specs.Outgoing.{tickets_out, slots_out, Inserted, KeepsTicket, KeepsSlot};
 ghost use Rattle.turns.specs.Shares.{Passed};
 ghost use Rattle.turns.specs.Turns.{SlotGiven};
 
 use crate::visit::Closed;
-use dispatch::Own;
+use dispatch::{Acts, Own};
 use ready::{Full, Ticket};
 use std::sync::Wait;
 use token::MAX_GENERATION;
 
 /// Puts the ticket of a slot that was released. If the queue is full, it stays in hand. A ticket that is put before
 /// the release could be taken at once, find its slot held, and be lost.
-pub(crate) fn put_ticket<R: Wait>(rt: &R, own: &mut Own, ticket: Ticket)
+pub(crate) fn put_ticket<A: Acts, R: Wait>(rt: &R, acts: &mut A, own: &mut Own, ticket: Ticket)
     requires released { HoldsNot own.old.seat ticket.slot }
     requires room { length own.old.hand.tickets < own.old.hand.capacity }
+    ensures made { A.made act.PutTicket ticket.slot acts.old acts.new }
     ensures seat { own.new.seat ≡ own.old.seat }
     ensures passed { Passed ticket own.old own.new }
     ensures kept { KeepsTicket ticket own.new.ready.history own.new.hand }
@@ -24,17 +28,24 @@ pub(crate) fn put_ticket<R: Wait>(rt: &R, own: &mut Own, ticket: Ticket)
     ensures free { own.new.free ≡ own.old.free }
     ensures slots { own.new.hand.slots ≡ own.old.hand.slots }
 {
-    if let Err(Full(ticket)) = own.ready.put(rt, ticket) {
+    if let Err(Full(ticket)) = acts.put_ticket(rt, &mut own.ready, ticket) {
         own.hand.keep_ticket(ticket);
     }
 }
 
 /// Gives back the slot of a ticket whose connection has ended, unless its generation is the last: no connection can
 /// be opened there any more.
-pub(crate) fn give_back<R: Wait>(rt: &R, own: &mut Own, ticket: Ticket, closed: Closed)
+pub(crate) fn give_back<A: Acts, R: Wait>(
+    rt: &R,
+    acts: &mut A,
+    own: &mut Own,
+    ticket: Ticket,
+    closed: Closed,
+)
     requires retired { HoldsNot own.old.seat ticket.slot }
     requires closed { closed ≡ ticket.slot }
     requires room { length own.old.hand.slots < own.old.hand.capacity }
+    ensures made { AreMade A.made ticket.slot (giving (nat_lt ticket.generation last_generation)) acts.old acts.new }
     ensures seat { own.new.seat ≡ own.old.seat }
     ensures given { SlotGiven ticket own.old own.new }
     ensures took { own.new.free.history.taken ≡ own.old.free.history.taken }
@@ -42,16 +53,17 @@ pub(crate) fn give_back<R: Wait>(rt: &R, own: &mut Own, ticket: Ticket, closed: 
     ensures tickets { own.new.hand.tickets ≡ own.old.hand.tickets }
 {
     if ticket.generation < MAX_GENERATION {
-        give_slot(rt, own, ticket.slot);
+        give_slot(rt, acts, own, ticket.slot);
     }
     closed.spend();
 }
 
 /// Gives back a slot that was retired. If the queue is full, it stays in hand. If a
 /// slot were given back before it is free, the poller could find it not free, and it would no longer be used.
-fn give_slot<R: Wait>(rt: &R, own: &mut Own, slot: usize)
+fn give_slot<A: Acts, R: Wait>(rt: &R, acts: &mut A, own: &mut Own, slot: usize)
     requires retired { HoldsNot own.old.seat slot }
     requires room { length own.old.hand.slots < own.old.hand.capacity }
+    ensures made { A.made act.Give slot acts.old acts.new }
     ensures seat { own.new.seat ≡ own.old.seat }
     ensures kept { KeepsSlot slot own.new.free.history own.new.hand }
     ensures slots { Inserted slot (slots_out own.old) (slots_out own.new) }
@@ -59,7 +71,7 @@ fn give_slot<R: Wait>(rt: &R, own: &mut Own, slot: usize)
     ensures ready { own.new.ready ≡ own.old.ready }
     ensures tickets { own.new.hand.tickets ≡ own.old.hand.tickets }
 {
-    if let Err(Full(slot)) = own.free.give(rt, slot) {
+    if let Err(Full(slot)) = acts.give(rt, &mut own.free, slot) {
         own.hand.keep_slot(slot);
     }
 }

@@ -6,12 +6,12 @@ ghost use Rattle.dispatch.specs.Heavy.{looked_at};
 ghost use Rattle.dispatch.specs.Limits.{own_turns};
 ghost use Rattle.turns.specs.Shares.{IsLight, Stays, TicketsShared};
 ghost use Rattle.dispatch.specs.Posts.{AtRest, OnlyWorn};
-ghost use Rattle.turns.specs.Turns.{marks_after, NoOwnTurn, OwnTurn};
+ghost use Rattle.turns.specs.Turns.{marks_after, NoOwnTurn, OwnTurn, OwnTurnInOrder};
 
 use crate::giving::put_ticket;
 use crate::terms::Terms;
 use crate::worker::{Worked, turn_of};
-use dispatch::{Clock, Front, Gate, Hand, HeavyMarks, MAX_OWN_TURNS, Own, Shared, Timing};
+use dispatch::{Clock, Front, Gate, Hand, HeavyMarks, MAX_OWN_TURNS, Moves, Own, Shared, Timing};
 use log::Log;
 use ready::{AllBusy, ReadyQueue, Ticket};
 use relay_log::ServerFault;
@@ -44,7 +44,7 @@ pub fn share_tickets<R: Wait>(rt: &R, own: &mut Own, heavy: &mut HeavyMarks)
             keep(&mut own.hand, ticket, kept, stay);
             kept += 1;
         } else {
-            put_ticket(rt, own, ticket);
+            put_ticket(rt, &mut (), own, ticket);
         }
     }
 }
@@ -115,6 +115,33 @@ pub fn own_turn<F: Front, G: Gate, C: Clock, R: Wait + Log>(
     ensures woken { result ≡ Ok (Some Worked.Ended) → is_closing ≡ true
         → IfSome (slice_get own.old.hand.tickets 0) (λ ticket. F.woke shared.now.waker ticket.slot) }
 {
+    own_turn_with(rt, &mut (), shared, own, gate, heavy, is_closing, timing)
+}
+
+/// [`own_turn`], made of these acts. The clause `turn` also says which of them it makes, in which order.
+pub fn own_turn_with<F: Front, A: Moves<F>, G: Gate, C: Clock, R: Wait + Log>(
+    rt: &R,
+    acts: &mut A,
+    shared: &Shared<F>,
+    own: &mut Own,
+    gate: &G,
+    heavy: &mut HeavyMarks,
+    is_closing: bool,
+    timing: &Timing<'_, C>,
+) -> Result<Option<Worked>, ServerFault>
+    requires rest { AtRest shared.now.claims own.old }
+    ensures rest { AtRest shared.now.claims own.new }
+    ensures marks { heavy.new ≡ marks_after (slice_get own.old.hand.tickets 0) result heavy.old }
+    ensures only { IfSome (slice_get own.old.hand.tickets 0) (λ ticket. OnlyAt ticket.slot own.old.seat own.new.seat) }
+    ensures turn { IfSome (slice_get own.old.hand.tickets 0)
+        (λ ticket. OwnTurnInOrder A.made shared.now.claims.words ticket result own.old own.new acts.old acts.new) }
+    ensures none { result ≡ Ok None ↔ NoOwnTurn own.old }
+    ensures unchanged { result ≡ Ok None → (own.new ≡ own.old) × (acts.new ≡ acts.old) }
+    ensures took { TookNothing own.old own.new }
+    ensures worn { IfErr result (λ fault. OnlyWorn fault own.new.seat) }
+    ensures woken { result ≡ Ok (Some Worked.Ended) → is_closing ≡ true
+        → IfSome (slice_get own.old.hand.tickets 0) (λ ticket. F.woke shared.now.waker ticket.slot) }
+{
     if !own.hand.has_slot_room() {
         return Ok(None);
     }
@@ -122,7 +149,7 @@ pub fn own_turn<F: Front, G: Gate, C: Clock, R: Wait + Log>(
         return Ok(None);
     };
     let terms = Terms::own(shared.budget, timing.moment());
-    let worked = turn_of(rt, shared, own, gate, ticket, terms)?;
+    let worked = turn_of(rt, acts, shared, own, gate, ticket, terms)?;
     follow_up(shared, heavy, is_closing, ticket, worked);
     Ok(Some(worked))
 }

@@ -1,12 +1,13 @@
 //! The connection of a held slot, out of its place and back.
 ghost use Rattle.std.specs.Prelude.{◌≡◌, ◌<◌, ◌≤◌, IfOk, IfErr};
 ghost use Rattle.engine.specs.Turns.{outcome_of, IsServed};
+ghost use Rattle.dispatch.specs.Acts as act;
 ghost use Rattle.dispatch.specs.Posts.{HoldsOnly};
 ghost use Rattle.turns.specs.Turns.{noted_by, Plays};
 
 use crate::terms::Terms;
 use berths::Berth;
-use dispatch::{Front, Own, Settle, Shared};
+use dispatch::{Front, Moves, Own, Settle, Shared};
 use engine::{Turn, turn_with};
 use ready::Ticket;
 use relay_core::{MAX_READ, Pair};
@@ -57,19 +58,22 @@ impl Model for Closed {
 
 /// Takes the connection out of the place of a ticket's slot, which is held, unless the place is empty. It may be
 /// another connection than the ticket's.
-pub(crate) fn take_out<F: Front, R: Wait>(
+pub(crate) fn take_out<F: Front, A: Moves<F>, R: Wait>(
     rt: &R,
+    acts: &mut A,
     shared: &Shared<F>,
     own: &Own,
     ticket: Ticket,
 ) -> Result<Visit<F>, Back>
     requires inside { ticket.slot < shared.now.claims.words }
     requires holder { HoldsOnly ticket.slot own.now.seat }
+    ensures made { A.made act.TakeOut ticket.slot acts.old acts.new }
     ensures out { IfOk result (λ visit. visit.ticket ≡ ticket) }
+    ensures moved { IfOk result (λ visit. A.moved visit.berth acts.new) }
     ensures empty { IfErr result (λ back. back ≡ ticket.slot) }
 {
     let slot = ticket.slot;
-    match shared.berths.take_out(rt, &own.seat, slot) {
+    match acts.take_out(rt, &shared.berths, &own.seat, slot) {
         Some(berth) => Ok(Visit { ticket, berth }),
         None => Err(Back { slot }),
     }
@@ -84,22 +88,26 @@ fn tell_notes(pair: &mut Pair, notes: u64)
     }
 }
 
-/// Puts the connection back into its place. A place that is not empty, which happens in no run, keeps what it has,
-/// and the connection is closed.
-pub(crate) fn put_in<F: Front, R: Wait>(
+/// Counts the connection's bytes, and puts it back into its place. A place that is not empty, which happens in no run,
+/// keeps what it has, and the connection is closed.
+pub(crate) fn put_in<F: Front, A: Moves<F>, R: Wait>(
     rt: &R,
+    acts: &mut A,
     shared: &Shared<F>,
     own: &Own,
     visit: Visit<F>,
 ) -> Back
     requires inside { visit.ticket.slot < shared.now.claims.words }
     requires holder { HoldsOnly visit.ticket.slot own.now.seat }
-    ensures { result ≡ visit.ticket.slot }
+    ensures back { result ≡ visit.ticket.slot }
+    ensures counted { A.counted visit.ticket.slot visit.berth.pair acts.old }
+    ensures made { A.made act.PutIn visit.ticket.slot acts.old acts.new }
+    ensures moved { A.moved visit.berth acts.new }
 {
     let Visit { ticket, berth } = visit;
     let slot = ticket.slot;
-    shared.count_moved(slot, &berth.pair);
-    let _ = shared.berths.put_in(rt, &own.seat, slot, berth);
+    acts.count_moved(shared, slot, &berth.pair);
+    let _ = acts.put_in(rt, &shared.berths, &own.seat, slot, berth);
     Back { slot }
 }
 
@@ -140,14 +148,14 @@ impl<F: Front> Visit<F> {
     }
 
     /// Has both sockets send at once what they held back.
-    pub(crate) fn settle(&mut self)
+    pub(crate) fn settle<A: Moves<F>>(&mut self, acts: &mut A)
+        ensures made { A.made act.Settle self.old.ticket.slot acts.old acts.new }
         ensures ticket { self.new.ticket ≡ self.old.ticket }
         ensures pair { self.new.berth.pair ≡ self.old.berth.pair }
         ensures client { F.Client.settled self.new.berth.client }
         ensures target { F.Target.settled self.new.berth.target }
     {
-        self.berth.client.settle();
-        self.berth.target.settle();
+        acts.settle(self.ticket.slot, &mut self.berth);
     }
 
     /// The client's address, if it is known.
@@ -174,12 +182,15 @@ impl<F: Front> Visit<F> {
     }
 
     /// Counts the connection as ended, and closes both sockets.
-    pub(crate) fn close(self, shared: &Shared<F>) -> Closed
-        ensures { result ≡ self.ticket.slot }
+    pub(crate) fn close<A: Moves<F>>(self, acts: &mut A, shared: &Shared<F>) -> Closed
+        ensures closed { result ≡ self.ticket.slot }
+        ensures counted { A.counted self.ticket.slot self.berth.pair acts.old }
+        ensures made { A.made act.Close self.ticket.slot acts.old acts.new }
+        ensures moved { A.moved self.berth acts.new }
     {
         let Visit { ticket, berth } = self;
-        shared.count_ended(ticket.slot, &berth.pair);
-        drop(berth);
+        acts.count_ended(shared, ticket.slot, &berth.pair);
+        acts.close(ticket.slot, berth);
         Closed { slot: ticket.slot }
     }
 }

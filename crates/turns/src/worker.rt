@@ -1,21 +1,23 @@
 //! One turn of a worker: it claims a ticket's slot, takes its connection out, gives it the notes, runs it, and puts
 //! it back.
-ghost use Rattle.std.specs.Prelude.{◌≡◌, ◌≢◌, ◌⊎◌, ℕ, ◌<◌, ◌≤◌, [], ◌∷◌, length, Ok, IfOk, IfErr};
+ghost use Rattle.std.specs.Prelude.{◌≡◌, ◌≢◌, ◌⊎◌, ℕ, ◌<◌, ◌≤◌, [], ◌∷◌, Bool, false, length, Ok, IfOk, IfErr};
 ghost use Rattle.claims.specs.declared.view.Exchange.TheVariants as exchange;
 ghost use Rattle.claims.specs.Seats.{Adds, HoldsNothing, OnlyAt};
 ghost use Rattle.engine.specs.Turns.{outcome_of, IsServed};
+ghost use Rattle.dispatch.specs.Acts.{AreMade, leaving};
+ghost use Rattle.dispatch.specs.Acts as act;
 ghost use Rattle.dispatch.specs.Hands.{HasRoom};
 ghost use Rattle.dispatch.specs.Limits.{last_generation};
 ghost use Rattle.dispatch.specs.Outgoing.{KeepsSlot, TookNothing};
 ghost use Rattle.dispatch.specs.Posts.{HoldsOnly, OnlyWorn};
-ghost use Rattle.turns.specs.Turns.{AtWork, ClaimedTurn, TurnEnd, LeftSlot, TurnMade, Plays};
+ghost use Rattle.turns.specs.Turns.{ActsLeft, AtWork, ClaimedTurn, TurnEnd, TurnInOrder, LeftSlot, TurnMade, Plays};
 
 use crate::giving::{give_back, put_ticket};
 use crate::gone::log_gone;
 use crate::terms::Terms;
 use crate::visit::{Back, Visit, put_in, take_out};
 use claims::{ClaimSeat, Claimed, Posted, Released};
-use dispatch::{Clock, Front, Gate, Own, Shared, Timing, give_slots, put_tickets};
+use dispatch::{Acts, Clock, Front, Gate, Moves, Own, Shared, Timing, give_slots, put_tickets};
 use engine::Turn;
 use log::Log;
 use ready::Ticket;
@@ -70,13 +72,36 @@ pub fn worker_turn<F: Front, G: Gate, C: Clock, R: Wait + Log>(
     ensures worn { IfErr result (λ fault. OnlyWorn fault own.new.seat) }
     ensures woken { result ≡ Ok Worked.Ended → F.woke shared.now.waker ticket.slot }
 {
+    worker_turn_with(rt, &mut (), shared, own, gate, ticket, timing)
+}
+
+/// [`worker_turn`], made of these acts. The clause `made` also says which of them it makes, in which order.
+pub fn worker_turn_with<F: Front, A: Moves<F>, G: Gate, C: Clock, R: Wait + Log>(
+    rt: &R,
+    acts: &mut A,
+    shared: &Shared<F>,
+    own: &mut Own,
+    gate: &G,
+    ticket: Ticket,
+    timing: &Timing<'_, C>,
+) -> Result<Worked, ServerFault>
+    requires same { own.old.seat.table ≡ shared.now.claims }
+    requires idle { HoldsNothing own.old.seat }
+    requires room { HasRoom own.old.hand }
+    ensures idle { HoldsNothing own.new.seat }
+    ensures only { OnlyAt ticket.slot own.old.seat own.new.seat }
+    ensures made { TurnInOrder A.made shared.now.claims.words ticket result own.old own.new acts.old acts.new }
+    ensures took { TookNothing own.old own.new }
+    ensures worn { IfErr result (λ fault. OnlyWorn fault own.new.seat) }
+    ensures woken { result ≡ Ok Worked.Ended → F.woke shared.now.waker ticket.slot }
+{
     put_tickets(rt, &mut own.ready, &mut own.hand);
     give_slots(rt, &mut own.free, &mut own.hand);
     let terms = Terms {
         budget: shared.budget,
         moment: timing.moment(),
     };
-    let worked = turn_of(rt, shared, own, gate, ticket, terms)?;
+    let worked = turn_of(rt, acts, shared, own, gate, ticket, terms)?;
     if worked == Worked::Ended {
         wake_poller(shared, own, ticket);
     }
@@ -84,8 +109,9 @@ pub fn worker_turn<F: Front, G: Gate, C: Clock, R: Wait + Log>(
 }
 
 /// A turn without what comes before it and after it: nothing in hand is put first, and nobody is woken.
-pub(crate) fn turn_of<F: Front, G: Gate, R: Wait + Log>(
+pub(crate) fn turn_of<F: Front, A: Moves<F>, G: Gate, R: Wait + Log>(
     rt: &R,
+    acts: &mut A,
     shared: &Shared<F>,
     own: &mut Own,
     gate: &G,
@@ -98,22 +124,23 @@ pub(crate) fn turn_of<F: Front, G: Gate, R: Wait + Log>(
     requires budget { (1 ≤ terms.budget) × (terms.budget ≤ 1024) }
     ensures idle { HoldsNothing own.new.seat }
     ensures only { OnlyAt ticket.slot own.old.seat own.new.seat }
-    ensures made { TurnMade shared.now.claims.words ticket result own.old own.new }
+    ensures made { TurnInOrder A.made shared.now.claims.words ticket result own.old own.new acts.old acts.new }
     ensures took { TookNothing own.old own.new }
     ensures worn { IfErr result (λ fault. OnlyWorn fault own.new.seat) }
 {
     if ticket.slot >= shared.claims.slots() {
         return Ok(Worked::Gone);
     }
-    match shared.claims.claim(&mut own.seat, ticket.slot) {
+    match acts.claim(&shared.claims, &mut own.seat, ticket.slot) {
         Claimed::Busy => Ok(Worked::Busy),
-        Claimed::Held => claimed(rt, shared, own, gate, ticket, terms),
+        Claimed::Held => claimed(rt, acts, shared, own, gate, ticket, terms),
     }
 }
 
 /// The rest of a turn, once the slot is held.
-fn claimed<F: Front, G: Gate, R: Wait + Log>(
+fn claimed<F: Front, A: Moves<F>, G: Gate, R: Wait + Log>(
     rt: &R,
+    acts: &mut A,
     shared: &Shared<F>,
     own: &mut Own,
     gate: &G,
@@ -122,38 +149,48 @@ fn claimed<F: Front, G: Gate, R: Wait + Log>(
 ) -> Result<Worked, ServerFault>
     requires work { AtWork shared.now.claims ticket.slot own.old }
     requires budget { (1 ≤ terms.budget) × (terms.budget ≤ 1024) }
-    ensures done { ClaimedTurn ticket result own.old own.new }
+    ensures done { (turn : ClaimedTurn ticket result own.old own.new)
+        × (other : Bool) × ActsLeft A.made ticket result 1 other turn.woke acts.old acts.new }
     ensures worn { IfErr result (λ fault. OnlyWorn fault own.new.seat) }
 {
-    match take_out(rt, shared, own, ticket) {
+    match take_out(rt, acts, shared, own, ticket) {
         Ok(visit) if visit.pair().generation() == ticket.generation => {
-            run(rt, shared, own, gate, visit, terms)
+            run(rt, acts, shared, own, gate, visit, terms)
         }
         Ok(other) => {
-            let back = put_in(rt, shared, own, other);
-            give_up(rt, shared, own, ticket, back);
+            let back = put_in(rt, acts, shared, own, other);
+            give_up(rt, acts, shared, own, ticket, back);
             Ok(Worked::Gone)
         }
         Err(back) => {
-            give_up(rt, shared, own, ticket, back);
+            give_up(rt, acts, shared, own, ticket, back);
             Ok(Worked::Gone)
         }
     }
 }
 
 /// Takes the notes of a slot whose connection is missing, and releases the slot.
-fn give_up<F: Front, R: Wait>(rt: &R, shared: &Shared<F>, own: &mut Own, ticket: Ticket, back: Back)
+fn give_up<F: Front, A: Acts, R: Wait>(
+    rt: &R,
+    acts: &mut A,
+    shared: &Shared<F>,
+    own: &mut Own,
+    ticket: Ticket,
+    back: Back,
+)
     requires work { AtWork shared.now.claims ticket.slot own.old }
     requires back { back ≡ ticket.slot }
-    ensures done { ClaimedTurn ticket (Ok Worked.Gone) own.old own.new }
+    ensures done { (turn : ClaimedTurn ticket (Ok Worked.Gone) own.old own.new)
+        × AreMade A.made ticket.slot (act.Discard ∷ leaving turn.woke) acts.old acts.new }
 {
-    shared.claims.take(&mut own.seat, ticket.slot);
-    leave(rt, shared, own, ticket, back);
+    acts.discard(&shared.claims, &mut own.seat, ticket.slot);
+    leave(rt, acts, shared, own, ticket, back);
 }
 
 /// Runs the connection of a slot that is held, which is the ticket's own, and then ends it or puts it back.
-fn run<F: Front, G: Gate, R: Wait + Log>(
+fn run<F: Front, A: Moves<F>, G: Gate, R: Wait + Log>(
     rt: &R,
+    acts: &mut A,
     shared: &Shared<F>,
     own: &mut Own,
     gate: &G,
@@ -163,10 +200,12 @@ fn run<F: Front, G: Gate, R: Wait + Log>(
     requires work { AtWork shared.now.claims visit.ticket.slot own.old }
     requires own { visit.berth.pair.generation ≡ visit.ticket.generation }
     requires budget { (1 ≤ terms.budget) × (terms.budget ≤ 1024) }
-    ensures done { ClaimedTurn visit.ticket result own.old own.new }
+    ensures done { (turn : ClaimedTurn visit.ticket result own.old own.new)
+        × ActsLeft A.made visit.ticket result 2 false turn.woke acts.old acts.new }
     ensures worn { IfErr result (λ fault. OnlyWorn fault own.new.seat) }
 {
     match play(
+        acts,
         shared,
         &mut own.seat,
         gate,
@@ -176,12 +215,12 @@ fn run<F: Front, G: Gate, R: Wait + Log>(
     ) {
         Turn::Done | Turn::Failed => {
             log_gone(rt, shared.clients, &visit, terms.moment.second);
-            end(rt, shared, own, visit);
+            end(rt, acts, shared, own, visit);
             Ok(Worked::Ended)
         }
-        Turn::Again => again(rt, shared, own, visit),
+        Turn::Again => again(rt, acts, shared, own, visit),
         Turn::Quiet => {
-            rest(rt, shared, own, visit);
+            rest(rt, acts, shared, own, visit);
             Ok(Worked::Quiet)
         }
     }
@@ -189,7 +228,8 @@ fn run<F: Front, G: Gate, R: Wait + Log>(
 
 /// Takes the notes of a held slot, and plays its connection between the gate's two calls. It is passed neither an
 /// allocator nor anything that may wait, so it allocates nothing and waits for no lock.
-fn play<F: Front, G: Gate>(
+fn play<F: Front, A: Acts, G: Gate>(
+    acts: &mut A,
     shared: &Shared<F>,
     seat: &mut ClaimSeat,
     gate: &G,
@@ -204,12 +244,13 @@ fn play<F: Front, G: Gate>(
     ensures holder { HoldsOnly visit.old.ticket.slot seat.new }
     ensures ticket { visit.new.ticket ≡ visit.old.ticket }
     ensures outcome { result ≡ outcome_of visit.new.berth.pair }
+    ensures made { A.made act.TakeNotes visit.old.ticket.slot acts.old acts.new }
     ensures played { (notes : ℕ) × Adds visit.old.ticket.slot (exchange.Take notes ∷ []) seat.old seat.new
         × Plays (IsServed F.Client.told F.Client.does) (IsServed F.Target.told F.Target.does) terms notes
         visit.old.berth visit.new.berth }
 {
     let slot = visit.ticket().slot;
-    let notes = shared.claims.take(seat, slot);
+    let notes = acts.take(&shared.claims, seat, slot);
     gate.before_turn(slot);
     let outcome = visit.play(notes, terms, buffer);
     gate.after_turn(slot);
@@ -217,26 +258,29 @@ fn play<F: Front, G: Gate>(
 }
 
 /// Puts a connection back whose budget is spent, and keeps it due.
-fn again<F: Front, R: Wait>(
+fn again<F: Front, A: Moves<F>, R: Wait>(
     rt: &R,
+    acts: &mut A,
     shared: &Shared<F>,
     own: &mut Own,
     visit: Visit<F>,
 ) -> Result<Worked, ServerFault>
     requires work { AtWork shared.now.claims visit.ticket.slot own.old }
     requires due { outcome_of visit.berth.pair ≡ Turn.Again }
-    ensures done { TurnEnd visit.ticket result own.old own.new }
+    ensures done { (turn : TurnEnd visit.ticket result own.old own.new)
+        × ActsLeft A.made visit.ticket result 3 false turn.woke acts.old acts.new }
     ensures answer { IfOk result (λ worked. worked ≡ Worked.Again) }
     ensures worn { IfErr result (λ fault. OnlyWorn fault own.new.seat) }
 {
     let ticket = visit.ticket();
-    let back = put_in(rt, shared, own, visit);
-    stay_due(rt, shared, own, ticket, back)
+    let back = put_in(rt, acts, shared, own, visit);
+    stay_due(rt, acts, shared, own, ticket, back)
 }
 
 /// Posts the note that keeps a connection due, which is back in its place, and releases its slot.
-fn stay_due<F: Front, R: Wait>(
+fn stay_due<F: Front, A: Acts, R: Wait>(
     rt: &R,
+    acts: &mut A,
     shared: &Shared<F>,
     own: &mut Own,
     ticket: Ticket,
@@ -244,13 +288,14 @@ fn stay_due<F: Front, R: Wait>(
 ) -> Result<Worked, ServerFault>
     requires work { AtWork shared.now.claims ticket.slot own.old }
     requires back { back ≡ ticket.slot }
-    ensures done { TurnEnd ticket result own.old own.new }
+    ensures done { (turn : TurnEnd ticket result own.old own.new)
+        × ActsLeft A.made ticket result 4 false turn.woke acts.old acts.new }
     ensures answer { IfOk result (λ worked. worked ≡ Worked.Again) }
     ensures worn { IfErr result (λ fault. OnlyWorn fault own.new.seat) }
 {
     // A holder's own post never answers Wake: the release does.
-    let posted = shared.claims.post(&mut own.seat, ticket.slot);
-    leave(rt, shared, own, ticket, back);
+    let posted = acts.post(&shared.claims, &mut own.seat, ticket.slot);
+    leave(rt, acts, shared, own, ticket, back);
     match posted {
         Posted::Worn => Err(ServerFault::Worn),
         Posted::Wake | Posted::Quiet => Ok(Worked::Again),
@@ -258,50 +303,79 @@ fn stay_due<F: Front, R: Wait>(
 }
 
 /// Puts a connection back that has no call worth trying, and releases its slot. What its sockets held back is sent.
-fn rest<F: Front, R: Wait>(rt: &R, shared: &Shared<F>, own: &mut Own, mut visit: Visit<F>)
+fn rest<F: Front, A: Moves<F>, R: Wait>(
+    rt: &R,
+    acts: &mut A,
+    shared: &Shared<F>,
+    own: &mut Own,
+    mut visit: Visit<F>,
+)
     requires work { AtWork shared.now.claims visit.ticket.slot own.old }
     requires quiet { outcome_of visit.berth.pair ≡ Turn.Quiet }
-    ensures done { TurnEnd visit.ticket (Ok Worked.Quiet) own.old own.new }
+    ensures done { (turn : TurnEnd visit.ticket (Ok Worked.Quiet) own.old own.new)
+        × ActsLeft A.made visit.ticket (Ok Worked.Quiet) 3 false turn.woke acts.old acts.new }
 {
-    visit.settle();
-    leave_settled(rt, shared, own, visit);
+    visit.settle(acts);
+    leave_settled(rt, acts, shared, own, visit);
 }
 
 /// Puts a connection back that holds nothing back, and releases its slot.
-fn leave_settled<F: Front, R: Wait>(rt: &R, shared: &Shared<F>, own: &mut Own, visit: Visit<F>)
+fn leave_settled<F: Front, A: Moves<F>, R: Wait>(
+    rt: &R,
+    acts: &mut A,
+    shared: &Shared<F>,
+    own: &mut Own,
+    visit: Visit<F>,
+)
     requires work { AtWork shared.now.claims visit.ticket.slot own.old }
     requires client { F.Client.settled visit.berth.client }
     requires target { F.Target.settled visit.berth.target }
-    ensures done { TurnEnd visit.ticket (Ok Worked.Quiet) own.old own.new }
+    ensures done { (turn : TurnEnd visit.ticket (Ok Worked.Quiet) own.old own.new)
+        × ActsLeft A.made visit.ticket (Ok Worked.Quiet) 4 false turn.woke acts.old acts.new }
 {
     let ticket = visit.ticket();
-    let back = put_in(rt, shared, own, visit);
-    leave(rt, shared, own, ticket, back);
+    let back = put_in(rt, acts, shared, own, visit);
+    leave(rt, acts, shared, own, ticket, back);
 }
 
 /// Releases a slot whose connection is back in its place, and puts a ticket if notes wait.
-fn leave<F: Front, R: Wait>(rt: &R, shared: &Shared<F>, own: &mut Own, ticket: Ticket, back: Back)
+fn leave<F: Front, A: Acts, R: Wait>(
+    rt: &R,
+    acts: &mut A,
+    shared: &Shared<F>,
+    own: &mut Own,
+    ticket: Ticket,
+    back: Back,
+)
     requires work { AtWork shared.now.claims ticket.slot own.old }
     requires back { back ≡ ticket.slot }
-    ensures left { LeftSlot ticket own.old own.new }
+    ensures left { (left : LeftSlot ticket own.old own.new)
+        × AreMade A.made ticket.slot (leaving left.woke) acts.old acts.new }
 {
-    if shared.claims.release(&mut own.seat, ticket.slot) == Released::Wake {
-        put_ticket(rt, own, ticket);
+    if acts.release(&shared.claims, &mut own.seat, ticket.slot) == Released::Wake {
+        put_ticket(rt, acts, own, ticket);
     }
     back.spend();
 }
 
 /// Logs and closes a connection that is done or failed, and gives its slot back.
-fn end<F: Front, R: Wait + Log>(rt: &R, shared: &Shared<F>, own: &mut Own, visit: Visit<F>)
+fn end<F: Front, A: Moves<F>, R: Wait + Log>(
+    rt: &R,
+    acts: &mut A,
+    shared: &Shared<F>,
+    own: &mut Own,
+    visit: Visit<F>,
+)
     requires work { AtWork shared.now.claims visit.ticket.slot own.old }
     requires over { (outcome_of visit.berth.pair ≡ Turn.Done) ⊎ (outcome_of visit.berth.pair ≡ Turn.Failed) }
-    ensures done { TurnEnd visit.ticket (Ok Worked.Ended) own.old own.new }
+    ensures done { (turn : TurnEnd visit.ticket (Ok Worked.Ended) own.old own.new)
+        × ActsLeft A.made visit.ticket (Ok Worked.Ended) 3 false turn.woke acts.old acts.new }
 {
     let ticket = visit.ticket();
     log_end(rt, visit.pair());
-    let closed = visit.close(shared);
-    shared.claims.retire(&mut own.seat, ticket.slot);
-    give_back(rt, own, ticket, closed);
+    let closed = visit.close(acts, shared);
+    acts.retire(&shared.claims, &mut own.seat, ticket.slot);
+    give_back(rt, acts, own, ticket, closed);
 }
 
 /// Wakes the poller, which may be waiting for the slot. If it were woken before the slot is given back, it could look

@@ -2,6 +2,7 @@ use Rattle.std.proofs.Common.{ℕ, ◌∷◌, [], ap, refl, subst}
 use Rattle.ready.specs.declared.ticket.Ticket.{Ticket}
 use Rattle.claims.specs.declared.view.Exchange.TheVariants.{Take}
 use Rattle.claims.specs.Seats.{Adds}
+use Rattle.dispatch.specs.Acts as act
 use Rattle.dispatch.proofs.Holding.{holds_still}
 use Rattle.turns.proofs.worker.play.Goals as goal
 
@@ -17,3 +18,7 @@ returns-clause-played g c = (
       c.take-notes.ensures.change,
   c.play-outcome.ensures.run,
 )
+
+pub returns-clause-made : goal.returns-clause-made
+returns-clause-made g c = subst (λ (slot : ℕ). g.A.Acts.made act.TakeNotes slot c.args.acts.now c.take-notes.new.self) (ap (λ (t : Ticket). t.slot) c.ticket-slot.ensures)
+    c.take-notes.ensures.made

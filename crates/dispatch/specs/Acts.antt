@@ -1,0 +1,55 @@
+-- What a thread does at a slot, act by act: each is one call of what all threads share. Part of the promises.
+use Rattle.std.specs.Prelude.{◌≡◌, ℕ, Bool, if◌then◌else◌, List, [], ◌∷◌}
+
+-- `Claim`, `TakeNotes`, `Post`, `Release`, `Retire`, `Adopt` and `Discard` are exchanges of the slot's word; `Discard` is a
+-- take of which the notes are thrown away. `TakeOut` and `PutIn` move the connection out of its place and back, `Call` is
+-- its next call on a socket, and `Close` closes both sockets. `Give` puts the slot into the queue of free slots.
+-- `Register` opens both sockets and registers them for reports. `Enter` writes the generation into the poller's table.
+-- `Settle` has both sockets send what they held back, and `PutTicket` puts the slot's ticket into the ready queue
+pub data Act : Type 0 where
+  Claim : Act
+  TakeOut : Act
+  TakeNotes : Act
+  Call : Act
+  PutIn : Act
+  Post : Act
+  Release : Act
+  Close : Act
+  Retire : Act
+  Give : Act
+  Register : Act
+  Adopt : Act
+  Enter : Act
+  Discard : Act
+  Settle : Act
+  PutTicket : Act
+
+-- these acts were made at a slot, one after the other, and no others
+abbrev pub AreMade : {S : Type 0} → (Act → ℕ → S → S → Type 0) → ℕ → List Act → S → S → Type 0
+AreMade made slot [] old new = new ≡ old
+AreMade {S} made slot (act ∷ acts) old new = (between : S) × made act slot old between × AreMade made slot acts between new
+
+-- The acts of a turn but its calls. Where its release answers Wake, it puts the ticket
+
+abbrev pub leaving : Bool → List Act
+leaving woke = Release ∷ (if woke then PutTicket ∷ [] else [])
+
+abbrev pub busy_turn : List Act
+busy_turn = Claim ∷ []
+
+-- another connection than the ticket's may have been in the place
+abbrev pub gone_turn : Bool → Bool → List Act
+gone_turn other woke = Claim ∷ TakeOut ∷ (if other then PutIn ∷ Discard ∷ leaving woke else Discard ∷ leaving woke)
+
+abbrev pub quiet_turn : Bool → List Act
+quiet_turn woke = Claim ∷ TakeOut ∷ TakeNotes ∷ Settle ∷ PutIn ∷ leaving woke
+
+abbrev pub again_turn : Bool → List Act
+again_turn woke = Claim ∷ TakeOut ∷ TakeNotes ∷ PutIn ∷ Post ∷ leaving woke
+
+-- the slot is given back, or its last generation was used
+abbrev pub giving : Bool → List Act
+giving given = if given then Give ∷ [] else []
+
+abbrev pub ended_turn : Bool → List Act
+ended_turn given = Claim ∷ TakeOut ∷ TakeNotes ∷ Close ∷ Retire ∷ giving given

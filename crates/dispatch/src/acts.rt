@@ -1,0 +1,258 @@
+//! The acts of a thread at a slot.
+use crate::front::{Front, Settle};
+use crate::shared::Shared;
+use berths::{Berth, Berths, Occupied};
+use claims::{ClaimSeat, Claimed, Claims, Posted, Released};
+use ready::{FreeQueue, Full, ReadyQueue, Ticket};
+use relay_core::Pair;
+use std::sync::Wait;
+
+/// The acts of a thread at a slot's word, and those by which it hands on the slot. Each is one call of what all threads
+/// share. A turn is generic over them, so that its clauses can say which acts it makes, and in which order: nothing but
+/// the call of an act shows that it was made. In the product this is `()`, which makes each act and nothing else.
+pub trait Acts {
+    ghost use Rattle.std.specs.Prelude.{◌≡◌, ◌<◌, ℕ, [], ◌∷◌, IfErr, OnOk, OnErr};
+    ghost use Rattle.claims.specs.declared.view.Exchange.TheVariants as exchange;
+    ghost use Rattle.claims.specs.Seats.{Holds, Adds};
+    ghost use Rattle.claims.specs.Calls.{PostChange, ClaimChange, ReleaseChange};
+    ghost use Rattle.ready.specs.Steps.{PutOne, HeldOnce};
+    ghost use Rattle.dispatch.specs.Acts as act;
+
+    // An act was made at a slot.
+    ghost made: { act.Act → ℕ → Self → Self → Type 0 };
+
+    /// [`Claims::claim`].
+    fn claim(&mut self, claims: &Claims, seat: &mut ClaimSeat, slot: usize) -> Claimed
+        requires same { seat.old.table ≡ claims.now }
+        requires inside { slot < claims.now.words }
+        ensures made { made act.Claim slot self.old self.new }
+        ensures change { ClaimChange slot seat.old result seat.new };
+
+    /// [`Claims::take`].
+    fn take(&mut self, claims: &Claims, seat: &mut ClaimSeat, slot: usize) -> u64
+        requires same { seat.old.table ≡ claims.now }
+        requires inside { slot < claims.now.words }
+        requires holder { Holds seat.old slot }
+        ensures made { made act.TakeNotes slot self.old self.new }
+        ensures change { Adds slot (exchange.Take result ∷ []) seat.old seat.new };
+
+    /// [`Claims::take`], of which the notes are thrown away. It answers how many there were.
+    fn discard(&mut self, claims: &Claims, seat: &mut ClaimSeat, slot: usize) -> u64
+        requires same { seat.old.table ≡ claims.now }
+        requires inside { slot < claims.now.words }
+        requires holder { Holds seat.old slot }
+        ensures made { made act.Discard slot self.old self.new }
+        ensures change { Adds slot (exchange.Take result ∷ []) seat.old seat.new };
+
+    /// [`Claims::post`]. A post that finds the seat worn makes no exchange.
+    fn post(&mut self, claims: &Claims, seat: &mut ClaimSeat, slot: usize) -> Posted
+        requires same { seat.old.table ≡ claims.now }
+        requires inside { slot < claims.now.words }
+        ensures made { made act.Post slot self.old self.new }
+        ensures change { PostChange slot seat.old result seat.new };
+
+    /// [`Claims::release`].
+    fn release(&mut self, claims: &Claims, seat: &mut ClaimSeat, slot: usize) -> Released
+        requires same { seat.old.table ≡ claims.now }
+        requires inside { slot < claims.now.words }
+        requires holder { Holds seat.old slot }
+        ensures made { made act.Release slot self.old self.new }
+        ensures change { ReleaseChange slot seat.old result seat.new };
+
+    /// [`Claims::retire`].
+    fn retire(&mut self, claims: &Claims, seat: &mut ClaimSeat, slot: usize)
+        requires same { seat.old.table ≡ claims.now }
+        requires inside { slot < claims.now.words }
+        requires holder { Holds seat.old slot }
+        ensures made { made act.Retire slot self.old self.new }
+        ensures change { Adds slot (exchange.Retire ∷ []) seat.old seat.new };
+
+    /// [`ReadyQueue::put`].
+    fn put_ticket<R: Wait>(
+        &mut self,
+        rt: &R,
+        ready: &mut ReadyQueue,
+        ticket: Ticket,
+    ) -> Result<(), Full<Ticket>>
+        ensures made { made act.PutTicket ticket.slot self.old self.new }
+        ensures put { OnOk result (PutOne ready.old.history ticket ready.new.history) }
+        ensures given_back { IfErr result (λ full. full.0 ≡ ticket) }
+        ensures full { OnErr result (HeldOnce ready.old.capacity ready.old.history) }
+        ensures unchanged { OnErr result (ready.new ≡ ready.old) }
+        ensures capacity { ready.new.capacity ≡ ready.old.capacity };
+
+    /// [`FreeQueue::give`].
+    fn give<R: Wait>(
+        &mut self,
+        rt: &R,
+        free: &mut FreeQueue,
+        slot: usize,
+    ) -> Result<(), Full<usize>>
+        ensures made { made act.Give slot self.old self.new }
+        ensures put { OnOk result (PutOne free.old.history slot free.new.history) }
+        ensures given_back { IfErr result (λ full. full.0 ≡ slot) }
+        ensures full { OnErr result (HeldOnce free.old.capacity free.old.history) }
+        ensures unchanged { OnErr result (free.new ≡ free.old) }
+        ensures capacity { free.new.capacity ≡ free.old.capacity };
+}
+
+/// The acts of a thread with a slot's connection.
+pub trait Moves<F: Front>: Acts {
+    ghost use Rattle.std.specs.Prelude.{◌≡◌, ◌<◌, ℕ, IfSome};
+    ghost use Rattle.claims.specs.Seats.{Holds};
+    ghost use Rattle.relay_core.specs.Pairs.{PairState};
+    ghost use Rattle.berths.specs.declared.berths.Berth.{Berth};
+    ghost use Rattle.dispatch.specs.Acts as act;
+
+    // The last act took this connection out of its place, put it in, or closed it.
+    ghost moved: { Berth F.Client F.Target → Self → Type 0 };
+
+    // The bytes of this pair were counted at a slot.
+    ghost counted: { ℕ → PairState → Self → Type 0 };
+
+    /// [`Berths::take_out`].
+    fn take_out<R: Wait>(
+        &mut self,
+        rt: &R,
+        berths: &Berths<F::Client, F::Target>,
+        seat: &ClaimSeat,
+        slot: usize,
+    ) -> Option<Berth<F::Client, F::Target>>
+        requires inside { slot < berths.now }
+        requires holder { Holds seat.now slot }
+        ensures made { Self.made act.TakeOut slot self.old self.new }
+        ensures moved { IfSome result (λ berth. moved berth self.new) };
+
+    /// [`Berths::put_in`].
+    fn put_in<R: Wait>(
+        &mut self,
+        rt: &R,
+        berths: &Berths<F::Client, F::Target>,
+        seat: &ClaimSeat,
+        slot: usize,
+        berth: Berth<F::Client, F::Target>,
+    ) -> Result<(), Occupied<Berth<F::Client, F::Target>>>
+        requires inside { slot < berths.now }
+        requires holder { Holds seat.now slot }
+        ensures made { Self.made act.PutIn slot self.old self.new }
+        ensures moved { moved berth self.new };
+
+    /// Has both sockets of a slot's connection send at once what they held back ([`Settle::settle`]).
+    fn settle(&mut self, slot: usize, berth: &mut Berth<F::Client, F::Target>)
+        ensures made { Self.made act.Settle slot self.old self.new }
+        ensures pair { berth.new.pair ≡ berth.old.pair }
+        ensures client { F.Client.settled berth.new.client }
+        ensures target { F.Target.settled berth.new.target };
+
+    /// Closes both sockets of a slot's connection.
+    fn close(&mut self, slot: usize, berth: Berth<F::Client, F::Target>)
+        ensures made { Self.made act.Close slot self.old self.new }
+        ensures moved { moved berth self.new };
+
+    /// [`Shared::count_moved`].
+    fn count_moved(&self, shared: &Shared<F>, slot: usize, pair: &Pair)
+        ensures { counted slot pair.now self.now };
+
+    /// [`Shared::count_ended`].
+    fn count_ended(&self, shared: &Shared<F>, slot: usize, pair: &Pair)
+        ensures { counted slot pair.now self.now };
+}
+
+impl Acts for () {
+    ghost made = { λ _ _ _ _. Unit {0} };
+
+    fn claim(&mut self, claims: &Claims, seat: &mut ClaimSeat, slot: usize) -> Claimed {
+        claims.claim(seat, slot)
+    }
+
+    fn take(&mut self, claims: &Claims, seat: &mut ClaimSeat, slot: usize) -> u64 {
+        claims.take(seat, slot)
+    }
+
+    fn discard(&mut self, claims: &Claims, seat: &mut ClaimSeat, slot: usize) -> u64 {
+        claims.take(seat, slot)
+    }
+
+    fn post(&mut self, claims: &Claims, seat: &mut ClaimSeat, slot: usize) -> Posted {
+        claims.post(seat, slot)
+    }
+
+    fn release(&mut self, claims: &Claims, seat: &mut ClaimSeat, slot: usize) -> Released {
+        claims.release(seat, slot)
+    }
+
+    fn retire(&mut self, claims: &Claims, seat: &mut ClaimSeat, slot: usize) {
+        claims.retire(seat, slot);
+    }
+
+    fn put_ticket<R: Wait>(
+        &mut self,
+        rt: &R,
+        ready: &mut ReadyQueue,
+        ticket: Ticket,
+    ) -> Result<(), Full<Ticket>> {
+        ready.put(rt, ticket)
+    }
+
+    fn give<R: Wait>(
+        &mut self,
+        rt: &R,
+        free: &mut FreeQueue,
+        slot: usize,
+    ) -> Result<(), Full<usize>> {
+        free.give(rt, slot)
+    }
+}
+
+impl<F: Front> Moves<F> for () {
+    ghost use Rattle.std.specs.Prelude.{◌<◌};
+    ghost use Rattle.claims.specs.Seats.{Holds};
+
+    ghost moved = { λ _ _. Unit {0} };
+
+    ghost counted = { λ _ _ _. Unit {0} };
+
+    fn take_out<R: Wait>(
+        &mut self,
+        rt: &R,
+        berths: &Berths<F::Client, F::Target>,
+        seat: &ClaimSeat,
+        slot: usize,
+    ) -> Option<Berth<F::Client, F::Target>> {
+        berths.take_out(rt, seat, slot)
+    }
+
+    fn put_in<R: Wait>(
+        &mut self,
+        rt: &R,
+        berths: &Berths<F::Client, F::Target>,
+        seat: &ClaimSeat,
+        slot: usize,
+        berth: Berth<F::Client, F::Target>,
+    ) -> Result<(), Occupied<Berth<F::Client, F::Target>>>
+        requires inside { slot < berths.now }
+        requires holder { Holds seat.now slot }
+        ensures { Unit {0} }
+    {
+        berths.put_in(rt, seat, slot, berth)
+    }
+
+    fn settle(&mut self, _slot: usize, berth: &mut Berth<F::Client, F::Target>) {
+        berth.client.settle();
+        berth.target.settle();
+    }
+
+    fn close(&mut self, _slot: usize, berth: Berth<F::Client, F::Target>)
+        ensures { Unit {0} }
+    {
+        drop(berth);
+    }
+
+    fn count_moved(&self, shared: &Shared<F>, slot: usize, pair: &Pair) {
+        shared.count_moved(slot, pair);
+    }
+
+    fn count_ended(&self, shared: &Shared<F>, slot: usize, pair: &Pair) {
+        shared.count_ended(slot, pair);
+    }
+}
