@@ -19,20 +19,18 @@ class Maker:
         self.steps = chance.randint(1, chance.choice([20, 80, 200]))
         # Several pollers in about two scripts of five.
         self.pollers = min(self.slots, chance.choice([1, 1, 2, 2, 3]))
-        # How often something other than the kernel's own answer, and something inside of a turn.
+        # How often something other than the kernel's own answer.
         self.oddity = chance.choice([0.0, 0.1, 0.4])
-        self.inside = chance.choice([0.0, 0.1, 0.3])
         self.failures = chance.choice([0, 1, 3])
         # Now and then something happens at many slots at once, so that a round has many tickets.
         self.bursts = chance.choice([0.0, 0.1]) if self.slots > 2 else 0.0
         # In some scripts: how many connections each slot may still have, after how many the server ends, from which step on no
-        # more are to be opened, how often a poll fails, an idle limit, and a PROXY line for the targets.
+        # more are to be opened, how often a poll fails, and an idle limit.
         self.left = self.sometimes(0.2, chance.randint(1, 4))
         self.stop = self.sometimes(1 / 3, chance.randint(1, 8))
         self.last = self.sometimes(0.2, chance.randrange(self.steps))
         self.faults = self.sometimes(0.2, 0.02) or 0.0
         self.idle = self.sometimes(1 / 3, chance.randint(1, 4))
-        self.proxy = self.sometimes(0.2, True)
 
     def sometimes(self, often, value):
         """A value so often, and else None."""
@@ -50,14 +48,9 @@ class Maker:
                 lines += self.burst()
             while self.random.random() < self.oddity:
                 lines.append(self.later())
-            while self.random.random() < self.inside:
-                inner = self.step({"outside": 60, "round": 30, "turn": 10})
-                lines.append(f"{self.random.choice(['before', 'after'])} {inner}")
-            if self.proxy:
-                lines += self.pieces()
             if self.random.random() < self.faults:
                 lines.append(f"{self.word('poll')} failed")
-            lines.append(self.step({"outside": 44, "round": 30, "turn": 26}))
+            lines.append(self.step())
             if self.idle is not None:
                 lines += self.ticks()
         return lines
@@ -86,22 +79,15 @@ class Maker:
         header += f" with pollers={self.pollers}"
         if self.stop is not None:
             header += f" stop={self.stop}"
-        return f"{header} proxy" if self.proxy else header
+        return header
 
     def ticks(self):
         """What the clock does between two large steps: mostly nothing, or a few seconds at once."""
         if self.random.random() < 0.6:
             return []
         seconds = self.random.choices([1, 2, 3, 4, 1000, 2**32 - 1], [40, 25, 15, 10, 5, 1])[0]
-        where = self.random.choices(["", "polled ", "polled 1 ", "after ", "before ", "meanwhile "], [80, 6, 3, 5, 1, 1])[0]
+        where = self.random.choices(["", "polled ", "polled 1 ", "meanwhile "], [80, 6, 3, 1])[0]
         return [f"{where}tick {seconds}"]
-
-    def pieces(self):
-        """What becomes of a line: mostly nothing of note, or a piece of it is taken, or an address cannot be told."""
-        what = self.pick({"all": 80, "piece": 18, "address": 2})
-        if what == "piece":
-            return [f"call {self.random.choice(['short', 'full'])} {self.random.randint(1, 40)}"]
-        return [f"{self.word('open')} address {self.random.choice(['client', 'accepted'])}"] if what == "address" else []
 
     def word(self, word):
         """A word, and behind it the number of a poller if that is not the first."""
@@ -112,9 +98,9 @@ class Maker:
         """A key of a table, by its weight."""
         return self.random.choices(list(table), list(table.values()))[0]
 
-    def step(self, table):
-        """A large step, or one inside of a turn."""
-        step = self.pick(table)
+    def step(self):
+        """A step of a thread, or something outside of the server."""
+        step = self.pick({"outside": 44, "round": 30, "turn": 26})
         if step == "round":
             return self.word(step)
         return f"turn {self.random.randrange(self.workers)}" if step == "turn" else self.outside()

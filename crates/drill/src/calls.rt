@@ -1,8 +1,9 @@
-// Makes the calls of a turn on the modelled kernel.
+// Makes the calls of a turn on the kernel of its slot's machine.
 use crate::outside::Outside;
-use crate::step::{Call, Inner, Planned, Wanted};
+use crate::step::{Planned, Point, Wanted};
 use engine::error_of;
-use kernel_model::{End, Kernel, MAX_POLLED, Refusal, Reply};
+use kernel_model::{End, MAX_POLLED, Reply};
+use relay_core::Call;
 use std::io::ErrorKind;
 use token::Kind;
 use world::Act;
@@ -10,72 +11,80 @@ use world::Act;
 /// A call on an end.
 #[derive(Clone, Copy)]
 pub struct Asked<'a> {
-    /// The poller that opened the end.
-    pub poller: usize,
-    /// The end's descriptor in that poller's kernel.
-    pub descriptor: usize,
+    pub slot: usize,
+    pub call: Call,
+    /// What a write offers. For any other call it is empty.
+    pub offer: &'a [u8],
     /// Whether the end is known to be connected.
     pub joined: bool,
-    pub call: Asking<'a>,
-}
-
-/// The call that is made.
-#[derive(Clone, Copy)]
-pub enum Asking<'a> {
-    /// A read into the buffer that comes with it.
-    Read,
-    /// A write of these bytes.
-    Write(&'a [u8]),
-    /// Whether a connect has completed.
-    Join,
-    /// A shutdown of sending.
-    Shut,
 }
 
 impl Outside {
-    /// Makes a call, after the events that are planned before it. Returns how many bytes it moved. A read puts its
+    /// Makes a call, after the events that are planned before it. It must be the one that the connection in the slot's
+    /// machine makes next, with the same bytes, in the slot's turn. Returns how many bytes it moved. A read puts its
     /// bytes at the front of the buffer.
     pub fn call(&mut self, asked: Asked<'_>, buffer: &mut [u8]) -> Result<usize, ErrorKind> {
         let wanted = self.next_wanted();
-        let Some(model) = self.pollers.get_mut(asked.poller) else {
+        let Some(reply) = self.reply(asked, wanted, buffer) else {
+            self.checks
+                .fail("a call that is not the next one of a turn");
             return Err(ErrorKind::Other);
         };
-        let Some(reply) = make(&mut model.kernel, asked, wanted, buffer) else {
-            model.expected.is_refused = true;
-            return Err(ErrorKind::Other);
-        };
-        self.act(Act::Call(reply));
         self.count_call();
+        self.act(Act::Call(reply));
+        if !self.has_sent(asked, reply) {
+            self.checks.fail("bytes that are not those of the machine");
+        }
         given(reply, wanted)
     }
 
     /// Makes the events that are planned before the next call of a turn, and returns what that call gets.
     fn next_wanted(&mut self) -> Wanted {
         for _event in 0..MAX_POLLED {
-            match self.plan.next(Call::InTurn) {
-                Some(Planned::Step(Inner::Outside(outer))) => self.happen(outer),
+            match self.plan.next(Point::Call) {
+                Some(Planned::Event(outer)) => self.happen(outer),
                 Some(Planned::Call(wanted)) => return wanted,
                 _ => return Wanted::Plain,
             }
         }
         Wanted::Plain
     }
+
+    /// The reply to a call: the planned one, if the call may get that, and else the kernel's own. None if the call is
+    /// not the next one of a turn.
+    fn reply(&self, asked: Asked<'_>, wanted: Wanted, buffer: &mut [u8]) -> Option<Reply> {
+        let turn = self.turn?;
+        let machine = self.machines.get(asked.slot)?;
+        if !turn.calling || turn.slot != asked.slot || machine.next_call()? != asked.call {
+            return None;
+        }
+        Some(answer(machine.end(asked.call.side())?, asked, wanted, buffer))
+    }
+
+    /// Whether the machine's end took the bytes that a write with this reply took.
+    fn has_sent(&self, asked: Asked<'_>, reply: Reply) -> bool {
+        let Reply::Wrote(count, _) = reply else {
+            return true;
+        };
+        let Some(machine) = self.machines.get(asked.slot) else {
+            return false;
+        };
+        match machine.end(asked.call.side()) {
+            Some(end) => end_with(end.taken(), asked.offer, count),
+            None => false,
+        }
+    }
 }
 
-/// Makes a call in the kernel. Returns its reply, or None if the kernel refuses it, which is a difference.
-fn make(kernel: &mut Kernel, asked: Asked<'_>, wanted: Wanted, buffer: &mut [u8]) -> Option<Reply> {
-    let open = kernel.end(asked.descriptor)?;
-    let reply = answer(&open.socket, asked, wanted, buffer);
-    match change(kernel, asked, buffer.len(), reply) {
-        Ok(()) => Some(reply),
-        Err(_) => None,
-    }
+/// Whether some bytes end with the first of others, this many.
+fn end_with(taken: &[u8], offer: &[u8], count: usize) -> bool {
+    let count = count.min(offer.len()).min(taken.len());
+    taken[taken.len() - count..] == offer[..count]
 }
 
 /// The reply to a call on an end. A read puts its bytes at the front of the buffer.
 fn answer(end: &End, asked: Asked<'_>, wanted: Wanted, buffer: &mut [u8]) -> Reply {
-    let own = own_reply(end, asked.call, buffer.len(), wanted);
-    let reply = reply_of(wanted, own, asked);
+    let reply = reply_of(wanted, own_reply(end, asked, wanted), asked);
     if let Reply::Bytes(count) = reply {
         if let Some(bytes) = end.bytes_read(buffer.len(), count) {
             fill(buffer, bytes);
@@ -84,26 +93,16 @@ fn answer(end: &End, asked: Asked<'_>, wanted: Wanted, buffer: &mut [u8]) -> Rep
     reply
 }
 
-/// Has the kernel make a call with this reply.
-fn change(kernel: &mut Kernel, asked: Asked<'_>, most: usize, reply: Reply) -> Result<(), Refusal> {
+/// The kernel's own reply to a call.
+fn own_reply(end: &End, asked: Asked<'_>, wanted: Wanted) -> Reply {
     match asked.call {
-        Asking::Read => kernel.read(asked.descriptor, most, reply),
-        Asking::Write(offer) => kernel.write(asked.descriptor, offer, reply),
-        Asking::Join => kernel.join(asked.descriptor, reply),
-        Asking::Shut => kernel.shut(asked.descriptor, reply),
-    }
-}
-
-/// The kernel's own reply to a call. A read gives at most `most` bytes.
-fn own_reply(end: &End, call: Asking<'_>, most: usize, wanted: Wanted) -> Reply {
-    match call {
-        Asking::Read => read_of(end, most, wanted),
-        Asking::Write(_) if end.has_err() => Reply::Failed(Kind::Pipe),
-        Asking::Write(offer) if end.has_room() => wrote(offer.len(), wanted),
-        Asking::Join if end.has_err() => Reply::Failed(Kind::Refused),
-        Asking::Join if end.has_room() => Reply::Joined,
-        Asking::Write(_) | Asking::Join => Reply::Blocked,
-        Asking::Shut => Reply::Shut,
+        Call::Read(_, most) => read_of(end, most, wanted),
+        Call::Write(_) if end.has_err() => Reply::Failed(Kind::Pipe),
+        Call::Write(_) if end.has_room() => wrote(asked.offer.len(), wanted),
+        Call::Join(_) if end.has_err() => Reply::Failed(Kind::Refused),
+        Call::Join(_) if end.has_room() => Reply::Joined,
+        Call::Write(_) | Call::Join(_) => Reply::Blocked,
+        Call::Shut(_) => Reply::Shut,
     }
 }
 
@@ -138,7 +137,7 @@ fn reply_of(wanted: Wanted, own: Reply, asked: Asked<'_>) -> Reply {
         Wanted::Interrupted => Reply::Interrupted,
         // Before a connect has completed this error means that the call has to wait.
         Wanted::Failed(Kind::NotConnected) if waits_for_connect(asked) => own,
-        Wanted::Failed(Kind::Zero) if !matches!(asked.call, Asking::Write(_)) => own,
+        Wanted::Failed(Kind::Zero) if !matches!(asked.call, Call::Write(_)) => own,
         Wanted::Failed(kind) => Reply::Failed(kind),
         _ => own,
     }
@@ -146,7 +145,7 @@ fn reply_of(wanted: Wanted, own: Reply, asked: Asked<'_>) -> Reply {
 
 /// Whether a call is made before the connect has completed.
 fn waits_for_connect(asked: Asked<'_>) -> bool {
-    !asked.joined && !matches!(asked.call, Asking::Shut)
+    !asked.joined && !matches!(asked.call, Call::Shut(_))
 }
 
 /// What the caller gets for a reply.

@@ -1,17 +1,13 @@
 // Makes the steps of the server's threads.
 use crate::clock::ScriptClock;
-use crate::contents::tickets_of;
 use crate::front::KernelFront;
-use crate::gate::Nested;
+use crate::gate::TurnGate;
 use crate::outside::OutsideCell;
 use crate::sizes::Sizes;
-use crate::step::Inner;
-use crate::turn::InProgress;
-use claims::Claimed;
-use dispatch::{Gate, Timing};
+use dispatch::Timing;
 use log::Log;
-use ready::Ticket;
-use std::alloc::Global;
+use ready::ReadyQueue;
+use std::alloc::{AllocError, Global};
 use std::cell::{Cell, RefCell};
 use std::rc::Rc;
 use std::sync::Wait;
@@ -19,7 +15,10 @@ use std::sync::atomic::AtomicBool;
 use std::sync::atomic::Ordering::SeqCst;
 use threads::{Context, Ending, PollerThread, Worker};
 
-/// A thread of the server, in a cell, so that it can make a step inside of another thread's.
+/// More tickets than the ready queue ever holds.
+const MOST: usize = 1_024;
+
+/// A thread of the server.
 #[derive(Drop)]
 pub struct ThreadCell<T> {
     pub thread: RefCell<T>,
@@ -39,10 +38,13 @@ pub struct Driver {
     pub workers: Vec<ThreadCell<Worker<KernelFront>>>,
 }
 
+/// What a thread is passed for a step.
+type StepContext<'a, R> = Context<'a, TurnGate<'a>, ScriptClock, R>;
+
 impl Driver {
     /// Has all threads begin.
     pub fn begin<R: Wait + Log>(&self, rt: &R) {
-        let gate = self.nested();
+        let gate = self.gate();
         let context = self.context(rt, &gate);
         for cell in &self.pollers {
             if let Ok(mut thread) = cell.thread.try_borrow_mut() {
@@ -51,25 +53,14 @@ impl Driver {
         }
     }
 
-    /// The gate of a turn inside of which no planned step is made.
-    pub fn nested(&self) -> Nested<'_> {
-        Nested {
+    fn gate(&self) -> TurnGate<'_> {
+        TurnGate {
             outside: &self.outside,
         }
     }
 
-    /// Makes a step, by itself or inside of a turn.
-    pub fn make<G: Gate, R: Wait + Log>(&self, rt: &R, step: Inner, gate: &G) {
-        let context = self.context(rt, gate);
-        match step {
-            Inner::Outside(outer) => self.outside.with((), |outside| outside.happen(outer)),
-            Inner::Round(poller) => self.round(&context, poller),
-            Inner::Turn(number) => self.turn(&context, number, None),
-        }
-    }
-
     /// What a thread is passed for a step.
-    fn context<'a, G, R>(&'a self, rt: &'a R, gate: &'a G) -> Context<'a, G, ScriptClock, R> {
+    fn context<'a, R>(&'a self, rt: &'a R, gate: &'a TurnGate<'a>) -> StepContext<'a, R> {
         Context {
             rt,
             alloc: self.alloc,
@@ -84,12 +75,8 @@ impl Driver {
         }
     }
 
-    /// Makes a step of a poller's thread, unless it is in a turn or has ended.
-    fn round<G: Gate, R: Wait + Log>(
-        &self,
-        context: &Context<'_, G, ScriptClock, R>,
-        poller: usize,
-    ) {
+    /// Makes a step of a poller's thread, unless it has ended.
+    pub fn round<R: Wait + Log>(&self, rt: &R, poller: usize) {
         let Some(cell) = self.pollers.get(poller) else {
             return;
         };
@@ -97,38 +84,30 @@ impl Driver {
             return;
         }
         if let Ok(mut thread) = cell.thread.try_borrow_mut() {
-            let has_ended = self.round_of(context, poller, &mut thread);
+            let has_ended = self.round_of(rt, poller, &mut thread);
             cell.has_ended.set(has_ended);
         }
     }
 
     /// Makes the step of a poller's thread. Returns whether the thread ends with it.
-    fn round_of<G: Gate, R: Wait + Log>(
+    fn round_of<R: Wait + Log>(
         &self,
-        context: &Context<'_, G, ScriptClock, R>,
+        rt: &R,
         poller: usize,
         thread: &mut PollerThread<KernelFront>,
     ) -> bool {
+        let gate = self.gate();
         let is_due = self
             .outside
             .with(false, |outside| outside.begin_step(poller));
-        let former = self.enter(Some(poller));
-        let has_ended = step_poller(context, thread);
-        self.outside.with((), |outside| {
-            outside.leave(former);
-            outside.end_step(poller, is_due, has_ended);
-        });
+        let has_ended = step_poller(&self.context(rt, &gate), thread);
+        self.outside
+            .with((), |outside| outside.end_step(poller, is_due, has_ended));
         has_ended
     }
 
-    /// Makes a step of a worker's thread, unless it would wait, is in a turn or has ended. If it would wait, it is
-    /// given the invented ticket, if there is one, to take and drop.
-    fn turn<G: Gate, R: Wait + Log>(
-        &self,
-        context: &Context<'_, G, ScriptClock, R>,
-        number: usize,
-        invented: Option<Ticket>,
-    ) {
+    /// Makes a step of a worker's thread, unless it would wait or has ended.
+    pub fn turn<R: Wait + Log>(&self, rt: &R, number: usize) {
         let Some(cell) = self.workers.get(number) else {
             return;
         };
@@ -136,70 +115,33 @@ impl Driver {
             return;
         }
         if let Ok(mut worker) = cell.thread.try_borrow_mut() {
-            let has_ended = self.turn_of(context, &mut worker, invented);
+            let has_ended = self.turn_of(rt, &mut worker);
             cell.has_ended.set(has_ended);
         }
     }
 
     /// Makes the step of a worker's thread, unless it would wait. Returns whether the thread ends with it.
-    fn turn_of<G: Gate, R: Wait + Log>(
-        &self,
-        context: &Context<'_, G, ScriptClock, R>,
-        worker: &mut Worker<KernelFront>,
-        invented: Option<Ticket>,
-    ) -> bool {
-        let Some(is_due) = self.may_turn(context.rt, worker, invented) else {
+    fn turn_of<R: Wait + Log>(&self, rt: &R, worker: &mut Worker<KernelFront>) -> bool {
+        let Ok(has_ticket) = has_ticket(rt, self.alloc, &mut worker.own.ready) else {
             return false;
         };
-        let former = self.enter(None);
-        let has_ended = step_worker(context, worker);
-        self.outside.with((), |outside| {
-            outside.leave(former);
-            outside.end_turn(is_due, has_ended);
-        });
+        let is_due = self.worker_is_due(has_ticket);
+        if !has_ticket && !is_due {
+            return false;
+        }
+        let gate = self.gate();
+        self.outside.with((), |outside| outside.begin_work());
+        let has_ended = step_worker(&self.context(rt, &gate), worker);
+        self.outside
+            .with((), |outside| outside.end_work(is_due, has_ended));
         has_ended
     }
 
-    /// Puts the invented ticket, if there is one. Returns whether the worker's thread must end with its next step. None
-    /// if it would wait, or if there is an invented ticket and it would not.
-    fn may_turn<R: Wait>(
-        &self,
-        rt: &R,
-        worker: &mut Worker<KernelFront>,
-        invented: Option<Ticket>,
-    ) -> Option<bool> {
-        let tickets = tickets_of(rt, self.alloc, &mut worker.own.ready).ok()?;
-        let is_due = self.worker_is_due(tickets.len());
-        if (!tickets.is_empty() || is_due) == invented.is_some() {
-            return None;
-        }
-        if let Some(ticket) = invented {
-            let _ = worker.own.ready.put(rt, ticket);
-        }
-        Some(is_due)
-    }
-
-    /// Whether a worker's thread must end with its next step, when this many tickets are queued.
-    fn worker_is_due(&self, queued: usize) -> bool {
+    /// Whether a worker's thread must end with its next step, if a ticket is queued, or not.
+    fn worker_is_due(&self, has_ticket: bool) -> bool {
         let polling = self.pollers.iter().any(|cell| !cell.has_ended.get());
         let is_faulty = self.outside.with(false, |outside| outside.state.is_faulty);
-        is_faulty || !polling && queued == 0
-    }
-
-    /// Has the first worker take this invented ticket, if no other is queued and the ticket is for no slot, for a free
-    /// one, or for another connection than that of a slot without notes.
-    pub fn take_invented<R: Wait + Log>(&self, rt: &R, ticket: Ticket) {
-        let generation = self
-            .outside
-            .with(0, |outside| outside.generation(ticket.slot));
-        let is_harmless = match self.word_at(ticket.slot) {
-            Some(word) => word % 4 == 3 || word == 0 && generation != ticket.generation,
-            None => true,
-        };
-        if is_harmless {
-            let gate = self.nested();
-            self.turn(&self.context(rt, &gate), 0, Some(ticket));
-        }
+        is_faulty || !polling && !has_ticket
     }
 
     /// Allows no more connections to be opened.
@@ -208,36 +150,11 @@ impl Driver {
         self.outside
             .with((), |outside| outside.state.is_stopped = true);
     }
-
-    /// Takes away the connection in this slot, if there is one and there is no idle limit: a sweep would leave notes in
-    /// the slot.
-    pub fn lose<R: Wait>(&self, rt: &R, slot: usize) {
-        let word = self.word_at(slot).unwrap_or(1);
-        let Some(cell) = self.pollers.first() else {
-            return;
-        };
-        if word % 4 != 0 || self.sizes.limits.idle > 0 {
-            return;
-        }
-        if let Ok(mut thread) = cell.thread.try_borrow_mut() {
-            self.outside.with((), |outside| outside.lose(slot, word));
-            take_away(rt, &mut thread, slot);
-        }
-    }
-
-    fn word_at(&self, slot: usize) -> Option<u64> {
-        word_of(&*self.pollers.first()?.thread.try_borrow().ok()?, slot)
-    }
-
-    fn enter(&self, poller: Option<usize>) -> InProgress {
-        self.outside
-            .with(InProgress::NONE, |outside| outside.enter(poller))
-    }
 }
 
 /// Makes a step of a poller's thread. Returns whether that ended the thread.
-fn step_poller<G: Gate, R: Wait + Log>(
-    context: &Context<'_, G, ScriptClock, R>,
+fn step_poller<R: Wait + Log>(
+    context: &StepContext<'_, R>,
     thread: &mut PollerThread<KernelFront>,
 ) -> bool {
     match thread.step(context) {
@@ -250,39 +167,30 @@ fn step_poller<G: Gate, R: Wait + Log>(
 }
 
 /// Makes a step of a worker's thread. Returns whether that ended the thread.
-fn step_worker<G: Gate, R: Wait + Log>(
-    context: &Context<'_, G, ScriptClock, R>,
+fn step_worker<R: Wait + Log>(
+    context: &StepContext<'_, R>,
     worker: &mut Worker<KernelFront>,
 ) -> bool {
     match worker.step(context) {
         Ok(()) => false,
-        Err(fault) => {
-            worker.finish(context, fault);
+        Err(ended) => {
+            worker.finish(context, ended);
             true
         }
     }
 }
 
-/// The claim word of a slot.
-pub fn word_of(thread: &PollerThread<KernelFront>, slot: usize) -> Option<u64> {
-    if slot < thread.shared.claims.slots() {
-        Some(thread.shared.claims.peek(slot))
-    } else {
-        None
+/// Whether a ticket is queued. All tickets are taken out, and put back in the same order.
+fn has_ticket(rt: &impl Wait, alloc: Global, ready: &mut ReadyQueue) -> Result<bool, AllocError> {
+    let mut tickets = Vec::with_capacity(alloc, MOST)?;
+    for _ticket in 0..MOST {
+        let Some(ticket) = ready.try_take(rt) else {
+            break;
+        };
+        tickets.push(ticket)?;
     }
-}
-
-/// Takes the connection of a slot that nobody holds out of its place, and closes it.
-fn take_away<R: Wait>(rt: &R, thread: &mut PollerThread<KernelFront>, slot: usize) {
-    let (shared, seat) = (&thread.shared, &mut thread.own.seat);
-    if slot >= shared.claims.slots() {
-        return;
+    for ticket in &tickets {
+        let _ = ready.put(rt, *ticket);
     }
-    match shared.claims.claim(seat, slot) {
-        Claimed::Busy => {}
-        Claimed::Held => {
-            drop(shared.berths.take_out(rt, seat, slot));
-            shared.claims.release(seat, slot);
-        }
-    }
+    Ok(!tickets.is_empty())
 }

@@ -1,9 +1,9 @@
-// A poller's front over the modelled kernel.
-ghost use Rattle.std.specs.Prelude.{◌≡◌, ◌≤◌, [], OnErr, length, vec_len, vec_capacity};
+// A poller's front over the modelled kernels.
+ghost use Rattle.std.specs.Prelude.{◌≡◌, ◌≤◌, vec_len, vec_capacity};
 
 use crate::outside::OutsideCell;
 use crate::wire::EndWire;
-use dispatch::{Front, MAX_BATCH, Opened, Unopened, Waiting};
+use dispatch::{Front, MAX_BATCH, Opened, Route, Unopened, Waiting};
 use kernel_model::Accepting;
 use log::Log;
 use std::alloc::{AllocError, Global};
@@ -11,7 +11,7 @@ use std::io::{self, ErrorKind};
 use std::net::SocketAddr;
 use token::{Name, Token};
 
-/// A poller's front, whose connections and reports are those of its modelled kernel.
+/// A poller's front, whose connections and reports are those of the machines of its slots and its listener.
 #[derive(Drop)]
 pub struct KernelFront {
     outside: OutsideCell,
@@ -39,48 +39,20 @@ impl KernelFront {
     }
 }
 
-/// Puts the numbers of these names into an empty list, as many as a poll gives.
-fn fill(numbers: &mut Vec<u64>, names: &[Name])
-    requires empty { vec_len numbers.old ≡ 0 }
-    requires room { MAX_BATCH ≤ vec_capacity numbers.old }
-    ensures most { vec_len numbers.new ≤ MAX_BATCH }
-    ensures capacity { vec_capacity numbers.new ≡ vec_capacity numbers.old }
+/// Puts the numbers of these names into two empty lists, as many as a poll gives.
+fn fill(batch: &mut Vec<u64>, reported: &mut Vec<u64>, names: &[Name])
+    requires batch { (vec_len batch.old ≡ 0) × (MAX_BATCH ≤ vec_capacity batch.old) }
+    requires reported { (vec_len reported.old ≡ 0) × (MAX_BATCH ≤ vec_capacity reported.old) }
+    requires same { batch.old.items ≡ reported.old.items }
+    ensures same { batch.new.items ≡ reported.new.items }
+    ensures batch { (vec_len batch.new ≤ MAX_BATCH) × (vec_capacity batch.new ≡ vec_capacity batch.old) }
+    ensures reported { (vec_len reported.new ≤ MAX_BATCH) × (vec_capacity reported.new ≡ vec_capacity reported.old) }
 {
     for name in names {
-        if numbers.len() < MAX_BATCH {
-            numbers.push_reserved(name.number());
+        if batch.len() < MAX_BATCH && reported.len() < MAX_BATCH {
+            batch.push_reserved(name.number());
+            reported.push_reserved(name.number());
         }
-    }
-}
-
-/// The numbers of the reports that a poller's kernel gives now, in an empty list.
-fn take_reports(outside: &OutsideCell, poller: usize, numbers: &mut Vec<u64>) -> io::Result<()>
-    requires empty { vec_len numbers.old ≡ 0 }
-    requires room { MAX_BATCH ≤ vec_capacity numbers.old }
-    ensures most { vec_len numbers.new ≤ MAX_BATCH }
-    ensures capacity { vec_capacity numbers.new ≡ vec_capacity numbers.old }
-    ensures failed { OnErr result (numbers.new.items ≡ []) }
-{
-    let in_use = Err(io::Error::from(ErrorKind::Other));
-    match outside.with(in_use, |outside| outside.poll(poller)) {
-        Ok(names) => {
-            fill(numbers, names.as_slice());
-            Ok(())
-        }
-        Err(error) => Err(error),
-    }
-}
-
-/// Copies numbers into an empty list that has room for them.
-fn copy(batch: &mut Vec<u64>, numbers: &[u64])
-    requires empty { batch.old.items ≡ [] }
-    requires few { length numbers.now ≤ 256 }
-    requires room { 256 ≤ vec_capacity batch.old }
-    ensures copied { batch.new.items ≡ numbers.now }
-    ensures capacity { vec_capacity batch.new ≡ vec_capacity batch.old }
-{
-    for number in numbers {
-        batch.push_reserved(*number);
     }
 }
 
@@ -99,15 +71,16 @@ impl Front for KernelFront {
     fn poll(&mut self, batch: &mut Vec<u64>, _wait: Waiting) -> io::Result<()> {
         batch.clear();
         self.reported.clear();
-        let answer = take_reports(&self.outside, self.poller, &mut self.reported);
-        copy(batch, self.reported.as_slice());
-        answer
+        let (in_use, poller) = (Err(io::Error::from(ErrorKind::Other)), self.poller);
+        let names = self.outside.with(in_use, |outside| outside.poll(poller))?;
+        fill(batch, &mut self.reported, names.as_slice());
+        Ok(())
     }
 
     fn accept(&mut self) -> io::Result<EndWire> {
         let (shared, poller) = (self.outside.share()?, self.poller);
         let kind = match shared.with(Accepting::Starved, |outside| outside.accept(poller)) {
-            Accepting::Accepted => return Ok(EndWire::new(shared, poller, None, true)),
+            Accepting::Accepted => return Ok(EndWire::new(shared, None, true)),
             Accepting::Blocked => ErrorKind::WouldBlock,
             Accepting::Again => ErrorKind::ConnectionAborted,
             Accepting::Starved => ErrorKind::Other,
@@ -131,16 +104,16 @@ impl Front for KernelFront {
     ) -> Result<Opened<EndWire>, Unopened> {
         let shared = self.outside.share().or(Err(Unopened::Connect))?;
         let poller = self.poller;
-        let (ends, route) = shared.with(Err(Unopened::Connect), |outside| {
+        shared.with(Err(Unopened::Connect), |outside| {
             outside.open(poller, client_token, target_token)
         })?;
-        if let Some(ends) = ends {
-            client.open(client_token, ends.client);
-        }
-        let end = ends.map(|ends| (target_token, ends.target));
+        client.open(client_token);
         Ok(Opened {
-            target: EndWire::new(shared, poller, end, false),
-            route,
+            target: EndWire::new(shared, Some(target_token), false),
+            route: Route {
+                client: None,
+                accepted: None,
+            },
         })
     }
 

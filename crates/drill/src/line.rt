@@ -1,12 +1,10 @@
 // Runs one line of a script: makes the server's step, and compares the server with the machines after it.
-use crate::compare::{Differs, compare};
 use crate::driver::Driver;
-use crate::gate::Open;
 use crate::machine::Machine;
 use crate::outside::Outside;
-use crate::reading::{Step, read_step};
-use log::{Level, Log};
-use std::alloc::AllocError;
+use crate::reading::read_step;
+use crate::step::{Planned, Point, Step};
+use log::Log;
 use std::io;
 use std::sync::Wait;
 
@@ -37,12 +35,15 @@ pub fn run_line<R: Wait + Log + Print>(rt: &R, driver: &Driver, line: &str) -> i
 
 fn run<R: Wait + Log + Print>(rt: &R, driver: &Driver, step: Step) -> io::Result<Outcome> {
     match step {
-        Step::Now(step) => driver.make(rt, step, &Open { rt, driver }),
-        Step::Ticket(ticket) => driver.take_invented(rt, ticket),
-        Step::Lose(slot) => driver.lose(rt, slot),
+        Step::Outside(outer) => driver.outside.with((), |outside| outside.happen(outer)),
+        Step::Round(poller) => driver.round(rt, poller),
+        Step::Turn(number) => driver.turn(rt, number),
+        Step::Machine(slot, event) => driver
+            .outside
+            .with((), |outside| outside.record(slot, event)),
         Step::Stop => driver.stop(),
         Step::Show => return show_all(rt, driver),
-        step => return prepare_next(driver, step),
+        Step::Later(point, planned) => return plan(driver, point, planned),
     }
     compare_all(rt, driver)
 }
@@ -53,41 +54,17 @@ fn show_all<R: Print>(rt: &R, driver: &Driver) -> io::Result<Outcome> {
         .with(Ok(Outcome::Nothing), |outside| show(rt, outside))
 }
 
-fn prepare_next(driver: &Driver, step: Step) -> io::Result<Outcome> {
+fn plan(driver: &Driver, point: Point, planned: Planned) -> io::Result<Outcome> {
     driver
         .outside
-        .with(Ok(()), |outside| prepare(outside, step))?;
+        .with(Ok(()), |outside| outside.plan.add(point, planned))?;
     Ok(Outcome::Nothing)
 }
 
 fn compare_all<R: Wait + Print>(rt: &R, driver: &Driver) -> io::Result<Outcome> {
     driver
         .outside
-        .with(Ok(Outcome::Nothing), |outside| agree(rt, driver, outside))
-}
-
-/// Makes a step after which nothing is compared.
-fn prepare(outside: &mut Outside, step: Step) -> Result<(), AllocError> {
-    match step {
-        Step::Later(call, planned) => outside.plan.add(call, planned)?,
-        Step::Line(line) => outside.checks.expect(Level::Info, Ok(line)),
-        step => change_machine(outside, step),
-    }
-    Ok(())
-}
-
-/// Changes the machines or the expected state alone, so that the server differs from them.
-fn change_machine(outside: &mut Outside, step: Step) {
-    match step {
-        Step::Machine(slot, event) => outside.record(slot, event),
-        Step::Listener(poller, event) => outside.record_at_poller(poller, event),
-        Step::ForgetSlot(poller) => {
-            if let Some(model) = outside.pollers.get_mut(poller) {
-                let _ = model.free.pop_front();
-            }
-        }
-        _ => {}
-    }
+        .with(Ok(Outcome::Nothing), |outside| agree(rt, outside))
 }
 
 /// Prints the script and the report of each slot's machine, and then the log.
@@ -107,40 +84,25 @@ fn print_machine<R: Print>(rt: &R, machine: &Machine) -> io::Result<()> {
     print!(rt; "script\n{script}report\n{report}end\n")
 }
 
-/// Compares the server with the machines. Prints the first difference, and the script and the report of the machine
-/// that differs.
-fn agree<R: Wait + Print>(rt: &R, driver: &Driver, outside: &mut Outside) -> io::Result<Outcome> {
-    let Err(differs) = compare(rt, driver, outside) else {
+/// Prints the first difference, if there is one, and the script and the report of each machine that refused an event.
+fn agree<R: Print>(rt: &R, outside: &mut Outside) -> io::Result<Outcome> {
+    outside.check();
+    let Some(wrong) = &outside.checks.wrong else {
         return Ok(Outcome::Agreed);
     };
-    print_difference(rt, outside, differs)?;
-    if let Some(machine) = machine_of(outside, differs) {
-        print_machine(rt, machine)?;
+    println!(rt; "differs: {wrong}")?;
+    for model in &outside.pollers {
+        print_wrong(rt, &model.machine)?;
+    }
+    for machine in &outside.machines {
+        print_wrong(rt, machine)?;
     }
     Ok(Outcome::Differs)
 }
 
-fn print_difference<R: Print>(rt: &R, outside: &Outside, differs: Differs) -> io::Result<()> {
-    let (place, number, (what, server, machine)) = match differs {
-        Differs::Server => {
-            let text = outside
-                .checks
-                .wrong
-                .as_ref()
-                .map_or("", |text| text.as_str());
-            return println!(rt; "differs: {text}");
-        }
-        Differs::Poller(poller, difference) => ("poller", poller, difference),
-        Differs::Slot(slot, difference) => ("slot", slot, difference),
-    };
-    println!(rt; "differs: {place} {number}: {what}: server {server}, machine {machine}")
-}
-
-/// The machine that differs. None if the log or a thread does.
-fn machine_of(outside: &Outside, differs: Differs) -> Option<&Machine> {
-    match differs {
-        Differs::Server => None,
-        Differs::Poller(poller, _) => Some(&outside.pollers.get(poller)?.machine),
-        Differs::Slot(slot, _) => outside.machines.get(slot),
+fn print_wrong<R: Print>(rt: &R, machine: &Machine) -> io::Result<()> {
+    if machine.is_wrong() {
+        print_machine(rt, machine)?;
     }
+    Ok(())
 }

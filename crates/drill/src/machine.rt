@@ -2,56 +2,38 @@
 // lead to.
 ghost use Rattle.drill.specs.Sizes.{IsServerSize};
 
-use crate::addresses::lead_of;
 use crate::sizes::Sizes;
-use relay_core::Verdict;
+use kernel_model::{End, Kernel};
+use relay_core::{Call, Verdict};
 use script_text::{Counts, Page, Piece, put_event, put_header};
 use std::alloc::{AllocError, Global};
+use token::Side;
 use world::{Act, Event, Lead, Limits, Polling, Reported, World};
 
-/// A machine of one slot, which makes each event at once.
+/// A machine of one slot, which makes each event at once. Its kernel answers the calls of the server at this slot.
 #[derive(Drop)]
 pub struct Machine {
     pub alloc: Global,
     made: world::Tape,
-    /// Whether the machine refused an event, or made one that the kernel did not allow. After that it makes no events.
-    pub is_wrong: bool,
-    /// The event that the machine refused.
+    /// The event of the server that the machine refused. After that it makes no events.
     refused: Option<Event>,
-    /// The slot's claim word when its connection was taken away. After that the machine makes no events.
-    pub lost: Option<u64>,
 }
 
 impl Machine {
-    /// The machine of a slot in a server of these sizes, at its beginning. Its targets get the lead of the slot's
-    /// poller.
-    pub fn of_slot(alloc: Global, sizes: Sizes, slot: usize) -> Result<Machine, AllocError>
-        requires { IsServerSize sizes }
-    {
-        let lead = if sizes.proxy {
-            lead_of(sizes.split.poller_of(slot))
-        } else {
-            Lead::NONE
-        };
-        Machine::new(alloc, sizes, lead)
-    }
-
     /// A machine of one slot and one worker, at its beginning.
-    pub fn new(alloc: Global, sizes: Sizes, lead: Lead) -> Result<Machine, AllocError>
+    pub fn new(alloc: Global, sizes: Sizes) -> Result<Machine, AllocError>
         requires { IsServerSize sizes }
     {
         let limits = Limits {
             slots: 1,
             workers: 1,
-            lead,
+            lead: Lead::NONE,
             ..sizes.limits
         };
         Ok(Machine {
             alloc,
             made: world::Tape::new(alloc, limits)?,
-            is_wrong: false,
             refused: None,
-            lost: None,
         })
     }
 
@@ -60,77 +42,78 @@ impl Machine {
         self.made.world()
     }
 
-    fn has_ended(&self) -> bool {
-        self.is_wrong || self.lost.is_some()
+    /// The kernel of this world.
+    pub fn kernel(&self) -> &Kernel {
+        self.world().kernel()
     }
 
-    /// Makes an event. The slot that it names must be 0.
-    pub fn put(&mut self, event: Event) {
-        if self.has_ended() {
-            return;
+    /// Whether the machine refused an event to which a step of the server amounts.
+    pub fn is_wrong(&self) -> bool {
+        self.refused.is_some()
+    }
+
+    /// Makes an event to which a step of the server amounts. Returns false if the machine refuses it now. The slot that
+    /// the event names must be 0.
+    pub fn put(&mut self, event: Event) -> bool {
+        if self.is_wrong() {
+            return true;
         }
         if let Err((_, event)) = self.made.put(event) {
-            self.is_wrong = true;
             self.refused = Some(event);
+            return false;
+        }
+        true
+    }
+
+    /// Makes an event that the server has no part in, if the machine allows it.
+    pub fn happen(&mut self, event: Event) {
+        if !self.is_wrong() {
+            let _ = self.made.put(event);
         }
     }
 
-    /// Tries an event that the kernel did not allow. If the machine allows it, that is a difference.
-    pub fn put_not_allowed(&mut self, event: Event) {
-        if !self.has_ended() && self.made.put(event).is_ok() {
-            self.is_wrong = true;
-        }
-    }
-
-    /// Has the connection of the turn in progress expire, if the machine has it past the idle limit.
-    pub fn expire(&mut self) {
-        if !self.has_ended() {
-            let _ = self.made.put(Event::Work(0, Act::Expire));
-        }
-    }
-
-    /// Begins a turn: the ticket is put, if it is not yet in the ready queue, and taken.
-    pub fn begin(&mut self) {
-        if !self.world().poller_hand().is_empty() {
-            self.put(Event::Poll(Polling::Put));
+    /// Begins a turn: the ticket is put, if it is not yet in the ready queue, and taken. Returns false if the machine
+    /// refuses that, as it does if no ticket was made.
+    pub fn begin(&mut self) -> bool {
+        let put = if !self.world().poller_hand().is_empty() {
+            self.put(Event::Poll(Polling::Put))
         } else if self.world().ready().is_empty() {
-            self.put(Event::Work(0, Act::Put));
-        }
-        for act in [Act::Pop, Act::Claim, Act::Take] {
-            self.put(Event::Work(0, act));
-        }
+            self.put(Event::Work(0, Act::Put))
+        } else {
+            true
+        };
+        put && self.act(Act::Pop) && self.act(Act::Claim) && self.act(Act::Take)
     }
 
-    /// How many tickets of the slot were made and not taken.
-    pub fn tickets(&self) -> usize {
-        let world = self.made.world();
-        let hand = world
-            .workers()
-            .first()
-            .map_or(0, |worker| worker.hand().len());
-        world
-            .poller_hand()
-            .len()
-            .saturating_add(world.ready().len())
-            .saturating_add(hand)
+    /// Makes an act of the worker. Returns false if the machine refuses it.
+    pub fn act(&mut self, act: Act) -> bool {
+        self.put(Event::Work(0, act))
     }
 
     /// How many connections the slot has had.
     pub fn generation(&self) -> u64 {
-        self.made.world().table_entry(0).unwrap_or(0)
+        self.world().table_entry(0).unwrap_or(0)
     }
 
-    /// Whether the connection has a call to make next.
-    pub fn is_due_again(&self) -> bool {
-        match self.made.world().connection(0) {
-            Some(connection) => connection.pair.next().is_some(),
-            None => false,
-        }
+    /// Whether a connection may be opened in the slot: it is free, and has not had its last connection.
+    pub fn is_free(&self) -> bool {
+        !self.world().free_slots().is_empty()
+    }
+
+    /// The call that its connection makes next, if it has one to make.
+    pub fn next_call(&self) -> Option<Call> {
+        self.world().connection(0)?.pair.next()
+    }
+
+    /// An end of its connection.
+    pub fn end(&self, side: Side) -> Option<&End> {
+        let descriptor = self.world().connection(0)?.descriptor(side);
+        Some(&self.kernel().end(descriptor)?.socket)
     }
 
     /// The connection's generation and verdict, and how many bytes went up and down.
     pub fn verdict(&self) -> Option<(u64, Verdict, (u64, u64))> {
-        let pair = &self.made.world().connection(0)?.pair;
+        let pair = &self.world().connection(0)?.pair;
         Some((pair.generation(), pair.verdict(), pair.counts()))
     }
 

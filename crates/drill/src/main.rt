@@ -1,31 +1,25 @@
-//! Compares a server with the machine of `world`.
+//! Plays a server beside the machine of `world`.
 //!
 //! The program owns a server in memory, which is made from its settings as the product makes it, over modelled
 //! kernels. The program reads scripts from standard input and has the server's own threads make their steps. It
 //! records the events to which each step amounts: for each slot and for each poller's listener there is a machine
-//! that makes these events at once. After every step, what the server has at each slot and at each poller must equal
-//! what the machine there has.
+//! that makes these events at once. What the server does, act by act, must be what the machines do.
 //!
 //! `session.rt` runs the scripts and `line.rt` one line of them. `reading.rt` reads their steps (`step.rt`, `sizes.rt`
-//! for the header), `making.rt` makes the server, and `driver.rt` makes its threads' steps, with `gate.rt` for those
-//! inside of turns. `compare.rt` and `difference.rt` compare; `contents.rt` lists what queues hold.
+//! for the header), `making.rt` makes the server, and `driver.rt` makes its threads' steps.
 //!
-//! `outside.rt` has what the server's calls reach in place of a system: a `poller_model.rt` for each poller, with a
-//! modelled kernel and the poller's expected state (`expected.rt`), a `machine.rt` for each slot and each listener,
-//! and what the next calls get (`plan.rt`). `front.rt` is a poller's front over its kernel, `wire.rt` one end of a
-//! connection, `clock.rt` the clock, and `logger.rt` the log. `round.rt` says to which events a poller's round
-//! amounts, `calls.rt` the calls of a turn, `turn.rt` what must hold of turns, and `checks.rt` what must be logged.
+//! `outside.rt` has what the server's calls reach in place of a system: a `machine.rt` for each slot, whose modelled
+//! kernel answers the calls there; for each poller a machine of its listener, and its expected state
+//! (`poller_model.rt`); and what later calls get (`plan.rt`). `front.rt` is a poller's front, `wire.rt` one end of a
+//! connection, `gate.rt` the gate of turns, `clock.rt` the clock, and `logger.rt` the log. `round.rt` says to which
+//! events a poller's round amounts, `calls.rt` the calls of a turn, `turn.rt` what must hold of turns, and `checks.rt`
+//! what must be logged.
 #![tactic(auto)]
 
-mod addresses;
 mod calls;
 mod checks;
 mod clock;
-mod compare;
-mod contents;
-mod difference;
 mod driver;
-mod expected;
 mod front;
 mod gate;
 mod line;

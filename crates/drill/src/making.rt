@@ -73,9 +73,9 @@ fn cells<T: Drop>(alloc: Global, mut threads: Vec<T>) -> Result<Vec<ThreadCell<T
 fn settings_of(alloc: Global, sizes: Sizes) -> Result<Settings, AllocError> {
     let (slots, workers) = (sizes.limits.slots, sizes.limits.workers);
     let (ring, budget) = (sizes.limits.ring, sizes.limits.budget);
-    let (idle, stop_after, proxy) = (sizes.limits.idle, sizes.stop_after, sizes.proxy);
+    let (idle, stop_after) = (sizes.limits.idle, sizes.stop_after);
     let text = format!(in alloc;
-        "listen = \"127.0.0.1:0\"\ntarget = \"127.0.0.1:1\"\nslots = {slots}\nworkers = {workers}\nring = {ring}\nbudget = {budget}\nidle = {idle}\nstop_after = {stop_after}\nproxy = {proxy}\n"
+        "listen = \"127.0.0.1:0\"\ntarget = \"127.0.0.1:1\"\nslots = {slots}\nworkers = {workers}\nring = {ring}\nbudget = {budget}\nidle = {idle}\nstop_after = {stop_after}\n"
     )?;
     parse(alloc, text.as_bytes()).or(Err(AllocError))
 }

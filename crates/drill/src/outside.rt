@@ -1,15 +1,15 @@
-// What is outside of the server: a model of each poller, a machine for each slot, the clients that no poller has
-// accepted yet, what the next calls get, and the log.
+// What is outside of the server: a machine and an expected state for each poller, a machine for each slot, the clients
+// that no poller has accepted yet, what later calls get, and the log.
 ghost use Rattle.drill.specs.Sizes.{IsServerSize};
 
 use crate::checks::Checks;
 use crate::clock::ScriptClock;
-use crate::machine::Machine;
+use crate::machine::{Machine, at_first};
 use crate::plan::Plan;
 use crate::poller_model::PollerModel;
 use crate::sizes::Sizes;
 use crate::step::Outer;
-use crate::turn::InProgress;
+use crate::turn::Turn;
 use kernel_model::MAX_BACKLOG;
 use log::Level;
 use std::alloc::{AllocError, Global};
@@ -28,7 +28,10 @@ pub struct Outside {
     /// One for each slot.
     pub machines: Vec<Machine>,
     pub plan: Plan,
-    pub in_progress: InProgress,
+    /// The poller whose thread makes the step in progress. None: a worker's does.
+    pub poller: Option<usize>,
+    /// The turn in progress.
+    pub turn: Option<Turn>,
     pub checks: Checks,
     pub state: State,
 }
@@ -36,10 +39,8 @@ pub struct Outside {
 /// What is expected of the whole server.
 #[derive(Clone, Copy)]
 pub struct State {
-    /// How many clients wait outside of all kernels.
+    /// How many clients wait outside of all machines.
     pub waiting: usize,
-    /// How many turns have read the clock and may still make calls.
-    pub calling: usize,
     /// Whether a thread has recorded a fault.
     pub is_faulty: bool,
     /// Whether no more connections may be opened.
@@ -78,6 +79,7 @@ impl OutsideCell {
 }
 
 impl Outside {
+    /// What is outside of a server of these sizes, before it begins.
     pub fn new(alloc: Global, sizes: Sizes, clock: Rc<ScriptClock>) -> Result<Outside, AllocError>
         requires { IsServerSize sizes }
     {
@@ -88,39 +90,45 @@ impl Outside {
             pollers: models_of(alloc, sizes)?,
             machines: machines_of(alloc, sizes)?,
             plan: Plan::new(alloc),
-            in_progress: InProgress::NONE,
+            poller: None,
+            turn: None,
             checks: Checks::new(alloc),
             state: State {
                 waiting: 0,
-                calling: 0,
                 is_faulty: false,
                 is_stopped: false,
             },
         })
     }
 
-    /// Makes an event in this slot's machine.
-    pub fn record(&mut self, slot: usize, event: Event) {
-        if let Some(machine) = self.machines.get_mut(slot) {
-            machine.put(event);
+    /// Notes whether a machine has made an event to which a step of the server amounts.
+    pub fn must(&mut self, is_made: bool) {
+        if !is_made {
+            self.checks.fail("an event that its machine refuses");
         }
     }
 
-    /// Makes an event in the machine of this poller's listener.
+    /// Makes an event to which a step of the server amounts, in this slot's machine.
+    pub fn record(&mut self, slot: usize, event: Event) {
+        let made = match self.machines.get_mut(slot) {
+            Some(machine) => machine.put(event),
+            None => false,
+        };
+        self.must(made);
+    }
+
+    /// Makes an event to which a step of the server amounts, in the machine of this poller's listener.
     pub fn record_at_poller(&mut self, poller: usize, event: Event) {
-        if let Some(model) = self.pollers.get_mut(poller) {
-            model.machine.put(event);
-        }
+        let made = match self.pollers.get_mut(poller) {
+            Some(model) => model.machine.put(event),
+            None => false,
+        };
+        self.must(made);
     }
 
     /// The model of the poller that has this slot.
     pub fn model_of(&mut self, slot: usize) -> Option<&mut PollerModel> {
         self.pollers.get_mut(self.sizes.split.poller_of(slot))
-    }
-
-    /// Whether the connection in this slot was taken away.
-    pub fn is_lost(&self, slot: usize) -> bool {
-        matches!(self.machines.get(slot), Some(machine) if machine.lost.is_some())
     }
 
     /// How many connections this slot has had.
@@ -145,8 +153,19 @@ impl Outside {
         self.checks.write(level, text);
     }
 
-    /// Makes an event outside of the server. If neither the kernel nor the machine allows it, nothing happens. While a
-    /// client waits, no report of the listener vanishes.
+    /// Fails after a step in which a poller was not woken as often as it must be, or a line was not logged.
+    pub fn check(&mut self) {
+        for model in self.pollers.iter_mut() {
+            if !model.check_wakes() {
+                self.checks
+                    .fail("a poller is woken too often or too seldom");
+            }
+        }
+        self.checks.check();
+    }
+
+    /// Makes an event outside of the server. If the machine does not allow it, nothing happens. While a client waits, no
+    /// report of the listener vanishes.
     pub fn happen(&mut self, outer: Outer) {
         let Outer { poller, event } = outer;
         match &event {
@@ -157,27 +176,19 @@ impl Outside {
             | Event::Spurious(Reported::End(slot, _))
             | Event::Vanish(Reported::End(slot, _)) => {
                 let slot = *slot;
-                self.change(slot, event);
+                if let Some(machine) = self.machines.get_mut(slot) {
+                    machine.happen(at_first(event));
+                }
             }
             _ => self.report(poller, event),
-        }
-    }
-
-    /// Makes an event of an end of this slot.
-    fn change(&mut self, slot: usize, event: Event) {
-        let poller = self.sizes.split.poller_of(slot);
-        if let Some(model) = self.pollers.get_mut(poller) {
-            if let Some(machine) = self.machines.get_mut(slot) {
-                model.change(machine, event);
-            }
         }
     }
 
     /// Makes an event of a poller's listener or waker.
     fn report(&mut self, poller: usize, event: Event) {
         if let Some(model) = self.pollers.get_mut(poller) {
-            if model.expected.listens || !matches!(&event, Event::Spurious(Reported::Listener)) {
-                model.happen(event);
+            if model.listens || !matches!(&event, Event::Spurious(Reported::Listener)) {
+                model.machine.happen(event);
             }
         }
     }
@@ -185,33 +196,32 @@ impl Outside {
     /// Advances the clock and, if there is an idle limit, the second of each machine. Nothing happens while a turn that
     /// has read the clock may still make calls: the server makes these at the second that it has read.
     fn tick(&mut self, seconds: u64) {
-        if self.state.calling > 0 || !self.clock.advance(seconds) || self.sizes.limits.idle == 0 {
+        let is_calling = matches!(self.turn, Some(turn) if turn.calling);
+        if is_calling || !self.clock.advance(seconds) || self.sizes.limits.idle == 0 {
             return;
         }
         for model in self.pollers.iter_mut() {
-            model.machine.put(Event::Tick(seconds));
+            model.machine.happen(Event::Tick(seconds));
         }
         for machine in self.machines.iter_mut() {
-            machine.put(Event::Tick(seconds));
+            machine.happen(Event::Tick(seconds));
         }
     }
 
     /// Whether any poller listens.
     pub fn is_listening(&self) -> bool {
-        self.pollers.iter().any(|model| model.expected.listens)
+        self.pollers.iter().any(|model| model.listens)
     }
 
-    /// A client connects. It waits outside of the kernels, and is reported to each poller whose last accept(2) would
-    /// have blocked; the others will call accept(2) again anyway. If no poller listens, the client is refused.
+    /// A client connects. It waits outside of the machines, and is reported to the pollers. If none listens, the client
+    /// is refused.
     fn connect(&mut self) {
         if self.state.waiting >= MAX_BACKLOG || !self.is_listening() {
             return;
         }
         self.state.waiting += 1;
         for model in self.pollers.iter_mut() {
-            if model.expected.listens && model.kernel.is_armed() {
-                model.happen(Event::Spurious(Reported::Listener));
-            }
+            model.report_client();
         }
     }
 
@@ -222,18 +232,10 @@ impl Outside {
         }
     }
 
-    /// Has all pollers' machines be woken.
+    /// Expects that all pollers are woken in this step.
     pub fn expect_wakes(&mut self) {
         for model in self.pollers.iter_mut() {
-            model.machine.put(Event::Spurious(Reported::Waker));
-        }
-    }
-
-    /// Notes that the connection in this slot, which has this claim word, is taken away. After that only the slot's
-    /// word is compared.
-    pub fn lose(&mut self, slot: usize, word: u64) {
-        if let Some(machine) = self.machines.get_mut(slot) {
-            machine.lost = Some(word);
+            model.expect_wake();
         }
     }
 }
@@ -255,8 +257,8 @@ fn machines_of(alloc: Global, sizes: Sizes) -> Result<Vec<Machine>, AllocError>
     requires { IsServerSize sizes }
 {
     let mut machines = Vec::with_capacity(alloc, sizes.limits.slots)?;
-    for slot in 0..sizes.limits.slots {
-        machines.push(Machine::of_slot(alloc, sizes, slot)?)?;
+    for _slot in 0..sizes.limits.slots {
+        machines.push(Machine::new(alloc, sizes)?)?;
     }
     Ok(machines)
 }

@@ -1,36 +1,10 @@
 // Reads the steps of a script from its lines.
-use crate::step::{Call, Inner, Opening, Outer, Planned, Polled, Wanted};
+use crate::step::{Opening, Outer, Planned, Point, Polled, Step, Wanted};
 use kernel_model::Accepting;
-use ready::Ticket;
 use script_text::read_event;
 use std::alloc::Global;
 use token::Kind;
 use world::{Event, Listening};
-
-/// One step of a script.
-#[derive(Drop)]
-pub enum Step {
-    /// A step that is made at once.
-    Now(Inner),
-    /// What one of the next calls gets, or what happens between two calls.
-    Later(Call, Planned),
-    /// A worker takes this invented ticket.
-    Ticket(Ticket),
-    /// The connection in this slot is taken away.
-    Lose(usize),
-    /// An event of this slot's machine alone.
-    Machine(usize, Event),
-    /// An event of the machine of this poller's listener alone.
-    Listener(usize, Event),
-    /// This line is expected in the log.
-    Line(String),
-    /// The expected state of this poller loses a free slot.
-    ForgetSlot(usize),
-    /// No more connections may be opened.
-    Stop,
-    /// The scripts and the reports of the slots' machines are printed, and the log.
-    Show,
-}
 
 /// Reads a line. None if it is no step, or if memory for the step ran out.
 pub fn read_step(alloc: Global, line: &str) -> Option<Step> {
@@ -38,24 +12,22 @@ pub fn read_step(alloc: Global, line: &str) -> Option<Step> {
     match word {
         "show" => Some(Step::Show),
         "stop" => Some(Step::Stop),
-        "log" => Some(Step::Line(String::from_str(alloc, rest).ok()?)),
-        "ticket" => Some(Step::Ticket(ticket(rest)?)),
-        "lose" => Some(Step::Lose(number(rest)?)),
-        "machine" | "listener" | "forget" => wrong(alloc, word, rest),
+        "turn" => Some(Step::Turn(number(rest)?)),
+        "round" if rest.is_empty() => Some(Step::Round(0)),
+        "round" => Some(Step::Round(number(rest)?)),
+        "machine" => machine(alloc, rest),
         _ => read_planned(alloc, line),
     }
 }
 
-/// Reads a step that is made at once or planned.
+/// Reads an event that happens at once, or what is planned.
 fn read_planned(alloc: Global, line: &str) -> Option<Step> {
     let (word, rest) = cut(line);
     match word {
-        "call" => Some(Step::Later(Call::InTurn, Planned::Call(wanted(rest)?))),
-        "meanwhile" => later(Call::InTurn, Inner::Outside(outside(alloc, rest)?)),
-        "before" => later(Call::BeforeTurn, inner(alloc, rest)?),
-        "after" => later(Call::AfterTurn, inner(alloc, rest)?),
+        "call" => Some(Step::Later(Point::Call, Planned::Call(wanted(rest)?))),
+        "meanwhile" => later(Point::Call, outside(alloc, rest)?),
         "accept" | "open" | "poll" | "polled" => in_round(alloc, word, rest),
-        _ => Some(Step::Now(inner(alloc, line)?)),
+        _ => Some(Step::Outside(outside(alloc, line)?)),
     }
 }
 
@@ -78,25 +50,14 @@ fn named<T: Copy>(table: &[(&str, T)], word: &str) -> Option<T> {
     None
 }
 
-/// Reads a step that changes the machines or the expected state alone, so that the next comparison must fail.
-fn wrong(alloc: Global, word: &str, rest: &str) -> Option<Step> {
-    let (first, last) = cut(rest);
-    if word == "forget" {
-        return match first {
-            "slot" => Some(Step::ForgetSlot(number(last)?)),
-            _ => None,
-        };
-    }
-    let place = number(first)?;
-    let event = event(alloc, last)?;
-    match word {
-        "machine" => Some(Step::Machine(place, event)),
-        _ => Some(Step::Listener(place, event)),
-    }
+/// Reads an event of a slot's machine alone, which has to be noticed if the machine refuses it.
+fn machine(alloc: Global, text: &str) -> Option<Step> {
+    let (slot, rest) = cut(text);
+    Some(Step::Machine(number(slot)?, event(alloc, rest)?))
 }
 
-fn later(call: Call, step: Inner) -> Option<Step> {
-    Some(Step::Later(call, Planned::Step(step)))
+fn later(point: Point, outer: Outer) -> Option<Step> {
+    Some(Step::Later(point, Planned::Event(outer)))
 }
 
 /// Reads what a call of a round gets. The poller's number may come first; without it the poller is 0.
@@ -106,25 +67,14 @@ fn in_round(alloc: Global, word: &str, rest: &str) -> Option<Step> {
     match word {
         "accept" => {
             let reply = named(&ACCEPTS, rest)?;
-            Some(Step::Later(Call::Accept(poller), Planned::Accept(reply)))
+            Some(Step::Later(Point::Accept(poller), Planned::Accept(reply)))
         }
         "open" => {
             let opening = named(&OPENINGS, rest)?;
-            Some(Step::Later(Call::Open(poller), Planned::Open(opening)))
+            Some(Step::Later(Point::Open(poller), Planned::Open(opening)))
         }
-        "poll" => Some(Step::Later(Call::Poll(poller), Planned::Poll(polled(rest)?))),
-        _ => later(Call::Polled(poller), Inner::Outside(outside(alloc, rest)?)),
-    }
-}
-
-/// Reads a step that may also be made inside of a turn.
-fn inner(alloc: Global, text: &str) -> Option<Inner> {
-    let (word, rest) = cut(text);
-    match word {
-        "round" if rest.is_empty() => Some(Inner::Round(0)),
-        "round" => Some(Inner::Round(number(rest)?)),
-        "turn" => Some(Inner::Turn(number(rest)?)),
-        _ => Some(Inner::Outside(outside(alloc, text)?)),
+        "poll" => Some(Step::Later(Point::Poll(poller), Planned::Poll(polled(rest)?))),
+        _ => later(Point::Polled(poller), outside(alloc, rest)?),
     }
 }
 
@@ -150,15 +100,6 @@ fn event(alloc: Global, text: &str) -> Option<Event> {
     read_event(alloc, text.as_bytes()).ok()
 }
 
-/// Reads a ticket, as SLOT.GEN.
-fn ticket(text: &str) -> Option<Ticket> {
-    let (slot, generation) = text.split_once('.').unwrap_or((text, ""));
-    Some(Ticket {
-        slot: number(slot)?,
-        generation: number(generation)? as u64,
-    })
-}
-
 fn wanted(text: &str) -> Option<Wanted> {
     let (word, rest) = cut(text);
     match word {
@@ -177,12 +118,10 @@ static ACCEPTS: [(&str, Accepting); 3] = [
     ("starved", Accepting::Starved),
 ];
 
-static OPENINGS: [(&str, Opening); 5] = [
+static OPENINGS: [(&str, Opening); 3] = [
     ("plain", Opening::Plain),
     ("connect", Opening::Connect),
     ("register", Opening::Register),
-    ("address client", Opening::NoClient),
-    ("address accepted", Opening::NoAccepted),
 ];
 
 static POLLS: [(&str, Polled); 3] = [

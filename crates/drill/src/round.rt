@@ -1,25 +1,24 @@
 // What the calls of a poller's round get, and to which events the round amounts.
-use crate::addresses::{peer_of, route_of};
 use crate::outside::Outside;
 use crate::plan::Plan;
-use crate::poller_model::own_names;
-use crate::step::{Call, Inner, Opening, Planned, Polled};
-use dispatch::{Clock, Part, Route, Unopened};
-use kernel_model::{Accepting, Descriptors, MAX_POLLED};
+use crate::step::{Opening, Planned, Point, Polled};
+use dispatch::{Clock, Part, Unopened};
+use kernel_model::{Accepting, MAX_POLLED};
 use log::Level;
-use std::alloc::AllocError;
+use std::alloc::{AllocError, Global};
 use std::io::{self, ErrorKind};
-use token::{Name, Token};
+use std::net::{Ipv4Addr, SocketAddr, SocketAddrV4};
+use token::{Name, Side, Token};
 use world::{Event, Listening, Polling};
-
-/// A connection that a poller has started to open: its ends and its addresses. It has no ends if it must be closed
-/// because an address is unknown.
-pub type Started = (Option<Descriptors>, Route);
 
 impl Outside {
     /// Makes a poll, which must be the only one of the poller's round. Returns the names that it gives.
     pub fn poll(&mut self, poller: usize) -> io::Result<Vec<Name>> {
-        self.begin_poll(poller);
+        if let Some(model) = self.pollers.get_mut(poller) {
+            if model.in_round {
+                self.checks.fail("a second poll in a round");
+            }
+        }
         match self.next_poll(poller) {
             Some(Polled::Failed) => {
                 self.fail_poll(poller);
@@ -29,21 +28,8 @@ impl Outside {
         }
     }
 
-    fn begin_poll(&mut self, poller: usize) {
-        if let Some(model) = self.pollers.get_mut(poller) {
-            if model.expected.in_round {
-                self.checks.fail("a second poll in a round");
-            }
-            if !model.expected.begin_poll() {
-                self.checks.fail(
-                    "a poll while the front listens for clients that may not be opened",
-                );
-            }
-        }
-    }
-
     fn next_poll(&mut self, poller: usize) -> Option<Polled> {
-        match self.plan.next(Call::Poll(poller))? {
+        match self.plan.next(Point::Poll(poller))? {
             Planned::Poll(polled) => Some(polled),
             _ => None,
         }
@@ -52,15 +38,12 @@ impl Outside {
     fn fail_poll(&mut self, poller: usize) {
         self.state.is_faulty = true;
         if let Some(model) = self.pollers.get_mut(poller) {
-            model.expected.has_failed = true;
+            model.has_failed = true;
         }
     }
 
     fn poll_names(&mut self, poller: usize, polled: Option<Polled>) -> io::Result<Vec<Name>> {
-        let Some(model) = self.pollers.get_mut(poller) else {
-            return Err(io::Error::from(ErrorKind::Other));
-        };
-        let names = model.poll(self.alloc, polled)?;
+        let names = self.queued(poller, polled)?;
         self.report_names(poller, names.as_slice())?;
         match polled {
             Some(Polled::Interrupted) => Err(io::Error::from(ErrorKind::Interrupted)),
@@ -68,9 +51,30 @@ impl Outside {
         }
     }
 
-    /// Has the slots' machines take the names of a poll. After what is planned to happen then, the poller delivers the
-    /// names, and makes its sweep.
+    /// The names that a poll gives out of those that are queued in the machines of a poller and of its slots.
+    fn queued(&self, poller: usize, polled: Option<Polled>) -> Result<Vec<Name>, AllocError> {
+        let mut names = Vec::new(self.alloc);
+        let Some(model) = self.pollers.get(poller) else {
+            return Ok(names);
+        };
+        add_names(&mut names, model.machine.kernel().queue(), 0)?;
+        for (slot, machine) in self.machines.iter().enumerate() {
+            if model.part.has(slot) {
+                add_names(&mut names, machine.kernel().queue(), slot)?;
+            }
+        }
+        choose(&mut names, polled);
+        Ok(names)
+    }
+
+    /// Has the machines take the names of a poll. After what is planned to happen then, the poller delivers the names,
+    /// and makes its sweep.
     fn report_names(&mut self, poller: usize, names: &[Name]) -> Result<(), AllocError> {
+        let own = own_names(self.alloc, names, None)?;
+        self.record_at_poller(poller, Event::Poll(Polling::Poll(own)));
+        if let Some(model) = self.pollers.get_mut(poller) {
+            model.in_round = true;
+        }
         for slot in 0..self.machines.len() {
             let own = own_names(self.alloc, names, Some(slot))?;
             if !own.is_empty() {
@@ -88,9 +92,9 @@ impl Outside {
     /// Makes the events that are planned between a poll and the delivery of its names.
     fn happen_polled(&mut self, poller: usize) {
         for _event in 0..MAX_POLLED {
-            match self.plan.next_step(Call::Polled(poller)) {
-                Some(Inner::Outside(outer)) => self.happen(outer),
-                _ => return,
+            match self.plan.next_event(Point::Polled(poller)) {
+                Some(outer) => self.happen(outer),
+                None => return,
             }
         }
     }
@@ -108,7 +112,7 @@ impl Outside {
     fn sweep_if_due(&mut self, poller: usize) {
         let (second, limit) = (self.clock.second(), self.sizes.limits.idle);
         if let Some(model) = self.pollers.get_mut(poller) {
-            if model.expected.falls_due(second, limit) {
+            if model.falls_due(second, limit) {
                 let part = model.part;
                 self.sweep(part);
             }
@@ -130,85 +134,71 @@ impl Outside {
         let Some(model) = self.pollers.get_mut(poller) else {
             return Accepting::Starved;
         };
-        if model.expected.has_accepted || model.expected.has_opened_all() {
+        if model.has_accepted || model.has_opened_all() {
             self.checks.fail(
                 "accept(2) before the last client is opened or closed, or after a poller's last connection",
             );
         }
         let reply = next_reply(&mut self.plan, poller, &mut self.state.waiting);
-        model.accept(reply);
+        let is_made = model.accept(reply);
+        self.must(is_made);
         reply
     }
 
-    /// Closes the listener of a poller's front, which is allowed only once that poller has opened all that it may. When
-    /// the last listener closes, the clients that wait are refused.
+    /// Closes the listener of a poller's front. When the last listener closes, the clients that wait are refused.
     pub fn stop_listening(&mut self, poller: usize) {
-        let Some(model) = self.pollers.get_mut(poller) else {
-            return;
-        };
-        model.stop_listening();
-        if !model.expected.has_opened_all() {
-            self.checks
-                .fail("a poller no longer listens, though it may open more");
+        if let Some(model) = self.pollers.get_mut(poller) {
+            model.stop_listening();
         }
         if !self.is_listening() {
             self.state.waiting = 0;
         }
     }
 
-    /// Opens both ends of a connection that a poller has accepted, or fails as planned. If a PROXY line lacks an
-    /// address, there are no ends: the server must close both at once, and for the machine the connection was never
-    /// open.
-    pub fn open(
-        &mut self,
-        poller: usize,
-        client: Token,
-        target: Token,
-    ) -> Result<Started, Unopened> {
-        let opening = self.next_opening(poller);
-        let route = route_of(poller, opening)?;
-        if self.sizes.proxy && !matches!(opening, Opening::Plain) {
-            return Ok((None, route));
-        }
-        match self.open_ends(poller, client, target) {
-            Some(ends) => Ok((Some(ends), route)),
-            None => Err(Unopened::Connect),
+    /// Opens both ends of a connection that a poller has accepted, under these names, or fails as planned.
+    pub fn open(&mut self, poller: usize, client: Token, target: Token) -> Result<(), Unopened> {
+        match self.next_opening(poller) {
+            Opening::Plain => {
+                self.opened(poller, client, target);
+                Ok(())
+            }
+            Opening::Connect => Err(Unopened::Connect),
+            Opening::Register => Err(Unopened::Register),
         }
     }
 
     /// Returns the planned outcome of an opening, before which a client must have been accepted.
     fn next_opening(&mut self, poller: usize) -> Opening {
         if let Some(model) = self.pollers.get_mut(poller) {
-            if !model.expected.has_accepted {
+            if !model.has_accepted {
                 self.checks.fail("a target without an accepted client");
             }
-            model.expected.has_accepted = false;
+            model.has_accepted = false;
         }
-        match self.plan.next(Call::Open(poller)) {
+        match self.plan.next(Point::Open(poller)) {
             Some(Planned::Open(opening)) => opening,
             _ => Opening::Plain,
         }
     }
 
-    fn open_ends(&mut self, poller: usize, client: Token, target: Token) -> Option<Descriptors> {
-        let ends = self.pollers.get_mut(poller)?.open(client, target)?;
-        self.opened(poller, client.slot(), client.generation());
-        Some(ends)
-    }
-
-    /// Notes that a poller has opened a connection in this slot, which must be its first free one.
-    fn opened(&mut self, poller: usize, slot: usize, generation: u64) {
-        let first = match self.pollers.get_mut(poller) {
-            Some(model) => model.take_free(),
-            None => None,
-        };
-        if first != Some(slot) {
-            self.checks
-                .fail("a poller opens another slot than its first free one");
+    /// Notes that a poller has opened a connection, both of whose ends must be reported under their own names.
+    fn opened(&mut self, poller: usize, client: Token, target: Token) {
+        let (slot, generation) = (client.slot(), client.generation());
+        if let Some(model) = self.pollers.get_mut(poller) {
+            model.open();
         }
-        self.record(slot, Event::Listen(Listening::Connect));
-        self.record(slot, Event::Listen(Listening::Accept(Accepting::Accepted)));
-        self.record(slot, Event::Poll(Polling::Open));
+        for event in [
+            Event::Listen(Listening::Connect),
+            Event::Listen(Listening::Accept(Accepting::Accepted)),
+            Event::Poll(Polling::Open),
+        ] {
+            self.record(slot, event);
+        }
+        let is_named = client.side() == Side::Client && self.generation(slot) == generation;
+        if !is_named || Token::pack(slot, Side::Target, generation) != Ok(target) {
+            self.checks
+                .fail("an end that is reported under another name");
+        }
         self.expect_open(slot, generation);
     }
 
@@ -224,27 +214,24 @@ impl Outside {
     /// Begins a step of a poller's thread. Returns whether the thread must end with it. If no more connections may be
     /// opened, the thread finds that out in this step, and must wake all pollers.
     pub fn begin_step(&mut self, poller: usize) -> bool {
+        self.poller = Some(poller);
         let Some(model) = self.pollers.get_mut(poller) else {
             return false;
         };
-        let is_due = model.expected.is_over || self.state.is_faulty;
-        if !is_due && self.state.is_stopped && !model.expected.has_opened_all() {
-            model.expected.stop_opening();
+        let is_due = model.is_over || self.state.is_faulty;
+        if !is_due && self.state.is_stopped && !model.has_opened_all() {
+            model.stop_opening();
             self.expect_wakes();
         }
         is_due
     }
 
-    /// Ends the step. The thread must have ended if it had to. It may also end in a step inside of which a fault was
-    /// recorded.
+    /// Ends the step. The thread must have ended if it had to, or if its poll has failed, and only then.
     pub fn end_step(&mut self, poller: usize, is_due: bool, has_ended: bool) {
-        let has_failed = match self.pollers.get(poller) {
-            Some(model) => model.expected.has_failed,
-            None => false,
-        };
-        let may_end = is_due || self.state.is_faulty;
-        let has_to_end = is_due || has_failed;
-        if has_ended && !may_end || has_to_end && !has_ended {
+        self.finish_turn();
+        self.end_round();
+        let has_failed = matches!(self.pollers.get(poller), Some(model) if model.has_failed);
+        if has_ended != (is_due || has_failed) {
             self.checks
                 .fail("a poller's thread goes on or ends when it has not to");
         }
@@ -252,11 +239,41 @@ impl Outside {
             self.expect_wakes();
         }
     }
+
+    /// Ends the round with which the poller's step began.
+    pub fn end_round(&mut self) {
+        let Some(poller) = self.poller else {
+            return;
+        };
+        let all_free = self.are_free(poller);
+        if let Some(model) = self.pollers.get_mut(poller) {
+            if model.in_round {
+                model.end_round(all_free);
+                if model.has_accepted {
+                    self.checks
+                        .fail("an accepted client is neither opened nor closed");
+                }
+            }
+        }
+    }
+
+    /// Whether a connection may be opened in each slot of a poller.
+    fn are_free(&self, poller: usize) -> bool {
+        let Some(model) = self.pollers.get(poller) else {
+            return false;
+        };
+        for (slot, machine) in self.machines.iter().enumerate() {
+            if model.part.has(slot) && !machine.is_free() {
+                return false;
+            }
+        }
+        true
+    }
 }
 
 /// The reply to a call of accept(2): what is planned, or else a client if one waits.
 fn next_reply(plan: &mut Plan, poller: usize, waiting: &mut usize) -> Accepting {
-    match plan.next(Call::Accept(poller)) {
+    match plan.next(Point::Accept(poller)) {
         Some(Planned::Accept(Accepting::Again)) => Accepting::Again,
         Some(Planned::Accept(Accepting::Starved)) => Accepting::Starved,
         _ if *waiting > 0 => {
@@ -265,4 +282,60 @@ fn next_reply(plan: &mut Plan, poller: usize, waiting: &mut usize) -> Accepting 
         }
         _ => Accepting::Blocked,
     }
+}
+
+/// Adds the names that are queued in a machine, with its slot's number.
+fn add_names(names: &mut Vec<Name>, queue: &[Name], slot: usize) -> Result<(), AllocError> {
+    for name in queue {
+        if let Some(name) = named_at(*name, slot) {
+            names.push(name)?;
+        }
+    }
+    Ok(())
+}
+
+/// The names of a poll that are of this slot, as its machine has them. None: those of the listener and the waker.
+fn own_names(alloc: Global, names: &[Name], slot: Option<usize>) -> Result<Vec<Name>, AllocError> {
+    let mut own = Vec::new(alloc);
+    for name in names {
+        let of = match name {
+            Name::End(token) => Some(token.slot()),
+            Name::Listener | Name::Waker => None,
+        };
+        if of == slot {
+            add_names(&mut own, &[*name], 0)?;
+        }
+    }
+    Ok(own)
+}
+
+/// The same name at this slot.
+fn named_at(name: Name, slot: usize) -> Option<Name> {
+    match name {
+        Name::End(token) => {
+            let token = Token::pack(slot, token.side(), token.generation());
+            Some(Name::End(token.ok()?))
+        }
+        Name::Listener | Name::Waker => Some(name),
+    }
+}
+
+/// Leaves of the names that are queued those that a poll gives.
+fn choose(names: &mut Vec<Name>, polled: Option<Polled>) {
+    let most = match polled {
+        Some(Polled::Interrupted) => 0,
+        Some(Polled::First(most)) => most.min(MAX_POLLED),
+        _ => MAX_POLLED,
+    };
+    names.truncate(most);
+    if matches!(polled, Some(Polled::Backwards)) {
+        names.reverse();
+    }
+}
+
+/// The address of the client of a connection, which differs for each connection of a script.
+pub fn peer_of(slot: usize, generation: u64) -> SocketAddr {
+    let port = (generation % 65_536) as u16;
+    let last = (slot % 256) as u8;
+    SocketAddr::V4(SocketAddrV4::new(Ipv4Addr::new(10, 1, 0, last), port))
 }

@@ -18,8 +18,6 @@ pub struct Sizes {
     pub split: Split,
     /// After how many connections the server ends. 0 means never.
     pub stop_after: u64,
-    /// Whether targets get a PROXY line.
-    pub proxy: bool,
 }
 
 impl Sizes {
@@ -34,9 +32,8 @@ impl Sizes {
     }
 }
 
-/// Reads a header: that of a world without a lead, and then perhaps ` with` and any of ` pollers=P`, ` stop=N` and
-/// ` proxy`. There are P pollers, or as many as the split allows. The server ends after N connections. With `proxy`
-/// targets get a PROXY line.
+/// Reads a header: that of a world without a lead, and then perhaps ` with` and any of ` pollers=P` and ` stop=N`. There
+/// are P pollers, or as many as the split allows. The server ends after N connections.
 pub fn read_sizes(line: &str) -> Option<Sizes>
     ensures { IfSome result IsServerSize }
 {
@@ -44,8 +41,8 @@ pub fn read_sizes(line: &str) -> Option<Sizes>
     let Ok(Header::World(limits)) = read_header(world.as_bytes()) else {
         return None;
     };
-    let extras = read_extras(extras)?;
-    if extras.pollers == 0 || extras.pollers > MAX_POLLERS {
+    let (pollers, stop_after) = read_extras(extras)?;
+    if pollers == 0 || pollers > MAX_POLLERS {
         return None;
     }
     Some(Sizes {
@@ -53,38 +50,20 @@ pub fn read_sizes(line: &str) -> Option<Sizes>
             lead: Lead::NONE,
             ..limits
         },
-        split: Split::new(limits.slots, extras.pollers),
-        stop_after: extras.stop_after,
-        proxy: extras.proxy,
+        split: Split::new(limits.slots, pollers),
+        stop_after,
     })
 }
 
-/// What may follow the header of a world.
-#[derive(Clone, Copy)]
-struct Extras {
-    pollers: usize,
-    stop_after: u64,
-    proxy: bool,
-}
-
-fn read_extras(text: &str) -> Option<Extras> {
-    let mut extras = Extras {
-        pollers: 1,
-        stop_after: 0,
-        proxy: false,
-    };
+/// What may follow the header of a world: the number of pollers, and after how many connections the server ends.
+fn read_extras(text: &str) -> Option<(usize, u64)> {
+    let (mut pollers, mut stop_after) = (1, 0);
     for word in text.split_whitespace() {
-        read_extra(&mut extras, word)?;
+        match word.split_once('=')? {
+            ("pollers", number) => pollers = number.parse::<usize>().ok()?,
+            ("stop", number) => stop_after = number.parse::<u64>().ok()?,
+            _ => return None,
+        }
     }
-    Some(extras)
-}
-
-fn read_extra(extras: &mut Extras, word: &str) -> Option<()> {
-    match word.split_once('=').unwrap_or((word, "")) {
-        ("pollers", number) => extras.pollers = number.parse::<usize>().ok()?,
-        ("stop", number) => extras.stop_after = number.parse::<u64>().ok()?,
-        ("proxy", "") => extras.proxy = true,
-        _ => return None,
-    }
-    Some(())
+    Some((pollers, stop_after))
 }

@@ -1,17 +1,25 @@
-// The steps of a script that may also be planned.
+// The steps of a script, and what may be planned for a later point.
 use kernel_model::Accepting;
 use token::Kind;
 use world::Event;
 
-/// A step that may also be made inside a turn.
+/// One step of a script.
 #[derive(Drop)]
-pub enum Inner {
+pub enum Step {
     /// An event outside of the server.
     Outside(Outer),
-    /// One round of this poller.
+    /// One step of this poller's thread.
     Round(usize),
-    /// A turn of the worker with this number, if there is a ticket.
+    /// One step of the worker with this number, if it would not wait.
     Turn(usize),
+    /// What the server gets at one of the next such points, or what happens there.
+    Later(Point, Planned),
+    /// An event of this slot's machine alone.
+    Machine(usize, Event),
+    /// No more connections may be opened.
+    Stop,
+    /// The scripts and the reports of the slots' machines are printed, and the log.
+    Show,
 }
 
 /// An event outside of the server: of the network, of a report, or of the clock. One of a slot concerns the poller that
@@ -22,15 +30,11 @@ pub struct Outer {
     pub event: Event,
 }
 
-/// A call of the server, or a place between two of them.
+/// A point in the server's steps: a call, or a place between two of them.
 #[derive(Clone, Copy, PartialEq, Eq)]
-pub enum Call {
+pub enum Point {
     /// A call of a turn.
-    InTurn,
-    /// Before the first call of a turn.
-    BeforeTurn,
-    /// After the last call of a turn.
-    AfterTurn,
+    Call,
     /// Calls of this poller's round.
     Accept(usize),
     Open(usize),
@@ -42,7 +46,7 @@ pub enum Call {
 /// What a call gets, if it may get that, or what happens before it.
 #[derive(Drop)]
 pub enum Planned {
-    Step(Inner),
+    Event(Outer),
     Call(Wanted),
     /// `Accepted` and `Blocked` mean what the kernel has.
     Accept(Accepting),
@@ -74,10 +78,6 @@ pub enum Opening {
     Connect,
     /// An end cannot be registered.
     Register,
-    /// The client's address is unknown.
-    NoClient,
-    /// The address on which the client was accepted is unknown.
-    NoAccepted,
 }
 
 /// How a poll gives the names that are queued.
@@ -87,7 +87,7 @@ pub enum Polled {
     Interrupted,
     /// At most this many of them.
     First(usize),
-    /// All of them, newest first.
+    /// All of them, the last one first.
     Backwards,
     /// It fails, which is a fault of the poller's thread.
     Failed,

@@ -1,15 +1,15 @@
-// A wire whose calls the modelled kernel answers.
+// A wire whose calls the modelled kernel of its slot's machine answers.
 ghost use Rattle.std.specs.Prelude.{◌≡◌, true};
 ghost use Rattle.relay_core.specs.Calls.{side_of};
 ghost use Rattle.engine.specs.Classes.{class_of};
 ghost use Rattle.engine.specs.Tallies.{counted};
 
-use crate::addresses::peer_of;
-use crate::calls::{Asked, Asking};
+use crate::calls::Asked;
 use crate::outside::OutsideCell;
+use crate::round::peer_of;
 use dispatch::Settle;
 use engine::{Tally, Wire};
-use relay_core::Call;
+use relay_core::{Call, CallKind};
 use std::io::{self, ErrorKind};
 use std::net::SocketAddr;
 use token::{Side, Token};
@@ -17,56 +17,44 @@ use token::{Side, Token};
 /// A wire over an end of the modelled kernel. Dropping the wire closes the end.
 pub struct EndWire {
     outside: OutsideCell,
-    /// The poller that accepted or opened it.
-    poller: usize,
-    /// The token by which the end is reported, and its descriptor in the poller's kernel. None for a client that was
-    /// accepted and is not open yet, and for a target that must be closed at once: closing these changes nothing.
-    end: Option<(Token, usize)>,
+    /// The token by which the end is reported. None for a client that was accepted and is not open yet: closing this
+    /// changes nothing.
+    token: Option<Token>,
     tally: Tally,
 }
 
 impl EndWire {
-    /// A poller's wire over this end. A client's wire is joined, and a target's is not yet.
-    pub fn new(
-        outside: OutsideCell,
-        poller: usize,
-        end: Option<(Token, usize)>,
-        joined: bool,
-    ) -> EndWire {
+    /// A wire over the end with this token. A client's wire is joined, and a target's is not yet.
+    pub fn new(outside: OutsideCell, token: Option<Token>, joined: bool) -> EndWire {
         EndWire {
             outside,
-            poller,
-            end,
+            token,
             tally: Tally::new(joined),
         }
     }
 
-    /// Opens the client's wire: it is over this end from now on.
-    pub fn open(&mut self, token: Token, descriptor: usize)
+    /// Opens the client's wire: it is over the end with this token from now on.
+    pub fn open(&mut self, token: Token)
         ensures { self.new.tally ≡ self.old.tally }
     {
-        self.end = Some((token, descriptor));
-    }
-
-    /// The descriptor of its end. None if it is not open.
-    pub fn descriptor(&self) -> Option<usize> {
-        let (_, descriptor) = self.end?;
-        Some(descriptor)
+        self.token = Some(token);
     }
 
     /// The address of its client. None if it is not open.
     pub fn peer(&self) -> Option<SocketAddr> {
-        let (token, _) = self.end?;
+        let token = self.token?;
         Some(peer_of(token.slot(), token.generation()))
     }
 
-    /// Makes a call. A read fills the front of the buffer.
-    fn ask(&self, call: Asking<'_>, buffer: &mut [u8]) -> Result<usize, ErrorKind> {
+    /// Makes a call, of which the side is that of the token. A write offers the bytes, and a read fills the front of the
+    /// buffer.
+    fn ask(&self, kind: CallKind, offer: &[u8], buffer: &mut [u8]) -> Result<usize, ErrorKind> {
+        let token = self.token.ok_or(ErrorKind::Other)?;
         let asked = Asked {
-            poller: self.poller,
-            descriptor: self.descriptor().ok_or(ErrorKind::Other)?,
+            slot: token.slot(),
+            call: call_of(kind, token.side(), buffer.len()),
+            offer,
             joined: self.tally.joined(),
-            call,
         };
         self.outside.with(Err(ErrorKind::Other), |outside| outside.call(asked, buffer))
     }
@@ -83,15 +71,12 @@ impl EndWire {
 
 impl Drop for EndWire {
     fn drop(self) {
-        if let Some((token, descriptor)) = self.end {
-            let poller = self.poller;
-            self.outside
-                .with((), |outside| outside.close(poller, descriptor, token));
+        if let Some(token) = self.token {
+            self.outside.with((), |outside| outside.close(token));
         }
         let EndWire {
             outside: _,
-            poller: _,
-            end: _,
+            token: _,
             tally: _,
         } = self;
     }
@@ -104,7 +89,7 @@ impl Wire for EndWire {
 
     fn read(&mut self, buffer: &mut [u8]) -> io::Result<usize> {
         let call = Call::Read(Side::Target, buffer.len());
-        match self.ask(Asking::Read, buffer) {
+        match self.ask(CallKind::Read, &[], buffer) {
             Ok(count) => {
                 self.tally.connect();
                 Ok(count.min(buffer.len()))
@@ -114,7 +99,7 @@ impl Wire for EndWire {
     }
 
     fn write(&mut self, offer: &[u8]) -> io::Result<usize> {
-        match self.ask(Asking::Write(offer), &mut []) {
+        match self.ask(CallKind::Write, offer, &mut []) {
             Ok(count) if count == 0 || count > offer.len() => {
                 if !offer.is_empty() {
                     self.tally.none_taken();
@@ -130,14 +115,14 @@ impl Wire for EndWire {
     }
 
     fn shut_write(&mut self) -> io::Result<()> {
-        match self.ask(Asking::Shut, &mut []) {
+        match self.ask(CallKind::Shut, &[], &mut []) {
             Ok(_) => Ok(()),
             Err(kind) => Err(self.refuse(Call::Shut(Side::Target), kind)),
         }
     }
 
     fn joined(&mut self) -> io::Result<()> {
-        match self.ask(Asking::Join, &mut []) {
+        match self.ask(CallKind::Join, &[], &mut []) {
             Ok(_) => {
                 self.tally.connect();
                 Ok(())
@@ -157,6 +142,16 @@ impl Wire for EndWire {
 
 impl Settle for EndWire {
     fn settle(&mut self) {
-        self.outside.with((), |outside| outside.settle_end());
+        self.outside.with((), |outside| outside.settle());
+    }
+}
+
+/// The call of this kind on a side. A read is of at most this many bytes.
+fn call_of(kind: CallKind, side: Side, most: usize) -> Call {
+    match kind {
+        CallKind::Read => Call::Read(side, most),
+        CallKind::Write => Call::Write(side),
+        CallKind::Join => Call::Join(side),
+        CallKind::Shut => Call::Shut(side),
     }
 }

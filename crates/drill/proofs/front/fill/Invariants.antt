@@ -1,5 +1,9 @@
 use Rattle.std.proofs.Common.{◌≡◌, ◌≤◌, vec_len, vec_capacity}
 use Rattle.drill.proofs.front.fill.Given as goal
 
+-- both lists have the same numbers, and as much room as before
 abbrev pub invariant-loop-name : goal.invariant-loop-name
-invariant-loop-name l = (vec_len l.numbers ≤ 256) × (vec_capacity l.numbers ≡ vec_capacity l.initial.numbers)
+invariant-loop-name l =
+    (l.batch.items ≡ l.reported.items)
+    × ((vec_len l.batch ≤ 256) × (vec_capacity l.batch ≡ vec_capacity l.initial.batch))
+    × ((vec_len l.reported ≤ 256) × (vec_capacity l.reported ≡ vec_capacity l.initial.reported))
