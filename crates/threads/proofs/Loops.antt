@@ -141,7 +141,8 @@ gave_other fs n o a b d e xs zs there is hand used back hand_then others =
           let held : times_in s b.hand.slots ≡ times_in s a.hand.slots = ap (λ (h : HandState). times_in s h.slots) hand in
           let kept : times_in s e.hand.slots ≡ times_in s d.hand.slots = ap (λ (h : HandState). times_in s h.slots) hand_then in
           let own : times_by s e.free ≡ times_by s a.free = ap (λ (end : End). times_by s end) back in
-          let all : sum_by (λ (end : End). times_by s end) zs ≡ sum_by (λ (end : End). times_by s end) (slice_set xs n d.free) = ap (λ (ends : List End). sum_by (λ (end : End). times_by s end) ends) once in
+          let all : sum_by (λ (end : End). times_by s end) zs ≡ sum_by (λ (end : End). times_by s end) (slice_set xs n d.free) = ap
+          (λ (ends : List End). sum_by (λ (end : End). times_by s end) ends) once in
           let sum = sum_by-set (λ (end : End). times_by s end) xs n d.free o (slice_get_within xs n o there) in
           let old : times_by s (get_or xs n o) ≡ times_by s o = ap (λ (end : End). times_by s end) got in
           let one = sum_by-cons (λ (end : End). times_by s end) e.free zs in

@@ -71,7 +71,8 @@ returns-in_err-deliver_batch g c =
       waits = inr same.waits;
       round = but_worn c.from_residual-in_err-deliver_batch.result c.in_err-deliver_batch.field-0.0 failed c.in_err-deliver_batch.ensures.worn.0;
       ended = not_ok c.from_residual-in_err-deliver_batch.result _ c.from_residual-in_err-deliver_batch.ensures.0;
-      keeps = keeps same (inl (ap (λ (s : PollerState). s.swept) c.deliver_batch.ensures.poller ∙ looked.swept)) (ap (λ (q : EndState Ticket). q.history.taken) (c.deliver_batch.ensures.ready ∙ c.look.ensures.took.ready));
+      keeps = keeps same (inl (ap (λ (s : PollerState). s.swept) c.deliver_batch.ensures.poller ∙ looked.swept))
+          (ap (λ (q : EndState Ticket). q.history.taken) (c.deliver_batch.ensures.ready ∙ c.look.ensures.took.ready));
       refused = passed_up c.from_residual-in_err-deliver_batch.result c.in_err-deliver_batch.field-0.0 _ failed (inr c.in_err-deliver_batch.ensures.worn);
     }
 
@@ -99,7 +100,8 @@ returns-in_err-keep_time g c =
       waits = inr same.waits;
       round = but_worn c.from_residual-in_err-keep_time.result c.in_err-keep_time.field-0.0 failed c.in_err-keep_time.ensures.worn.0;
       ended = not_ok c.from_residual-in_err-keep_time.result _ c.from_residual-in_err-keep_time.ensures.0;
-      keeps = keeps same (inl (c.in_err-keep_time.ensures.unswept ∙ ap (λ (s : PollerState). s.swept) c.deliver_batch.ensures.poller ∙ looked.swept)) (ap (λ (q : EndState Ticket). q.history.taken) (c.keep_time.ensures.queues.ready ∙ c.deliver_batch.ensures.ready ∙ c.look.ensures.took.ready));
+      keeps = keeps same (inl (c.in_err-keep_time.ensures.unswept ∙ ap (λ (s : PollerState). s.swept) c.deliver_batch.ensures.poller ∙ looked.swept))
+          (ap (λ (q : EndState Ticket). q.history.taken) (c.keep_time.ensures.queues.ready ∙ c.deliver_batch.ensures.ready ∙ c.look.ensures.took.ready));
       refused = passed_up c.from_residual-in_err-keep_time.result c.in_err-keep_time.field-0.0 _ failed (inr c.in_err-keep_time.ensures.worn);
     }
 
@@ -130,7 +132,10 @@ returns-in_err-accept g c =
       waits = inr same.waits;
       round = but_worn c.from_residual-in_err-accept.result c.in_err-accept.field-0.0 failed c.in_err-accept.ensures.worn.0;
       ended = not_ok c.from_residual-in_err-accept.result _ c.from_residual-in_err-accept.ensures.0;
-      keeps = keeps same (inr (swept_is c.args.timing.now.limit c.args.poller.now c.deliver_batch.new.poller c.keep_time.new.poller c.accept.new.poller (ap (λ (s : PollerState). s.second) c.deliver_batch.ensures.poller ∙ looked.second) (ap (λ (s : PollerState). s.swept) c.deliver_batch.ensures.poller ∙ looked.swept) c.in_ok-keep_time.ensures.swept.swept (ap (λ (s : PollerState). s.swept) c.accept.ensures.poller))) (ap (λ (q : EndState Ticket). q.history.taken) (c.accept.ensures.ready ∙ c.keep_time.ensures.queues.ready ∙ c.deliver_batch.ensures.ready ∙ c.look.ensures.took.ready));
+      keeps = keeps same (inr (swept_is c.args.timing.now.limit c.args.poller.now c.deliver_batch.new.poller c.keep_time.new.poller c.accept.new.poller
+          (ap (λ (s : PollerState). s.second) c.deliver_batch.ensures.poller ∙ looked.second) (ap (λ (s : PollerState). s.swept) c.deliver_batch.ensures.poller ∙ looked.swept)
+          c.in_ok-keep_time.ensures.swept.swept (ap (λ (s : PollerState). s.swept) c.accept.ensures.poller)))
+          (ap (λ (q : EndState Ticket). q.history.taken) (c.accept.ensures.ready ∙ c.keep_time.ensures.queues.ready ∙ c.deliver_batch.ensures.ready ∙ c.look.ensures.took.ready));
       refused = passed_up c.from_residual-in_err-accept.result c.in_err-accept.field-0.0 _ failed (inr c.in_err-accept.ensures.worn);
     }
 

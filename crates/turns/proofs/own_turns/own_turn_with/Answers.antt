@@ -49,7 +49,8 @@ returns-in_err-worked g c =
     let first : oldest ≡ Some c.in-Some.ticket = sym c.take_ticket.ensures.value ∙ c.in-Some.is in
     let fault = c.in_err-worked.field-0.0 in
     let failed = err_is c.from_residual.result fault c.from_residual.ensures.1 in
-    let made = own_made g.A.Acts.made c.args.acts.now c.turn_of.new.acts c.args.shared.now.claims.words c.in-Some.ticket (Err fault) c.args.own.now c.turn_of.new.own c.take_ticket.new.self c.take_ticket.ensures.left
+    let made = own_made g.A.Acts.made c.args.acts.now c.turn_of.new.acts c.args.shared.now.claims.words c.in-Some.ticket (Err fault) c.args.own.now c.turn_of.new.own
+    c.take_ticket.new.self c.take_ticket.ensures.left
     c.in_err-worked.ensures.made in
     record {
       rest = record { same = c.turn_of.ensures.only.table ∙ c.requires.rest.same; idle = c.turn_of.ensures.idle };
@@ -73,7 +74,8 @@ pub returns : goal.returns
 returns g c =
     let oldest = slice_get c.args.own.now.hand.tickets 0 in
     let first : oldest ≡ Some c.in-Some.ticket = sym c.take_ticket.ensures.value ∙ c.in-Some.is in
-    let made = own_made g.A.Acts.made c.args.acts.now c.turn_of.new.acts c.args.shared.now.claims.words c.in-Some.ticket (Ok c.in_ok-worked.worked) c.args.own.now c.turn_of.new.own c.take_ticket.new.self
+    let made = own_made g.A.Acts.made c.args.acts.now c.turn_of.new.acts c.args.shared.now.claims.words c.in-Some.ticket (Ok c.in_ok-worked.worked) c.args.own.now c.turn_of.new.own
+    c.take_ticket.new.self
     c.take_ticket.ensures.left c.in_ok-worked.ensures.made in
     record {
       rest = record { same = c.turn_of.ensures.only.table ∙ c.requires.rest.same; idle = c.turn_of.ensures.idle };

@@ -3,13 +3,16 @@ use Rattle.turns.proofs.Turns.{has_played, played_then, same_either, still_at_wo
 use Rattle.turns.proofs.worker.run.Goals as goal
 
 pub returns-in-Done-clause-done : goal.returns-in-Done-clause-done
-returns-in-Done-clause-done g c = played_then g.A.Acts.made c.args.acts.now c.play.new.acts _ c.end.ensures.done c.play.ensures.ticket tt c.play.ensures.made c.play.ensures.played.1 refl refl (record { tickets = refl; slots = refl })
+returns-in-Done-clause-done g c = played_then g.A.Acts.made c.args.acts.now c.play.new.acts _ c.end.ensures.done c.play.ensures.ticket tt c.play.ensures.made
+    c.play.ensures.played.1 refl refl (record { tickets = refl; slots = refl })
 
 pub returns-in-Again-clause-done : goal.returns-in-Again-clause-done
-returns-in-Again-clause-done g c = played_then g.A.Acts.made c.args.acts.now c.play.new.acts _ c.again.ensures.done c.play.ensures.ticket (has_played c.again.result c.again.ensures.answer) c.play.ensures.made c.play.ensures.played.1 refl refl (record { tickets = refl; slots = refl })
+returns-in-Again-clause-done g c = played_then g.A.Acts.made c.args.acts.now c.play.new.acts _ c.again.ensures.done c.play.ensures.ticket
+    (has_played c.again.result c.again.ensures.answer) c.play.ensures.made c.play.ensures.played.1 refl refl (record { tickets = refl; slots = refl })
 
 pub returns-in-Quiet-clause-done : goal.returns-in-Quiet-clause-done
-returns-in-Quiet-clause-done g c = played_then g.A.Acts.made c.args.acts.now c.play.new.acts _ c.rest.ensures.done c.play.ensures.ticket tt c.play.ensures.made c.play.ensures.played.1 refl refl (record { tickets = refl; slots = refl })
+returns-in-Quiet-clause-done g c = played_then g.A.Acts.made c.args.acts.now c.play.new.acts _ c.rest.ensures.done c.play.ensures.ticket tt c.play.ensures.made
+    c.play.ensures.played.1 refl refl (record { tickets = refl; slots = refl })
 
 pub end-requires-clause-work : goal.end-requires-clause-work
 end-requires-clause-work g c = still_at_work c.args.shared.now.claims c.play.new.visit.ticket c.args.visit.ticket c.args.own.now _ c.play.ensures.ticket c.requires.work

@@ -21,12 +21,14 @@ returns-in-Worn-clause-worn g c = (
 )
 
 pub returns-in-Worn-clause-done : goal.returns-in-Worn-clause-done
-returns-in-Worn-clause-done g c = left_worn g.A.Acts.made _ _ _ c.args.ticket _ c.args.own.now _ c.leave.new.own c.in-Worn.ensures.made c.in-Worn.ensures.change.0 refl refl (record { tickets = refl; slots = refl })
+returns-in-Worn-clause-done g c = left_worn g.A.Acts.made _ _ _ c.args.ticket _ c.args.own.now _ c.leave.new.own c.in-Worn.ensures.made c.in-Worn.ensures.change.0 refl refl
+    (record { tickets = refl; slots = refl })
     c.leave.ensures.left
 
 pub returns-in-Wake : goal.returns-in-Wake
 returns-in-Wake g c = record {
-  done = posted_again g.A.Acts.made _ _ _ c.args.ticket c.post-posted.result c.args.own.now _ c.leave.new.own c.in-Wake.is c.post-posted.ensures.made c.post-posted.ensures.change c.requires.work.holder.here refl refl
+  done = posted_again g.A.Acts.made _ _ _ c.args.ticket c.post-posted.result c.args.own.now _ c.leave.new.own c.in-Wake.is c.post-posted.ensures.made c.post-posted.ensures.change
+      c.requires.work.holder.here refl refl
       (record { tickets = refl; slots = refl }) c.leave.ensures.left;
   answer = refl;
   worn = tt;

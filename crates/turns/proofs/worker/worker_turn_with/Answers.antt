@@ -21,7 +21,8 @@ returns-in_err-worked g c =
     record {
       idle = c.turn_of.ensures.idle;
       only = c.turn_of.ensures.only;
-      made = subst (λ (r : Result Worked ServerFault). TurnInOrder g.A.Acts.made c.args.shared.now.claims.words c.args.ticket r c.args.own.now c.turn_of.new.own c.args.acts.now c.turn_of.new.acts) (sym failed)
+      made = subst (λ (r : Result Worked ServerFault). TurnInOrder g.A.Acts.made c.args.shared.now.claims.words c.args.ticket r c.args.own.now c.turn_of.new.own c.args.acts.now
+          c.turn_of.new.acts) (sym failed)
           (made_after g.A.Acts.made c.args.acts.now c.turn_of.new.acts c.args.shared.now.claims.words c.args.ticket _ c.args.own.now before c.turn_of.new.own refl tickets slots
           (record { tickets = c.put_tickets.ensures.took; slots = c.give_slots.ensures.took }) c.in_err-worked.ensures.made);
       took = record { tickets = c.turn_of.ensures.took.tickets ∙ c.put_tickets.ensures.took; slots = c.turn_of.ensures.took.slots ∙ c.give_slots.ensures.took };

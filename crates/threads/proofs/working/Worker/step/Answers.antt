@@ -14,12 +14,14 @@ returns-in-Err-take-clause-cut g c =
 
 pub returns-in-Ok-turn-clause-ran : goal.returns-in-Ok-turn-clause-ran
 returns-in-Ok-turn-clause-ran g c = worker_one c.in-Ok-take.ticket (Ok c.in-Ok-turn.field-0) c.args.self.now.own c.take.new.own c.turn.new.self.own _ _ c.in-Ok-take.ensures.taken
-    (subst (λ (t : Ticket). OneRan t (Ok c.in-Ok-turn.field-0) c.take.new.own c.turn.new.self.own c.args.self.now.others.items c.turn.new.self.others.items) c.in-Ok-look_after_take.ensures.ticket c.in-Ok-turn.ensures.ran)
+    (subst (λ (t : Ticket). OneRan t (Ok c.in-Ok-turn.field-0) c.take.new.own c.turn.new.self.own c.args.self.now.others.items c.turn.new.self.others.items)
+    c.in-Ok-look_after_take.ensures.ticket c.in-Ok-turn.ensures.ran)
     c.turn.ensures.took
 
 pub returns-in-Err-turn-clause-cut : goal.returns-in-Err-turn-clause-cut
 returns-in-Err-turn-clause-cut g c = worker_worn c.in-Ok-take.ticket _ c.args.self.now.own c.take.new.own c.turn.new.self.own _ _ c.in-Ok-take.ensures.taken
-    (subst (λ (t : Ticket). OneRan t (Err Worn) c.take.new.own c.turn.new.self.own c.args.self.now.others.items c.turn.new.self.others.items) c.in-Ok-look_after_take.ensures.ticket c.in-Err-turn.ensures.cut.0)
+    (subst (λ (t : Ticket). OneRan t (Err Worn) c.take.new.own c.turn.new.self.own c.args.self.now.others.items c.turn.new.self.others.items) c.in-Ok-look_after_take.ensures.ticket
+    c.in-Err-turn.ensures.cut.0)
     c.turn.ensures.took c.in-Err-turn.ensures.cut.1
 
 pub returns-in-Err-look_after_take-clause-cut : goal.returns-in-Err-look_after_take-clause-cut
