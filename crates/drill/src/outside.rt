@@ -164,8 +164,8 @@ impl Outside {
         self.checks.check();
     }
 
-    /// Makes an event outside of the server. If the machine does not allow it, nothing happens. While a client waits, no
-    /// report of the listener vanishes.
+    /// Makes an event outside of the server. If the machine does not allow it, nothing happens. While a client waits,
+    /// no report of the listener vanishes.
     pub fn happen(&mut self, outer: Outer) {
         let Outer { poller, event } = outer;
         match &event {

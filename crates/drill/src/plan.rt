@@ -1,5 +1,5 @@
-// What the server gets at later points. Each kind of point gets what is planned for it, in order. If nothing is, it gets
-// what the kernel has.
+// What the server gets at later points. Each kind of point gets what is planned for it, in order. If nothing is, it
+// gets what the kernel has.
 use crate::step::{Outer, Planned, Point};
 use std::alloc::{AllocError, Global};
 use std::collections::VecDeque;

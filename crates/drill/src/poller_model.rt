@@ -1,5 +1,5 @@
-// What stands beside one poller of the server: a machine of its listener and its waker, and the poller's expected state,
-// which is computed here and not read from the server.
+// What stands beside one poller of the server: a machine of its listener and its waker, and the poller's expected
+// state, which is computed here and not read from the server.
 ghost use Rattle.std.specs.Prelude.{◌<◌};
 ghost use Rattle.dispatch.specs.Splits.{parts_of};
 ghost use Rattle.drill.specs.Sizes.{IsServerSize};

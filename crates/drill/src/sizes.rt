@@ -32,8 +32,8 @@ impl Sizes {
     }
 }
 
-/// Reads a header: that of a world without a lead, and then perhaps ` with` and any of ` pollers=P` and ` stop=N`. There
-/// are P pollers, or as many as the split allows. The server ends after N connections.
+/// Reads a header: that of a world without a lead, and then perhaps ` with` and any of ` pollers=P` and ` stop=N`.
+/// There are P pollers, or as many as the split allows. The server ends after N connections.
 pub fn read_sizes(line: &str) -> Option<Sizes>
     ensures { IfSome result IsServerSize }
 {

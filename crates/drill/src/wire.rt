@@ -46,8 +46,8 @@ impl EndWire {
         Some(peer_of(token.slot(), token.generation()))
     }
 
-    /// Makes a call, of which the side is that of the token. A write offers the bytes, and a read fills the front of the
-    /// buffer.
+    /// Makes a call, of which the side is that of the token. A write offers the bytes, and a read fills the front of
+    /// the buffer.
     fn ask(&self, kind: CallKind, offer: &[u8], buffer: &mut [u8]) -> Result<usize, ErrorKind> {
         let token = self.token.ok_or(ErrorKind::Other)?;
         let asked = Asked {
