@@ -144,11 +144,11 @@ OwnTurn words ticket (Ok None) old new = new ≡ old
 OwnTurn words ticket (Ok (Some worked)) old new = TurnMade words ticket (Ok worked) (without_first old) new
 OwnTurn words ticket (Err fault) old new = TurnMade words ticket (Err fault) (without_first old) new
 
-abbrev pub OwnTurnInOrder : {S : Type 0} → (Act → ℕ → S → S → Type 0) → ℕ → Ticket → Result (Option Worked) ServerFault
-    → Own → Own → S → S → Type 0
+abbrev pub OwnTurnInOrder : {S : Type 0} → (Act → ℕ → S → S → Type 0) → ℕ → Ticket → Result (Option Worked) ServerFault → Own → Own → S → S
+    → Type 0
 OwnTurnInOrder made words ticket (Ok None) old new from to = (new ≡ old) × (to ≡ from)
-OwnTurnInOrder made words ticket (Ok (Some worked)) old new from to = TurnInOrder made words ticket (Ok worked)
-    (without_first old) new from to
+OwnTurnInOrder made words ticket (Ok (Some worked)) old new from to =
+    TurnInOrder made words ticket (Ok worked) (without_first old) new from to
 OwnTurnInOrder made words ticket (Err fault) old new from to = TurnInOrder made words ticket (Err fault) (without_first old) new from to
 
 -- the heavy marks after an own turn: a connection that spent its budget has all of them, and the others have what they had

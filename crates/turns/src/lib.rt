@@ -10,11 +10,12 @@
 //!
 //! - A turn touches words, places, queues and what sockets hold back only by its acts ([`Acts`](dispatch::Acts),
 //!   [`Moves`](dispatch::Moves)), and makes these in the order of its program (`acts_of` of `specs/Turns.antt`).
-//! - The connection that is put back or closed is the one that was taken out (`Visit`, which cannot be dropped; `moved`
-//!   of `take_out`, `put_in` and `close`), and its bytes are counted at its slot (`counted`). In between it had a turn of `engine` with the server's own budget, at a moment that `Timing::moment` reads, after a
-//!   report if notes were taken (`play`: `run`), and only if its generation is the ticket's (`run`: `own`). It is put
-//!   back after Again and Quiet alone, after Quiet once both wires hold nothing back (`leave_settled`: `client`,
-//!   `target`), and closed after Done and Failed alone (`due`, `quiet`, `over`).
+//! - The connection that is put back or closed is the one that was taken out (`Visit`, which cannot be dropped;
+//!   `moved` of `take_out`, `put_in` and `close`), and its bytes are counted at its slot (`counted`). In
+//!   between it had a turn of `engine` with the server's own budget, at a moment that `Timing::moment` reads,
+//!   after a report if notes were taken (`play`: `run`), and only if its generation is the ticket's (`run`:
+//!   `own`). It is put back after Again and Quiet alone, after Quiet once both wires hold nothing back
+//!   (`leave_settled`: `client`, `target`), and closed after Done and Failed alone (`due`, `quiet`, `over`).
 //! - A slot is released once for each visit, while no connection of it is out of its place (`Back`; `leave`: `back`).
 //!   A ticket is put, and a slot given back, once the seat no longer holds that slot (`put_ticket`: `tickets`;
 //!   `give_back`), a slot only once its connection is closed (`Closed`), and then the poller is woken

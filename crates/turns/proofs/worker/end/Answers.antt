@@ -16,8 +16,8 @@ pub returns : goal.returns
 returns g c = record {
   done = subst (λ (t : Ticket). (turn : TurnEnd t (Ok worked.Ended) c.args.own.now c.give_back.new.own)
       × ActsLeft g.A.Acts.made t (Ok worked.Ended) 3 false turn.woke c.args.acts.now c.give_back.new.acts) c.ticket-ticket.ensures
-      (end_of g.A.Acts.made _ _ _ _ c.ticket-ticket.result c.args.own.now c.give_back.new.own
-      (subst (λ (t : Ticket). g.A.Acts.made act.Close t.slot c.args.acts.now c.close-closed.new.acts) (sym c.ticket-ticket.ensures)
+      (end_of g.A.Acts.made _ _ _ _ c.ticket-ticket.result c.args.own.now c.give_back.new.own (subst (λ (t : Ticket). g.A.Acts.made act.Close t.slot c.args.acts.now
+      c.close-closed.new.acts) (sym c.ticket-ticket.ensures)
       c.close-closed.ensures.made) c.retire.ensures.made c.give_back.ensures.made
       (subst (λ (s : SeatState). Adds c.ticket-ticket.result.slot (Retire ∷ []) c.args.own.now.seat s) (sym c.give_back.ensures.seat) c.retire.ensures.change)
       (record { kept = c.give_back.ensures.given.kept; slots = c.give_back.ensures.given.slots; last = c.give_back.ensures.given.last })

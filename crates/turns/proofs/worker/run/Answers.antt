@@ -7,8 +7,8 @@ returns-in-Done-clause-done g c = played_then g.A.Acts.made c.args.acts.now c.pl
     c.play.ensures.played.1 refl refl (record { tickets = refl; slots = refl })
 
 pub returns-in-Again-clause-done : goal.returns-in-Again-clause-done
-returns-in-Again-clause-done g c = played_then g.A.Acts.made c.args.acts.now c.play.new.acts _ c.again.ensures.done c.play.ensures.ticket
-    (has_played c.again.result c.again.ensures.answer) c.play.ensures.made c.play.ensures.played.1 refl refl (record { tickets = refl; slots = refl })
+returns-in-Again-clause-done g c = played_then g.A.Acts.made c.args.acts.now c.play.new.acts _ c.again.ensures.done c.play.ensures.ticket (has_played c.again.result
+    c.again.ensures.answer) c.play.ensures.made c.play.ensures.played.1 refl refl (record { tickets = refl; slots = refl })
 
 pub returns-in-Quiet-clause-done : goal.returns-in-Quiet-clause-done
 returns-in-Quiet-clause-done g c = played_then g.A.Acts.made c.args.acts.now c.play.new.acts _ c.rest.ensures.done c.play.ensures.ticket tt c.play.ensures.made
