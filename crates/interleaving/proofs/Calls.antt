@@ -1,32 +1,17 @@
 -- What a thread does with a connection that is out: it takes the notes, makes calls, and goes by its plan.
-use Rattle.std.proofs.Common.{◌≤◌, arith, ◌≡◌, ℕ, ◌-◌, Bool, true, false, nat_lt, if◌then◌else◌, List, [], ◌∷◌, ◌++◌, length, slice_get, slice_set, Option, Some, None, refl, sym, ap, ◌∙◌, option_and_then}
-use Rattle.kernel_model.specs.declared.reply.Reply.{Reply}
+use Rattle.interleaving.proofs.Prelude.{◌≤◌, arith, ◌≡◌, ℕ, Bool, true, false, nat_lt, if◌then◌else◌, List, [], ◌∷◌, ◌++◌, length, slice_get, slice_set, Option, Some, None, refl, sym, subst, ap, ◌∙◌, option_and_then, Reply, next_call, WordState, some_wait, exchange_made, Connection, Event, get-set_same, KernelState, SlotState, WorkerState, is_by_worker, State, word_at, busy, Kept, kept_bind, kept_map, kept_when, kept_at, Call, System, Thread, Acts, Calls, with_thread, Exchange, exchanges_in, outside_among, Held, ThreadLike, Goes, machine_of, Settled, IsSettled, calls_in}
+use Rattle.interleaving.proofs.Prelude.word
+use Rattle.interleaving.proofs.Prelude.doing
+use Rattle.interleaving.proofs.Prelude.event
+use Rattle.interleaving.proofs.Prelude.act
+use Rattle.interleaving.proofs.Prelude.machine
+use Rattle.interleaving.proofs.Prelude.machine_runs
+use Rattle.std.proofs.Common.{◌-◌}
 use Rattle.relay_core.specs.Pairs.{noted}
-use Rattle.relay_core.specs.Order.{next_call}
 use Rattle.relay_core.specs.Replies.{fits}
 use Rattle.relay_core.specs.Idle.{is_overdue, expired}
-use Rattle.claims.specs.Words as word
-use Rattle.claims.specs.Words.{WordState, some_wait, made as exchange_made}
-use Rattle.world.specs.declared.connection.Connection.{Connection}
-use Rattle.world.specs.declared.actors.Doing.TheVariants as doing
-use Rattle.world.specs.declared.event.Event.{Event}
-use Rattle.world.specs.declared.event.Event.TheVariants as event
-use Rattle.world.specs.declared.event.Act.TheVariants as act
 use Rattle.world.specs.Calls.{OpenConnection, called, told_of, made}
-use Rattle.world.proofs.TurnsTotals.{get-set_same}
-use Rattle.kernel_model.specs.Kernel.{KernelState}
-use Rattle.world.specs.Slots.{SlotState, WorkerState, is_by_worker}
-use Rattle.world.specs.States.{State}
-use Rattle.world.specs.Steps as machine
-use Rattle.world.specs.Words.{word_at}
-use Rattle.world.specs.Acts.{busy}
-use Rattle.world.specs.Runs as machine_runs
-use Rattle.world.proofs.TurnsKept.{Kept, kept_bind, kept_map, kept_when, kept_at}
-use Rattle.interleaving.specs.Programs.{Call}
-use Rattle.interleaving.specs.Threads.{System, Thread, Acts, Calls, with_thread, heard, planned, notes_taken, after_call}
-use Rattle.claims.specs.declared.view.Exchange.{Exchange}
-use Rattle.interleaving.specs.Histories.{exchanges_in}
-use Rattle.interleaving.specs.Likeness.{outside_among, Held, ThreadLike, Goes, machine_of, Settled, IsSettled, calls_in}
+use Rattle.interleaving.specs.Threads.{heard, planned, notes_taken, after_call}
 use Rattle.interleaving.proofs.Frames.{Follows, apart, go_on, thread_goes_on, holder_apart}
 use Rattle.interleaving.proofs.Posts.{some_notes}
 
@@ -82,49 +67,6 @@ same_ends notes c = by (some_wait notes)
     by true = refl
     by false = refl
 
-takes : (st : System) (p : SlotState) (workers : List WorkerState) → Settled st p workers
-    → (i : ℕ) (t : Thread) → slice_get st.threads i ≡ Some t
-    → (c : Connection) → Held p i t c → st.place ≡ None → t.left ≤ st.limits.budget → slice_get workers i ≡ Some (busy (doing.Holds 0 st.limits.budget))
-    → Limited (notes_taken st i t c) (record p { notes = [] }) (heard st.word.pending c) workers
-    → Follows [] (exchange_made word.take st.word ∷ []) (machine_of st p st.entry st.tickets workers) (Acts i) (notes_taken st i t c)
-takes st p workers set i t there c held at least had l =
-    let e : Connection = held_to_limit st.second st.limits.idle (heard st.word.pending c) in
-    let next : System = notes_taken st i t c in
-    let q : SlotState = record p { notes = []; connection = Some e } in
-    let count : length p.notes ≡ st.word.pending = rw set.word refl in
-    let same : machine.heard c p.notes ≡ heard st.word.pending c = heard_as c p.notes ∙ rw count refl in
-    let here : ThreadLike st.limits.budget st.place q i (planned st t t.left (heard st.word.pending c)) (busy (doing.Holds 0 st.limits.budget)) =
-    Goes e st.limits.budget (record { holder = held.holder; connection = refl; generation = held.generation }) at refl refl least refl in
-    let words : exchanges_in (machine_of st p st.entry st.tickets workers) (event.Work i act.Take ∷ l.events) ≡ exchange_made word.take (word_at p) ∷ [] =
-    rw (had, held.connection, same) (ap (λ (xs : List Exchange). exchange_made word.take (word_at p) ∷ xs) l.words) in
-    record {
-      events = event.Work i act.Take ∷ l.events;
-      world = machine_of next q st.entry st.tickets workers;
-      allowed = rw (had, held.connection, same) l.allowed;
-      like = IsSettled q workers refl (record {
-        ends = set.ends ∙ rw (held.connection, same_ends st.word.pending c) refl;
-        word = rw set.word refl;
-        place = λ no. absurd (let yes : is_by_worker p.holder ≡ true = rw held.holder refl in cc);
-        threads = thread_goes_on st.limits.budget st.place st.place p q st.threads workers i t (planned st t t.left (heard st.word.pending c))
-            (busy (doing.Holds 0 st.limits.budget)) set.threads there had here
-            (λ j u v other like. apart st.limits.budget st.place st.place p q j u v (holder_apart p i j held.holder other) refl like);
-      });
-      calls = l.calls;
-      outside = l.outside;
-      words = words ∙ ap (λ (v : WordState). exchange_made word.take v ∷ []) (sym set.word);
-    }
-
-pub takes_notes : (st : System) (p : SlotState) (workers : List WorkerState) → Settled st p workers
-    → (i : ℕ) (t : Thread) → slice_get st.threads i ≡ Some t → (k : WorkerState) → slice_get workers i ≡ Some k
-    → (c : Connection) → Held p i t c → st.place ≡ None → t.left ≤ st.limits.budget → k ≡ busy (doing.Holds 0 st.limits.budget)
-    → Follows [] (exchange_made word.take st.word ∷ []) (machine_of st p st.entry st.tickets workers) (Acts i) (notes_taken st i t c)
-takes_notes st p workers set i t there k had c held at least is =
-    let still : slice_get workers i ≡ Some (busy (doing.Holds 0 st.limits.budget)) = had ∙ ap Some is in
-    takes st p workers set i t there c held at least still
-    (limited (notes_taken st i t c) (record p { notes = [] }) (heard st.word.pending c) workers i st.limits.budget still _ refl)
-
--- A call gets its reply
-
 all_keep_ends : (now : ℕ) (l : OpenConnection) (r : Reply) → Kept (λ (line : OpenConnection). line.connection.ends ≡ l.connection.ends) (called now l r)
 unfolding called
 all_keep_ends now l r = kept_bind _ (next_call l.connection.pair) (λ call c. kept_bind _ (told_of l call r) (λ t told. kept_when (fits l.connection.pair call t) _ (λ may.
@@ -141,52 +83,85 @@ slot_calls : (now : ℕ) (p : SlotState) (k : KernelState) (c : Connection) (r :
 unfolding machine.slot_call
 slot_calls now p k c r line is made = rw (is, made) refl
 
-makes_call : (st : System) (p : SlotState) (workers : List WorkerState) → Settled st p workers
-    → (i : ℕ) (t : Thread) → slice_get st.threads i ≡ Some t
-    → (c : Connection) → Held p i t c → st.place ≡ None → (more : ℕ) → t.left ≤ more → slice_get workers i ≡ Some (busy (doing.Holds 0 more)) → nat_lt 0 more ≡ true
-    → (r : Reply) (line : OpenConnection) → called st.second (record { kernel = st.kernel; connection = c }) r ≡ Some line
-    → Limited (with_thread (record st { kernel = line.kernel }) i (planned st t (t.left - 1) line.connection)) p line.connection
-    (slice_set workers i (busy (doing.Holds 0 (more - 1))))
-    → Follows [] [] (machine_of st p st.entry st.tickets workers) (Calls i r)
-    (with_thread (record st { kernel = line.kernel }) i (planned st t (t.left - 1) line.connection))
-makes_call st p workers set i t there c held at more least had some r line is l =
-    let d : Connection = held_to_limit st.second st.limits.idle line.connection in
-    let new : Thread = planned st t (t.left - 1) line.connection in
-    let next : System = with_thread (record st { kernel = line.kernel }) i new in
-    let q : SlotState = record p { connection = Some d } in
-    let busier : WorkerState = busy (doing.Holds 0 (more - 1)) in
-    let made : machine.slot_call st.second (record { kernel = st.kernel; place = p }) r
-    ≡ Some (record { kernel = line.kernel; place = record p { connection = Some line.connection } }) =
-    slot_calls st.second p st.kernel c r line held.connection is in
-    let ends : line.connection.ends ≡ c.ends = keeps_ends st.second (record { kernel = st.kernel; connection = c }) r line is in
-    let here : ThreadLike st.limits.budget st.place q i new busier =
-    Goes d (more - 1) (record { holder = held.holder; connection = refl; generation = held.generation }) at refl refl (omega arith) refl in
-    record {
-      events = event.Work i (act.Call r) ∷ l.events;
-      world = machine_of next q st.entry st.tickets (slice_set workers i busier);
-      allowed = rw (had, some, made) l.allowed;
-      like = IsSettled q (slice_set workers i busier) refl (record {
-        ends = set.ends ∙ rw (held.connection, ends) refl;
-        word = set.word;
-        place = λ no. absurd (let yes : is_by_worker p.holder ≡ true = rw held.holder refl in cc);
-        threads = go_on st.limits.budget st.place st.place p q st.threads workers i t new busier set.threads there here
-            (λ j u v other like. apart st.limits.budget st.place st.place p q j u v (holder_apart p i j held.holder other) refl like);
-      });
-      calls = ap (λ (xs : List (ℕ × Reply)). (i, r) ∷ xs) l.calls;
-      outside = l.outside;
-      words = rw (had, some, made) l.words;
-    }
+module _ (st : System) (p : SlotState) (workers : List WorkerState) (set : Settled st p workers) (i : ℕ) (t : Thread) (there : slice_get st.threads i ≡ Some t)
+    (k : WorkerState) (had : slice_get workers i ≡ Some k) (c : Connection) (held : Held p i t c) (at : st.place ≡ None) where
+  takes : t.left ≤ st.limits.budget → k ≡ busy (doing.Holds 0 st.limits.budget) → Limited (notes_taken st i t c) (record p { notes = [] }) (heard st.word.pending c) workers
+      → Follows [] (exchange_made word.take st.word ∷ []) (machine_of st p st.entry st.tickets workers) (Acts i) (notes_taken st i t c)
+  takes least is l =
+      let e : Connection = held_to_limit st.second st.limits.idle (heard st.word.pending c) in
+      let next : System = notes_taken st i t c in
+      let q : SlotState = record p { notes = []; connection = Some e } in
+      let count : length p.notes ≡ st.word.pending = rw set.word refl in
+      let same : machine.heard c p.notes ≡ heard st.word.pending c = heard_as c p.notes ∙ rw count refl in
+      let here : ThreadLike st.limits.budget st.place q i (planned st t t.left (heard st.word.pending c)) (busy (doing.Holds 0 st.limits.budget)) =
+      Goes e st.limits.budget (record { holder = held.holder; connection = refl; generation = held.generation }) at refl refl least refl in
+      let words : exchanges_in (machine_of st p st.entry st.tickets workers) (event.Work i act.Take ∷ l.events) ≡ exchange_made word.take st.word ∷ [] =
+      subst (λ (v : WordState). exchanges_in (machine_of st p st.entry st.tickets workers) (event.Work i act.Take ∷ l.events) ≡ exchange_made word.take v ∷ []) (sym set.word)
+      (rw (had, is, held.connection, same) (ap (λ (xs : List Exchange). exchange_made word.take (word_at p) ∷ xs) l.words)) in
+      record {
+        events = event.Work i act.Take ∷ l.events;
+        world = machine_of next q st.entry st.tickets workers;
+        allowed = rw (had, is, held.connection, same) l.allowed;
+        like = IsSettled q workers refl (record {
+          ends = set.ends ∙ rw (held.connection, same_ends st.word.pending c) refl;
+          word = rw set.word refl;
+          place = λ no. absurd (let yes : is_by_worker p.holder ≡ true = rw held.holder refl in cc);
+          threads = thread_goes_on st.limits.budget st.place st.place p q st.threads workers i t (planned st t t.left (heard st.word.pending c))
+              (busy (doing.Holds 0 st.limits.budget)) set.threads there (had ∙ ap Some is) here
+              (λ j u v other like. apart st.limits.budget st.place st.place p q j u v (holder_apart p i j held.holder other) refl like);
+        });
+        calls = l.calls;
+        outside = l.outside;
+        words = words;
+      }
 
-pub calls : (st : System) (p : SlotState) (workers : List WorkerState) → Settled st p workers
-    → (i : ℕ) (t : Thread) → slice_get st.threads i ≡ Some t → (k : WorkerState) → slice_get workers i ≡ Some k
-    → (c : Connection) → Held p i t c → st.place ≡ None → t.out ≡ Some c → (more : ℕ) → t.left ≤ more → k ≡ busy (doing.Holds 0 more) → nat_lt 0 more ≡ true
-    → (r : Reply) → Kept (Follows [] [] (machine_of st p st.entry st.tickets workers) (Calls i r)) (after_call st i t r Call)
-calls st p workers set i t there k had c held at out more least is some r =
-    let still : slice_get workers i ≡ Some (busy (doing.Holds 0 more)) = had ∙ ap Some is in
-    kept_bind _ t.out (λ d has.
-    let same : d ≡ c = (let both : Some d ≡ Some c = sym has ∙ out in cc) in
-    rw same (kept_map _ (called st.second (record { kernel = st.kernel; connection = c }) r) (λ line made.
-    makes_call st p workers set i t there c held at more least still some r line made
-    (limited (with_thread (record st { kernel = line.kernel }) i (planned st t (t.left - 1) line.connection)) p line.connection
-    (slice_set workers i (busy (doing.Holds 0 (more - 1)))) i (more - 1)
-    (get-set_same workers i (busy (doing.Holds 0 more)) (busy (doing.Holds 0 (more - 1))) still) _ refl))))
+  pub takes_notes : t.left ≤ st.limits.budget → k ≡ busy (doing.Holds 0 st.limits.budget)
+      → Follows [] (exchange_made word.take st.word ∷ []) (machine_of st p st.entry st.tickets workers) (Acts i) (notes_taken st i t c)
+  takes_notes least is =
+      takes least is (limited (notes_taken st i t c) (record p { notes = [] }) (heard st.word.pending c) workers i st.limits.budget (had ∙ ap Some is) _ refl)
+
+  makes_call : (more : ℕ) → t.left ≤ more → k ≡ busy (doing.Holds 0 more) → nat_lt 0 more ≡ true
+      → (r : Reply) (line : OpenConnection) → called st.second (record { kernel = st.kernel; connection = c }) r ≡ Some line
+      → Limited (with_thread (record st { kernel = line.kernel }) i (planned st t (t.left - 1) line.connection)) p line.connection
+      (slice_set workers i (busy (doing.Holds 0 (more - 1))))
+      → Follows [] [] (machine_of st p st.entry st.tickets workers) (Calls i r)
+      (with_thread (record st { kernel = line.kernel }) i (planned st t (t.left - 1) line.connection))
+  makes_call more least is some r line replied l =
+      let d : Connection = held_to_limit st.second st.limits.idle line.connection in
+      let new : Thread = planned st t (t.left - 1) line.connection in
+      let next : System = with_thread (record st { kernel = line.kernel }) i new in
+      let q : SlotState = record p { connection = Some d } in
+      let busier : WorkerState = busy (doing.Holds 0 (more - 1)) in
+      let made : machine.slot_call st.second (record { kernel = st.kernel; place = p }) r
+      ≡ Some (record { kernel = line.kernel; place = record p { connection = Some line.connection } }) =
+      slot_calls st.second p st.kernel c r line held.connection replied in
+      let ends : line.connection.ends ≡ c.ends = keeps_ends st.second (record { kernel = st.kernel; connection = c }) r line replied in
+      let here : ThreadLike st.limits.budget st.place q i new busier =
+      Goes d (more - 1) (record { holder = held.holder; connection = refl; generation = held.generation }) at refl refl (omega arith) refl in
+      record {
+        events = event.Work i (act.Call r) ∷ l.events;
+        world = machine_of next q st.entry st.tickets (slice_set workers i busier);
+        allowed = rw (had, is, some, made) l.allowed;
+        like = IsSettled q (slice_set workers i busier) refl (record {
+          ends = set.ends ∙ rw (held.connection, ends) refl;
+          word = set.word;
+          place = λ no. absurd (let yes : is_by_worker p.holder ≡ true = rw held.holder refl in cc);
+          threads = go_on st.limits.budget st.place st.place p q st.threads workers i t new busier set.threads there here
+              (λ j u v other like. apart st.limits.budget st.place st.place p q j u v (holder_apart p i j held.holder other) refl like);
+        });
+        calls = ap (λ (xs : List (ℕ × Reply)). (i, r) ∷ xs) l.calls;
+        outside = l.outside;
+        words = rw (had, is, some, made) l.words;
+      }
+
+  pub calls : t.out ≡ Some c → (more : ℕ) → t.left ≤ more → k ≡ busy (doing.Holds 0 more) → nat_lt 0 more ≡ true
+      → (r : Reply) → Kept (Follows [] [] (machine_of st p st.entry st.tickets workers) (Calls i r)) (after_call st i t r Call)
+  calls out more least is some r =
+      let still : slice_get workers i ≡ Some (busy (doing.Holds 0 more)) = had ∙ ap Some is in
+      kept_bind _ t.out (λ d has.
+      let same : d ≡ c = (let both : Some d ≡ Some c = sym has ∙ out in cc) in
+      rw same (kept_map _ (called st.second (record { kernel = st.kernel; connection = c }) r) (λ line made.
+      makes_call more least is some r line made
+      (limited (with_thread (record st { kernel = line.kernel }) i (planned st t (t.left - 1) line.connection)) p line.connection
+      (slice_set workers i (busy (doing.Holds 0 (more - 1)))) i (more - 1)
+      (get-set_same workers i (busy (doing.Holds 0 more)) (busy (doing.Holds 0 (more - 1))) still) _ refl))))

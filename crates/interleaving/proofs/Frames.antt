@@ -1,20 +1,7 @@
 -- What a step of one thread leaves of the others, and what it is to go on alike.
-use Rattle.std.proofs.Common.{◌≡◌, ◌≢◌, ◌⊎◌, inl, inr, ℕ, Bool, List, [], ◌∷◌, ◌++◌, slice_get, slice_set, Option, Some, refl, sym, ◌∙◌}
-use Rattle.std.proofs.lemmas.Bool.{cases_eq}
-use Rattle.kernel_model.specs.Kernel.{KernelState}
-use Rattle.token.specs.declared.name.Name.{Name}
-use Rattle.world.specs.declared.connection.Connection.{Connection}
-use Rattle.world.specs.declared.actors.Holder.TheVariants.{By}
-use Rattle.world.specs.declared.event.Event.{Event}
-use Rattle.world.specs.Slots.{SlotState, WorkerState}
-use Rattle.world.specs.States.{State}
-use Rattle.world.specs.Steps as machine
-use Rattle.world.specs.Runs as machine_runs
-use Rattle.world.proofs.TurnsTotals.{get-set_same, get-set_other}
-use Rattle.interleaving.specs.Threads.{System, Thread, Step}
-use Rattle.claims.specs.declared.view.Exchange.{Exchange}
-use Rattle.interleaving.specs.Histories.{exchanges_in, left_of}
-use Rattle.interleaving.specs.Likeness.{outside_of, outside_among, ahead, ThreadLike, Rests, Opens, Tries, Holds, HasOut, Goes, Stays, Leaves, HasClosed, HasRetired, WorkerFor, WorkersFor, ends_of, machine_of, Settled, HalfOpen, opened_slot, Like, IsSettled, IsHalfOpen, call_of, calls_in}
+use Rattle.interleaving.proofs.Prelude.{◌≡◌, ◌≢◌, ◌⊎◌, inl, inr, ℕ, zero, suc, Bool, List, [], ◌∷◌, ◌++◌, slice_get, slice_set, Option, Some, refl, sym, subst, ap, ◌∙◌, cases_eq, KernelState, Name, Connection, By, Event, SlotState, WorkerState, State, get-set_same, get-set_other, System, Thread, Step, Exchange, exchanges_in, left_of, outside_of, outside_among, ahead, ThreadLike, Rests, Opens, Tries, Holds, HasOut, Goes, Stays, Leaves, HasClosed, HasRetired, WorkerFor, WorkersFor, ends_of, machine_of, Settled, HalfOpen, opened_slot, Like, IsSettled, IsHalfOpen, call_of, calls_in}
+use Rattle.interleaving.proofs.Prelude.machine
+use Rattle.interleaving.proofs.Prelude.machine_runs
 
 -- One step of the threads, which makes these exchanges, and what the machine makes of it, which was ahead by those before
 pub record Follows (before own : List Exchange) (w : State) (s : Step) (next : System) : Type 0 where
@@ -111,28 +98,18 @@ half_frame st t c workers s = record {
 
 -- one thread goes on, and no worker does
 
-this_stays : (budget : ℕ) (next : Option Connection) (q : SlotState) (threads : List Thread) (workers : List WorkerState) (i j : ℕ) (t new u : Thread) (k : WorkerState)
-    → j ≡ i → slice_get threads i ≡ Some t → slice_get workers i ≡ Some k → slice_get (slice_set threads i new) j ≡ Some u → ThreadLike budget next q i new k
-    → WorkerFor budget next q workers j u
-this_stays budget next q threads workers i j t new u k same there had at like =
-    let now : slice_get (slice_set threads i new) i ≡ Some new = get-set_same threads i t new there in
-    let is : Some new ≡ Some u = sym now ∙ (rw same at at) in
-    let it : u ≡ new = cc in
-    record { worker = k; there = rw same had; like = rw (same, it) like }
+set_again : {X : Type 0} (xs : List X) (i : ℕ) (x : X) → slice_get xs i ≡ Some x → slice_set xs i x ≡ xs
+set_again [] i x there = refl
+set_again {X = X} (y ∷ ys) zero x there = let same : y ≡ x = cc in ap (λ (z : X). z ∷ ys) (sym same)
+set_again {X = X} (y ∷ ys) (suc i) x there = ap (λ (zs : List X). y ∷ zs) (set_again ys i x there)
 
 pub thread_goes_on : (budget : ℕ) (place next : Option Connection) (p q : SlotState) (threads : List Thread) (workers : List WorkerState) (i : ℕ) (t new : Thread) (k : WorkerState)
     → WorkersFor budget place p workers threads → slice_get threads i ≡ Some t → slice_get workers i ≡ Some k
     → ThreadLike budget next q i new k
     → ((j : ℕ) (u : Thread) (v : WorkerState) → i ≢ j → ThreadLike budget place p j u v → ThreadLike budget next q j u v)
     → WorkersFor budget next q workers (slice_set threads i new)
-thread_goes_on budget place next p q threads workers i t new k old there had like others j u at = goes_on (cases_eq j i)
-  where
-    goes_on : (j ≡ i) ⊎ (j ≢ i) → WorkerFor budget next q workers j u
-    goes_on (inl same) = this_stays budget next q threads workers i j t new u k same there had at like
-    goes_on (inr other) =
-        let apart : i ≢ j = λ same. other (sym same) in
-        let before : WorkerFor budget place p workers j u = old j u (sym (get-set_other threads i j new apart) ∙ at) in
-        record { worker = before.worker; there = before.there; like = others j u before.worker apart before.like }
+thread_goes_on budget place next p q threads workers i t new k old there had like others =
+    subst (λ (ks : List WorkerState). WorkersFor budget next q ks (slice_set threads i new)) (set_again workers i k had) (go_on budget place next p q threads workers i t new k old there like others)
 
 -- who holds the slot is one thread
 pub holder_apart : (p : SlotState) (i j : ℕ) → p.holder ≡ By i → i ≢ j → p.holder ≢ By j

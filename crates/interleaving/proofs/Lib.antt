@@ -1,3 +1,4 @@
+pub mod Prelude
 pub mod Frames
 pub mod Outside
 pub mod Posts

@@ -1,21 +1,7 @@
 -- What no thread ever finds.
-use Rattle.std.proofs.Common.{None, ◌+◌, ◌≤◌, zero, suc, not, ◌&&◌, length, map, replicate, arith, ◌≡◌, ◌≢◌, ◌⊎◌, inl, inr, ℕ, ◌==◌, Bool, true, false, if◌then◌else◌, List, [], ◌∷◌, drop, slice_get, Option, Some, refl, sym, ap, ◌∙◌}
-use Rattle.std.proofs.lemmas.Bool.{cases_eq}
-use Rattle.std.specs.Option.{is_none}
-use Rattle.relay_core.specs.Pairs.{PairState, verdict, is_live}
-use Rattle.relay_core.specs.Order.{next_call}
-use Rattle.world.specs.declared.connection.Connection.{Connection}
-use Rattle.kernel_model.specs.Ends.{is_nonempty}
-use Rattle.world.specs.Slots.{SlotState, WorkerState, is_held}
-use Rattle.world.specs.Support.{one, total, of_slot, tickets}
-use Rattle.world.specs.Words.{is_free}
-use Rattle.world.specs.States.{State}
-use Rattle.world.proofs.TurnsFacts.{facts, SlotOk, Turns, is_number, worker_retires}
-use Rattle.world.proofs.TurnsWorker.{Waiting, waiting}
-use Rattle.world.proofs.TurnsEnded.{own_generation}
-use Rattle.interleaving.specs.Programs.{PutIn, Act, Claim, TakeOut, Call, Adopt, turn, quiet, again, ended, plan, open_slot}
-use Rattle.interleaving.specs.Threads.{System, Thread}
-use Rattle.interleaving.specs.Likeness.{ticket, ThreadLike, Rests, Opens, Tries, Holds, HasOut, Goes, Stays, Leaves, HasClosed, HasRetired, machine_of, Settled, Stage, Registered, Adopted, Entered, Emptied, Placed, Posted, opened_slot, HalfOpen, Like, IsSettled, IsHalfOpen, NoActInVain}
+use Rattle.interleaving.proofs.Prelude.{None, ◌+◌, ◌≤◌, zero, suc, not, ◌&&◌, length, map, replicate, arith, ◌≡◌, ◌≢◌, ◌⊎◌, inl, inr, ℕ, ◌==◌, Bool, true, false, if◌then◌else◌, List, [], ◌∷◌, drop, slice_get, Option, Some, refl, sym, ap, ◌∙◌, cases_eq, is_none, PairState, verdict, is_live, next_call, Connection, is_nonempty, SlotState, WorkerState, is_held, one, total, of_slot, tickets, is_free, State, facts, SlotOk, Turns, is_number, worker_retires, Waiting, waiting, own_generation, Act, TakeOut, Call, turn, quiet, again, ended, plan, open_slot, System, Thread, ticket, ThreadLike, Rests, Opens, Tries, Holds, HasOut, Goes, Stays, Leaves, HasClosed, HasRetired, machine_of, Settled, Stage, Registered, Adopted, Entered, Emptied, Placed, Posted, opened_slot, HalfOpen, Like, IsSettled, IsHalfOpen}
+use Rattle.interleaving.specs.Programs.{PutIn, Claim, Adopt}
+use Rattle.interleaving.specs.Likeness.{NoActInVain}
 
 -- which act comes first, where it is one of these three
 data First : Type 0 where

@@ -1,34 +1,20 @@
 -- An opening, act by act. The machine makes it as soon as both sockets are registered.
-use Rattle.std.proofs.Common.{◌≡◌, ◌≢◌, ◌⊎◌, inl, inr, ℕ, zero, suc, ◌+◌, ◌≤◌, true, false, List, [], ◌∷◌, ◌++◌, drop, length, map, replicate, slice_get, slice_set, Option, Some, None, is_some, refl, sym, ap, ◌∙◌, arith}
-use Rattle.std.proofs.lemmas.Bool.{cases_eq}
+use Rattle.interleaving.proofs.Prelude.{◌≡◌, ◌≢◌, ◌⊎◌, inl, inr, ℕ, zero, suc, ◌+◌, ◌≤◌, true, false, List, [], ◌∷◌, ◌++◌, drop, length, map, replicate, slice_get, slice_set, Option, Some, None, is_some, refl, sym, ap, ◌∙◌, arith, cases_eq, EndName, Descriptors, KernelState, WordState, exchange_made, Connection, Nobody, By, Free, SlotState, WorkerState, State, one, total, of_slot, tickets, is_free, Kept, kept_some, kept_none, kept_bind, kept_map, kept_when, get-set_same, get-set_other, facts, SlotOk, Turns, is_number, worker_retires, Release, open_slot, System, Thread, Acts, with_thread, goes_on, acts, released, Exchange, exchange, first_kind, left_of, ticket, ThreadLike, Rests, Opens, Tries, Holds, HasOut, Goes, Stays, Leaves, HasClosed, HasRetired, WorkerFor, machine_of, Settled, Stage, Registered, Adopted, Entered, Emptied, Placed, Posted, opened_slot, HalfOpen, IsSettled, IsHalfOpen}
+use Rattle.interleaving.proofs.Prelude.kernel
+use Rattle.interleaving.proofs.Prelude.word
+use Rattle.interleaving.proofs.Prelude.event
+use Rattle.interleaving.proofs.Prelude.polling
+use Rattle.interleaving.proofs.Prelude.machine_states
 use Rattle.token.specs.declared.side.Side.TheVariants.{Client, Target}
-use Rattle.token.specs.Names.{EndName}
-use Rattle.kernel_model.specs.declared.both.Descriptors.{Descriptors}
 use Rattle.kernel_model.specs.Outcome.{Told}
-use Rattle.kernel_model.specs.Kernel as kernel
-use Rattle.kernel_model.specs.Kernel.{KernelState}
 use Rattle.relay_core.specs.Pairs.{fresh}
-use Rattle.claims.specs.Words as word
-use Rattle.claims.specs.Words.{WordState, made as exchange_made}
-use Rattle.world.specs.declared.connection.Connection.{Connection}
 use Rattle.world.specs.declared.actors.Holder.{Holder}
-use Rattle.world.specs.declared.actors.Holder.TheVariants.{Nobody, By, Free}
-use Rattle.world.specs.declared.event.Event.TheVariants as event
-use Rattle.world.specs.declared.event.Polling.TheVariants as polling
-use Rattle.world.specs.Slots.{SlotState, WorkerState}
-use Rattle.world.specs.States.{State}
-use Rattle.world.specs.States as machine_states
 use Rattle.world.specs.Steps.{token_of}
-use Rattle.world.specs.Support.{one, total, of_slot, worker_tickets, tickets}
-use Rattle.world.specs.Words.{is_free}
-use Rattle.world.proofs.TurnsKept.{Kept, kept_some, kept_none, kept_bind, kept_map, kept_when}
-use Rattle.world.proofs.TurnsTotals.{total_at, get-set_same, get-set_other}
-use Rattle.world.proofs.TurnsFacts.{Facts, facts, SlotOk, Turns, is_number, worker_holds, worker_closes, worker_retires, one_same}
-use Rattle.interleaving.specs.Programs.{Release, open_slot}
-use Rattle.interleaving.specs.Threads.{System, Thread, Acts, with_thread, goes_on, registering, registered, acts, released}
-use Rattle.claims.specs.declared.view.Exchange.{Exchange}
-use Rattle.interleaving.specs.Histories.{exchange, first_kind, left_of}
-use Rattle.interleaving.specs.Likeness.{ticket, ThreadLike, Rests, Opens, Tries, Holds, HasOut, Goes, Stays, Leaves, HasClosed, HasRetired, WorkerFor, machine_of, Settled, taken_word, Stage, Registered, Adopted, Entered, Emptied, Placed, Posted, opened_slot, HalfOpen, IsSettled, IsHalfOpen}
+use Rattle.world.specs.Support.{worker_tickets}
+use Rattle.world.proofs.TurnsTotals.{total_at}
+use Rattle.world.proofs.TurnsFacts.{Facts, worker_holds, worker_closes, one_same}
+use Rattle.interleaving.specs.Threads.{registering, registered}
+use Rattle.interleaving.specs.Likeness.{taken_word}
 use Rattle.interleaving.proofs.Frames.{Follows, settles}
 
 -- A slot that is to be opened is free: nobody has anything to do with it

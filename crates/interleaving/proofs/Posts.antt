@@ -1,32 +1,18 @@
 -- The poller's posts: a report that it delivers, and a sweep. A post that wakes makes a ticket, which the machine's poller
 -- puts at once.
-use Rattle.std.proofs.Common.{◌≡◌, ◌≢◌, ◌⊎◌, inl, inr, ℕ, zero, suc, ◌==◌, Bool, true, false, not, ◌||◌, nat_lt, if◌then◌else◌, List, [], ◌∷◌, ◌++◌, length, map, slice_get, arith, lt-ltb, Option, Some, None, refl, sym, ap, ◌∙◌, length-append, eqb-true, ne_eqb}
-use Rattle.std.proofs.lemmas.Bool.{cases_eq, and_parts}
-use Rattle.std.proofs.lemmas.List.{map-append}
-use Rattle.std.specs.Option.{is_none}
-use Rattle.token.specs.declared.name.Name.{Name}
-use Rattle.token.specs.declared.name.Name.TheVariants as name
-use Rattle.token.specs.Names.{EndName}
-use Rattle.kernel_model.specs.Ends.{is_nonempty}
-use Rattle.relay_core.specs.Pairs.{verdict, is_live}
-use Rattle.relay_core.specs.Order.{next_call}
-use Rattle.claims.specs.Words.{WordState, word_after, wakes, some_wait, made as exchange_made}
-use Rattle.claims.specs.Words as word
-use Rattle.world.specs.declared.connection.Connection.{Connection}
-use Rattle.world.specs.declared.event.Event.{Event}
-use Rattle.world.specs.declared.event.Event.TheVariants as event
-use Rattle.world.specs.declared.event.Polling.TheVariants as polling
-use Rattle.world.specs.Slots.{SlotState, WorkerState, is_held}
-use Rattle.world.specs.Steps as machine
-use Rattle.world.specs.Steps.{with_note, brings_ticket, may_release}
-use Rattle.world.specs.Words.{word_at}
-pub use Rattle.world.proofs.TurnsPoller.{some_more}
-use Rattle.world.proofs.TurnsKept.{Kept, kept_some, kept_none, kept_when, kept_guard}
-use Rattle.interleaving.specs.Threads.{System, Thread, Step, Deliver, Sweep, is_limited, poller_rests, posted, delivered, delivers, step}
-use Rattle.interleaving.specs.Histories.{exchange, posts, kind_in, exchanges_of}
-use Rattle.interleaving.specs.Likeness.{outside_in, outside_of, ticket, Held, ThreadLike, Rests, Opens, Tries, Holds, HasOut, Goes, Stays, Leaves, HasClosed, HasRetired, WorkerFor, WorkersFor, machine_of, Settled, IsSettled, call_of, call_in}
+use Rattle.interleaving.proofs.Prelude.{◌≡◌, ◌≢◌, ◌⊎◌, inl, inr, ℕ, zero, suc, ◌==◌, Bool, true, false, not, nat_lt, if◌then◌else◌, List, [], ◌∷◌, ◌++◌, length, map, slice_get, arith, lt-ltb, Option, Some, None, refl, sym, ap, ◌∙◌, cases_eq, and_parts, map-append, is_none, Name, EndName, is_nonempty, verdict, is_live, next_call, word_after, wakes, some_wait, exchange_made, Connection, Event, SlotState, WorkerState, is_held, with_note, word_at, Kept, kept_some, kept_none, kept_when, kept_guard, System, Thread, Step, Deliver, Sweep, poller_rests, posted, step, exchange, kind_in, exchanges_of, outside_in, outside_of, ticket, Held, ThreadLike, Rests, Opens, Tries, Holds, HasOut, Goes, Stays, Leaves, HasClosed, HasRetired, WorkerFor, WorkersFor, machine_of, Settled, IsSettled, call_of, call_in}
+use Rattle.interleaving.proofs.Prelude.word
+use Rattle.interleaving.proofs.Prelude.event
+use Rattle.interleaving.proofs.Prelude.polling
+use Rattle.interleaving.proofs.Prelude.machine
+use Rattle.std.proofs.Common.{◌||◌, length-append, eqb-true, ne_eqb}
+use Rattle.world.specs.Steps.{brings_ticket, may_release}
+use Rattle.interleaving.specs.Threads.{is_limited, delivered, delivers}
+use Rattle.interleaving.specs.Histories.{posts}
 use Rattle.interleaving.proofs.Frames.{Follows, settled_frame}
 use Rattle.interleaving.proofs.Outside.{two_parts, alone}
+use Rattle.token.specs.declared.name.Name.TheVariants as name
+pub use Rattle.world.proofs.TurnsPoller.{some_more}
 
 -- What the word says, and what the place does
 
@@ -53,11 +39,13 @@ or_true : (b : Bool) → (b || true) ≡ true
 or_true true = refl
 or_true false = refl
 
-pub may_still : (c : Connection) (some : Bool) → may_release c some ≡ true → may_release c true ≡ true
+pub due_now : (c : Connection) → is_live (verdict c.pair) ≡ true → may_release c true ≡ true
 unfolding may_release
-may_still c some may =
-    let parts : (is_live (verdict c.pair) ≡ true) × ((is_none (next_call c.pair) || some) ≡ true) = and_parts (is_live (verdict c.pair)) (is_none (next_call c.pair) || some) may in
-    rw parts.0 (or_true _)
+due_now c live = rw live (or_true _)
+
+may_still : (c : Connection) (some : Bool) → may_release c some ≡ true → may_release c true ≡ true
+unfolding may_release
+may_still c some may = due_now c (and_parts (is_live (verdict c.pair)) (is_none (next_call c.pair) || some) may).0
 
 pub still : (p : SlotState) (g i : ℕ) (t : Thread) (c : Connection) → Held p i t c → Held (with_note p g) i t c
 still p g i t c held = record { holder = held.holder; connection = held.connection; generation = held.generation }
@@ -159,7 +147,8 @@ delivers_all st p workers [] set is = kept_none
 delivers_all st p workers (name.Listener ∷ rest) set is = kept_some
     (alone st [] p st.entry st.tickets workers (settled_frame st p workers set) Deliver (event.Poll polling.Deliver) st.second st.kernel true st.accepted rest (rw is refl) refl refl (rw is refl) refl)
 delivers_all st p workers (name.Waker ∷ rest) set is = kept_some
-    (alone st [] p st.entry st.tickets workers (settled_frame st p workers set) Deliver (event.Poll polling.Deliver) st.second st.kernel st.flag st.accepted rest (rw is refl) refl refl (rw is refl) refl)
+    (alone st [] p st.entry st.tickets workers (settled_frame st p workers set) Deliver (event.Poll polling.Deliver) st.second st.kernel st.flag st.accepted rest
+    (rw is refl) refl refl (rw is refl) refl)
 delivers_all st p workers (name.End n ∷ rest) set is = kept_some (delivers_end st p workers n rest set is (cases_eq n.slot 0))
 
 pub reports : (st : System) (p : SlotState) (workers : List WorkerState) → Settled st p workers

@@ -1,29 +1,17 @@
 -- What holds after any list of steps.
-use Rattle.std.proofs.Common.{nat_le, ◌&&◌, ◌≤◌, ◌≡◌, ◌≢◌, ◌⊎◌, inl, inr, ℕ, zero, suc, ◌==◌, Bool, true, false, nat_lt, List, [], ◌∷◌, ◌++◌, replicate, slice_get, Option, Some, None, refl, sym, ap, ◌∙◌, option_and_then, arith, lt-ltb, append_assoc, append-nil, subst, option_map, unwrap_or}
-use Rattle.std.proofs.lemmas.Bool.{cases_eq}
-use Rattle.std.specs.Option.{is_none}
-use Rattle.kernel_model.specs.declared.reply.Reply.{Reply}
-use Rattle.relay_core.specs.Pairs.{verdict, is_live}
-use Rattle.relay_core.specs.Order.{next_call}
-use Rattle.world.specs.declared.connection.Connection.{Connection}
-use Rattle.world.specs.declared.event.Event.{Event}
+use Rattle.interleaving.proofs.Prelude.{nat_le, ◌&&◌, ◌≤◌, ◌≡◌, ◌≢◌, ◌⊎◌, inl, inr, ℕ, zero, suc, ◌==◌, Bool, true, false, nat_lt, List, [], ◌∷◌, ◌++◌, replicate, slice_get, Option, Some, None, refl, sym, ap, ◌∙◌, option_and_then, arith, lt-ltb, append-nil, subst, option_map, cases_eq, is_none, Reply, verdict, is_live, next_call, Connection, Event, SlotState, WorkerState, State, Kept, kept_some, kept_none, kept_bind, kept_when, kept_guard, kept_at, Turns, plan, System, Thread, Step, Tick, Network, Connect, Spurious, Vanish, Accept, Drop, Poll, Deliver, Sweep, Open, Begin, Acts, Calls, is_over, rests, poller_rests, acts, begun, step, Exchange, exchange, first_kind, kind_in, exchanges_of, exchanges_in, left_of, outside_in, outside_among, ahead, Held, ThreadLike, Rests, Opens, Tries, Holds, HasOut, Goes, Stays, Leaves, HasClosed, HasRetired, machine_of, Settled, Stage, Registered, Adopted, Entered, Emptied, Placed, Posted, opened_slot, HalfOpen, Like, IsSettled, IsHalfOpen, call_in, calls_in}
+use Rattle.interleaving.proofs.Prelude.machine_states
+use Rattle.interleaving.proofs.Prelude.machine
+use Rattle.interleaving.proofs.Prelude.machine_runs
+use Rattle.std.proofs.Common.{append_assoc, unwrap_or}
 use Rattle.world.specs.declared.limits.Limits.{Limits}
-use Rattle.world.specs.Slots.{SlotState, WorkerState}
-use Rattle.world.specs.States.{State}
-use Rattle.world.specs.States as machine_states
-use Rattle.world.specs.Steps as machine
-use Rattle.world.specs.Runs as machine_runs
 use Rattle.world.specs.Headline.{EveryRunHolds}
 use Rattle.world.specs.CoreLaws.{CoreLaws}
 use Rattle.world.proofs.TurnsTotals.{get-replicate, get_beside}
-use Rattle.world.proofs.TurnsKept.{Kept, kept_some, kept_none, kept_bind, kept_when, kept_guard, kept_at}
-use Rattle.world.proofs.TurnsFacts.{Turns}
 use Rattle.world.proofs.TurnsRun.{turns_after}
-use Rattle.interleaving.specs.Programs.{plan}
-use Rattle.interleaving.specs.Threads.{System, Thread, Step, Tick, Network, Connect, Spurious, Vanish, Accept, Drop, Poll, Deliver, Sweep, Open, Begin, Acts, Calls, is_over, rests, poller_rests, acts, calls, begun, start, step, run}
-use Rattle.claims.specs.declared.view.Exchange.{Exchange}
-use Rattle.interleaving.specs.Histories.{exchange, first_kind, kind_in, exchanges, exchanges_of, exchanges_in, left_of}
-use Rattle.interleaving.specs.Likeness.{outside_in, outside_among, all_outside, ahead, Held, ThreadLike, Rests, Opens, Tries, Holds, HasOut, Goes, Stays, Leaves, HasClosed, HasRetired, machine_of, Settled, Stage, Registered, Adopted, Entered, Emptied, Placed, Posted, opened_slot, HalfOpen, Like, IsSettled, IsHalfOpen, calls_of, call_in, calls_in, EveryInterleavingIsARun}
+use Rattle.interleaving.specs.Threads.{calls, start, run}
+use Rattle.interleaving.specs.Histories.{exchanges}
+use Rattle.interleaving.specs.Likeness.{all_outside, calls_of, EveryInterleavingIsARun}
 use Rattle.interleaving.proofs.Frames.{Follows, settled_frame, half_frame}
 use Rattle.interleaving.proofs.Outside.{ticks, network, connects, spurious, vanishes, accepts, drops, polls}
 use Rattle.interleaving.proofs.Posts.{reports, sweeps}
@@ -33,71 +21,64 @@ use Rattle.interleaving.proofs.Leaving.{puts_quiet, puts_again, posts_due, relea
 use Rattle.interleaving.proofs.Lost.{no_act_in_vain}
 use Rattle.interleaving.proofs.Openings.{registers, goes_half, half_world}
 
--- A thread's act, where no opening is half way
+-- A thread's act and its call, where no opening is half way
 
 some_more_left : (n more : ℕ) → (n == 0) ≡ false → n ≤ more → nat_lt 0 more ≡ true
 some_more_left zero more h least = absurd (cc)
 some_more_left (suc n) more h least = lt-ltb 0 more (omega arith)
 
--- by the plan
-plan_acts : (st : System) (p : SlotState) (workers : List WorkerState) → Settled st p workers → (i : ℕ) (t : Thread) → slice_get st.threads i ≡ Some t
-    → (k : WorkerState) → slice_get workers i ≡ Some k → (c : Connection) (more : ℕ) → Held p i t c → st.place ≡ None → t.out ≡ Some c
-    → t.left ≤ more → k ≡ Rattle.world.specs.Acts.busy (Rattle.world.specs.declared.actors.Doing.TheVariants.Holds 0 more)
-    → (live none spent : Bool) → is_live (verdict c.pair) ≡ live → is_none (next_call c.pair) ≡ none → (t.left == 0) ≡ spent
-    → Kept (Follows [] (exchange st.word (first_kind (plan t.left c.pair))) (machine_of st p st.entry st.tickets workers) (Acts i)) (acts st i t (plan t.left c.pair))
-plan_acts st p workers set i t there k had c more held at out least is true true spent lives rest over = rw (rest, lives)
-    (kept_some (puts_quiet st p workers set i t there k had c more held out is lives rest))
-plan_acts st p workers set i t there k had c more held at out least is true false true lives rest over = rw (rest, lives, over)
-    (kept_some (puts_again st p workers set i t there k had c more held out is lives))
-plan_acts st p workers set i t there k had c more held at out least is true false false lives rest over = rw (rest, lives, over) kept_none
-plan_acts st p workers set i t there k had c more held at out least is false none spent lives rest over = rw lives (kept_bind _ t.out (λ d has.
-    let same : d ≡ c = (let both : Some d ≡ Some c = sym has ∙ out in cc) in
-    rw same (closes st p workers set i t there k had c more held at is lives)))
+module _ (st : System) (p : SlotState) (workers : List WorkerState) (set : Settled st p workers) (i : ℕ) (t : Thread) (there : slice_get st.threads i ≡ Some t)
+    (k : WorkerState) (had : slice_get workers i ≡ Some k) where
+  -- by the plan
+  module _ (c : Connection) (more : ℕ) (held : Held p i t c) (at : st.place ≡ None) (out : t.out ≡ Some c) (least : t.left ≤ more)
+      (is : k ≡ Rattle.world.specs.Acts.busy (Rattle.world.specs.declared.actors.Doing.TheVariants.Holds 0 more)) where
+    plan_acts : (live none spent : Bool) → is_live (verdict c.pair) ≡ live → is_none (next_call c.pair) ≡ none → (t.left == 0) ≡ spent
+        → Kept (Follows [] (exchange st.word (first_kind (plan t.left c.pair))) (machine_of st p st.entry st.tickets workers) (Acts i)) (acts st i t (plan t.left c.pair))
+    plan_acts true true spent lives rest over = rw (rest, lives)
+        (kept_some (puts_quiet st p workers set i t there k had c more held out is lives rest))
+    plan_acts true false true lives rest over = rw (rest, lives, over)
+        (kept_some (puts_again st p workers set i t there k had c more held out is lives))
+    plan_acts true false false lives rest over = rw (rest, lives, over) kept_none
+    plan_acts false none spent lives rest over = rw lives (kept_bind _ t.out (λ d has.
+        let same : d ≡ c = (let both : Some d ≡ Some c = sym has ∙ out in cc) in
+        rw same (closes st p workers set i t there k had c more held at is lives)))
 
-thread_acts : (st : System) (p : SlotState) (workers : List WorkerState) → Settled st p workers → Turns (machine_of st p st.entry st.tickets workers)
-    → (i : ℕ) (t : Thread) → slice_get st.threads i ≡ Some t → (k : WorkerState) → slice_get workers i ≡ Some k → ThreadLike st.limits.budget st.place p i t k
-    → Kept (Follows [] (exchange st.word (first_kind t.todo)) (machine_of st p st.entry st.tickets workers) (Acts i)) (acts st i t t.todo)
-thread_acts st p workers set turns i t there k had (Rests todo is) = rw todo kept_none
-thread_acts st p workers set turns i t there k had (Opens first todo is) =
-    rw (todo, first) (registers st p workers set turns t (rw first at there) k (rw first at had) is)
-thread_acts st p workers set turns i t there k had (Tries todo least is) = rw todo (kept_some (claims st p workers set turns i t there k had todo least is))
-thread_acts st p workers set turns i t there k had (Holds c held at todo least is) = rw todo (kept_some (takes_out st p workers set turns i t there k had c held at least is))
-thread_acts st p workers set turns i t there k had (HasOut c held at out todo least is) =
-    rw (todo, out) (kept_some (takes_notes st p workers set i t there k had c held at least is))
-thread_acts st p workers set turns i t there k had (Goes c more held at out todo least is) = rw todo
-    (plan_acts st p workers set i t there k had c more held at out least is (is_live (verdict c.pair)) (is_none (next_call c.pair)) (t.left == 0) refl refl refl)
-thread_acts st p workers set turns i t there k had (Stays c more held at live todo is) = rw todo (kept_some (posts_due st p workers set i t there k had c more held at live is))
-thread_acts st p workers set turns i t there k had (Leaves c more held at may todo is) = rw todo (kept_some (releases st p workers set i t there k had c more held at may is))
-thread_acts st p workers set turns i t there k had (HasClosed held at todo is) = rw todo (kept_some (retires st p workers set i t there k had held at is))
-thread_acts st p workers set turns i t there k had (HasRetired own todo is) = rw todo (kept_some (gives st p workers set i t there k had own is))
+    plan_calls : (r : Reply) (live none spent : Bool) → is_live (verdict c.pair) ≡ live → is_none (next_call c.pair) ≡ none → (t.left == 0) ≡ spent
+        → Kept (Follows [] [] (machine_of st p st.entry st.tickets workers) (Calls i r)) (calls st i t r (plan t.left c.pair))
+    plan_calls r true true spent lives rest over = rw (rest, lives) kept_none
+    plan_calls r true false true lives rest over = rw (rest, lives, over) kept_none
+    plan_calls r true false false lives rest over = rw (rest, lives, over)
+        (makes_calls st p workers set i t there k had c held at out more least is (some_more_left t.left more over least) r)
+    plan_calls r false none spent lives rest over = rw lives kept_none
 
--- A call
+  thread_acts : Turns (machine_of st p st.entry st.tickets workers) → ThreadLike st.limits.budget st.place p i t k
+      → Kept (Follows [] (exchange st.word (first_kind t.todo)) (machine_of st p st.entry st.tickets workers) (Acts i)) (acts st i t t.todo)
+  thread_acts turns (Rests todo is) = rw todo kept_none
+  thread_acts turns (Opens first todo is) =
+      rw (todo, first) (registers st p workers set turns t (rw first at there) k (rw first at had) is)
+  thread_acts turns (Tries todo least is) = rw todo (kept_some (claims st p workers set turns i t there k had todo least is))
+  thread_acts turns (Holds c held at todo least is) = rw todo (kept_some (takes_out st p workers set turns i t there k had c held at least is))
+  thread_acts turns (HasOut c held at out todo least is) =
+      rw (todo, out) (kept_some (takes_notes st p workers set i t there k had c held at least is))
+  thread_acts turns (Goes c more held at out todo least is) = rw todo
+      (plan_acts c more held at out least is (is_live (verdict c.pair)) (is_none (next_call c.pair)) (t.left == 0) refl refl refl)
+  thread_acts turns (Stays c more held at live todo is) = rw todo (kept_some (posts_due st p workers set i t there k had c more held at live is))
+  thread_acts turns (Leaves c more held at may todo is) = rw todo (kept_some (releases st p workers set i t there k had c more held at may is))
+  thread_acts turns (HasClosed held at todo is) = rw todo (kept_some (retires st p workers set i t there k had held at is))
+  thread_acts turns (HasRetired own todo is) = rw todo (kept_some (gives st p workers set i t there k had own is))
 
-plan_calls : (st : System) (p : SlotState) (workers : List WorkerState) → Settled st p workers → (i : ℕ) (t : Thread) → slice_get st.threads i ≡ Some t
-    → (k : WorkerState) → slice_get workers i ≡ Some k → (c : Connection) (more : ℕ) → Held p i t c → st.place ≡ None → t.out ≡ Some c
-    → t.left ≤ more → k ≡ Rattle.world.specs.Acts.busy (Rattle.world.specs.declared.actors.Doing.TheVariants.Holds 0 more)
-    → (r : Reply) (live none spent : Bool) → is_live (verdict c.pair) ≡ live → is_none (next_call c.pair) ≡ none → (t.left == 0) ≡ spent
-    → Kept (Follows [] [] (machine_of st p st.entry st.tickets workers) (Calls i r)) (calls st i t r (plan t.left c.pair))
-plan_calls st p workers set i t there k had c more held at out least is r true true spent lives rest over = rw (rest, lives) kept_none
-plan_calls st p workers set i t there k had c more held at out least is r true false true lives rest over = rw (rest, lives, over) kept_none
-plan_calls st p workers set i t there k had c more held at out least is r true false false lives rest over = rw (rest, lives, over)
-    (makes_calls st p workers set i t there k had c held at out more least is (some_more_left t.left more over least) r)
-plan_calls st p workers set i t there k had c more held at out least is r false none spent lives rest over = rw lives kept_none
-
-thread_calls : (st : System) (p : SlotState) (workers : List WorkerState) → Settled st p workers
-    → (i : ℕ) (t : Thread) → slice_get st.threads i ≡ Some t → (k : WorkerState) → slice_get workers i ≡ Some k → ThreadLike st.limits.budget st.place p i t k → (r : Reply)
-    → Kept (Follows [] [] (machine_of st p st.entry st.tickets workers) (Calls i r)) (calls st i t r t.todo)
-thread_calls st p workers set i t there k had (Rests todo is) r = rw todo kept_none
-thread_calls st p workers set i t there k had (Opens first todo is) r = rw todo kept_none
-thread_calls st p workers set i t there k had (Tries todo least is) r = rw todo kept_none
-thread_calls st p workers set i t there k had (Holds c held at todo least is) r = rw todo kept_none
-thread_calls st p workers set i t there k had (HasOut c held at out todo least is) r = rw todo kept_none
-thread_calls st p workers set i t there k had (Goes c more held at out todo least is) r = rw todo
-    (plan_calls st p workers set i t there k had c more held at out least is r (is_live (verdict c.pair)) (is_none (next_call c.pair)) (t.left == 0) refl refl refl)
-thread_calls st p workers set i t there k had (Stays c more held at live todo is) r = rw todo kept_none
-thread_calls st p workers set i t there k had (Leaves c more held at may todo is) r = rw todo kept_none
-thread_calls st p workers set i t there k had (HasClosed held at todo is) r = rw todo kept_none
-thread_calls st p workers set i t there k had (HasRetired own todo is) r = rw todo kept_none
+  thread_calls : ThreadLike st.limits.budget st.place p i t k → (r : Reply) → Kept (Follows [] [] (machine_of st p st.entry st.tickets workers) (Calls i r)) (calls st i t r t.todo)
+  thread_calls (Rests todo is) r = rw todo kept_none
+  thread_calls (Opens first todo is) r = rw todo kept_none
+  thread_calls (Tries todo least is) r = rw todo kept_none
+  thread_calls (Holds c held at todo least is) r = rw todo kept_none
+  thread_calls (HasOut c held at out todo least is) r = rw todo kept_none
+  thread_calls (Goes c more held at out todo least is) r = rw todo
+      (plan_calls c more held at out least is r (is_live (verdict c.pair)) (is_none (next_call c.pair)) (t.left == 0) refl refl refl)
+  thread_calls (Stays c more held at live todo is) r = rw todo kept_none
+  thread_calls (Leaves c more held at may todo is) r = rw todo kept_none
+  thread_calls (HasClosed held at todo is) r = rw todo kept_none
+  thread_calls (HasRetired own todo is) r = rw todo kept_none
 
 -- Any step, where no opening is half way
 follows_settled : (st : System) (p : SlotState) (workers : List WorkerState) → Settled st p workers → Turns (machine_of st p st.entry st.tickets workers)
@@ -115,7 +96,7 @@ follows_settled st p workers set turns Sweep = sweeps st p workers set
 follows_settled st p workers set turns Open = begins_opening st p workers set
 follows_settled st p workers set turns (Begin i most) = begins_turn st p workers set i most
 follows_settled st p workers set turns (Acts i) = kept_bind _ (slice_get st.threads i) (λ t there.
-    rw there (thread_acts st p workers set turns i t there (set.threads i t there).worker (set.threads i t there).there (set.threads i t there).like))
+    rw there (thread_acts st p workers set i t there (set.threads i t there).worker (set.threads i t there).there turns (set.threads i t there).like))
 follows_settled st p workers set turns (Calls i r) = kept_bind _ (slice_get st.threads i) (λ t there.
     thread_calls st p workers set i t there (set.threads i t there).worker (set.threads i t there).there (set.threads i t there).like r)
 

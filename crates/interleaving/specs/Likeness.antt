@@ -72,7 +72,8 @@ pub data ThreadLike (budget : ℕ) (place : Option Connection) (p : SlotState) (
   HasRetired : p.generation ≡ t.generation → t.todo ≡ Give ∷ [] → k ≡ busy (doing.Retired 0) → ThreadLike budget place p i t k
 
 -- the machine has a worker that is where the thread is
-pub record WorkerFor (budget : ℕ) (place : Option Connection) (p : SlotState) (workers : List WorkerState) (i : ℕ) (t : Thread) : Type 0 where
+pub record WorkerFor (budget : ℕ) (place : Option Connection) (p : SlotState) (workers : List WorkerState) (i : ℕ) (t : Thread)
+    : Type 0 where
   pub worker : WorkerState
   pub there : slice_get workers i ≡ Some worker
   pub like : ThreadLike budget place p i t worker
