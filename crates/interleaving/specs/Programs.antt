@@ -1,28 +1,10 @@
 -- What a thread does at a slot: the programs of a turn and of an opening, as lists of atomic acts. Part of the promises.
-use Rattle.std.specs.Prelude.{ℕ, ◌==◌, if◌then◌else◌, List, [], ◌∷◌}
+use Rattle.std.specs.Prelude.{◌≡◌, ℕ, ◌==◌, Bool, true, false, if◌then◌else◌, List, [], ◌∷◌, ◌++◌}
 use Rattle.std.specs.Option.{is_none}
 use Rattle.relay_core.specs.Pairs.{PairState, verdict, is_live}
 use Rattle.relay_core.specs.Order.{next_call}
-
--- `Claim`, `TakeNotes`, `Post`, `Release`, `Retire`, `Adopt` and `Discard` are exchanges of the slot's word; `Discard` is a
--- take of which the notes are thrown away. `TakeOut` and `PutIn` move the connection out of its place and back, `Call` is
--- its next call on a socket, and `Close` closes both sockets. `Give` puts the slot into the queue of free slots.
--- `Register` opens both sockets and registers them for reports. `Enter` writes the generation into the poller's table
-pub data Act : Type 0 where
-  Claim : Act
-  TakeOut : Act
-  TakeNotes : Act
-  Call : Act
-  PutIn : Act
-  Post : Act
-  Release : Act
-  Close : Act
-  Retire : Act
-  Give : Act
-  Register : Act
-  Adopt : Act
-  Enter : Act
-  Discard : Act
+pub use Rattle.dispatch.specs.Acts.{Act, Claim, TakeOut, TakeNotes, Call, PutIn, Post, Release, Close, Retire, Give, Register, Adopt, Enter, Discard, Settle, PutTicket}
+use Rattle.dispatch.specs.Acts.{gone_turn, quiet_turn, again_turn, ended_turn}
 
 -- a turn begins so
 abbrev pub turn : List Act
@@ -51,3 +33,18 @@ plan left p = if is_live (verdict p) then (if is_none (next_call p) then quiet e
 -- the opening of a connection
 abbrev pub open_slot : List Act
 open_slot = Register ∷ Adopt ∷ Enter ∷ Discard ∷ PutIn ∷ Post ∷ Release ∷ []
+
+-- Two acts change nothing here: after `Settle` the sockets hold nothing back, and whether a ticket is in the queue or in
+-- a hand does not matter
+abbrev pub seen : List Act → List Act
+seen [] = []
+seen (Settle ∷ acts) = seen acts
+seen (PutTicket ∷ acts) = seen acts
+seen (act ∷ acts) = act ∷ seen acts
+
+-- the acts that a turn of the server makes are these programs, but for its calls
+pub record TurnsAreThese : Type 0 where
+  pub gone : (woke : Bool) → seen (gone_turn false woke) ≡ Claim ∷ TakeOut ∷ gone
+  pub quiet : (woke : Bool) → seen (quiet_turn woke) ≡ turn ++ quiet
+  pub again : (woke : Bool) → seen (again_turn woke) ≡ turn ++ again
+  pub ended : seen (ended_turn true) ≡ turn ++ ended

@@ -30,7 +30,7 @@ use Rattle.world.specs.declared.event.Reported.{Reported}
 use Rattle.world.specs.declared.event.Reported.TheVariants as reported
 use Rattle.world.specs.Calls.{when, OpenConnection, descriptor, called}
 use Rattle.world.specs.Steps.{change_at, token_of, is_worn}
-use Rattle.interleaving.specs.Programs.{Act, Claim, TakeOut, TakeNotes, Call, PutIn, Post, Release, Close, Retire, Give, Register, Adopt, Enter, Discard, turn, gone, plan, open_slot}
+use Rattle.interleaving.specs.Programs.{Act, Claim, TakeOut, TakeNotes, Call, PutIn, Post, Release, Close, Retire, Give, Register, Adopt, Enter, Discard, Settle, PutTicket, turn, gone, plan, open_slot}
 
 -- A thread: the generation of its ticket or of the connection that it opens, the connection that it has out of its
 -- place, the calls that are left, and the rest of its program. Without one it rests
@@ -241,6 +241,8 @@ after_act st i t Register rest = registering st i t rest st.free
 after_act st i t Adopt rest = Some (adopted st i t rest)
 after_act st i t Enter rest = Some (with_thread (record st { entry = t.generation }) i (goes_on t rest))
 after_act st i t Discard rest = Some (with_thread (exchanged st word.take) i (goes_on t rest))
+after_act st i t Settle rest = Some (with_thread st i (goes_on t rest))
+after_act st i t PutTicket rest = Some (with_thread st i (goes_on t rest))
 
 -- the next call of the connection that is out gets a reply
 abbrev pub after_call : System → ℕ → Thread → Reply → Act → Option System

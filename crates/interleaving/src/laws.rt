@@ -1,5 +1,6 @@
 //! What holds for every interleaving. The functions do nothing: the contract of each is the law that it is named after.
 ghost use Rattle.interleaving.specs.Likeness.{EveryInterleavingIsARun};
+ghost use Rattle.interleaving.specs.Programs.{TurnsAreThese};
 
 use relay_core::laws;
 
@@ -16,3 +17,9 @@ pub fn every_interleaving_is_a_run()
     laws::only_overdue_pairs_expire();
     world::laws::every_run_holds();
 }
+
+/// The acts that a turn of the server makes, by the contract of `turns`, are the program of that turn here, but for its
+/// calls, and for acts that change nothing here.
+pub fn turns_are_these()
+    ensures { TurnsAreThese }
+{}
