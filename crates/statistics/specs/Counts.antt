@@ -51,6 +51,24 @@ after Opened c = record c { opened = more c.opened }
 after (Moved up down) c = moved up down c
 after (Ended verdict up down) c = verdict_counted verdict (closed (moved up down c))
 
+-- the sums of two slots' counts
+abbrev pub plus : Counts → Counts → Counts
+plus c d = record {
+  opened = sum c.opened d.opened;
+  dropped = sum c.dropped d.dropped;
+  done = sum c.done d.done;
+  client = sum c.client d.client;
+  target = sum c.target d.target;
+  idle = sum c.idle d.idle;
+  refused = sum c.refused d.refused;
+  reset = sum c.reset d.reset;
+  timedout = sum c.timedout d.timedout;
+  up = sum c.up d.up;
+  down = sum c.down d.down;
+  up_ended = sum c.up_ended d.up_ended;
+  down_ended = sum c.down_ended d.down_ended;
+}
+
 -- how many of its connections are open: those that were opened and have not ended, and one at most
 abbrev pub live_at : Counts → ℕ
 live_at c = min (c.opened - c.done - c.client - c.target - c.idle) 1

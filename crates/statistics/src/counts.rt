@@ -1,11 +1,11 @@
 ghost use Rattle.std.specs.Prelude.{◌≡◌};
-ghost use Rattle.statistics.specs.Counts.{after, blamed, by_kind, closed, more, moved, live_at, verdict_counted};
+ghost use Rattle.statistics.specs.Counts.{after, blamed, by_kind, closed, more, moved, live_at, plus, verdict_counted};
 
 use crate::event::Event;
 use relay_core::{Fault, Verdict};
 use token::{Kind, Side};
 
-/// What was counted at one slot. A count that has reached 2^64 - 1 stays there.
+/// What was counted at one slot, or at several. A count that has reached 2^64 - 1 stays there.
 #[derive(Clone, Copy, PartialEq, Eq)]
 pub struct Counts {
     /// Connections that were opened.
@@ -119,6 +119,27 @@ impl Counts {
             Kind::Reset => self.reset = more(self.reset),
             Kind::TimedOut => self.timedout = more(self.timedout),
             _ => {}
+        }
+    }
+
+    /// The sums of these counts and others.
+    pub(crate) fn plus(self, more: &Counts) -> Counts
+        ensures { result ≡ plus self more.now }
+    {
+        Counts {
+            opened: self.opened.saturating_add(more.opened),
+            dropped: self.dropped.saturating_add(more.dropped),
+            done: self.done.saturating_add(more.done),
+            client: self.client.saturating_add(more.client),
+            target: self.target.saturating_add(more.target),
+            idle: self.idle.saturating_add(more.idle),
+            refused: self.refused.saturating_add(more.refused),
+            reset: self.reset.saturating_add(more.reset),
+            timedout: self.timedout.saturating_add(more.timedout),
+            up: self.up.saturating_add(more.up),
+            down: self.down.saturating_add(more.down),
+            up_ended: self.up_ended.saturating_add(more.up_ended),
+            down_ended: self.down_ended.saturating_add(more.down_ended),
         }
     }
 

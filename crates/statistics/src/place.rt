@@ -1,7 +1,5 @@
 // Where the counts of one slot are kept.
-ghost use Rattle.statistics.specs.Counts.{after};
-ghost use Rattle.statistics.specs.Keeping.{Step, Loaded, Stored};
-ghost use Rattle.statistics.specs.declared.counts.Counts.{Counts};
+ghost use Rattle.statistics.specs.Keeping.{IsCounted, Step, Loaded, Stored};
 
 use crate::counts::Counts;
 use crate::event::Event;
@@ -11,7 +9,7 @@ use std::sync::atomic::{AtomicU64, Ordering};
 ///
 /// No clause can name what it holds, so the trait leaves open what a step does. What is proved of any such memory
 /// says which steps are made on it.
-pub(crate) trait Memory {
+pub trait Memory {
     // What a step may do: the step with what was read or given, and the memory.
     ghost did: { Step → Self → Type 0 };
 
@@ -26,7 +24,7 @@ pub(crate) trait Memory {
 
 /// A number for each count.
 #[derive(Drop)]
-pub(crate) struct Atomics {
+pub struct Atomics {
     opened: AtomicU64,
     dropped: AtomicU64,
     done: AtomicU64,
@@ -43,7 +41,8 @@ pub(crate) struct Atomics {
 }
 
 impl Atomics {
-    fn zero() -> Atomics {
+    /// Nothing was counted.
+    pub(crate) fn zero() -> Atomics {
         Atomics {
             opened: AtomicU64::new(0),
             dropped: AtomicU64::new(0),
@@ -108,40 +107,27 @@ fn put(number: &AtomicU64, value: u64) {
     }
 }
 
-/// Where the counts of one slot are kept.
-#[derive(Drop)]
-pub(crate) struct Place<M = Atomics>(M);
-
 /// How often a place is read again that changes meanwhile.
 const MAX_TRIES: usize = 8;
 
-impl Place {
-    /// Nothing was counted.
-    pub(crate) fn new() -> Place {
-        Place(Atomics::zero())
-    }
+/// Counts an event in a place. Nobody else may write the place meanwhile.
+pub(crate) fn count<M: Memory>(place: &M, event: Event)
+    ensures { IsCounted M.did event place.now }
+{
+    let counts = place.load();
+    place.store(counts.after(event));
 }
 
-impl<M: Memory> Place<M> {
-    /// Counts an event. Nobody else may write the place meanwhile.
-    pub(crate) fn count(&self, event: Event)
-        ensures { (counts : Counts) × M.did (Loaded counts) self.now.0 × M.did (Stored (after event counts)) self.now.0 }
-    {
-        let counts = self.0.load();
-        self.0.store(counts.after(event));
-    }
-
-    /// What it has; it is read again where it changes meanwhile, a few times.
-    pub(crate) fn read(&self) -> Counts
-        ensures { M.did (Loaded result) self.now.0 }
-    {
-        for _try in 0..MAX_TRIES {
-            let first = self.0.load();
-            let again = self.0.load();
-            if again == first {
-                return again;
-            }
+/// All that a place has. It is read again if it changes meanwhile, a few times.
+pub(crate) fn read<M: Memory>(place: &M) -> Counts
+    ensures { M.did (Loaded result) place.now }
+{
+    for _try in 0..MAX_TRIES {
+        let first = place.load();
+        let again = place.load();
+        if again == first {
+            return again;
         }
-        self.0.load()
     }
+    place.load()
 }

@@ -1,45 +1,58 @@
-ghost use Rattle.std.specs.Prelude.{◌≡◌, ◌≤◌, IfOk};
+ghost use Rattle.std.specs.Prelude.{◌≡◌, ◌≤◌, IfOk, IfSome, length, slice_get};
+ghost use Rattle.statistics.specs.Keeping.{AreSums, IsCounted};
+ghost use Rattle.statistics.specs.Lines.{no_sums};
 
 use crate::counts::Counts;
 use crate::event::Event;
-use crate::place::Place;
+use crate::place::{self, Atomics, Memory};
 use crate::totals::Totals;
 use std::alloc::{AllocError, Global};
 use std::marker::Model;
 
 /// A place for the counts of each slot, which threads share by `&`.
 ///
-/// In a clause it is the number of slots.
+/// In a clause it is the list of these places.
 #[derive(Drop)]
-pub struct Statistics {
-    places: Vec<Place>,
+pub struct Statistics<M = Atomics> {
+    places: Vec<M>,
 }
 
-impl Model for Statistics {
-    ghost use Rattle.std.specs.Prelude.{ℕ, vec_len};
+impl<M> Model for Statistics<M> {
+    ghost use Rattle.std.specs.Prelude.{List};
 
-    ghost Value = { ℕ };
+    ghost Value = { List M };
 
-    ghost view = { λ s. vec_len s.places };
+    ghost view = { λ s. s.places.items };
 }
 
 impl Statistics {
     /// Nothing is counted yet. This takes all the memory that it ever uses, and fails only if there is not enough.
     pub fn new(alloc: Global, slots: usize) -> Result<Statistics, AllocError>
-        ensures { IfOk result (λ statistics. statistics ≡ slots) }
+        ensures { IfOk result (λ statistics. length statistics ≡ slots) }
     {
         let mut places = Vec::with_capacity(alloc, slots)?;
         for _slot in 0..slots {
-            places.push(Place::new())?;
+            places.push(Atomics::zero())?;
         }
         Ok(Statistics { places })
+    }
+}
+
+impl<M: Memory> Statistics<M> {
+    /// Counts in these places, one for each slot.
+    pub fn over(places: Vec<M>) -> Statistics<M>
+        ensures { result ≡ places.items }
+    {
+        Statistics { places }
     }
 
     /// Counts an event at a slot. Only the thread that holds the slot, or has it in hand while it is free, may do
     /// that. Nothing is counted of a slot that there is not.
-    pub fn count(&self, slot: usize, event: Event) {
+    pub fn count(&self, slot: usize, event: Event)
+        ensures { IfSome (slice_get self.now slot) (λ place. IsCounted M.did event place) }
+    {
         if let Some(place) = self.places.get(slot) {
-            place.count(event);
+            place::count(place, event);
         }
     }
 
@@ -48,12 +61,13 @@ impl Statistics {
     /// A slot whose place changes meanwhile is read again. So the sums are those of a moment at each slot, and not of
     /// one moment at all of them.
     pub fn totals(&self) -> Totals
-        ensures slots { result.slots ≡ self.now }
-        ensures open { result.live ≤ self.now }
+        ensures sums { AreSums M.did self.now (no_sums (length self.now) Counts.NONE) result }
+        ensures slots { result.slots ≡ length self.now }
+        ensures open { result.live ≤ length self.now }
     {
         let mut totals = Totals::none(self.places.len());
         for place in &self.places {
-            totals = totals.with(&place.read());
+            totals = totals.with(&place::read(place));
         }
         totals
     }

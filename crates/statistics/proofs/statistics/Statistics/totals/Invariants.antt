@@ -1,6 +1,11 @@
-use Rattle.std.proofs.Common.{◌≡◌, ◌≤◌}
+use Rattle.std.proofs.Common.{◌≡◌, ◌≤◌, length, take}
+use Rattle.statistics.specs.Keeping.{AreSums}
 use Rattle.statistics.proofs.statistics.Statistics.totals.Given as goal
 
--- at most one connection is open at each slot so far
+-- the sums of the places so far, and at most one connection is open at each
 abbrev pub invariant-loop-place : goal.invariant-loop-place
-invariant-loop-place l = (l.totals.slots ≡ l.self) × (l.totals.live ≤ l.place-index)
+invariant-loop-place g l = record {
+  sums : AreSums g.M.Memory.did (take l.place-index l.self) l.initial.totals l.totals;
+  slots : l.totals.slots ≡ length l.self;
+  live : l.totals.live ≤ l.place-index;
+}
