@@ -6,8 +6,7 @@ ghost use Rattle.relay_core.specs.Pairs.{verdict};
 ghost use Rattle.relay_log.specs.Messages.{client_level, done_message, drop_message, drops_message, fail_message, full_message, gone_text, open_message, peer_message, EndLogged};
 
 use crate::{
-    AllTaken, Cause, ClientsAt, Done, Dropped, Failed, Gone, Logs, MoreDropped, Opened, Peer,
-    ServerFault,
+    AllTaken, Cause, ClientsAt, Done, Dropped, Failed, Gone, MoreDropped, Opened, Peer, ServerFault,
 };
 use log::{Level, Log, error, log_enabled};
 use relay_core::{Fault, Pair, Verdict};
@@ -17,6 +16,28 @@ use std::io;
 /// Why a thread is not started: "resource temporarily unavailable" (EAGAIN of pthread_create(3)). Its other errors
 /// are of attributes that no thread here has, and the number itself is not handed on.
 const NO_THREAD: i32 = 11;
+
+/// A log that the relay's messages are passed to.
+///
+/// No clause can name what a log has, so the trait leaves open what it was passed. Over any such log a proof has a
+/// fact `logged ..` only from a call that was made. Every log is one, and read there alone the fact says nothing.
+pub trait Logs: Log {
+    ghost use Rattle.std.specs.Prelude.{ℕ, List, Option};
+    ghost use Rattle.log.specs.declared.level.Level.{Level};
+
+    // Which messages it was passed, and at which level, if it says so.
+    ghost logged: { Self → Level → Option (List ℕ) → Type 0 } = { λ _ _ _. Unit {0} };
+
+    /// Passes it a message, as it prints, at this level. It is asked first: a message that is off is never printed.
+    fn message<D: Display>(&self, level: Level, message: &D)
+        ensures { logged self.now level (D.output message.now) };
+}
+
+impl<L: Log> Logs for L {
+    fn message<D: Display>(&self, level: Level, message: &D) {
+        log::log!(*self; target: "relayd", level, "{message}");
+    }
+}
 
 /// Passes the `open` message to the log, at level info.
 pub fn log_open<L: Logs>(rt: &L, slot: usize, generation: u64)

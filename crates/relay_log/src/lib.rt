@@ -22,18 +22,16 @@
 mod calls;
 mod cause;
 mod faults;
-mod given;
 mod gone;
 mod messages;
 mod texts;
 
 pub use calls::{
-    log_all_taken, log_done, log_drop, log_drops, log_end, log_fail, log_gone, log_no_thread,
+    Logs, log_all_taken, log_done, log_drop, log_drops, log_end, log_fail, log_gone, log_no_thread,
     log_open, log_peer, logs_gone,
 };
 pub use cause::Cause;
 pub use faults::ServerFault;
-pub use given::Logs;
 pub use gone::{ClientsAt, Gone, Known, Why};
 pub use messages::{AllTaken, Done, Dropped, Failed, MoreDropped, Opened, Peer};
 pub use texts::{done_text, drop_text, fail_text, open_text};
