@@ -16,7 +16,7 @@
 //! # Inside
 //!
 //! A turn and an end are counted by the pair's own counts and verdict (`moved_by`, `ended_by` of
-//! `specs/Counted.antt`).
+//! `specs/Counted.antt`). At which slot a call counts, and what, its clause says of any [`Counting`].
 #![tactic(auto)]
 
 mod acts;
@@ -47,5 +47,5 @@ pub use parts::Parts;
 pub use putting::{give_slots, put_tickets};
 pub use relay_log::{ClientsAt, ServerFault};
 pub use route::Route;
-pub use shared::{Own, Shared};
+pub use shared::{Counting, Own, Shared};
 pub use split::Split;

@@ -34,33 +34,64 @@ pub struct Shared<F: Front> {
     pub ghost most_budget: { budget ≤ 1024 },
 }
 
-impl<F: Front> Shared<F> {
-    /// Counts a connection that is opened in a slot, which the poller's thread holds.
-    pub fn count_opened(&self, slot: usize) {
-        if let Some(statistics) = &self.statistics {
-            statistics.count(slot, Event::Opened);
+/// A front of a server whose threads count.
+///
+/// No clause can name what an atomic number holds, so the trait leaves open what was counted. Over any such front a
+/// proof has a fact `counted ..` only from a call that was made. Every front is one, and read there alone the fact
+/// says nothing.
+pub trait Counting: Front {
+    ghost use Rattle.std.specs.Prelude.{ℕ};
+    ghost use Rattle.statistics.specs.declared.event.Event.{Event};
+
+    // Which events were counted, and at which slots, if it says so.
+    ghost counted: { ℕ → Event → Type 0 } = { λ _ _. Unit {0} };
+
+    /// Counts an event at a slot, if the server has statistics.
+    fn count(statistics: Option<&Statistics>, slot: usize, event: Event)
+        ensures { counted slot event };
+}
+
+impl<F: Front> Counting for F {
+    fn count(statistics: Option<&Statistics>, slot: usize, event: Event) {
+        if let Some(statistics) = statistics {
+            statistics.count(slot, event);
         }
+    }
+}
+
+impl<F: Front + Counting> Shared<F> {
+    /// Counts a connection that is opened in a slot, which the poller's thread holds.
+    pub fn count_opened(&self, slot: usize)
+        ensures { F.counted slot Event.Opened }
+    {
+        self.count(slot, Event::Opened);
     }
 
     /// Counts a connection that was accepted for a free slot, which its poller has in hand, and closed unopened.
-    pub fn count_dropped(&self, slot: usize) {
-        if let Some(statistics) = &self.statistics {
-            statistics.count(slot, Event::Dropped);
-        }
+    pub fn count_dropped(&self, slot: usize)
+        ensures { F.counted slot Event.Dropped }
+    {
+        self.count(slot, Event::Dropped);
     }
 
     /// Counts the bytes of a connection that a turn has left open, by the thread that holds its slot.
-    pub fn count_moved(&self, slot: usize, pair: &Pair) {
-        if let Some(statistics) = &self.statistics {
-            statistics.count(slot, moved_by(pair));
-        }
+    pub fn count_moved(&self, slot: usize, pair: &Pair)
+        ensures { F.counted slot (moved_by pair.now) }
+    {
+        self.count(slot, moved_by(pair));
     }
 
     /// Counts a connection that has ended, by the thread that holds its slot.
-    pub fn count_ended(&self, slot: usize, pair: &Pair) {
-        if let Some(statistics) = &self.statistics {
-            statistics.count(slot, ended_by(pair));
-        }
+    pub fn count_ended(&self, slot: usize, pair: &Pair)
+        ensures { F.counted slot (ended_by pair.now) }
+    {
+        self.count(slot, ended_by(pair));
+    }
+
+    fn count(&self, slot: usize, event: Event)
+        ensures { F.counted slot event }
+    {
+        F::count(self.statistics.as_deref(), slot, event);
     }
 }
 

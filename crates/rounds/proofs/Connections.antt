@@ -23,7 +23,7 @@ use Rattle.ready.specs.Steps.{EndState}
 use Rattle.dispatch.specs.Hands.{HandState, ticket_room}
 use Rattle.dispatch.specs.Limits.{last_generation}
 use Rattle.rounds.specs.Deliveries.{at_slot}
-use Rattle.rounds.specs.Openings.{times, slots_in, AreIn, AreOpened, SlotsCounted, OnlyTook, Between, LetGo, Started, Connected, AcceptDone, IsOpened, IsLost, IsSpent, AreLost, Fate, Opened, Dropped, Lost, DropsFor}
+use Rattle.rounds.specs.Openings.{times, slots_in, AreIn, AreOpened, SlotsCounted, OnlyTook, Between, LetGo, Started, Connected, AcceptDone, IsOpened, IsLost, IsSpent, AreLost, Fate, next_in, Opened, Dropped, Lost, DropsFor}
 use Rattle.dispatch.specs.Splits.{IsIn}
 use Rattle.rounds.specs.Pollers.{PollerState, Counted, counted_up}
 use Rattle.dispatch.specs.declared.part.Part.{Part}
@@ -438,33 +438,36 @@ opens_dropped p r q episodes dropped one two =
     subst (λ (s : PollerState). s ≡ opens p s) (sym two) (ap (λ (s : PollerState). record s { dropped = dropped }) one
     ∙ sym (ap (λ (s : PollerState). opens p (record s { dropped = dropped })) one))
 
-pub lost_counts : (p q : PollerState) (a b : SeatState) (slots : List ℕ) (slot : ℕ) → slice_get slots 0 ≡ Some slot
-    → q ≡ record p { lost = counted_up p.lost 1 } → IsSpent p slot → IfSome (slice_get slots 0) (λ (s : ℕ). Fate s p q a b)
-lost_counts p q a b slots slot first is spent = subst (λ (o : Option ℕ). IfSome o (λ (s : ℕ). Fate s p q a b)) (sym first) (Lost
+pub lost_counts : (p q : PollerState) (opened dropped : ℕ → Type 0) (a b : SeatState) (slots : List ℕ) (slot : ℕ) → slice_get slots 0 ≡ Some slot
+    → q ≡ record p { lost = counted_up p.lost 1 } → IsSpent p slot → IfSome (slice_get slots 0) (λ (s : ℕ). Fate s (opened s) (dropped s) p q a b)
+lost_counts p q opened dropped a b slots slot first is spent = subst (λ (o : Option ℕ). IfSome o (λ (s : ℕ). Fate s (opened s) (dropped s) p q a b)) (sym first) (Lost
     (ap (λ (s : PollerState). s.opened) is, ap (λ (s : PollerState). s.dropped) is, ap (λ (s : PollerState). s.lost) is, ap (λ (s : PollerState). s.episodes) is)
     (inl spent))
 
-pub dropped_counts : (p r q : PollerState) (a b : SeatState) (slots : List ℕ) (slot : ℕ) (cause : Cause) → slice_get slots 0 ≡ Some slot
+pub dropped_counts : (p r q : PollerState) (opened dropped : ℕ → Type 0) (a b : SeatState) (slots : List ℕ) (slot : ℕ) (cause : Cause) → dropped slot → slice_get slots 0 ≡ Some slot
     → r ≡ record p { episodes = record p.episodes { drops = dropped_for cause p.second p.episodes.drops } } → q ≡ record r { dropped = counted_up r.dropped 1 }
-    → IfSome (slice_get slots 0) (λ (s : ℕ). Fate s p q a b)
-dropped_counts p r q a b slots slot cause first one two = subst (λ (o : Option ℕ). IfSome o (λ (s : ℕ). Fate s p q a b)) (sym first) (Dropped (
+    → IfSome (slice_get slots 0) (λ (s : ℕ). Fate s (opened s) (dropped s) p q a b)
+dropped_counts p r q opened dropped a b slots slot cause counted first one two = subst (λ (o : Option ℕ). IfSome o (λ (s : ℕ). Fate s (opened s) (dropped s) p q a b)) (sym first) (Dropped (
   ap (λ (s : PollerState). s.opened) two ∙ ap (λ (s : PollerState). s.opened) one,
   ap (λ (s : PollerState). s.dropped) two ∙ ap (λ (s : PollerState). counted_up s.dropped 1) one,
   ap (λ (s : PollerState). s.lost) two ∙ ap (λ (s : PollerState). s.lost) one,
   (cause, ap (λ (s : PollerState). s.episodes) two ∙ ap (λ (s : PollerState). s.episodes) one),
-))
+) counted)
 
 -- a connection was placed in it, or it was found not to be free
-placed_fate : (p q : PollerState) (a b : SeatState) (slot : ℕ) → IsOpened p q ⊎ (IsLost p q × Adds slot (exchange.NotFree ∷ []) a b) → Fate slot p q a b
-placed_fate p q a b slot (inl opened) = Opened opened
-placed_fate p q a b slot (inr lost) = Lost lost.0 (inr lost.1)
+placed_fate : (p q : PollerState) (opened dropped : Type 0) (a b : SeatState) (slot : ℕ) → (IsOpened p q × opened) ⊎ (IsLost p q × Adds slot (exchange.NotFree ∷ []) a b)
+    → Fate slot opened dropped p q a b
+placed_fate p q opened dropped a b slot (inl done) = Opened done.0 done.1
+placed_fate p q opened dropped a b slot (inr lost) = Lost lost.0 (inr lost.1)
 
-pub placed_counts : {E : Type 0} (r : Result (Unit {0}) E) (p s q : PollerState) (a b : SeatState) (slots : List ℕ) (slot there : ℕ) → slice_get slots 0 ≡ Some slot
-    → s ≡ p → there ≡ slot → OnOk r (IsOpened s q ⊎ (IsLost s q × Adds there (exchange.NotFree ∷ []) a b))
-    → OnOk r (IfSome (slice_get slots 0) (λ (i : ℕ). Fate i p q a b))
-placed_counts r p s q a b slots slot there first same here =
-    on_ok r (λ is. subst (λ (o : Option ℕ). IfSome o (λ (i : ℕ). Fate i p q a b)) (sym first)
-    (subst (λ (x : PollerState). Fate slot x q a b) same (subst (λ (i : ℕ). Fate i s q a b) here (placed_fate s q a b there is))))
+pub placed_counts : {E : Type 0} (r : Result (Unit {0}) E) (p s q : PollerState) (told : Ticket → Type 0) (dropped : ℕ → Type 0) (a b : SeatState) (slots : List ℕ) (slot : ℕ) (t : Ticket)
+    → slice_get slots 0 ≡ Some slot → s ≡ p → t ≡ next_in p slot → OnOk r ((IsOpened s q × told t) ⊎ (IsLost s q × Adds t.slot (exchange.NotFree ∷ []) a b))
+    → OnOk r (IfSome (slice_get slots 0) (λ (i : ℕ). Fate i (told (next_in p i)) (dropped i) p q a b))
+placed_counts r p s q told dropped a b slots slot t first same next =
+    on_ok r (λ is. subst (λ (o : Option ℕ). IfSome o (λ (i : ℕ). Fate i (told (next_in p i)) (dropped i) p q a b)) (sym first)
+    (placed_fate p q (told (next_in p slot)) (dropped slot) a b slot
+    (subst (λ (x : PollerState). (IsOpened x q × told (next_in p slot)) ⊎ (IsLost x q × Adds slot (exchange.NotFree ∷ []) a b)) same
+    (subst (λ (u : Ticket). (IsOpened s q × told u) ⊎ (IsLost s q × Adds u.slot (exchange.NotFree ∷ []) a b)) next is))))
 
 -- a slot that has no next names
 pub no_names : (table : List ℕ) (slot : ℕ) → (slot ≤ 32767 → slot < length table → slice_index table slot ≡ last_generation)

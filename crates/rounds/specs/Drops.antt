@@ -1,6 +1,7 @@
 -- Which lines the log gets of accepted connections that are closed unopened. Part of the promises. The first of a cause
 -- has a line of its own. Those that follow it are counted, and told by one line a second.
-use Rattle.std.specs.Prelude.{◌≡◌, ℕ, ◌+◌, ◌==◌, ◌||◌, nat_lt, Bool, false, Option, Some, None, if◌then◌else◌}
+use Rattle.std.specs.Prelude.{◌≡◌, ℕ, ◌+◌, ◌==◌, ◌||◌, nat_lt, Bool, false, List, Option, Some, None, if◌then◌else◌}
+use Rattle.relay_log.specs.Messages.{drop_message, drops_message}
 use Rattle.relay_log.specs.declared.cause.Cause.{Cause}
 use Rattle.relay_log.specs.declared.cause.Cause.TheVariants as cause
 use Rattle.rounds.specs.Pollers.{counted_up}
@@ -34,6 +35,10 @@ owed_for cause second t = if is_counted second t then None else Some (record { c
 -- the line that tells this many, if there are any
 abbrev pub owed : Cause → ℕ → Option Owed
 owed cause more = if nat_lt 0 more then Some (record { cause = cause; more = more }) else None
+
+-- as it prints
+abbrev pub line_of : Owed → List ℕ
+line_of o = if nat_lt 0 o.more then drops_message o.cause o.more else drop_message o.cause
 
 -- how many are to be told at this second: all that are counted, unless the second has had a line of that cause
 abbrev pub due_at : ℕ → Tally → ℕ

@@ -1,5 +1,5 @@
 -- What accepting and opening connections does to what the poller's thread owns. Part of the promises.
-use Rattle.std.specs.Prelude.{◌≡◌, ◌⊎◌, ℕ, ◌+◌, ◌<◌, ◌≤◌, ◌==◌, Bool, false, List, [], ◌∷◌, ◌++◌, length, drop, map, Some, None, slice_index, slice_set}
+use Rattle.std.specs.Prelude.{◌≡◌, ◌⊎◌, ℕ, ◌+◌, ◌<◌, ◌≤◌, ◌==◌, Bool, false, List, [], ◌∷◌, ◌++◌, length, drop, map, Option, Some, None, slice_index, slice_set}
 use Rattle.std.specs.List.{count_by}
 use Rattle.claims.specs.declared.view.Exchange.TheVariants as exchange
 use Rattle.claims.specs.Seats.{SeatState, TableId, Adds, HoldsNothing, account_at}
@@ -12,6 +12,11 @@ use Rattle.dispatch.specs.Splits.{IsIn}
 use Rattle.dispatch.specs.Hands.{ticket_room}
 use Rattle.dispatch.specs.Limits.{last_generation}
 use Rattle.rounds.specs.Pollers.{PollerState, Counted, counted_up}
+use Rattle.log.specs.declared.level.Level.{Level}
+use Rattle.log.specs.declared.level.Level.TheVariants as level
+use Rattle.statistics.specs.declared.event.Event.{Event}
+use Rattle.statistics.specs.declared.event.Event.TheVariants as event
+use Rattle.relay_log.specs.Messages.{open_message}
 use Rattle.relay_log.specs.declared.cause.Cause.{Cause}
 use Rattle.relay_log.specs.declared.cause.Cause.TheVariants as cause
 use Rattle.dispatch.specs.declared.front.Unopened.{Unopened}
@@ -134,11 +139,23 @@ DropsFor may_refuse may_tell proxy cause.Address = LeadTold may_tell proxy None
 abbrev pub LostFor : PollerState → ℕ → SeatState → SeatState → Type 0
 LostFor p slot old new = IsSpent p slot ⊎ Adds slot (exchange.NotFree ∷ []) old new
 
--- what became of an accepted connection that was for this slot
-pub data Fate (slot : ℕ) (old new : PollerState) (had has : SeatState) : Type 0 where
-  Opened : IsOpened old new → Fate slot old new had has
-  Dropped : IsDropped old new → Fate slot old new had has
-  Lost : IsLost old new → LostFor old slot had has → Fate slot old new had has
+-- what became of an accepted connection that was for this slot, with what is logged and counted of it
+pub data Fate (slot : ℕ) (opened dropped : Type 0) (old new : PollerState) (had has : SeatState) : Type 0 where
+  Opened : IsOpened old new → opened → Fate slot opened dropped old new had has
+  Dropped : IsDropped old new → dropped → Fate slot opened dropped old new had has
+  Lost : IsLost old new → LostFor old slot had has → Fate slot opened dropped old new had has
+
+-- the log was passed the line of an opening, which was counted at its slot
+abbrev pub OpeningLogged : (Level → Option (List ℕ) → Type 0) → (ℕ → Event → Type 0) → Ticket → Type 0
+OpeningLogged logged counted t = logged level.Info (Some (open_message t.slot t.generation)) × counted t.slot event.Opened
+
+-- a drop was counted at this slot
+abbrev pub DropCounted : (ℕ → Event → Type 0) → ℕ → Type 0
+DropCounted counted slot = counted slot event.Dropped
+
+-- the next connection of a slot
+abbrev pub next_in : PollerState → ℕ → Ticket
+next_in p slot = record { slot = slot; generation = slice_index p.table slot + 1 }
 
 -- this is the next connection of one of the poller's own slots
 pub record IsNext (p : PollerState) (t : Ticket) : Type 0 where
@@ -149,9 +166,9 @@ pub record IsNext (p : PollerState) (t : Ticket) : Type 0 where
 
 -- Placing a connection in a free slot: it was opened there, or the slot was found not to be free and is no longer used.
 -- At most one ticket more is in hand
-pub record Placed (t : Ticket) (old new : PollerState) (had has : Own) : Type 0 where
+pub record Placed (logged : Ticket → Type 0) (t : Ticket) (old new : PollerState) (had has : Own) : Type 0 where
   pub done : Connected (t ∷ []) [] [] old new had has ⊎ Connected [] (t.slot ∷ []) (t.slot ∷ []) old new had has
-  pub counted : IsOpened old new ⊎ (IsLost old new × Adds t.slot (exchange.NotFree ∷ []) had.seat has.seat)
+  pub counted : (IsOpened old new × logged t) ⊎ (IsLost old new × Adds t.slot (exchange.NotFree ∷ []) had.seat has.seat)
   pub free : has.free ≡ had.free
   pub slots : has.hand.slots ≡ had.hand.slots
   pub room : ticket_room had.hand ≤ ticket_room has.hand + 1

@@ -1,23 +1,39 @@
 //! An accepted connection that is closed unopened.
-ghost use Rattle.std.specs.Prelude.{◌≡◌};
-ghost use Rattle.rounds.specs.Drops.{dropped_for};
+ghost use Rattle.std.specs.Prelude.{◌≡◌, ◌<◌, Some};
+ghost use Rattle.log.specs.declared.level.Level.TheVariants as level;
+ghost use Rattle.rounds.specs.Drops.{dropped_for, line_of};
 
 use crate::drops::Drops;
-use log::Log;
-use relay_log::{Cause, log_drop, log_drops};
+use relay_log::{Cause, Logs, log_drop, log_drops};
 use std::marker::Model;
 
 /// The log is owed a line of a cause: of one drop, or of this many more. It cannot be dropped, and only [`Owed::log`]
 /// takes it.
 pub(crate) struct Owed {
-    pub(crate) cause: Cause,
+    cause: Cause,
     /// How many more drops the line tells. 0 for a line of one drop.
-    pub(crate) more: u64,
+    more: u64,
 }
 
 impl Owed {
+    /// The line of one drop.
+    pub(crate) fn first(cause: Cause) -> Owed
+        ensures { result ≡ record { cause = cause; more = 0 } }
+    {
+        Owed { cause, more: 0 }
+    }
+
+    /// The line of this many more.
+    pub(crate) fn further(cause: Cause, more: u64) -> Owed
+        ensures { result ≡ record { cause = cause; more = more } }
+    {
+        Owed { cause, more }
+    }
+
     /// The log gets the line.
-    pub(crate) fn log(self, rt: &impl Log) {
+    pub(crate) fn log<L: Logs>(self, rt: &L)
+        ensures { L.logged rt.now level.Warn (Some (line_of self)) }
+    {
         let Owed { cause, more } = self;
         if more == 0 {
             log_drop(rt, cause);
@@ -46,7 +62,7 @@ impl Model for Dropped {
 
 impl Dropped {
     /// Logs why a connection is closed unopened at this second, or counts it among these drops.
-    pub(crate) fn tell(rt: &impl Log, drops: &mut Drops, cause: Cause, second: u64) -> Dropped
+    pub(crate) fn tell(rt: &impl Logs, drops: &mut Drops, cause: Cause, second: u64) -> Dropped
         ensures cause { result ≡ cause }
         ensures drops { drops.new ≡ dropped_for cause second drops.old }
     {

@@ -1,11 +1,11 @@
 //! Which lines the log gets of accepted connections that are closed unopened: the first of a cause has one of its
 //! own, and those that follow it are counted.
-ghost use Rattle.std.specs.Prelude.{◌≡◌};
-ghost use Rattle.rounds.specs.Drops.{all_told_at, dropped_at, dropped_for, due_at, follows, is_counted, no_drops, no_tally, owed, owed_for, tally_of, told_at, with_tally, AreTold};
+ghost use Rattle.std.specs.Prelude.{◌≡◌, IfSome, Some};
+ghost use Rattle.log.specs.declared.level.Level.TheVariants as level;
+ghost use Rattle.rounds.specs.Drops.{all_told_at, dropped_at, dropped_for, due_at, follows, is_counted, line_of, no_drops, no_tally, owed, owed_for, tally_of, told_at, with_tally, AreTold};
 
 use crate::dropping::Owed;
-use log::Log;
-use relay_log::Cause;
+use relay_log::{Cause, Logs};
 
 /// The drops of one cause.
 #[derive(Drop)]
@@ -48,7 +48,7 @@ impl Tally {
             return None;
         }
         self.line = second;
-        Some(Owed { cause, more: 0 })
+        Some(Owed::first(cause))
     }
 
     /// The line that tells what is counted, if there is anything and this second has had no line.
@@ -63,7 +63,7 @@ impl Tally {
         let more = self.more;
         self.line = second;
         self.more = 0;
-        Some(Owed { cause, more })
+        Some(Owed::further(cause, more))
     }
 
     /// The next drop has a line of its own. The line that tells what is counted until now, if there is anything.
@@ -76,7 +76,7 @@ impl Tally {
         if more == 0 {
             return None;
         }
-        Some(Owed { cause, more })
+        Some(Owed::further(cause, more))
     }
 }
 
@@ -126,7 +126,7 @@ impl Drops {
     }
 
     /// Tells the log at this second what is counted, of each cause of which the second has had no line.
-    pub(crate) fn tell(&mut self, rt: &impl Log, second: u64)
+    pub(crate) fn tell(&mut self, rt: &impl Logs, second: u64)
         ensures told { self.new ≡ all_told_at second self.old }
         ensures all { AreTold second self.new }
     {
@@ -151,7 +151,7 @@ impl Drops {
     }
 
     /// Tells the log all that is counted. The next drop of each cause has a line of its own.
-    pub(crate) fn end(&mut self, rt: &impl Log)
+    pub(crate) fn end(&mut self, rt: &impl Logs)
         ensures { self.new ≡ no_drops }
     {
         log_owed(rt, self.end_of(Cause::Memory));
@@ -176,7 +176,9 @@ impl Drops {
 }
 
 /// The log gets what it is owed.
-fn log_owed(rt: &impl Log, owed: Option<Owed>) {
+fn log_owed<L: Logs>(rt: &L, owed: Option<Owed>)
+    ensures { IfSome owed (λ line. L.logged rt.now level.Warn (Some (line_of line))) }
+{
     if let Some(owed) = owed {
         owed.log(rt);
     }

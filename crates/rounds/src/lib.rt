@@ -32,7 +32,8 @@
 //!   cause that is logged is the front's, or `address` if the line is to be sent and the front gave a route without
 //!   one of the two, or `memory` if there was nothing of the kind (`cause`, by `DropsFor`).
 //! - An accepted connection counts as opened, as dropped, or by its slot as lost (`open`: `counted`, by `Fate`), and
-//!   once: what comes with it out of `Poller::accept` cannot be dropped, and only these counts take it (`Uncounted`). It
+//!   once: what comes with it out of `Poller::accept` cannot be dropped, and only these counts take it (`Uncounted`). An
+//!   opening passes its line to the log, and both are counted at their slot (`OpeningLogged`, `DropCounted`). A connection
 //!   counts as dropped only if the log gets a line or a count of it (`Dropped`), and a slot is lost only if one
 //!   exchange found that it is not free, or if no connection can be opened there (`LostFor`). After an opening that
 //!   failed the slot is in hand, and nowhere else (`prepare`: `failed`; `round`: `slots`). Slots start at generation

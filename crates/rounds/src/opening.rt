@@ -9,7 +9,7 @@ ghost use Rattle.dispatch.specs.Posts.{HoldsOnly, OnlyWorn};
 ghost use Rattle.dispatch.specs.Hands.{ticket_room};
 ghost use Rattle.dispatch.specs.Limits.{last_generation};
 ghost use Rattle.rounds.specs.Leads.{LeadTold};
-ghost use Rattle.rounds.specs.Openings.{Between, DropsFor, Fate, IsNext, LetGo, OneAccepted, Placed, Started};
+ghost use Rattle.rounds.specs.Openings.{next_in, Between, DropCounted, DropsFor, Fate, IsNext, LetGo, OneAccepted, OpeningLogged, Placed, Started};
 ghost use Rattle.rounds.specs.Pollers.{AreGenerations};
 
 use crate::dropping::Dropped;
@@ -17,12 +17,12 @@ use crate::lead::lead;
 use crate::poller::{Poller, Uncounted};
 use berths::Berth;
 use claims::{Adopted, Posted, Released};
-use dispatch::{Front, Hand, Opened, Own, Settle, Shared};
+use dispatch::{Counting, Front, Hand, Opened, Own, Settle, Shared};
 use log::Log;
 use ready::Ticket;
 use relay_core::Pair;
 use relay_log::{
-    Cause, ClientsAt, Gone, Known, ServerFault, Why, log_gone, log_open, log_peer, logs_gone,
+    Cause, ClientsAt, Gone, Known, Logs, ServerFault, Why, log_gone, log_open, log_peer, logs_gone,
 };
 use std::alloc::Global;
 use std::sync::Wait;
@@ -53,7 +53,7 @@ pub(crate) struct Names {
 /// is no longer used, and the connection is closed.
 ///
 /// The only refusal is `Worn`: the seat has posted 2^56 times.
-pub(crate) fn open<F: Front, R: Wait + Log>(
+pub(crate) fn open<F: Front + Counting, R: Wait + Logs>(
     rt: &R,
     alloc: Global,
     shared: &Shared<F>,
@@ -67,8 +67,9 @@ pub(crate) fn open<F: Front, R: Wait + Log>(
     requires slot { 1 ≤ length own.old.hand.slots }
     ensures between { Between shared.now.claims own.new poller.new }
     ensures worn { IfErr result (λ fault. OnlyWorn fault own.new.seat) }
-    ensures counted { OnOk result (IfSome (slice_get own.old.hand.slots 0) (λ slot. Fate slot poller.old poller.new own.old.seat
-        own.new.seat)) }
+    ensures counted { OnOk result (IfSome (slice_get own.old.hand.slots 0) (λ slot. Fate slot
+        (OpeningLogged (R.logged rt.now) F.counted (next_in poller.old slot)) (DropCounted F.counted slot) poller.old poller.new
+        own.old.seat own.new.seat)) }
     ensures done { OnOk result (OneAccepted poller.old poller.new own.old own.new) }
     ensures ready { own.new.ready ≡ own.old.ready }
     ensures poller { poller.new ≡ record poller.old {
@@ -249,7 +250,7 @@ fn log_unopened<F: Front, N: Log>(rt: &N, clients: ClientsAt, client: &F::Client
 }
 
 /// Places a prepared connection in its slot, which has it from then on.
-fn place<F: Front, R: Wait + Log>(
+fn place<F: Front + Counting, R: Wait + Logs>(
     rt: &R,
     shared: &Shared<F>,
     own: &mut Own,
@@ -262,8 +263,8 @@ fn place<F: Front, R: Wait + Log>(
     requires room { 1 ≤ ticket_room own.old.hand }
     ensures between { Between shared.now.claims own.new poller.new }
     ensures worn { IfErr result (λ fault. OnlyWorn fault own.new.seat) }
-    ensures placed { OnOk result (Placed (record { slot = berth.pair.slot; generation = berth.pair.generation })
-        poller.old poller.new own.old own.new) }
+    ensures placed { OnOk result (Placed (OpeningLogged (R.logged rt.now) F.counted)
+        (record { slot = berth.pair.slot; generation = berth.pair.generation }) poller.old poller.new own.old own.new) }
     ensures poller { poller.new ≡ record poller.old {
       table = poller.new.table;
       opened = poller.new.opened;

@@ -11,10 +11,10 @@ use crate::dropping::Dropped;
 use crate::episodes::Episodes;
 use crate::limits::MAX_ACCEPTS;
 use crate::opening::Opening;
-use dispatch::{Front, HeavyMarks, MAX_BATCH, Part, Shared};
-use log::Log;
+use dispatch::{Counting, Front, HeavyMarks, MAX_BATCH, Part, Shared};
 use ready::Ticket;
-use relay_log::Cause;
+use relay_log::{Cause, Logs};
+use statistics::Event;
 use std::alloc::{AllocError, Global};
 use std::io;
 use std::marker::Model;
@@ -284,13 +284,16 @@ impl<F: Front> Poller<F> {
     /// from now on. The statistics have it, too.
     #[tactic(auto, using(crate::proofs::Pollers::own_set))]
     pub(crate) fn count_opened(&mut self, shared: &Shared<F>, ticket: Ticket, uncounted: Uncounted)
+    where
+        F: Counting,
         requires inside { ticket.slot < length self.old.table }
         requires own { IsIn self.old.part ticket.slot }
         requires generation { ticket.generation ≤ last_generation }
-        ensures { self.new ≡ record self.old {
+        ensures poller { self.new ≡ record self.old {
           table = slice_set self.old.table ticket.slot ticket.generation;
           opened = counted_up self.old.opened 1;
         } }
+        ensures counted { F.counted ticket.slot Event.Opened }
     {
         self.table[ticket.slot] = ticket.generation;
         self.opened = self.opened.saturating_add(1);
@@ -299,7 +302,7 @@ impl<F: Front> Poller<F> {
     }
 
     /// A round closes a connection unopened. The log says why, or the connection is counted for a later line.
-    pub(crate) fn tell_dropped<N: Log>(&mut self, rt: &N, cause: Cause) -> Dropped
+    pub(crate) fn tell_dropped<N: Logs>(&mut self, rt: &N, cause: Cause) -> Dropped
         ensures cause { result ≡ cause }
         ensures drops { self.new ≡ record self.old {
           episodes = record self.old.episodes
@@ -310,7 +313,7 @@ impl<F: Front> Poller<F> {
     }
 
     /// A round logs at its second how many are counted, of each cause of which that second has had no line.
-    pub(crate) fn tell_counted<N: Log>(&mut self, rt: &N)
+    pub(crate) fn tell_counted<N: Logs>(&mut self, rt: &N)
         ensures told { self.new ≡ record self.old
             { episodes = record self.old.episodes { drops = all_told_at self.old.second self.old.episodes.drops } } }
         ensures all { AreTold self.new.second self.new.episodes.drops }
@@ -320,7 +323,7 @@ impl<F: Front> Poller<F> {
 
     /// A connection was opened, or the thread ends: all that is counted is logged. From now on a lack is logged again,
     /// and the next drop of each cause by a line of its own.
-    pub fn end_episodes<N: Log>(&mut self, rt: &N)
+    pub fn end_episodes<N: Logs>(&mut self, rt: &N)
         ensures { self.new ≡ record self.old { episodes = opened_after self.old.episodes } }
     {
         self.episodes.drops.end(rt);
@@ -336,7 +339,10 @@ impl<F: Front> Poller<F> {
         dropped: Dropped,
         uncounted: Uncounted,
     )
-        ensures { self.new ≡ record self.old { dropped = counted_up self.old.dropped 1 } }
+    where
+        F: Counting,
+        ensures poller { self.new ≡ record self.old { dropped = counted_up self.old.dropped 1 } }
+        ensures counted { F.counted slot Event.Dropped }
     {
         self.dropped = self.dropped.saturating_add(1);
         shared.count_dropped(slot);

@@ -3,6 +3,7 @@ use Rattle.dispatch.specs.Hands.{HandState, ticket_room}
 use Rattle.dispatch.specs.Limits.{last_generation}
 use Rattle.rounds.specs.Pollers.{PollerState}
 use Rattle.token.specs.declared.token.Token.{Token}
+use Rattle.rounds.specs.Openings.{next_in, DropCounted, OpeningLogged}
 use Rattle.rounds.proofs.Connections.{some_first, opened_never, opened_not, opened_there, on_ok, same_dropped, opens_lost, opens_dropped, opens_placed, lost_counts, dropped_counts, placed_counts, no_names, room_still}
 use Rattle.rounds.proofs.opening.open.Goals as goal
 
@@ -30,7 +31,7 @@ returns-in_default-next_names g c =
         sized = ap (λ (s : PollerState). length s.table) c.count_lost-in_default-next_names.ensures ∙ c.requires.between.sized;
       };
       worn = tt;
-      counted = lost_counts c.args.poller.now c.count_lost-in_default-next_names.new.self c.args.own.now.seat c.args.own.now.seat c.args.own.now.hand.slots c.in-Some.slot first
+      counted = lost_counts c.args.poller.now c.count_lost-in_default-next_names.new.self _ _ c.args.own.now.seat c.args.own.now.seat c.args.own.now.hand.slots c.in-Some.slot first
           c.count_lost-in_default-next_names.ensures (inr spent);
       done = record {
         done = opened_never c.args.poller.now c.count_lost-in_default-next_names.new.self c.args.own.now c.take_slot.new.self c.take_slot.ensures.left c.in-Some.slot first
@@ -50,19 +51,19 @@ returns-in-Err g c =
       between = record {
         same = c.requires.between.same;
         idle = c.requires.between.idle;
-        sized = ap (λ (s : PollerState). length s.table) c.count_dropped.ensures ∙ ap (λ (s : PollerState). length s.table) c.in-Err.ensures.told ∙ c.requires.between.sized;
+        sized = ap (λ (s : PollerState). length s.table) c.count_dropped.ensures.poller ∙ ap (λ (s : PollerState). length s.table) c.in-Err.ensures.told ∙ c.requires.between.sized;
       };
       worn = tt;
-      counted = dropped_counts c.args.poller.now c.prepare.new.poller c.count_dropped.new.self c.args.own.now.seat c.args.own.now.seat c.args.own.now.hand.slots c.in-Some.slot
-          c.in-Err.dropped first c.in-Err.ensures.told c.count_dropped.ensures;
+      counted = dropped_counts c.args.poller.now c.prepare.new.poller c.count_dropped.new.self _ _ c.args.own.now.seat c.args.own.now.seat c.args.own.now.hand.slots c.in-Some.slot
+          c.in-Err.dropped c.count_dropped.ensures.counted first c.in-Err.ensures.told c.count_dropped.ensures.poller;
       done = record {
         done = opened_not c.args.poller.now c.count_dropped.new.self c.args.own.now c.take_slot.new.self c.take_slot.ensures.left c.in-Some.slot first c.prepare.new.hand here
-            (same_dropped c.args.poller.now c.prepare.new.poller c.count_dropped.new.self _ _ c.in-Err.ensures.told c.count_dropped.ensures);
+            (same_dropped c.args.poller.now c.prepare.new.poller c.count_dropped.new.self _ _ c.in-Err.ensures.told c.count_dropped.ensures.poller);
         room = subst (λ (h : HandState). ticket_room h ≤ ticket_room c.prepare.new.hand + 1) c.take_slot.ensures.left
             (room_still c.take_slot.new.self c.prepare.new.hand _ c.in-Err.ensures.failed);
       };
       ready = refl;
-      poller = opens_dropped c.args.poller.now c.prepare.new.poller c.count_dropped.new.self _ _ c.in-Err.ensures.told c.count_dropped.ensures;
+      poller = opens_dropped c.args.poller.now c.prepare.new.poller c.count_dropped.new.self _ _ c.in-Err.ensures.told c.count_dropped.ensures.poller;
     }
 
 pub returns-in-Ok : goal.returns-in-Ok
@@ -70,11 +71,18 @@ returns-in-Ok g c =
     let first = sym c.take_slot.ensures.value ∙ c.in-Some.is in
     let hand = c.in-Ok.ensures.prepared ∙ c.take_slot.ensures.left in
     let here : c.in-Ok.berth.pair.slot ≡ c.in-Some.slot = c.in-Ok.ensures.slot ∙ ap (λ (t : Token). t.slot) c.in-Some-next_names.ensures.client in
+    let numbered : c.in-Ok.berth.pair.generation ≡ slice_index c.args.poller.now.table c.in-Some.slot + 1 =
+    c.in-Ok.ensures.generation ∙ ap (λ (t : Token). t.generation) c.in-Some-next_names.ensures.client
+    ∙ ap (λ (table : List ℕ). slice_index table c.in-Some.slot + 1) c.table.ensures.table in
+    let next : record { slot = c.in-Ok.berth.pair.slot; generation = c.in-Ok.berth.pair.generation } ≡ next_in c.args.poller.now c.in-Some.slot =
+    ap (λ (s : ℕ). record { slot = s; generation = c.in-Ok.berth.pair.generation }) here ∙ ap (λ (n : ℕ). record { slot = c.in-Some.slot; generation = n }) numbered in
     record {
       between = c.place.ensures.between;
       worn = c.place.ensures.worn;
-      counted = placed_counts c.place.result c.args.poller.now c.prepare.new.poller c.place.new.poller c.args.own.now.seat c.place.new.own.seat c.args.own.now.hand.slots
-          c.in-Some.slot c.in-Ok.berth.pair.slot first c.in-Ok.ensures.same here (on_ok c.place.result (λ x. x.counted) c.place.ensures.placed);
+      counted = placed_counts c.place.result c.args.poller.now c.prepare.new.poller c.place.new.poller (OpeningLogged (g.R.Logs.logged c.args.rt.now) g.F.Counting.counted)
+          (DropCounted g.F.Counting.counted) c.args.own.now.seat c.place.new.own.seat c.args.own.now.hand.slots
+          c.in-Some.slot (record { slot = c.in-Ok.berth.pair.slot; generation = c.in-Ok.berth.pair.generation }) first c.in-Ok.ensures.same next
+          (on_ok c.place.result (λ x. x.counted) c.place.ensures.placed);
       done = on_ok c.place.result
           (λ x. record {
             done = opened_there c.args.poller.now c.place.new.poller c.args.own.now c.prepare.new.hand hand c.in-Some.slot first

@@ -9,7 +9,7 @@ use Rattle.ready.specs.declared.ticket.Ticket.{Ticket}
 use Rattle.dispatch.specs.Hands.{HandState}
 use Rattle.dispatch.specs.Splits.{IsIn}
 use Rattle.rounds.specs.Pollers.{PollerState}
-use Rattle.rounds.specs.Openings.{Connected}
+use Rattle.rounds.specs.Openings.{Connected, OpeningLogged}
 use Rattle.rounds.proofs.Connections.{is_opened, not_ok, not_placed, passed_up, placed, places_lost, places_opened, places_told, room_less, still_sized}
 use Rattle.rounds.proofs.opening.place.Goals as goal
 
@@ -25,25 +25,28 @@ returns-in_ok-start-in-Adopted g c =
       between = record {
         same = c.start.ensures.only.table ∙ change.1.only.table ∙ c.requires.between.same;
         idle = c.start.ensures.idle;
-        sized = ap (λ (s : PollerState). length s.table) c.end_episodes.ensures ∙ still_sized c.args.poller.now c.count_opened.new.self ticket c.count_opened.ensures
+        sized = ap (λ (s : PollerState). length s.table) c.end_episodes.ensures ∙ still_sized c.args.poller.now c.count_opened.new.self ticket c.count_opened.ensures.poller
             ∙ c.requires.between.sized;
       };
       worn = tt;
       placed = record {
         done = inl (subst (λ (t : Ticket). Connected (t ∷ []) [] [] c.args.poller.now c.end_episodes.new.self c.args.own.now c.start.new.own) named
-            (placed c.args.poller.now c.count_opened.new.self ticket c.count_opened.ensures c.end_episodes.new.self c.end_episodes.ensures c.args.own.now c.start.new.own change.0
+            (placed c.args.poller.now c.count_opened.new.self ticket c.count_opened.ensures.poller c.end_episodes.new.self c.end_episodes.ensures c.args.own.now c.start.new.own change.0
             started.noted
             (subst (λ (t : Ticket). IsIn c.args.poller.now.part t.slot) (sym named) c.requires.next.own)
             (subst (λ (t : Ticket). t.generation ≡ slice_index c.args.poller.now.table t.slot + 1) (sym named) c.requires.next.generation)
             (adds_both ticket.slot (exchange.Adopted change.0 ∷ []) (drop 1 (opening 0 started.noted)) c.args.own.now.seat c.adopt.new.seat c.start.new.own.seat change.1
             started.seat)
             started.hand c.start.ensures.ready c.start.ensures.free));
-        counted = inl (is_opened c.args.poller.now c.count_opened.new.self ticket c.count_opened.ensures c.end_episodes.new.self c.end_episodes.ensures);
+        counted = inl (
+          is_opened c.args.poller.now c.count_opened.new.self ticket c.count_opened.ensures.poller c.end_episodes.new.self c.end_episodes.ensures,
+          subst (λ (t : Ticket). OpeningLogged (g.R.Logs.logged c.args.rt.now) g.F.Counting.counted t) named (c.log_open.ensures, c.count_opened.ensures.counted),
+        );
         free = c.start.ensures.free;
         slots = ap (λ (h : HandState). h.slots) c.in_ok-start-in-Adopted.ensures.started.hand;
         room = room_less c.args.own.now.hand c.start.new.own.hand ticket c.in_ok-start-in-Adopted.ensures.started.hand;
       };
-      poller = places_told c.args.poller.now c.count_opened.new.self c.end_episodes.new.self _ (places_opened c.args.poller.now c.count_opened.new.self _ _ c.count_opened.ensures)
+      poller = places_told c.args.poller.now c.count_opened.new.self c.end_episodes.new.self _ (places_opened c.args.poller.now c.count_opened.new.self _ _ c.count_opened.ensures.poller)
           c.end_episodes.ensures;
       ready = c.start.ensures.ready;
     }
@@ -56,11 +59,11 @@ returns-in_err-start-in-Adopted g c =
       between = record {
         same = c.start.ensures.only.table ∙ c.in-Adopted.ensures.change.1.only.table ∙ c.requires.between.same;
         idle = c.start.ensures.idle;
-        sized = still_sized c.args.poller.now c.count_opened.new.self ticket c.count_opened.ensures ∙ c.requires.between.sized;
+        sized = still_sized c.args.poller.now c.count_opened.new.self ticket c.count_opened.ensures.poller ∙ c.requires.between.sized;
       };
       worn = passed_up c.from_residual.result c.in_err-start-in-Adopted.field-0.0 _ c.from_residual.ensures.1 c.in_err-start-in-Adopted.ensures.worn;
       placed = not_ok c.from_residual.result _ failed;
-      poller = places_opened c.args.poller.now c.count_opened.new.self _ _ c.count_opened.ensures;
+      poller = places_opened c.args.poller.now c.count_opened.new.self _ _ c.count_opened.ensures.poller;
       ready = c.start.ensures.ready;
     }
 
