@@ -86,14 +86,18 @@ def no_thread_for_some():
 
 
 # refuses failed_poll_is_swallowed: a relay whose poller cannot poll goes on, or ends well
+# refuses off_hides_a_cause: at level off nothing says why a relay that served has ended
 def a_poll_that_fails():
     if not Relay.library:
         return left_out("cc")
     # Two threads poll, which call epoll_wait(2) at least five times a second each, and two more are workers.
-    relay = Relay(target(echo), preload={"POLL_FAILS": "20"}, slots=128, workers=2)
-    clients = served(relay, 2)
-    assert relay.ended(1, within=10)[-2:] == ["[ERROR relayd] poll: Input/output error (os error 5)", "relayd: poll: failed"]
-    assert all([is_closed_soon(client) for client in clients])
+    fault = ["[ERROR relayd] poll: Input/output error (os error 5)", "relayd: poll: failed"]
+    for level in "info", "off":
+        relay = Relay(target(echo), preload={"POLL_FAILS": "20"}, slots=128, workers=2, log=level)
+        clients = served(relay, 2)
+        logged = relay.ended(1, within=10)
+        assert logged == fault if level == "off" else logged[-2:] == fault
+        assert all([is_closed_soon(client) for client in clients])
 
 
 def out_of_descriptors():

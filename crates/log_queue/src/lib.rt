@@ -14,8 +14,9 @@
 //!
 //! [`ParkedQueue`] is what the log and a recording have in common: bounded queues for a thread that writes, which
 //! sleeps only after it has announced that and then found them open and empty, and ends only with a value that it gets
-//! once they were closed and then empty ([`Drained`]). A line that was taken cannot be dropped unwritten
-//! (`Unwritten`). Lines left out are counted and taken by a type that has no step but these (`Missing`).
+//! once they were closed and then empty ([`Drained`]). It is woken only once there is something for it (`There`). A line
+//! that was taken cannot be dropped unwritten (`Unwritten`). Lines left out are counted and taken by a type that has no
+//! step but these (`Missing`).
 #![tactic(auto)]
 
 mod left_out;

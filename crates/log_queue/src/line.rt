@@ -1,5 +1,5 @@
 // The texts of lines.
-ghost use Rattle.std.specs.Prelude.{◌≡◌, ◌<◌, ◌≤◌, ◌++◌, ◌+◌, ◌-◌, Some, true, false, [], length, IsOk};
+ghost use Rattle.std.specs.Prelude.{◌≡◌, ◌↔◌, ◌<◌, ◌≤◌, ◌++◌, ◌+◌, ◌-◌, Some, true, false, [], length, take, IsOk, IsTrue};
 ghost use Rattle.log_queue.specs.Lines.{LineState, IsFirst, IsCut, IsAdded, shown, left_out_text, ending as ending_of};
 
 use crate::limits::MAX_LINE;
@@ -47,6 +47,13 @@ impl LogLine {
         self.text
             .push_str(first_of(text, self.text.remaining_capacity()));
         self.is_cut = true;
+    }
+
+    /// Whether the text begins so.
+    pub fn begins_with(&self, start: &str) -> bool
+        ensures { IsTrue result ↔ (take (length start.now) self.now.text ≡ start.now) }
+    {
+        self.text.as_bytes().starts_with(start.as_bytes())
     }
 }
 

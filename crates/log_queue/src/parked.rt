@@ -2,6 +2,7 @@
 ghost use Rattle.std.specs.Prelude.{◌≡◌, ◌<◌, IfSome, map, true, false};
 ghost use Rattle.crossbeam_queue.specs.Passes.{queue_capacity};
 
+use crate::left_out::Missing;
 use crossbeam_queue::ArrayQueue;
 use std::marker::Model;
 use std::sync::Wait;
@@ -21,6 +22,10 @@ struct Look {
 /// All queues were found empty after a look. It cannot be copied.
 #[derive(Drop)]
 struct FoundEmpty(Look);
+
+/// There is something for the writer: an item in a queue, or a count of those that were left out. A writer that is woken
+/// before could look, find nothing, and go to sleep beside it. It cannot be dropped, so a writer that sleeps is woken.
+struct There(());
 
 /// The queues were closed, and then found empty. Only [`ParkedQueue::drain`] makes one, and it cannot be copied.
 #[derive(Drop)]
@@ -78,16 +83,35 @@ impl<T: Drop, const QUEUES: usize> ParkedQueue<T, QUEUES> {
     pub fn put(&self, rt: &impl Wait, at: usize, item: T) -> bool
         requires { at < QUEUES }
     {
-        let is_put = self.queues[at].push(rt, item).is_ok();
-        if is_put {
-            self.wake();
+        match self.push(rt, at, item) {
+            Some(there) => {
+                self.wake(there);
+                true
+            }
+            None => false,
         }
-        is_put
+    }
+
+    /// Counts an item that was left out, and wakes a writer that sleeps.
+    pub(crate) fn count(&self, missing: &Missing) {
+        missing.add();
+        self.wake(There(()));
+    }
+
+    /// Puts an item into a queue after the others, if there is room.
+    fn push(&self, rt: &impl Wait, at: usize, item: T) -> Option<There>
+        requires { at < QUEUES }
+    {
+        match self.queues[at].push(rt, item) {
+            Ok(()) => Some(There(())),
+            Err(_) => None,
+        }
     }
 
     /// Wakes the writer if it sleeps. Only one of those who put items meanwhile does.
-    pub(crate) fn wake(&self) {
-        // Pairs with `announce`. A put pushes and then reads the mark; the writer sets it and then looks. So one of
+    fn wake(&self, there: There) {
+        let There(()) = there;
+        // Pairs with `look`. A put pushes and then reads the mark; the writer sets it and then looks. So one of
         // the two sees the other's step.
         if self.is_asleep.load(Ordering::SeqCst) && self.is_asleep.swap(false, Ordering::SeqCst) {
             self.writer.unpark();

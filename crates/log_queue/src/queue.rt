@@ -47,8 +47,7 @@ impl LogQueue {
     /// Puts a line after the others, or counts it if the queue is full, and wakes a writer that sleeps.
     pub fn put(&self, rt: &impl Wait, line: LogLine) {
         if !self.lines.put(rt, 0, line) {
-            self.left_out.add();
-            self.lines.wake();
+            self.lines.count(&self.left_out);
         }
     }
 

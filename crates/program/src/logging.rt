@@ -9,14 +9,14 @@ ghost use Rattle.settings.specs.Names.{level_name};
 
 use log::kv::Source;
 use log::span::Spans;
-use log::{LevelFilter, Log, Metadata, Record};
-use log_queue::{Direct, Form, LogQueue, write_lines};
+use log::{Level, LevelFilter, Log, Metadata, Record};
+use log_queue::{Direct, Form, LogLine, LogQueue, write_lines};
 use relay_log::{ServerFault, log_no_thread};
 use settings::LogLevel;
 use std::alloc::AllocGlobal;
 use std::cell::Cell;
 use std::env::{self, Env};
-use std::fmt::Display;
+use std::fmt::{Display, Write as _};
 use std::fs;
 use std::io::{self, Eprint, Write};
 use std::os::unix::fs::MetadataExt;
@@ -117,7 +117,10 @@ pub fn finish(rt: &impl Wait, queue: &LogQueue) -> bool {
     queue.is_written()
 }
 
-/// A log, until this is set. From then on nothing is logged.
+/// How the message begins of what ends a relay while it serves (epoll_wait(2)).
+const ENDS_IT: &str = "poll: ";
+
+/// A log, until this is set. From then on nothing is logged but the cause of a fault that ends the relay.
 #[derive(Drop)]
 pub struct Until<'a, L> {
     pub inner: L,
@@ -126,11 +129,12 @@ pub struct Until<'a, L> {
 
 impl<L: Log> Log for Until<'_, L> {
     fn enabled(&self, metadata: &Metadata<'_>) -> bool {
-        !self.is_off.load(SeqCst) && self.inner.enabled(metadata)
+        (!self.is_off.load(SeqCst) || metadata.level() == Level::Error)
+            && self.inner.enabled(metadata)
     }
 
     fn log<D: Display, K: Source, S: Spans>(&self, record: &Record<'_, D, K, S>) {
-        if !self.is_off.load(SeqCst) {
+        if !self.is_off.load(SeqCst) || ends_the_relay(record) {
             self.inner.log(record);
         }
     }
@@ -142,6 +146,14 @@ impl<L: Log> Log for Until<'_, L> {
     fn target(&self) -> &str {
         self.inner.target()
     }
+}
+
+/// Whether a message is the cause of a fault that ends a relay which serves. Only of one at level error is that asked.
+fn ends_the_relay<D: Display, K, S>(record: &Record<'_, D, K, S>) -> bool {
+    let mut line = LogLine::new();
+    // Only a value whose own printing fails can fail here. It is the system's error, after what is asked for.
+    let _ = write!(line, "{}", record.args());
+    record.level() == Level::Error && line.begins_with(ENDS_IT)
 }
 
 /// Standard error, until it is known that a write to it may not end. From then on nothing is written.

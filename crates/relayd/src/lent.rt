@@ -8,7 +8,8 @@ use std::sync::atomic::Ordering::SeqCst;
 use std::time;
 
 /// Prints where the relay listens once all of its threads have been started. If that cannot be printed, no connection is
-/// opened from then on. At level `off` nothing more is logged.
+/// opened from then on. At level `off` nothing more is logged
+/// but the cause of a fault that ends it.
 #[derive(Drop)]
 pub struct Announcing<'a> {
     pub rt: HostRuntime,

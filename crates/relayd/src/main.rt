@@ -37,7 +37,7 @@ fn main(rt: HostRuntime) -> ExitCode {
     > {
         let queue = logging::start(rt)?;
         let level = program::level_filter(settings.log);
-        // Until its threads have been started the cause of a fault is logged at each level.
+        // At level off, nothing is logged from then on that all threads have been started but the cause of a fault.
         let is_off = AtomicBool::new(false);
         let lines = Until {
             inner: Queued { rt, queue: &queue },
