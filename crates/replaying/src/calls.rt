@@ -1,10 +1,10 @@
-//! The calls of a turn, and what the network did before them. That is told as late as can be: bytes and ends arrive
+//! The calls of a turn, and what the network did before them. It does that as late as can be: bytes and ends arrive
 //! just before the call that shows them, and room comes just before the write that takes it.
 use crate::action::offered;
 use crate::flaw::Flaw;
-use crate::player::{Phase, Player};
+use crate::machine::Machine;
 use crate::recording::Numbered;
-use crate::stage::Stage;
+use crate::slot_replay::{Phase, SlotReplay};
 use kernel_model::{End, Reply};
 use records::{Act as Recorded, Answer, Made};
 use relay_core::{Call, Pair};
@@ -21,7 +21,7 @@ pub(crate) struct Asked {
     pub bytes: usize,
 }
 
-impl Player<'_> {
+impl SlotReplay<'_> {
     /// A call was made at an end, and got this answer.
     pub(crate) fn call(&mut self, side: Side, made: Made) -> Result<(), Flaw> {
         let Phase::Calling(calls) = self.state.phase else {
@@ -31,15 +31,15 @@ impl Player<'_> {
         let Some((asked, answer)) = asked_by(side, made) else {
             return Ok(());
         };
-        if !self.stage.is_next(asked) {
+        if !self.machine.is_next(asked) {
             return Err(Flaw::NextCall);
         }
         let reply = match answer {
             Answer::Moved(count) => moved(asked.call, count, self.next),
             _ => unmoved(answer),
         };
-        self.stage.bring(asked, reply)?;
-        self.stage.work(&[Act::Call(reply)])?;
+        self.machine.bring(asked, reply)?;
+        self.machine.work(&[Act::Call(reply)])?;
         if moves(reply) {
             self.state.moved = self.state.latest;
         }
@@ -105,7 +105,7 @@ fn moves(reply: Reply) -> bool {
     )
 }
 
-impl Stage {
+impl Machine {
     /// The connection's next call.
     pub(crate) fn next_call(&self) -> Option<Asked> {
         let pair = self.pair()?;

@@ -36,7 +36,7 @@ impl Clock {
         self.after.sort()?;
         rise(self.before.as_mut_slice());
         rise(self.after.as_mut_slice());
-        least_behind(self.least.as_mut_slice());
+        least_from(self.least.as_mut_slice());
         Ok(())
     }
 
@@ -100,7 +100,7 @@ fn rise(readings: &mut [(u64, u64)]) {
 }
 
 /// Gives each place the least number from there on.
-fn least_behind(counts: &mut [u64]) {
+fn least_from(counts: &mut [u64]) {
     let mut least = u64::MAX;
     for count in counts.iter_mut().rev() {
         least = least.min(*count);

@@ -1,10 +1,10 @@
-//! Why a play does not go on.
+//! Why a replay stops.
 use std::alloc::{AllocError, AllocFailed};
 
-/// Why a play does not go on.
+/// Why a replay stops.
 #[derive(Clone, Copy)]
 pub(crate) enum Flaw {
-    /// The world refuses the event that its stage keeps.
+    /// The world refuses the event that its machine keeps.
     Refused,
     /// The connection has another call to make, or none.
     NextCall,

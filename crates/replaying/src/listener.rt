@@ -1,20 +1,20 @@
 //! What a poller did at the listener, in a world in which nothing is ever opened.
 use crate::flaw::Flaw;
-use crate::stage::Stage;
+use crate::machine::Machine;
 use kernel_model::Accepting;
 use records::{Accepted, Act, Polling};
 use token::Name;
 use world::{Event, Listening, Reported};
 
-impl Stage {
+impl Machine {
     /// An act of the poller.
     pub(crate) fn listen(&mut self, act: &Act) -> Result<(), Flaw> {
         let Act::Poller(_, did) = act else {
             return Ok(());
         };
         match did {
-            Polling::Reported(Name::Listener) => self.hear(Name::Listener, Reported::Listener),
-            Polling::Reported(Name::Waker) => self.hear(Name::Waker, Reported::Waker),
+            Polling::Reported(Name::Listener) => self.deliver(Name::Listener, Reported::Listener),
+            Polling::Reported(Name::Waker) => self.deliver(Name::Waker, Reported::Waker),
             Polling::Accept(Accepted::Taken) => self.accept(),
             Polling::Accept(Accepted::Blocked) => self.answer(Accepting::Blocked),
             Polling::Accept(Accepted::Again) => self.answer(Accepting::Again),
@@ -29,8 +29,8 @@ impl Stage {
         self.put(Event::Listen(Listening::Accept(reply)))
     }
 
-    /// A client comes in and is accepted. Where that is reported, the report vanishes: the poller was told of it when
-    /// it came, or did not have to be.
+    /// A client comes in and is accepted. Where that is reported, the report vanishes: the poller was given it when
+    /// the client came, or did not have to be.
     fn accept(&mut self) -> Result<(), Flaw> {
         let was_queued = self.is_queued(&Name::Listener);
         self.come_in()?;

@@ -4,9 +4,9 @@ ghost use Rattle.world.specs.States.{IsWithinLimits};
 
 use crate::flaw::Flaw;
 use crate::history::History;
-use crate::player::{Phase, Player, State};
 use crate::recording::Numbered;
-use crate::told::Told;
+use crate::results::Results;
+use crate::slot_replay::{Phase, SlotReplay, State};
 use records::{Act, Header, Made, Opening, Record};
 use std::mem;
 use token::{MAX_GENERATION, Side};
@@ -17,11 +17,11 @@ const LEAST_LEAD: usize = 32;
 
 const MOST_LEAD: usize = 56;
 
-impl Player<'_> {
+impl SlotReplay<'_> {
     /// The front was asked to open a connection here.
     pub(crate) fn open(
         &mut self,
-        told: &mut Told,
+        results: &mut Results,
         record: Record,
         generation: u64,
         opening: Opening,
@@ -38,23 +38,23 @@ impl Player<'_> {
             return Ok(());
         }
         let Some(limits) = limits_of(
-            &self.score.recording.header,
+            &self.findings.recording.header,
             generation,
             self.lead(generation),
         ) else {
             return Err(Flaw::Because("no connection has such a generation"));
         };
-        let tape = History::new(self.stage.alloc, limits)?;
-        told.take(self.slot, mem::replace(&mut self.stage.tape, tape))?;
+        let history = History::new(self.machine.alloc, limits)?;
+        results.take(self.slot, mem::replace(&mut self.machine.history, history))?;
         self.enter(record, generation);
-        self.stage.come_in()?;
-        self.stage.put(Event::Poll(Polled::Open))
+        self.machine.come_in()?;
+        self.machine.put(Event::Poll(Polled::Open))
     }
 
     /// Time begins at the second of the poller's round.
     fn enter(&mut self, record: Record, generation: u64) {
         let since = self.second_last_poll(record.before);
-        let (earliest, latest) = self.score.clock.between(since, record.before);
+        let (earliest, latest) = self.findings.clock.between(since, record.before);
         self.posted = self.last;
         self.state = State {
             phase: Phase::Open,
@@ -72,7 +72,7 @@ impl Player<'_> {
     /// The count when the poll before the last one of the slot's poller had ended, both before this count. The round
     /// has read its second since then, before its poll or after it.
     fn second_last_poll(&self, count: u64) -> u64 {
-        let Some(polls) = self.score.polls.get(self.poller) else {
+        let Some(polls) = self.findings.polls.get(self.poller) else {
             return 0;
         };
         let place = polls.partition_point(|poll| poll.record.before < count);
@@ -84,7 +84,7 @@ impl Player<'_> {
 
     /// Stand-ins for what the target of a connection is sent first. Its length shows by the first write there.
     fn lead(&self, generation: u64) -> Lead {
-        if !self.score.recording.header.proxy {
+        if !self.findings.recording.header.proxy {
             return Lead::NONE;
         }
         let bytes = [b'-'; MOST_LEAD];

@@ -1,7 +1,7 @@
-//! The notes of a slot: what its poller was told becomes a note where a turn needs one, and before the last moment at
+//! The notes of a slot: what its poller was given becomes a note where a turn needs one, and before the last moment at
 //! which it can have been posted.
 use crate::flaw::Flaw;
-use crate::player::{Player, State};
+use crate::slot_replay::{SlotReplay, State};
 use records::{Act, Polling};
 use token::{Name, Side, Token};
 use world::{Event, Polling as Polled, Reported};
@@ -21,7 +21,7 @@ pub(crate) struct Post {
     pub since: Option<u64>,
 }
 
-/// Posts in the order in which they were made, without those that are played.
+/// Posts in the order in which they were made, without those that were made in the world.
 #[derive(Clone, Copy)]
 pub(crate) struct Queue<'a>(pub &'a [Post]);
 
@@ -34,7 +34,7 @@ pub(crate) struct Posts<'a> {
 
 impl Post {
     /// Whether a post was made for certain after the last turn took its notes.
-    fn is_behind(&self, state: &State) -> bool {
+    fn is_after(&self, state: &State) -> bool {
         match self.since {
             Some(since) => since >= state.taken_by && self.is_of(state),
             None => false,
@@ -83,9 +83,9 @@ impl Queue<'_> {
     }
 
     /// The first post that was made for certain after the last turn took its notes.
-    fn first_behind(&self, state: &State) -> Option<Post> {
+    fn first_after(&self, state: &State) -> Option<Post> {
         for post in self.0 {
-            if post.is_behind(state) {
+            if post.is_after(state) {
                 return Some(*post);
             }
         }
@@ -112,13 +112,13 @@ impl Posts<'_> {
     }
 }
 
-impl Player<'_> {
+impl SlotReplay<'_> {
     /// A turn begins before this count, so the slot has a note by then. Answers from which count on the turn has its
     /// ticket.
     pub(crate) fn gather_notes(&mut self, before: u64) -> Result<u64, Flaw> {
         let mut since = self.state.free_from;
         for _post in 0..self.posts.reports.0.len().saturating_add(1) {
-            let has_notes = self.stage.has_notes();
+            let has_notes = self.machine.has_notes();
             let Some(post) = self.posts.next(&self.state, before, has_notes) else {
                 break;
             };
@@ -127,7 +127,7 @@ impl Player<'_> {
             }
             self.note(post)?;
         }
-        if self.stage.has_notes() {
+        if self.machine.has_notes() {
             Ok(since)
         } else {
             Err(Flaw::Because("no note is left for this turn"))
@@ -154,22 +154,22 @@ impl Player<'_> {
 
     /// Whatever was reported after the last turn took its notes was posted by the end, and so was each sweep.
     pub(crate) fn note_the_rest(&mut self) -> Result<(), Flaw> {
-        let report = self.posts.reports.first_behind(&self.state);
-        match report.or(self.posts.sweeps.first_behind(&self.state)) {
+        let report = self.posts.reports.first_after(&self.state);
+        match report.or(self.posts.sweeps.first_after(&self.state)) {
             Some(post) => self.note(post),
             None => Ok(()),
         }
     }
 
-    /// The post is made: a report is heard, or the slot is swept.
+    /// The post is made: a report is delivered, or the slot is swept.
     fn note(&mut self, post: Post) -> Result<(), Flaw> {
-        let Some(told) = self.score.recording.poller(self.poller).get(post.place) else {
+        let Some(numbered) = self.findings.recording.poller(self.poller).get(post.place) else {
             return Ok(());
         };
-        self.posted = *told;
-        match end_reported(&told.record.act) {
-            Some((own, side)) => self.stage.hear(Name::End(own), Reported::End(0, side)),
-            None => self.stage.put(Event::Poll(Polled::Sweep(0))),
+        self.posted = *numbered;
+        match end_reported(&numbered.record.act) {
+            Some((own, side)) => self.machine.deliver(Name::End(own), Reported::End(0, side)),
+            None => self.machine.put(Event::Poll(Polled::Sweep(0))),
         }
     }
 }

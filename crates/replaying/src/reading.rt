@@ -118,7 +118,7 @@ fn sizes(line: &[u8]) -> Result<(Header, Split), Wrong<'_>> {
 /// The record of the next line.
 fn record_of<'a>(recording: &Recording, line: &'a [u8]) -> Result<Record, Wrong<'a>> {
     if recording.last != Last::Stopped {
-        return Err(wanted("nothing is behind the record end or full"));
+        return Err(wanted("nothing comes after the record end or full"));
     }
     let record = match read_line(line) {
         Ok(record) => record,

@@ -4,29 +4,29 @@ ghost use Rattle.world.specs.States.{IsWithinLimits};
 ghost use Rattle.replaying.specs.Traces.{AreRuns, records_of};
 
 use crate::clock::Clock;
-use crate::crew::check_crew;
 use crate::flaw::Flaw;
+use crate::machine::Machine;
 use crate::opening::limits_of;
 use crate::order::put_in_order;
-use crate::player::{Player, Score};
 use crate::reading::{broken, read, wanted};
 use crate::recording::{Last, Recording};
+use crate::results::{Flawed, Results, Whose};
 use crate::round::check_rounds;
-use crate::rounds::{play_rounds, polls};
-use crate::stage::Stage;
-use crate::telling::{tell, tell_flaw};
-use crate::told::{Flawed, Told, Whose};
+use crate::rounds::{find_posts, polls};
+use crate::slot_replay::{Findings, SlotReplay};
+use crate::threads::check_threads;
+use crate::writing::{write_flaw, write_results};
 use records::{Header, Outcome, Replay, ReplayFault, Wanted};
 use std::alloc::Global;
 use std::io::{Read, Write};
 use world::{Lead, Limits};
 
-/// The machine on which recordings are played: what each slot and each poller's listener did, on a world of its own,
-/// event by event. What is told of a slot is read off that world, whose events all happened there (`History`).
+/// The machine on which recordings are replayed: what each slot and each poller's listener did, on a world of its own,
+/// event by event. What is printed of a slot is read off that world, whose events all happened there (`History`).
 pub struct OnMachine;
 
 impl Replay for OnMachine {
-    /// Reads a recording, and plays it.
+    /// Reads a recording, and replays it.
     ///
     /// With `rests`, or where the recording ends with the record `end`, the relay had come to rest: nothing may be
     /// left to do at any slot. With `rests` alone nothing is asked of that where records after a lost one were left
@@ -47,7 +47,7 @@ impl Replay for OnMachine {
         let left_out = put_in_order(alloc, &mut recording)?;
         let rests = recording.failed.is_none()
             && (recording.last == Last::Ended || rests && left_out == 0);
-        let outcome = deal(alloc, &recording, wanted, rests, left_out, output)?;
+        let outcome = replay_recording(alloc, &recording, wanted, rests, left_out, output)?;
         match output.flush() {
             Ok(()) => Ok(outcome),
             Err(_) => Err(ReplayFault::Write),
@@ -55,8 +55,8 @@ impl Replay for OnMachine {
     }
 }
 
-/// Finds out what was posted when, and plays the recording.
-fn deal<W: Write>(
+/// Finds out what was posted when, and replays the recording.
+fn replay_recording<W: Write>(
     alloc: Global,
     recording: &Recording,
     wanted: Wanted,
@@ -66,17 +66,17 @@ fn deal<W: Write>(
 ) -> Result<Outcome, ReplayFault> {
     let clock = read_clock(alloc, recording)?;
     check_rounds(alloc, recording, &clock)?;
-    check_crew(alloc, recording)?;
-    let posts = play_rounds(alloc, recording, &clock)?;
+    check_threads(alloc, recording)?;
+    let posts = find_posts(alloc, recording, &clock)?;
     let polls = polls(alloc, recording)?;
-    let score = Score {
+    let findings = Findings {
         recording,
         clock: &clock,
         posts: posts.as_slice(),
         polls: polls.as_slice(),
         rests,
     };
-    play_and_tell(alloc, score, wanted, left_out, output)
+    replay_and_write(alloc, findings, wanted, left_out, output)
 }
 
 /// What the clock showed. It does not go back.
@@ -88,103 +88,108 @@ fn read_clock(alloc: Global, recording: &Recording) -> Result<Clock, ReplayFault
     }
 }
 
-/// Plays what is wanted, and writes what that comes to.
-fn play_and_tell<W: Write>(
+/// Replays what is wanted, and writes what that comes to.
+fn replay_and_write<W: Write>(
     alloc: Global,
-    score: Score<'_>,
+    findings: Findings<'_>,
     wanted: Wanted,
     left_out: usize,
     output: &mut W,
 ) -> Result<Outcome, ReplayFault> {
-    let mut told = Told::new(alloc, wanted);
-    tell_played(alloc, score, left_out, output, &mut told)
+    let mut results = Results::new(alloc, wanted);
+    write_outcome(alloc, findings, left_out, output, &mut results)
 }
 
-fn tell_played<W: Write>(
+fn write_outcome<W: Write>(
     alloc: Global,
-    score: Score<'_>,
+    findings: Findings<'_>,
     left_out: usize,
     output: &mut W,
-    told: &mut Told,
+    results: &mut Results,
 ) -> Result<Outcome, ReplayFault> {
-    match play(alloc, score, told) {
+    match replay_all(alloc, findings, results) {
         Ok(()) => {
-            tell(alloc, output, told, score.recording, left_out)?;
+            write_results(alloc, output, results, findings.recording, left_out)?;
             Ok(Outcome::Run)
         }
-        Err(flaw) => tell_end(alloc, output, told, flaw),
+        Err(flaw) => write_end(alloc, output, results, flaw),
     }
 }
 
-/// Writes where the play did not go on.
-fn tell_end<W: Write>(
+/// Writes where the replay stopped.
+fn write_end<W: Write>(
     alloc: Global,
     output: &mut W,
-    told: &Told,
+    results: &Results,
     flaw: Flaw,
 ) -> Result<Outcome, ReplayFault> {
-    match (flaw, &told.flawed) {
+    match (flaw, &results.flawed) {
         (Flaw::NoMemory, _) | (_, None) => Err(ReplayFault::NoMemory),
         (flaw, Some(flawed)) => {
-            tell_flaw(alloc, output, flawed, flaw)?;
+            write_flaw(alloc, output, flawed, flaw)?;
             Ok(Outcome::NoRun)
         }
     }
 }
 
-/// Plays what is wanted, up to the first that is no run.
-fn play(alloc: Global, score: Score<'_>, told: &mut Told) -> Result<(), Flaw> {
-    if let Wanted::Script(slot, _) = told.wanted {
-        return play_slot(alloc, score, told, slot);
+/// Replays what is wanted, up to the first that is no run.
+fn replay_all(alloc: Global, findings: Findings<'_>, results: &mut Results) -> Result<(), Flaw> {
+    if let Wanted::Script(slot, _) = results.wanted {
+        return replay_slot(alloc, findings, results, slot);
     }
-    for poller in 0..score.recording.header.pollers {
-        play_poller(alloc, score, told, poller)?;
+    for poller in 0..findings.recording.header.pollers {
+        replay_poller(alloc, findings, results, poller)?;
     }
-    for slot in 0..score.recording.header.slots {
-        play_slot(alloc, score, told, slot)?;
+    for slot in 0..findings.recording.header.slots {
+        replay_slot(alloc, findings, results, slot)?;
     }
     Ok(())
 }
 
-/// Plays what a poller did at the listener.
-fn play_poller(
+/// Replays what a poller did at the listener.
+fn replay_poller(
     alloc: Global,
-    score: Score<'_>,
-    told: &mut Told,
+    findings: Findings<'_>,
+    results: &mut Results,
     poller: usize,
 ) -> Result<(), Flaw> {
-    let mut stage = Stage::new(alloc, Stage::LIMITS)?;
-    for numbered in score.recording.poller(poller) {
-        if let Err(flaw) = stage.listen(&numbered.record.act) {
-            told.end(Whose::Poller(poller), *numbered, stage);
+    let mut machine = Machine::new(alloc, Machine::LIMITS)?;
+    for numbered in findings.recording.poller(poller) {
+        if let Err(flaw) = machine.listen(&numbered.record.act) {
+            results.end(Whose::Poller(poller), *numbered, machine);
             return Err(flaw);
         }
     }
-    told.take(0, stage.tape)
+    results.take(0, machine.history)
 }
 
-/// Plays what happened at a slot.
-fn play_slot(alloc: Global, score: Score<'_>, told: &mut Told, slot: usize) -> Result<(), Flaw>
-    ensures runs { OnOk result (AreRuns score.entry.recording.now.header score.entry.recording.now.failed
-        (records_of score.entry.recording.now slot)) }
+/// Replays what happened at a slot.
+fn replay_slot(
+    alloc: Global,
+    findings: Findings<'_>,
+    results: &mut Results,
+    slot: usize,
+) -> Result<(), Flaw>
+    ensures runs { OnOk result (AreRuns findings.entry.recording.now.header findings.entry.recording.now.failed
+        (records_of findings.entry.recording.now slot)) }
 {
-    let records = score.recording.slot(slot);
+    let records = findings.recording.slot(slot);
     let Some(first) = records.first() else {
         return Ok(());
     };
-    let stage = Stage::new(alloc, limits_at_first(&score.recording.header))?;
-    let mut player = Player::new(score, slot, *first, stage);
-    let result = player.play(score.recording, records, told);
-    let Player {
+    let machine = Machine::new(alloc, limits_at_first(&findings.recording.header))?;
+    let mut replay = SlotReplay::new(findings, slot, *first, machine);
+    let result = replay.run(findings.recording, records, results);
+    let SlotReplay {
         state,
         last,
-        stage,
+        machine,
         ..
-    } = player;
+    } = replay;
     match result {
-        Ok(()) => told.take(slot, stage.tape),
+        Ok(()) => results.take(slot, machine.history),
         Err(flaw) => {
-            told.end(Whose::Slot(slot, state.generation), last, stage);
+            results.end(Whose::Slot(slot, state.generation), last, machine);
             Err(flaw)
         }
     }
@@ -194,5 +199,5 @@ fn play_slot(alloc: Global, score: Score<'_>, told: &mut Told, slot: usize) -> R
 fn limits_at_first(header: &Header) -> Limits
     ensures { IsWithinLimits result }
 {
-    limits_of(header, 1, Lead::NONE).unwrap_or(Stage::LIMITS)
+    limits_of(header, 1, Lead::NONE).unwrap_or(Machine::LIMITS)
 }

@@ -1,4 +1,4 @@
-//! What the pollers were told in their rounds, and when they may have posted that.
+//! What the pollers were given in their rounds, and when they may have posted that.
 use crate::clock::Clock;
 use crate::posts::Post;
 use crate::reading::{broken, wanted};
@@ -29,7 +29,7 @@ struct Rounds<'a> {
 /// connection.
 ///
 /// Refuses with `Broken` for a poll with other reports than it gave.
-pub(crate) fn play_rounds(
+pub(crate) fn find_posts(
     alloc: Global,
     recording: &Recording,
     clock: &Clock,
@@ -44,7 +44,7 @@ pub(crate) fn play_rounds(
             missing: 0,
             swept: None,
         };
-        rounds.play(alloc, &mut posts)?;
+        rounds.find(alloc, &mut posts)?;
         if rounds.missing > 0 && recording.last == Last::Ended {
             let text = String::from_str(alloc, "reports of the last poll are missing")?;
             return Err(ReplayFault::Broken(text));
@@ -54,7 +54,7 @@ pub(crate) fn play_rounds(
 }
 
 impl Rounds<'_> {
-    fn play(&mut self, alloc: Global, posts: &mut Vec<Vec<Post>>) -> Result<(), ReplayFault> {
+    fn find(&mut self, alloc: Global, posts: &mut Vec<Vec<Post>>) -> Result<(), ReplayFault> {
         for (place, numbered) in self.recording.poller(self.poller).iter().enumerate() {
             match self.act(place, numbered) {
                 Ok(Some((at, post))) => add(posts, at, post)?,

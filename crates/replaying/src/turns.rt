@@ -1,7 +1,7 @@
 //! The turns of a slot's connection.
 use crate::flaw::Flaw;
-use crate::player::{Phase, Player};
 use crate::recording::Numbered;
+use crate::slot_replay::{Phase, SlotReplay};
 use records::{Act as Recorded, Made, Record};
 use relay_core::Verdict;
 use token::Side;
@@ -10,7 +10,7 @@ use world::{Act, Event};
 /// The most calls of a turn that a poller's own thread runs.
 const OWN_BUDGET: usize = 8;
 
-impl Player<'_> {
+impl SlotReplay<'_> {
     /// A turn begins: it has a note by then.
     pub(crate) fn begin(&mut self, record: Record) -> Result<(), Flaw> {
         match self.state.phase {
@@ -18,18 +18,18 @@ impl Player<'_> {
             Phase::Free => return Err(Flaw::Because("no connection is open in the slot")),
             _ => return Err(Flaw::Because("the turn before has not ended")),
         }
-        if self.score.recording.reads_seconds(record.before)
+        if self.findings.recording.reads_seconds(record.before)
             && !self
-                .score
+                .findings
                 .clock
                 .is_read(self.state.free_from, record.before)
         {
             return Err(Flaw::Because("the clock was not read for this turn"));
         }
         let since = self.gather_notes(record.before)?;
-        let (earliest, latest) = self.score.clock.between(since, record.before);
+        let (earliest, latest) = self.findings.clock.between(since, record.before);
         self.pass_to(earliest)?;
-        self.stage.claim()?;
+        self.machine.claim()?;
         let state = &mut self.state;
         state.latest = latest;
         state.taken_from = since;
@@ -41,15 +41,17 @@ impl Player<'_> {
     /// Time passes up to this second, if it counts and is later.
     fn pass_to(&mut self, second: u64) -> Result<(), Flaw> {
         let now = self.now();
-        if self.score.recording.header.idle == 0 || second <= now {
+        if self.findings.recording.header.idle == 0 || second <= now {
             return Ok(());
         }
-        self.stage.put(Event::Tick(second - now))
+        self.machine.put(Event::Tick(second - now))
     }
 
     /// The second that it is in the world.
     fn now(&self) -> u64 {
-        self.state.base.saturating_add(self.stage.world().second())
+        self.state
+            .base
+            .saturating_add(self.machine.world().second())
     }
 
     /// A turn has made its calls.
@@ -58,17 +60,17 @@ impl Player<'_> {
             return Err(Flaw::Because("no turn is in progress"));
         };
         self.state.free_from = record.after;
-        if self.stage.is_over() {
+        if self.machine.is_over() {
             self.state.phase = Phase::Closing(None);
             return Ok(());
         }
-        if self.stage.next_call().is_some() {
+        if self.machine.next_call().is_some() {
             return self.end_due(calls);
         }
         if is_dropped(self.next) {
             self.pass_to(self.state.latest)?;
             self.state.phase = Phase::Closing(None);
-            return self.stage.work(&[Act::Expire]);
+            return self.machine.work(&[Act::Expire]);
         }
         self.state.phase = Phase::Settling;
         self.check_idle()
@@ -76,38 +78,38 @@ impl Player<'_> {
 
     /// A turn ends with a call left. Then it has made as many as it may, and posts a note for the next turn.
     fn end_due(&mut self, calls: usize) -> Result<(), Flaw> {
-        let budget = self.score.recording.header.budget;
+        let budget = self.findings.recording.header.budget;
         if calls != budget && calls != OWN_BUDGET.min(budget) {
             return Err(Flaw::Because("a call is left, and the budget is not spent"));
         }
         self.posted = self.last;
         self.state.phase = Phase::Open;
-        self.stage.work(&[Act::Post, Act::Release])
+        self.machine.work(&[Act::Post, Act::Release])
     }
 
     /// A turn that ends without a call leaves no connection that is past the idle limit.
     fn check_idle(&self) -> Result<(), Flaw> {
-        let limit = self.score.recording.header.idle;
+        let limit = self.findings.recording.header.idle;
         if limit > 0 && self.now().saturating_sub(self.state.moved) >= limit {
             return Err(Flaw::Because("the connection is past the idle limit, and is left open"));
         }
         Ok(())
     }
 
-    /// The target's end, the last of the two, was told that a turn has ended quiet. Behind that the slot is released.
+    /// A turn has ended quiet, which the target's wire records. After that the slot is released.
     pub(crate) fn settle(&mut self, side: Side, record: Record) -> Result<(), Flaw> {
         if !matches!(self.state.phase, Phase::Settling) {
             return Err(Flaw::Because("no turn has ended quiet"));
         }
         if side != Side::Target {
-            return Err(Flaw::Because("that the client's end is told is not recorded"));
+            return Err(Flaw::Because("of a client's end no settle is recorded"));
         }
         self.state.free_from = record.after;
         self.state.phase = Phase::Open;
-        self.stage.work(&[Act::Release])
+        self.machine.work(&[Act::Release])
     }
 
-    /// An end is dropped. Behind the second one the slot is free.
+    /// An end is dropped. After the second one the slot is free.
     pub(crate) fn drop_end(&mut self, side: Side, record: Record) -> Result<(), Flaw> {
         let phase = self.state.phase;
         match phase {
@@ -128,7 +130,7 @@ impl Player<'_> {
             Phase::Closing(_) => {
                 self.note_while_held()?;
                 self.state.phase = Phase::Free;
-                self.stage.work(&[Act::Close, Act::Retire, Act::Free])
+                self.machine.work(&[Act::Close, Act::Retire, Act::Free])
             }
             _ => Err(Flaw::Because("the connection has not ended")),
         }
@@ -136,13 +138,13 @@ impl Player<'_> {
 
     /// Whether the relay had failed by this count, so that it closed what was open.
     fn has_failed(&self, count: u64) -> bool {
-        match self.score.recording.failed {
+        match self.findings.recording.failed {
             Some(failed) => failed < count,
             None => false,
         }
     }
 
-    /// An end is dropped outside a turn. Behind the second one the slot is free.
+    /// An end is dropped outside a turn. After the second one the slot is free.
     fn drop_void(&mut self, side: Side, dropped: Option<Side>) -> Result<(), Flaw> {
         self.state.phase = match dropped {
             None => Phase::Void(Some(side)),
@@ -160,7 +162,7 @@ impl Player<'_> {
         }
     }
 
-    /// Nothing is left to do in the slot. What is left is told of the record that it came from.
+    /// Nothing is left to do in the slot. A flaw names the record that what is left came from.
     pub(crate) fn rest(&mut self) -> Result<(), Flaw> {
         match self.state.phase {
             Phase::Free => return Ok(()),
@@ -169,11 +171,11 @@ impl Player<'_> {
             _ => return Err(Flaw::Because("its turn has not ended")),
         }
         self.note_the_rest()?;
-        if self.stage.has_notes() {
+        if self.machine.has_notes() {
             self.last = self.posted;
             return Err(Flaw::Because("no turn took the note of this"));
         }
-        if self.stage.world().movable(0) {
+        if self.machine.world().movable(0) {
             return Err(Flaw::Because("the connection could move"));
         }
         Ok(())

@@ -1,20 +1,20 @@
-//! One slot is played, act by act.
+//! One slot is replayed, act by act.
 ghost use Rattle.std.specs.Prelude.{OnOk};
 ghost use Rattle.replaying.specs.Traces.{AreRuns, IsConnection};
 
 use crate::clock::Clock;
 use crate::flaw::Flaw;
+use crate::machine::Machine;
 use crate::posts::{Post, Posts, posts_at};
 use crate::recording::{Last, Numbered, Recording};
-use crate::stage::Stage;
-use crate::told::Told;
+use crate::results::Results;
 use crate::trace::{connection_len, is_connection};
 use records::{Act, Made, Opening, Polling, Record};
 use token::{Side, Token};
 
-/// What slots are played by.
+/// What was found out of a recording before its slots are replayed.
 #[derive(Clone, Copy)]
-pub(crate) struct Score<'a> {
+pub(crate) struct Findings<'a> {
     pub recording: &'a Recording,
     pub clock: &'a Clock,
     pub posts: &'a [Vec<Post>],
@@ -24,7 +24,7 @@ pub(crate) struct Score<'a> {
     pub rests: bool,
 }
 
-/// Where the play of a slot stands.
+/// Where the replay of a slot stands.
 #[derive(Clone, Copy)]
 pub(crate) enum Phase {
     /// No connection is open.
@@ -35,7 +35,7 @@ pub(crate) enum Phase {
     Open,
     /// A turn has made this many calls.
     Calling(usize),
-    /// A turn has ended quiet, and the ends are being told.
+    /// A turn has ended quiet, and its sockets are being settled.
     Settling,
     /// A turn has ended the connection, and this end was dropped.
     Closing(Option<Side>),
@@ -59,10 +59,10 @@ pub(crate) struct State {
     pub moved: u64,
 }
 
-/// A slot that is played.
+/// A slot that is replayed.
 #[derive(Drop)]
-pub(crate) struct Player<'a> {
-    pub score: Score<'a>,
+pub(crate) struct SlotReplay<'a> {
+    pub findings: Findings<'a>,
     pub slot: usize,
     pub poller: usize,
     /// The acts that follow the one at hand.
@@ -73,7 +73,7 @@ pub(crate) struct Player<'a> {
     pub last: Numbered,
     pub posted: Numbered,
     /// The world of the connection. It begins with the slot free, as the one before left it.
-    pub stage: Stage,
+    pub machine: Machine,
 }
 
 impl State {
@@ -114,63 +114,68 @@ fn opening_of(act: &Act) -> Option<(u64, Opening)> {
     }
 }
 
-impl<'a> Player<'a> {
-    /// A slot that is to be played, whose first act is this one.
-    pub(crate) fn new(score: Score<'a>, slot: usize, first: Numbered, stage: Stage) -> Player<'a> {
-        let poller = score.recording.split.poller_of(slot);
+impl<'a> SlotReplay<'a> {
+    /// A slot that is to be replayed, whose first act is this one.
+    pub(crate) fn new(
+        findings: Findings<'a>,
+        slot: usize,
+        first: Numbered,
+        machine: Machine,
+    ) -> SlotReplay<'a> {
+        let poller = findings.recording.split.poller_of(slot);
         let posted = first;
-        Player {
-            score,
+        SlotReplay {
+            findings,
             slot,
             poller,
-            next: score.recording.slot(slot),
+            next: findings.recording.slot(slot),
             posts: Posts {
-                reports: posts_at(score.posts, slot),
-                sweeps: posts_at(score.posts, score.recording.at_poller(poller)),
+                reports: posts_at(findings.posts, slot),
+                sweeps: posts_at(findings.posts, findings.recording.at_poller(poller)),
             },
             state: State::NEW,
             last: first,
             posted,
-            stage,
+            machine,
         }
     }
 
-    /// Plays all records of the slot.
-    pub(crate) fn play(
+    /// Replays all records of the slot.
+    pub(crate) fn run(
         &mut self,
         recording: &Recording,
         records: &'a [Numbered],
-        told: &mut Told,
+        results: &mut Results,
     ) -> Result<(), Flaw>
         ensures runs { OnOk result (AreRuns recording.now.header recording.now.failed records.now) }
     {
-        self.play_connections(recording, records, told)?;
+        self.replay_connections(recording, records, results)?;
         self.end_all()
     }
 
-    fn play_connections(
+    fn replay_connections(
         &mut self,
         recording: &Recording,
         records: &'a [Numbered],
-        told: &mut Told,
+        results: &mut Results,
     ) -> Result<(), Flaw>
         ensures runs { OnOk result (AreRuns recording.now.header recording.now.failed records.now) }
     {
         let mut rest = records;
         while !rest.is_empty() {
             let (connection, next) = rest.split_at(connection_len(rest));
-            self.play_connection(recording, connection, told)?;
+            self.replay_connection(recording, connection, results)?;
             rest = next;
         }
         Ok(())
     }
 
-    /// Plays the records of one connection, and compares them with what happened in its world.
-    fn play_connection(
+    /// Replays the records of one connection, and compares them with what happened in its world.
+    fn replay_connection(
         &mut self,
         recording: &Recording,
         records: &'a [Numbered],
-        told: &mut Told,
+        results: &mut Results,
     ) -> Result<(), Flaw>
         ensures runs { OnOk result (IsConnection recording.now.header recording.now.failed records.now) }
     {
@@ -181,9 +186,14 @@ impl<'a> Player<'a> {
             };
             self.last = *first;
             self.next = next;
-            self.act(first.record, told)?;
+            self.act(first.record, results)?;
         }
-        if is_connection(self.stage.alloc, recording, &self.stage.tape, records)? {
+        if is_connection(
+            self.machine.alloc,
+            recording,
+            &self.machine.history,
+            records,
+        )? {
             Ok(())
         } else {
             Err(Flaw::Because("the records are not those of the run"))
@@ -192,21 +202,21 @@ impl<'a> Player<'a> {
 
     /// Nothing more happens in the slot.
     fn end_all(&mut self) -> Result<(), Flaw> {
-        if self.score.rests {
+        if self.findings.rests {
             self.rest()?;
         }
-        if self.score.recording.last == Last::Ended {
+        if self.findings.recording.last == Last::Ended {
             return self.ended();
         }
         Ok(())
     }
 
-    fn act(&mut self, record: Record, told: &mut Told) -> Result<(), Flaw> {
+    fn act(&mut self, record: Record, results: &mut Results) -> Result<(), Flaw> {
         if let Some((token, made)) = wire_of(&record.act) {
             return self.wire(record, token, made);
         }
         if let Some((generation, opening)) = opening_of(&record.act) {
-            return self.open(told, record, generation, opening);
+            return self.open(results, record, generation, opening);
         }
         if matches!(record.act, Act::Begin(_)) {
             self.begin(record)

@@ -1,9 +1,9 @@
 //! What is written of a recording.
 use crate::flaw::Flaw;
 use crate::history::History;
+use crate::machine::Machine;
 use crate::recording::Recording;
-use crate::stage::Stage;
-use crate::told::{Flawed, Told, Whose};
+use crate::results::{Flawed, Results, Whose};
 use records::{Record, ReplayFault, Wanted};
 use script_text::{Page, Piece, event_reason, put_event, put_header};
 use std::alloc::{AllocError, Global};
@@ -14,23 +14,23 @@ use world::Event;
 const AT_ONCE: usize = 256;
 
 /// Writes what is wanted of a recording of runs.
-pub(crate) fn tell<W: Write>(
+pub(crate) fn write_results<W: Write>(
     alloc: Global,
     output: &mut W,
-    told: &Told,
+    results: &Results,
     recording: &Recording,
     left_out: usize,
 ) -> Result<(), ReplayFault> {
-    match (told.wanted, &told.script) {
-        (Wanted::Totals, _) => write(output, totals(alloc, told, recording.cut, left_out)),
-        (Wanted::Ends, _) => write_text(output, told.ends.as_str()),
-        (_, Some(tape)) => tell_script(alloc, output, tape),
+    match (results.wanted, &results.script) {
+        (Wanted::Totals, _) => write(output, totals(alloc, results, recording.cut, left_out)),
+        (Wanted::Ends, _) => write_text(output, results.ends.as_str()),
+        (_, Some(history)) => write_script(alloc, output, history),
         (_, None) => Err(ReplayFault::Unknown),
     }
 }
 
 /// Writes which record can stand at no place and why, and the script that leads there.
-pub(crate) fn tell_flaw<W: Write>(
+pub(crate) fn write_flaw<W: Write>(
     alloc: Global,
     output: &mut W,
     flawed: &Flawed,
@@ -38,14 +38,18 @@ pub(crate) fn tell_flaw<W: Write>(
 ) -> Result<(), ReplayFault> {
     let record = text_of(alloc, flawed.numbered.record)?;
     write(output, first_line(alloc, flawed, flaw, record.as_str()))?;
-    tell_script(alloc, output, &flawed.stage.tape)?;
-    write(output, refused(alloc, &flawed.stage))
+    write_script(alloc, output, &flawed.machine.history)?;
+    write(output, refused(alloc, &flawed.machine))
 }
 
 /// Writes the script of a world: its header, and a line for each event.
-fn tell_script<W: Write>(alloc: Global, output: &mut W, tape: &History) -> Result<(), ReplayFault> {
-    write(output, header(alloc, tape))?;
-    for events in tape.events().chunks(AT_ONCE) {
+fn write_script<W: Write>(
+    alloc: Global,
+    output: &mut W,
+    history: &History,
+) -> Result<(), ReplayFault> {
+    write(output, header(alloc, history))?;
+    for events in history.events().chunks(AT_ONCE) {
         write(output, script_of(alloc, events))?;
     }
     Ok(())
@@ -65,23 +69,23 @@ fn write_text<W: Write>(output: &mut W, text: &str) -> Result<(), ReplayFault> {
     }
 }
 
-/// That all is a run, what that came to, and what is not played.
-fn totals(alloc: Global, told: &Told, cut: Option<u64>, left_out: usize) -> Page {
+/// That all is a run, what that came to, and what is not replayed.
+fn totals(alloc: Global, results: &Results, cut: Option<u64>, left_out: usize) -> Page {
     let mut page = Page::new(alloc);
-    put_totals(&mut page, told);
+    put_totals(&mut page, results);
     put_left_out(&mut page, cut, left_out);
     page
 }
 
-fn put_totals(page: &mut Page, told: &Told) {
+fn put_totals(page: &mut Page, results: &Results) {
     page.put(&[
-        Piece::Number(told.connections),
+        Piece::Number(results.connections),
         Piece::Text(" connections, "),
-        Piece::Number(told.counts.sum()),
+        Piece::Number(results.counts.sum()),
         Piece::Text(" events: each is a run of the machine\n"),
     ]);
-    told.counts.put_lines(page);
-    let [client_read, target_read, client_written, target_written] = told.moved;
+    results.counts.put_lines(page);
+    let [client_read, target_read, client_written, target_written] = results.moved;
     page.put(&[
         Piece::Text("read client="),
         Piece::Number(client_read),
@@ -95,7 +99,7 @@ fn put_totals(page: &mut Page, told: &Told) {
     ]);
 }
 
-/// Adds what is not played, if anything.
+/// Adds what is not replayed, if anything.
 fn put_left_out(page: &mut Page, cut: Option<u64>, left_out: usize) {
     if let Some(line) = cut {
         page.put(&[
@@ -107,15 +111,15 @@ fn put_left_out(page: &mut Page, cut: Option<u64>, left_out: usize) {
     if left_out > 0 {
         page.put(&[
             Piece::Number(left_out as u64),
-            Piece::Text(" records behind the first lost one are left out\n"),
+            Piece::Text(" records after the first lost one are left out\n"),
         ]);
     }
 }
 
 /// The header of a world's script.
-fn header(alloc: Global, tape: &History) -> Page {
+fn header(alloc: Global, history: &History) -> Page {
     let mut page = Page::new(alloc);
-    put_header(&mut page, &tape.limits());
+    put_header(&mut page, &history.limits());
     page
 }
 
@@ -129,9 +133,9 @@ fn script_of(alloc: Global, events: &[Event]) -> Page {
 }
 
 /// The same for the event that was refused, if one was.
-fn refused(alloc: Global, stage: &Stage) -> Page {
+fn refused(alloc: Global, machine: &Machine) -> Page {
     let mut page = Page::new(alloc);
-    if let Some(event) = &stage.refused {
+    if let Some(event) = &machine.refused {
         put_line(&mut page, event);
     }
     page
@@ -153,7 +157,7 @@ fn first_line(alloc: Global, flawed: &Flawed, flaw: Flaw, record: &str) -> Page 
         Piece::Text(record),
         Piece::Text(": "),
     ]);
-    put_reason(&mut page, flaw, &flawed.stage);
+    put_reason(&mut page, flaw, &flawed.machine);
     page
 }
 
@@ -174,20 +178,20 @@ fn put_whose(page: &mut Page, whose: Whose) {
 }
 
 /// Adds why a record can stand at no place, and ends its line.
-fn put_reason(page: &mut Page, flaw: Flaw, stage: &Stage) {
-    match (flaw, &stage.refused) {
+fn put_reason(page: &mut Page, flaw: Flaw, machine: &Machine) {
+    match (flaw, &machine.refused) {
         (Flaw::Because(why), _) => page.put(&[Piece::Text(why), Piece::Text("\n")]),
         (Flaw::Refused, Some(event)) => {
             put_event(page, event);
-            let reason = event_reason(stage.world(), event);
+            let reason = event_reason(machine.world(), event);
             page.put(&[Piece::Text(": "), Piece::Text(reason), Piece::Text("\n")]);
         }
-        _ => put_next_call(page, stage),
+        _ => put_next_call(page, machine),
     }
 }
 
-fn put_next_call(page: &mut Page, stage: &Stage) {
-    let Some(next) = stage.next_call() else {
+fn put_next_call(page: &mut Page, machine: &Machine) {
+    let Some(next) = machine.next_call() else {
         return page.put(&[Piece::Text("no call comes next\n")]);
     };
     let (side, name) = (next.call.side().name(), next.call.kind().name());

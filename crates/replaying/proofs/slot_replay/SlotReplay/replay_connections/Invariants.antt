@@ -3,7 +3,7 @@ use Rattle.std.proofs.Common.{◌≡◌, ◌++◌, List, length}
 use Rattle.std.specs.Prelude.{All}
 use Rattle.replaying.specs.declared.recording.Numbered.{Numbered}
 use Rattle.replaying.specs.Traces.{IsConnection, joined}
-use Rattle.replaying.proofs.player.Player.play_connections.Given as goal
+use Rattle.replaying.proofs.slot_replay.SlotReplay.replay_connections.Given as goal
 
 abbrev pub invariant-loop-rest : goal.invariant-loop-rest
 invariant-loop-rest l =

@@ -32,7 +32,7 @@ struct Change {
 
 /// What is going on at some count.
 #[derive(Drop)]
-struct Crew {
+struct AtWork {
     /// For each poller, what may be its own.
     own: Vec<usize>,
     /// How many workers that takes at least.
@@ -40,13 +40,13 @@ struct Crew {
 }
 
 /// Refuses with `Broken` for a turn for which no thread is left.
-pub(crate) fn check_crew(alloc: Global, recording: &Recording) -> Result<(), ReplayFault> {
+pub(crate) fn check_threads(alloc: Global, recording: &Recording) -> Result<(), ReplayFault> {
     let changes = changes_of(alloc, recording)?;
-    let mut crew = Crew {
+    let mut at_work = AtWork {
         own: vec![in alloc; 0usize; recording.header.pollers]?,
         workers: 0,
     };
-    match crew.first_over(changes.as_slice(), recording.header.workers) {
+    match at_work.first_over(changes.as_slice(), recording.header.workers) {
         Some(line) => Err(broken(alloc, line, wanted("more turns at once than threads"))),
         None => Ok(()),
     }
@@ -147,7 +147,7 @@ impl Span {
     }
 }
 
-impl Crew {
+impl AtWork {
     /// The line of the first change by which there are more at work than these workers and the pollers.
     fn first_over(&mut self, changes: &[Change], workers: usize) -> Option<u64> {
         for change in changes {

@@ -11,13 +11,13 @@ use world::{Act, Change, Event, Lead, Limits, Polling, Reported, World};
 
 /// A world, with each event that has happened there, and the one that it refused.
 #[derive(Drop)]
-pub(crate) struct Stage {
+pub(crate) struct Machine {
     pub alloc: Global,
-    pub tape: History,
+    pub history: History,
     pub refused: Option<Event>,
 }
 
-impl Stage {
+impl Machine {
     /// The sizes of a world of one slot in which nothing is opened, so that no ring and no budget matters.
     pub(crate) const LIMITS: Limits = Limits {
         slots: 1,
@@ -30,19 +30,19 @@ impl Stage {
     };
 
     /// A world of these sizes, in which nothing has happened.
-    pub(crate) fn new(alloc: Global, limits: Limits) -> Result<Stage, AllocError>
+    pub(crate) fn new(alloc: Global, limits: Limits) -> Result<Machine, AllocError>
         requires { IsWithinLimits limits }
     {
-        Ok(Stage {
+        Ok(Machine {
             alloc,
-            tape: History::new(alloc, limits)?,
+            history: History::new(alloc, limits)?,
             refused: None,
         })
     }
 
     /// An event happens.
     pub(crate) fn put(&mut self, event: Event) -> Result<(), Flaw> {
-        match self.tape.put(event) {
+        match self.history.put(event) {
             Ok(()) => Ok(()),
             Err((Refusal::NoMemory, _)) => Err(Flaw::NoMemory),
             Err((Refusal::NotAllowed, event)) => {
@@ -71,7 +71,7 @@ impl Stage {
     }
 
     /// A report is polled and delivered. Where none is queued, it is one without cause.
-    pub(crate) fn hear(&mut self, name: Name, who: Reported) -> Result<(), Flaw> {
+    pub(crate) fn deliver(&mut self, name: Name, who: Reported) -> Result<(), Flaw> {
         if !self.is_queued(&name) {
             self.put(Event::Spurious(who))?;
         }
@@ -90,7 +90,7 @@ impl Stage {
     }
 
     pub(crate) fn world(&self) -> &World {
-        self.tape.world()
+        self.history.world()
     }
 
     /// Whether the slot has notes.

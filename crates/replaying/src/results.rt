@@ -1,8 +1,8 @@
-//! What is told of the worlds that were played.
+//! What came of the worlds in which slots and listeners were replayed.
 use crate::flaw::Flaw;
 use crate::history::History;
+use crate::machine::Machine;
 use crate::recording::Numbered;
-use crate::stage::Stage;
 use kernel_model::End;
 use records::Wanted;
 use relay_core::Verdict;
@@ -35,12 +35,12 @@ pub(crate) enum Whose {
 pub(crate) struct Flawed {
     pub whose: Whose,
     pub numbered: Numbered,
-    pub stage: Stage,
+    pub machine: Machine,
 }
 
-/// What is told of the worlds that were played.
+/// What came of the worlds in which slots and listeners were replayed.
 #[derive(Drop)]
-pub(crate) struct Told {
+pub(crate) struct Results {
     pub wanted: Wanted,
     /// How many connections there were, how many events of each kind, and what moved.
     pub connections: u64,
@@ -50,7 +50,7 @@ pub(crate) struct Told {
     pub ends: String,
     /// The world of the connection whose script is wanted.
     pub script: Option<History>,
-    /// Where a play did not go on.
+    /// Where the replay stopped.
     pub flawed: Option<Flawed>,
 }
 
@@ -84,9 +84,9 @@ impl Became {
     }
 }
 
-impl Told {
-    pub(crate) fn new(alloc: Global, wanted: Wanted) -> Told {
-        Told {
+impl Results {
+    pub(crate) fn new(alloc: Global, wanted: Wanted) -> Results {
+        Results {
             wanted,
             connections: 0,
             counts: Counts::NONE,
@@ -97,23 +97,23 @@ impl Told {
         }
     }
 
-    /// A play does not go on from this record.
-    pub(crate) fn end(&mut self, whose: Whose, numbered: Numbered, stage: Stage) {
+    /// The replay stops at this record.
+    pub(crate) fn end(&mut self, whose: Whose, numbered: Numbered, machine: Machine) {
         self.flawed = Some(Flawed {
             whose,
             numbered,
-            stage,
+            machine,
         });
     }
 
-    /// The world of a slot or of a listener was played to its end, or as far as the recording goes.
-    pub(crate) fn take(&mut self, slot: usize, tape: History) -> Result<(), Flaw> {
-        for event in tape.events() {
+    /// The world of a slot or of a listener was replayed to its end, or as far as the recording goes.
+    pub(crate) fn take(&mut self, slot: usize, history: History) -> Result<(), Flaw> {
+        for event in history.events() {
             self.counts.count(event);
         }
-        let became = Became::of(tape.world());
+        let became = Became::of(history.world());
         if self.add(slot, &became)? {
-            self.script = Some(tape);
+            self.script = Some(history);
         }
         Ok(())
     }

@@ -3,11 +3,11 @@ use Rattle.std.specs.Prelude.{All, take}
 use Rattle.replaying.specs.declared.recording.Numbered.{Numbered}
 use Rattle.replaying.specs.Traces.{IsConnection, joined}
 use Rattle.replaying.proofs.Traces.{one_more}
-use Rattle.replaying.proofs.player.Player.play_connections.Goals as goal
+use Rattle.replaying.proofs.slot_replay.SlotReplay.replay_connections.Goals as goal
 
 pub loop-rest-preserved : goal.loop-rest-preserved
 loop-rest-preserved c =
     let P : List Numbered → Type 0 = IsConnection c.args.recording.now.header c.args.recording.now.failed in
-    let played : P (take c.connection_len.result c.loop-rest.rest.now) = subst P c.split_at.ensures.front c.in_ok-play_connection.ensures.runs in
+    let played : P (take c.connection_len.result c.loop-rest.rest.now) = subst P c.split_at.ensures.front c.in_ok-replay_connection.ensures.runs in
     subst (λ (next : List Numbered). (done : List (List Numbered)) × (joined done ++ next ≡ c.args.records.now) × All P done) (sym c.split_at.ensures.back)
     (one_more P c.args.records.now c.loop-rest.rest.now c.connection_len.result c.loop-rest.invariant played)
