@@ -64,6 +64,7 @@ where
     ensures failed { IfOk result (λ made. map (λ poller. poller.failed) made.pollers.items ≡ map F.failed fronts.items) }
     ensures waker { IfOk result (λ made. made.shared.waker ≡ waker) }
     ensures workers { IfOk result (λ made. made.workers ≡ settings.now.workers) }
+    ensures split { IfOk result (λ made. made.split ≡ split) }
     ensures refused { IfErr result (λ fault. fault ≡ ServerFault.NoMemory) }
 {
     let threads = split.pollers() + settings.workers;
