@@ -29,6 +29,14 @@ abbrev pub AreMade : {S : Type 0} → (Act → ℕ → S → S → Type 0) → �
 AreMade made slot [] old new = new ≡ old
 AreMade {S} made slot (act ∷ acts) old new = (between : S) × made act slot old between × AreMade made slot acts between new
 
+-- The acts of an opening: its sockets are registered, and then the connection is placed
+
+abbrev pub placing : List Act
+placing = Adopt ∷ Enter ∷ Discard ∷ PutIn ∷ Post ∷ Release ∷ []
+
+abbrev pub open_slot : List Act
+open_slot = Register ∷ placing
+
 -- The acts of a turn but its calls. Where its release answers Wake, it puts the ticket
 
 abbrev pub leaving : Bool → List Act

@@ -1,20 +1,27 @@
 //! The acts of a thread at a slot.
-use crate::front::{Front, Settle};
+ghost use Rattle.std.specs.Prelude.{◌≡◌, IfOk};
+
+use crate::front::{Front, Opened, Settle, Unopened};
 use crate::shared::Shared;
 use berths::{Berth, Berths, Occupied};
-use claims::{ClaimSeat, Claimed, Claims, Posted, Released};
+use claims::{Adopted, ClaimSeat, Claimed, Claims, Posted, Released};
+use log::Log;
 use ready::{FreeQueue, Full, ReadyQueue, Ticket};
 use relay_core::Pair;
+use std::alloc::{AllocError, Global};
+use std::marker::Model;
 use std::sync::Wait;
+use token::Token;
 
 /// The acts of a thread at a slot's word, and those by which it hands on the slot. Each is one call of what all threads
-/// share. A turn is generic over them, so that its clauses can say which acts it makes, and in which order: nothing but
-/// the call of an act shows that it was made. In the product this is `()`, which makes each act and nothing else.
+/// share, but for the poller's own table. A turn and an opening are generic over them, so that their clauses can say
+/// which acts they make, and in which order: nothing but the call of an act shows that it was made. In the product this
+/// is `()`, which makes each act and nothing else.
 pub trait Acts {
-    ghost use Rattle.std.specs.Prelude.{◌≡◌, ◌<◌, ℕ, [], ◌∷◌, IfErr, OnOk, OnErr};
+    ghost use Rattle.std.specs.Prelude.{◌≡◌, ◌<◌, ℕ, [], ◌∷◌, length, slice_set, IfErr, OnOk, OnErr};
     ghost use Rattle.claims.specs.declared.view.Exchange.TheVariants as exchange;
     ghost use Rattle.claims.specs.Seats.{Holds, Adds};
-    ghost use Rattle.claims.specs.Calls.{PostChange, ClaimChange, ReleaseChange};
+    ghost use Rattle.claims.specs.Calls.{PostChange, ClaimChange, ReleaseChange, AdoptChange};
     ghost use Rattle.ready.specs.Steps.{PutOne, HeldOnce};
     ghost use Rattle.dispatch.specs.Acts as act;
 
@@ -67,6 +74,19 @@ pub trait Acts {
         ensures made { made act.Retire slot self.old self.new }
         ensures change { Adds slot (exchange.Retire ∷ []) seat.old seat.new };
 
+    /// [`Claims::adopt`].
+    fn adopt(&mut self, claims: &Claims, seat: &mut ClaimSeat, slot: usize) -> Adopted
+        requires same { seat.old.table ≡ claims.now }
+        requires inside { slot < claims.now.words }
+        ensures made { made act.Adopt slot self.old self.new }
+        ensures change { AdoptChange slot seat.old result seat.new };
+
+    /// Writes the ticket's generation into a poller's table of the slots' generations.
+    fn enter(&mut self, table: &mut Vec<u64>, ticket: Ticket)
+        requires inside { ticket.slot < length table.old.items }
+        ensures made { made act.Enter ticket.slot self.old self.new }
+        ensures entered { table.new.items ≡ slice_set table.old.items ticket.slot ticket.generation };
+
     /// [`ReadyQueue::put`].
     fn put_ticket<R: Wait>(
         &mut self,
@@ -96,9 +116,39 @@ pub trait Acts {
         ensures capacity { free.new.capacity ≡ free.old.capacity };
 }
 
+/// The place of each slot's connection, which nothing but [`Moves`] reaches.
+///
+/// In a clause it is the number of slots.
+#[derive(Drop)]
+pub struct Places<C, T> {
+    berths: Berths<C, T>,
+}
+
+impl<C, T> Model for Places<C, T> {
+    ghost use Rattle.std.specs.Prelude.{ℕ};
+
+    ghost Value = { ℕ };
+
+    ghost view = { λ p. p.berths };
+}
+
+impl<C, T> Places<C, T> {
+    /// An empty place for each of `slots` slots. Fails only if there is not enough memory ([`Berths::new`]).
+    pub fn new(alloc: Global, slots: usize) -> Result<Places<C, T>, AllocError>
+    where
+        C: Drop,
+        T: Drop,
+        ensures { IfOk result (λ places. places ≡ slots) }
+    {
+        Ok(Places {
+            berths: Berths::new(alloc, slots)?,
+        })
+    }
+}
+
 /// The acts of a thread with a slot's connection.
 pub trait Moves<F: Front>: Acts {
-    ghost use Rattle.std.specs.Prelude.{◌≡◌, ◌<◌, ℕ, IfSome};
+    ghost use Rattle.std.specs.Prelude.{◌≡◌, ◌<◌, ℕ, IfSome, IfOk, IfErr, OnOk, OnErr};
     ghost use Rattle.claims.specs.Seats.{Holds};
     ghost use Rattle.relay_core.specs.Pairs.{PairState};
     ghost use Rattle.berths.specs.declared.berths.Berth.{Berth};
@@ -110,29 +160,48 @@ pub trait Moves<F: Front>: Acts {
     // The bytes of this pair were counted at a slot.
     ghost counted: { ℕ → PairState → Self → Type 0 };
 
-    /// [`Berths::take_out`].
+    /// Starts the connection to the target, and registers both sockets ([`Front::open`]). If it is refused, no act is
+    /// made.
+    fn register<N: Log>(
+        &mut self,
+        rt: &N,
+        front: &mut F,
+        client: &mut F::Client,
+        client_token: Token,
+        target_token: Token,
+    ) -> Result<Opened<F::Target>, Unopened>
+        ensures made { OnOk result (Self.made act.Register client_token.slot self.old self.new) }
+        ensures none { OnErr result (self.new ≡ self.old) }
+        ensures told { IfOk result (λ opened. F.may_tell client.old opened.route) }
+        ensures refused { IfErr result (λ why. F.may_refuse client.old why) }
+        ensures reported { F.reported front.new ≡ F.reported front.old }
+        ensures failed { F.failed front.new ≡ F.failed front.old }
+        ensures waited { F.waited front.new ≡ F.waited front.old }
+        ensures listens { F.listens front.new ≡ F.listens front.old };
+
+    /// Takes a connection out of its place, if one is there ([`Berths::take_out`]).
     fn take_out<R: Wait>(
         &mut self,
         rt: &R,
-        berths: &Berths<F::Client, F::Target>,
+        places: &Places<F::Client, F::Target>,
         seat: &ClaimSeat,
         slot: usize,
     ) -> Option<Berth<F::Client, F::Target>>
-        requires inside { slot < berths.now }
+        requires inside { slot < places.now }
         requires holder { Holds seat.now slot }
         ensures made { Self.made act.TakeOut slot self.old self.new }
         ensures moved { IfSome result (λ berth. moved berth self.new) };
 
-    /// [`Berths::put_in`].
+    /// Puts a connection into its place, unless one is there ([`Berths::put_in`]).
     fn put_in<R: Wait>(
         &mut self,
         rt: &R,
-        berths: &Berths<F::Client, F::Target>,
+        places: &Places<F::Client, F::Target>,
         seat: &ClaimSeat,
         slot: usize,
         berth: Berth<F::Client, F::Target>,
     ) -> Result<(), Occupied<Berth<F::Client, F::Target>>>
-        requires inside { slot < berths.now }
+        requires inside { slot < places.now }
         requires holder { Holds seat.now slot }
         ensures made { Self.made act.PutIn slot self.old self.new }
         ensures moved { moved berth self.new };
@@ -185,6 +254,14 @@ impl Acts for () {
         claims.retire(seat, slot);
     }
 
+    fn adopt(&mut self, claims: &Claims, seat: &mut ClaimSeat, slot: usize) -> Adopted {
+        claims.adopt(seat, slot)
+    }
+
+    fn enter(&mut self, table: &mut Vec<u64>, ticket: Ticket) {
+        table[ticket.slot] = ticket.generation;
+    }
+
     fn put_ticket<R: Wait>(
         &mut self,
         rt: &R,
@@ -212,29 +289,40 @@ impl<F: Front> Moves<F> for () {
 
     ghost counted = { λ _ _ _. Unit {0} };
 
+    fn register<N: Log>(
+        &mut self,
+        rt: &N,
+        front: &mut F,
+        client: &mut F::Client,
+        client_token: Token,
+        target_token: Token,
+    ) -> Result<Opened<F::Target>, Unopened> {
+        front.open(rt, client, client_token, target_token)
+    }
+
     fn take_out<R: Wait>(
         &mut self,
         rt: &R,
-        berths: &Berths<F::Client, F::Target>,
+        places: &Places<F::Client, F::Target>,
         seat: &ClaimSeat,
         slot: usize,
     ) -> Option<Berth<F::Client, F::Target>> {
-        berths.take_out(rt, seat, slot)
+        places.berths.take_out(rt, seat, slot)
     }
 
     fn put_in<R: Wait>(
         &mut self,
         rt: &R,
-        berths: &Berths<F::Client, F::Target>,
+        places: &Places<F::Client, F::Target>,
         seat: &ClaimSeat,
         slot: usize,
         berth: Berth<F::Client, F::Target>,
     ) -> Result<(), Occupied<Berth<F::Client, F::Target>>>
-        requires inside { slot < berths.now }
+        requires inside { slot < places.now }
         requires holder { Holds seat.now slot }
         ensures { Unit {0} }
     {
-        berths.put_in(rt, seat, slot, berth)
+        places.berths.put_in(rt, seat, slot, berth)
     }
 
     fn settle(&mut self, _slot: usize, berth: &mut Berth<F::Client, F::Target>) {

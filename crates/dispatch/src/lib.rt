@@ -9,7 +9,8 @@
 //!   are made from [`Parts`].
 //! - There may be several pollers, each with a [`Part`] of the slots, as [`Split`] deals them, and with [`HeavyMarks`],
 //!   by which its thread leaves tickets to the workers.
-//! - [`Acts`] and [`Moves`] are the acts of a thread at a slot, by which a turn says in which order it makes them.
+//! - [`Acts`] and [`Moves`] are the acts of a thread at a slot, by which a turn and an opening say in which order they make
+//!   them. Nothing else reaches the [`Places`] of the connections.
 //! - [`Gate`] lets a test hold a turn back.
 //! - [`Clock`] shows the second, for the idle limit ([`Timing`]).
 //!
@@ -34,7 +35,7 @@ mod route;
 mod shared;
 mod split;
 
-pub use acts::{Acts, Moves};
+pub use acts::{Acts, Moves, Places};
 pub use clock::{Clock, Timing};
 pub use front::{Front, Opened, Settle, Unopened, Waiting};
 pub use fullness::Fullness;

@@ -1,10 +1,10 @@
 ghost use Rattle.std.specs.Prelude.{◌≡◌, ◌≤◌};
 ghost use Rattle.dispatch.specs.Counted.{ended_by, moved_by};
 
+use crate::acts::Places;
 use crate::front::Front;
 use crate::fullness::Fullness;
 use crate::hand::Hand;
-use berths::Berths;
 use claims::{ClaimSeat, Claims};
 use ready::{FreeQueue, ReadyQueue};
 use relay_core::{MAX_READ, Pair};
@@ -18,7 +18,7 @@ pub struct Shared<F: Front> {
     /// The claim words: who holds which slot, and how many notes wait there.
     pub claims: Claims,
     /// The place of each slot's connection.
-    pub berths: Berths<F::Client, F::Target>,
+    pub places: Places<F::Client, F::Target>,
     /// What ends the poller's wait.
     pub waker: F::Waker,
     /// The most calls that one turn makes, 1 to 1,024.
@@ -29,7 +29,7 @@ pub struct Shared<F: Front> {
     pub full: Fullness,
     /// What the log has of clients.
     pub clients: ClientsAt,
-    pub ghost sized: { berths ≡ claims.words },
+    pub ghost sized: { places ≡ claims.words },
     pub ghost least_budget: { 1 ≤ budget },
     pub ghost most_budget: { budget ≤ 1024 },
 }

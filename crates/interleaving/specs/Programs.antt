@@ -5,6 +5,7 @@ use Rattle.relay_core.specs.Pairs.{PairState, verdict, is_live}
 use Rattle.relay_core.specs.Order.{next_call}
 pub use Rattle.dispatch.specs.Acts.{Act, Claim, TakeOut, TakeNotes, Call, PutIn, Post, Release, Close, Retire, Give, Register, Adopt, Enter, Discard, Settle, PutTicket}
 use Rattle.dispatch.specs.Acts.{gone_turn, quiet_turn, again_turn, ended_turn}
+use Rattle.dispatch.specs.Acts as server
 
 -- a turn begins so
 abbrev pub turn : List Act
@@ -42,9 +43,10 @@ seen (Settle ∷ acts) = seen acts
 seen (PutTicket ∷ acts) = seen acts
 seen (act ∷ acts) = act ∷ seen acts
 
--- the acts that a turn of the server makes are these programs, but for its calls
-pub record TurnsAreThese : Type 0 where
+-- the acts that a turn of the server makes are these programs, but for its calls; and so are those of an opening
+pub record ProgramsAreThese : Type 0 where
   pub gone : (woke : Bool) → seen (gone_turn false woke) ≡ Claim ∷ TakeOut ∷ gone
   pub quiet : (woke : Bool) → seen (quiet_turn woke) ≡ turn ++ quiet
   pub again : (woke : Bool) → seen (again_turn woke) ≡ turn ++ again
   pub ended : seen (ended_turn true) ≡ turn ++ ended
+  pub opening : server.open_slot ≡ open_slot

@@ -23,7 +23,8 @@ use Rattle.ready.specs.Steps.{EndState}
 use Rattle.dispatch.specs.Hands.{HandState, ticket_room}
 use Rattle.dispatch.specs.Limits.{last_generation}
 use Rattle.rounds.specs.Deliveries.{at_slot}
-use Rattle.rounds.specs.Openings.{times, slots_in, AreIn, AreOpened, SlotsCounted, OnlyTook, Between, LetGo, Started, Connected, AcceptDone, IsOpened, IsLost, IsSpent, AreLost, Fate, next_in, Opened, Dropped, Lost, DropsFor}
+use Rattle.dispatch.specs.Acts.{Act, AreMade, Register, Adopt, placing}
+use Rattle.rounds.specs.Openings.{times, slots_in, AreIn, AreOpened, SlotsCounted, OnlyTook, Between, LetGo, Started, Connected, AcceptDone, IsOpened, IsLost, IsSpent, AreLost, Fate, next_in, Opened, Dropped, Spent, Held, DropsFor}
 use Rattle.dispatch.specs.Splits.{IsIn}
 use Rattle.rounds.specs.Pollers.{PollerState, Counted, counted_up}
 use Rattle.dispatch.specs.declared.part.Part.{Part}
@@ -320,6 +321,16 @@ pub on_ok : {T E A B : Type 0} (r : Result T E) → (A → B) → OnOk r A → O
 on_ok (Ok x) f a = f a
 on_ok (Err e) f a = tt
 
+pub on_err : {T E A B : Type 0} (r : Result T E) → (A → B) → OnErr r A → OnErr r B
+on_err (Ok x) f a = tt
+on_err (Err e) f a = f a
+
+-- sockets that were not registered, or are closed again
+pub registered_once : {S : Type 0} (made : Act → ℕ → S → S → Type 0) (from to : S) {name slot : ℕ} → name ≡ slot → (to ≡ from) ⊎ made Register name from to
+    → AreMade made slot [] from to ⊎ AreMade made slot (Register ∷ []) from to
+registered_once made from to same (inl is) = inl is
+registered_once made from to same (inr act) = inr (to, subst (λ (s : ℕ). made Register s from to) same act, refl)
+
 -- nothing was opened, and nothing was taken
 pub accept_none : (p q : PollerState) (a : Own) → SamePoller p q → AcceptDone p q a a
 accept_none p q a same = accept_took p q a a same (took_none a)
@@ -438,36 +449,45 @@ opens_dropped p r q episodes dropped one two =
     subst (λ (s : PollerState). s ≡ opens p s) (sym two) (ap (λ (s : PollerState). record s { dropped = dropped }) one
     ∙ sym (ap (λ (s : PollerState). opens p (record s { dropped = dropped })) one))
 
-pub lost_counts : (p q : PollerState) (opened dropped : ℕ → Type 0) (a b : SeatState) (slots : List ℕ) (slot : ℕ) → slice_get slots 0 ≡ Some slot
-    → q ≡ record p { lost = counted_up p.lost 1 } → IsSpent p slot → IfSome (slice_get slots 0) (λ (s : ℕ). Fate s (opened s) (dropped s) p q a b)
-lost_counts p q opened dropped a b slots slot first is spent = subst (λ (o : Option ℕ). IfSome o (λ (s : ℕ). Fate s (opened s) (dropped s) p q a b)) (sym first) (Lost
+pub lost_counts : (p q : PollerState) (opened dropped : ℕ → Type 0) (made : ℕ → List Act → Type 0) (a b : SeatState) (slots : List ℕ) (slot : ℕ)
+    → slice_get slots 0 ≡ Some slot → q ≡ record p { lost = counted_up p.lost 1 } → IsSpent p slot → made slot []
+    → IfSome (slice_get slots 0) (λ (s : ℕ). Fate s (opened s) (dropped s) (made s) p q a b)
+lost_counts p q opened dropped made a b slots slot first is spent none =
+    subst (λ (o : Option ℕ). IfSome o (λ (s : ℕ). Fate s (opened s) (dropped s) (made s) p q a b)) (sym first) (Spent
     (ap (λ (s : PollerState). s.opened) is, ap (λ (s : PollerState). s.dropped) is, ap (λ (s : PollerState). s.lost) is, ap (λ (s : PollerState). s.episodes) is)
-    (inl spent))
+    spent none)
 
-pub dropped_counts : (p r q : PollerState) (opened dropped : ℕ → Type 0) (a b : SeatState) (slots : List ℕ) (slot : ℕ) (cause : Cause) → dropped slot → slice_get slots 0 ≡ Some slot
+pub dropped_counts : (p r q : PollerState) (opened dropped : ℕ → Type 0) (made : ℕ → List Act → Type 0) (a b : SeatState) (slots : List ℕ) (slot : ℕ) (cause : Cause)
+    → dropped slot → slice_get slots 0 ≡ Some slot
     → r ≡ record p { episodes = record p.episodes { drops = dropped_for cause p.second p.episodes.drops } } → q ≡ record r { dropped = counted_up r.dropped 1 }
-    → IfSome (slice_get slots 0) (λ (s : ℕ). Fate s (opened s) (dropped s) p q a b)
-dropped_counts p r q opened dropped a b slots slot cause counted first one two = subst (λ (o : Option ℕ). IfSome o (λ (s : ℕ). Fate s (opened s) (dropped s) p q a b)) (sym first) (Dropped (
-  ap (λ (s : PollerState). s.opened) two ∙ ap (λ (s : PollerState). s.opened) one,
-  ap (λ (s : PollerState). s.dropped) two ∙ ap (λ (s : PollerState). counted_up s.dropped 1) one,
-  ap (λ (s : PollerState). s.lost) two ∙ ap (λ (s : PollerState). s.lost) one,
-  (cause, ap (λ (s : PollerState). s.episodes) two ∙ ap (λ (s : PollerState). s.episodes) one),
-) counted)
+    → made slot [] ⊎ made slot (Register ∷ [])
+    → IfSome (slice_get slots 0) (λ (s : ℕ). Fate s (opened s) (dropped s) (made s) p q a b)
+dropped_counts p r q opened dropped made a b slots slot cause counted first one two acts =
+    subst (λ (o : Option ℕ). IfSome o (λ (s : ℕ). Fate s (opened s) (dropped s) (made s) p q a b)) (sym first) (Dropped (
+      ap (λ (s : PollerState). s.opened) two ∙ ap (λ (s : PollerState). s.opened) one,
+      ap (λ (s : PollerState). s.dropped) two ∙ ap (λ (s : PollerState). counted_up s.dropped 1) one,
+      ap (λ (s : PollerState). s.lost) two ∙ ap (λ (s : PollerState). s.lost) one,
+      (cause, ap (λ (s : PollerState). s.episodes) two ∙ ap (λ (s : PollerState). s.episodes) one),
+    ) counted acts)
 
--- a connection was placed in it, or it was found not to be free
-placed_fate : (p q : PollerState) (opened dropped : Type 0) (a b : SeatState) (slot : ℕ) → (IsOpened p q × opened) ⊎ (IsLost p q × Adds slot (exchange.NotFree ∷ []) a b)
-    → Fate slot opened dropped p q a b
-placed_fate p q opened dropped a b slot (inl done) = Opened done.0 done.1
-placed_fate p q opened dropped a b slot (inr lost) = Lost lost.0 (inr lost.1)
+-- how a connection was placed in a slot, with the acts that were made from there on
+abbrev PlacedBy : (ℕ → List Act → Type 0) → (Ticket → Type 0) → Ticket → PollerState → PollerState → SeatState → SeatState → Type 0
+PlacedBy made told t p q a b = (IsOpened p q × told t × made t.slot placing) ⊎ (IsLost p q × Adds t.slot (exchange.NotFree ∷ []) a b × made t.slot (Adopt ∷ []))
 
-pub placed_counts : {E : Type 0} (r : Result (Unit {0}) E) (p s q : PollerState) (told : Ticket → Type 0) (dropped : ℕ → Type 0) (a b : SeatState) (slots : List ℕ) (slot : ℕ) (t : Ticket)
-    → slice_get slots 0 ≡ Some slot → s ≡ p → t ≡ next_in p slot → OnOk r ((IsOpened s q × told t) ⊎ (IsLost s q × Adds t.slot (exchange.NotFree ∷ []) a b))
-    → OnOk r (IfSome (slice_get slots 0) (λ (i : ℕ). Fate i (told (next_in p i)) (dropped i) p q a b))
-placed_counts r p s q told dropped a b slots slot t first same next =
-    on_ok r (λ is. subst (λ (o : Option ℕ). IfSome o (λ (i : ℕ). Fate i (told (next_in p i)) (dropped i) p q a b)) (sym first)
-    (placed_fate p q (told (next_in p slot)) (dropped slot) a b slot
-    (subst (λ (x : PollerState). (IsOpened x q × told (next_in p slot)) ⊎ (IsLost x q × Adds slot (exchange.NotFree ∷ []) a b)) same
-    (subst (λ (u : Ticket). (IsOpened s q × told u) ⊎ (IsLost s q × Adds u.slot (exchange.NotFree ∷ []) a b)) next is))))
+placed_fate : (p q : PollerState) (told : Ticket → Type 0) (dropped : Type 0) (after made : ℕ → List Act → Type 0) (a b : SeatState) (t : Ticket)
+    → ((acts : List Act) → after t.slot acts → made t.slot (Register ∷ acts)) → PlacedBy after told t p q a b → Fate t.slot (told t) dropped (made t.slot) p q a b
+placed_fate p q told dropped after made a b t joined (inl done) = Opened done.0 done.1 (joined placing done.2)
+placed_fate p q told dropped after made a b t joined (inr lost) = Held lost.0 lost.1 (joined (Adopt ∷ []) lost.2)
+
+pub placed_counts : {E : Type 0} (r : Result (Unit {0}) E) (p s q : PollerState) (told : Ticket → Type 0) (dropped : ℕ → Type 0) (after made : ℕ → List Act → Type 0) (a b : SeatState)
+    (slots : List ℕ) (slot : ℕ) (t : Ticket) → slice_get slots 0 ≡ Some slot → s ≡ p → t ≡ next_in p slot
+    → ((acts : List Act) → after t.slot acts → made t.slot (Register ∷ acts)) → OnOk r (PlacedBy after told t s q a b)
+    → OnOk r (IfSome (slice_get slots 0) (λ (i : ℕ). Fate i (told (next_in p i)) (dropped i) (made i) p q a b))
+placed_counts r p s q told dropped after made a b slots slot t first same next joined =
+    on_ok r (λ is. subst (λ (o : Option ℕ). IfSome o (λ (i : ℕ). Fate i (told (next_in p i)) (dropped i) (made i) p q a b)) (sym first)
+    (subst (λ (u : Ticket). Fate u.slot (told u) (dropped u.slot) (made u.slot) p q a b) next
+    (subst (λ (x : PollerState). Fate t.slot (told t) (dropped t.slot) (made t.slot) x q a b) same
+    (placed_fate s q told (dropped t.slot) after made a b t joined is))))
 
 -- a slot that has no next names
 pub no_names : (table : List ℕ) (slot : ℕ) → (slot ≤ 32767 → slot < length table → slice_index table slot ≡ last_generation)

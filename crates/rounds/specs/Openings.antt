@@ -1,5 +1,5 @@
 -- What accepting and opening connections does to what the poller's thread owns. Part of the promises.
-use Rattle.std.specs.Prelude.{◌≡◌, ◌⊎◌, ℕ, ◌+◌, ◌<◌, ◌≤◌, ◌==◌, Bool, false, List, [], ◌∷◌, ◌++◌, length, drop, map, Option, Some, None, slice_index, slice_set}
+use Rattle.std.specs.Prelude.{◌≡◌, ◌⊎◌, ℕ, ◌+◌, ◌<◌, ◌≤◌, ◌==◌, Bool, false, List, [], ◌∷◌, ◌++◌, length, drop, map, Option, Some, None, Result, Ok, Err, slice_index, slice_set}
 use Rattle.std.specs.List.{count_by}
 use Rattle.claims.specs.declared.view.Exchange.TheVariants as exchange
 use Rattle.claims.specs.Seats.{SeatState, TableId, Adds, HoldsNothing, account_at}
@@ -8,6 +8,7 @@ use Rattle.dispatch.specs.declared.shared.Own.{Own}
 use Rattle.claims.specs.Views.{minted_by}
 use Rattle.rounds.specs.Acts.{Act, made_by, opening, ActsMade, AreTries}
 use Rattle.rounds.specs.Deliveries.{at_slot}
+use Rattle.dispatch.specs.Acts as act
 use Rattle.dispatch.specs.Splits.{IsIn}
 use Rattle.dispatch.specs.Hands.{ticket_room}
 use Rattle.dispatch.specs.Limits.{last_generation}
@@ -135,15 +136,20 @@ DropsFor may_refuse may_tell proxy cause.Connect = may_refuse unopened.Connect
 DropsFor may_refuse may_tell proxy cause.Register = may_refuse unopened.Register
 DropsFor may_refuse may_tell proxy cause.Address = LeadTold may_tell proxy None
 
--- why a slot is lost: it is spent, or one exchange found that it is not free
-abbrev pub LostFor : PollerState → ℕ → SeatState → SeatState → Type 0
-LostFor p slot old new = IsSpent p slot ⊎ Adds slot (exchange.NotFree ∷ []) old new
+-- Which of the acts of an opening were made before its connection was placed: its sockets were registered; or else they may
+-- have been, and are closed again
+abbrev pub Registered : {S T E : Type 0} → (act.Act → ℕ → S → S → Type 0) → ℕ → Result T E → S → S → Type 0
+Registered made slot (Ok opened) from to = made act.Register slot from to
+Registered made slot (Err cause) from to = (to ≡ from) ⊎ made act.Register slot from to
 
--- what became of an accepted connection that was for this slot, with what is logged and counted of it
-pub data Fate (slot : ℕ) (opened dropped : Type 0) (old new : PollerState) (had has : SeatState) : Type 0 where
-  Opened : IsOpened old new → opened → Fate slot opened dropped old new had has
-  Dropped : IsDropped old new → dropped → Fate slot opened dropped old new had has
-  Lost : IsLost old new → LostFor old slot had has → Fate slot opened dropped old new had has
+-- What became of an accepted connection that was for this slot, with what is logged and counted of it, and the acts that were
+-- made there: it was opened; it was dropped; no connection can be opened in the slot; or one exchange found that it is not free
+pub data Fate (slot : ℕ) (opened dropped : Type 0) (made : List act.Act → Type 0) (old new : PollerState) (had has : SeatState) : Type 0 where
+  Opened : IsOpened old new → opened → made act.open_slot → Fate slot opened dropped made old new had has
+  Dropped : IsDropped old new → dropped → made [] ⊎ made (act.Register ∷ []) → Fate slot opened dropped made old new had has
+  Spent : IsLost old new → IsSpent old slot → made [] → Fate slot opened dropped made old new had has
+  Held : IsLost old new → Adds slot (exchange.NotFree ∷ []) had has → made (act.Register ∷ act.Adopt ∷ [])
+      → Fate slot opened dropped made old new had has
 
 -- the log was passed the line of an opening, which was counted at its slot
 abbrev pub OpeningLogged : (Level → Option (List ℕ) → Type 0) → (ℕ → Event → Type 0) → Ticket → Type 0
@@ -166,9 +172,10 @@ pub record IsNext (p : PollerState) (t : Ticket) : Type 0 where
 
 -- Placing a connection in a free slot: it was opened there, or the slot was found not to be free and is no longer used.
 -- At most one ticket more is in hand
-pub record Placed (logged : Ticket → Type 0) (t : Ticket) (old new : PollerState) (had has : Own) : Type 0 where
+pub record Placed (logged : Ticket → Type 0) (made : List act.Act → Type 0) (t : Ticket) (old new : PollerState) (had has : Own) : Type 0 where
   pub done : Connected (t ∷ []) [] [] old new had has ⊎ Connected [] (t.slot ∷ []) (t.slot ∷ []) old new had has
-  pub counted : (IsOpened old new × logged t) ⊎ (IsLost old new × Adds t.slot (exchange.NotFree ∷ []) had.seat has.seat)
+  pub counted : (IsOpened old new × logged t × made act.placing)
+      ⊎ (IsLost old new × Adds t.slot (exchange.NotFree ∷ []) had.seat has.seat × made (act.Adopt ∷ []))
   pub free : has.free ≡ had.free
   pub slots : has.hand.slots ≡ had.hand.slots
   pub room : ticket_room had.hand ≤ ticket_room has.hand + 1

@@ -7,7 +7,7 @@
 //! one whose opening failed. A connection whose sockets report nothing is looked at again by a round's sweep. What a
 //! round is lent is in `dispatch`; what becomes of the tickets is in `turns`.
 //!
-//! - [`Poller`] is what a poller keeps between its rounds, and [`Opening`] what its connections are opened with.
+//! - [`Poller`] is what a poller keeps between its rounds, and [`Opening`] what its connections are opened with ([`open`]).
 //! - [`Episodes`] is what a poller logs once for as long as it lasts, and [`Drops`] what it logs of clients that are
 //!   closed unopened.
 //!
@@ -35,7 +35,7 @@
 //!   once: what comes with it out of `Poller::accept` cannot be dropped, and only these counts take it (`Uncounted`). An
 //!   opening passes its line to the log, and both are counted at their slot (`OpeningLogged`, `DropCounted`). A connection
 //!   counts as dropped only if the log gets a line or a count of it (`Dropped`), and a slot is lost only if one
-//!   exchange found that it is not free, or if no connection can be opened there (`LostFor`). After an opening that
+//!   exchange found that it is not free (`Held`), or if no connection can be opened there (`Spent`). After an opening that
 //!   failed the slot is in hand, and nowhere else (`prepare`: `failed`; `round`: `slots`). Slots start at generation
 //!   0 (`Poller::new`), and a table has its poller's own alone (`IsOwnTable`).
 #![tactic(auto)]
@@ -55,6 +55,6 @@ mod sweeping;
 pub use delivering::deliver;
 pub use drops::{Drops, Tally};
 pub use episodes::Episodes;
-pub use opening::Opening;
-pub use poller::Poller;
+pub use opening::{Opening, open};
+pub use poller::{Poller, Uncounted};
 pub use round::poller_round;

@@ -1,15 +1,17 @@
 //! Opens an accepted connection, in the order in which it happens: a free slot, the names of the slot's next
 //! connection, the connection to the target, what the target is sent first, the pair, the place, and the one note
 //! that starts it.
-ghost use Rattle.std.specs.Prelude.{◌≡◌, ◌≢◌, ◌⊎◌, ◌+◌, ◌<◌, ◌≤◌, [], ◌∷◌, ◌++◌, length, Err, Some, None, IfOk, IfErr, OnOk, OnErr, OnSome, IfSome, IsNone, slice_get, slice_index};
+ghost use Rattle.std.specs.Prelude.{◌≡◌, ◌≢◌, ◌⊎◌, ◌+◌, ◌<◌, ◌≤◌, [], ◌∷◌, ◌++◌, drop, length, Err, Some, None, IfOk, IfErr, OnOk, OnErr, OnSome, IfSome, IsNone, slice_get, slice_index};
 ghost use Rattle.claims.specs.Seats.{HoldsNothing, OnlyAt};
 ghost use Rattle.relay_core.specs.Pairs.{fresh};
 ghost use Rattle.rounds.specs.Drops.{dropped_for};
+ghost use Rattle.dispatch.specs.Acts.{AreMade, open_slot, placing};
+ghost use Rattle.dispatch.specs.Acts as act;
 ghost use Rattle.dispatch.specs.Posts.{HoldsOnly, OnlyWorn};
 ghost use Rattle.dispatch.specs.Hands.{ticket_room};
 ghost use Rattle.dispatch.specs.Limits.{last_generation};
 ghost use Rattle.rounds.specs.Leads.{LeadTold};
-ghost use Rattle.rounds.specs.Openings.{next_in, Between, DropCounted, DropsFor, Fate, IsNext, LetGo, OneAccepted, OpeningLogged, Placed, Started};
+ghost use Rattle.rounds.specs.Openings.{next_in, Between, DropCounted, DropsFor, Fate, IsNext, LetGo, OneAccepted, OpeningLogged, Placed, Registered, SameQueues, Started};
 ghost use Rattle.rounds.specs.Pollers.{AreGenerations};
 
 use crate::dropping::Dropped;
@@ -17,7 +19,7 @@ use crate::lead::lead;
 use crate::poller::{Poller, Uncounted};
 use berths::Berth;
 use claims::{Adopted, Posted, Released};
-use dispatch::{Counting, Front, Hand, Opened, Own, Settle, Shared};
+use dispatch::{Acts, Counting, Front, Hand, Moves, Opened, Own, Settle, Shared};
 use log::Log;
 use ready::Ticket;
 use relay_core::Pair;
@@ -52,10 +54,15 @@ pub(crate) struct Names {
 /// A slot of another poller, outside the table, at its last generation or not free, none of which happens in any run,
 /// is no longer used, and the connection is closed.
 ///
+/// Its acts come in this order: both sockets are registered, the slot is adopted, the table has the new generation, the
+/// notes of the last connection are thrown away, the connection is put into its place, the note is posted, and the slot is
+/// released.
+///
 /// The only refusal is `Worn`: the seat has posted 2^56 times.
-pub(crate) fn open<F: Front + Counting, R: Wait + Logs>(
+pub fn open<F: Front + Counting, A: Moves<F>, R: Wait + Logs>(
     rt: &R,
     alloc: Global,
+    acts: &mut A,
     shared: &Shared<F>,
     own: &mut Own,
     poller: &mut Poller<F>,
@@ -68,8 +75,10 @@ pub(crate) fn open<F: Front + Counting, R: Wait + Logs>(
     ensures between { Between shared.now.claims own.new poller.new }
     ensures worn { IfErr result (λ fault. OnlyWorn fault own.new.seat) }
     ensures counted { OnOk result (IfSome (slice_get own.old.hand.slots 0) (λ slot. Fate slot
-        (OpeningLogged (R.logged rt.now) F.counted (next_in poller.old slot)) (DropCounted F.counted slot) poller.old poller.new
-        own.old.seat own.new.seat)) }
+        (OpeningLogged (R.logged rt.now) F.counted (next_in poller.old slot)) (DropCounted F.counted slot)
+        (λ made. AreMade A.made slot made acts.old acts.new) poller.old poller.new own.old.seat own.new.seat)) }
+    ensures in_order { OnErr result (IfSome (slice_get own.old.hand.slots 0)
+        (λ slot. AreMade A.made slot open_slot acts.old acts.new)) }
     ensures done { OnOk result (OneAccepted poller.old poller.new own.old own.new) }
     ensures ready { own.new.ready ≡ own.old.ready }
     ensures poller { poller.new ≡ record poller.old {
@@ -95,13 +104,14 @@ pub(crate) fn open<F: Front + Counting, R: Wait + Logs>(
     match prepare(
         rt,
         alloc,
+        acts,
         shared.clients,
         &mut own.hand,
         poller,
         client,
         names,
     ) {
-        Ok(berth) => place(rt, shared, own, poller, berth, uncounted),
+        Ok(berth) => place(rt, acts, shared, own, poller, berth, uncounted),
         Err(dropped) => {
             poller.count_dropped(shared, slot, dropped, uncounted);
             Ok(())
@@ -111,9 +121,10 @@ pub(crate) fn open<F: Front + Counting, R: Wait + Logs>(
 
 /// Starts the connection to the target, and makes the pair. If that fails, it is closed and logged or counted, and
 /// its slot is in hand again.
-fn prepare<F: Front, N: Log>(
+fn prepare<F: Front, A: Moves<F>, N: Log>(
     rt: &N,
     alloc: Global,
+    acts: &mut A,
     clients: ClientsAt,
     hand: &mut Hand,
     poller: &mut Poller<F>,
@@ -121,6 +132,7 @@ fn prepare<F: Front, N: Log>(
     names: Names,
 ) -> Result<Berth<F::Client, F::Target>, Dropped>
     requires { length hand.old.slots < hand.old.capacity }
+    ensures acts { Registered A.made names.client.slot result acts.old acts.new }
     ensures slot { IfOk result (λ berth. berth.pair.slot ≡ names.client.slot) }
     ensures generation { IfOk result (λ berth. berth.pair.generation ≡ names.client.generation) }
     ensures prepared { OnOk result (hand.new ≡ hand.old) }
@@ -134,7 +146,7 @@ fn prepare<F: Front, N: Log>(
         }) }
 {
     let slot = names.client.slot();
-    match connect(rt, alloc, clients, poller, client, names) {
+    match connect(rt, alloc, acts, clients, poller, client, names) {
         Ok(berth) => Ok(berth),
         Err(cause) => {
             hand.keep_slot(slot);
@@ -168,14 +180,16 @@ pub(crate) fn next_names(table: &[u64], slot: usize) -> Option<Names>
 
 /// Starts the connection to the target, and makes the pair. A refusal closes the client's connection, and the
 /// target's if it had been started, and the log may say whose it was.
-pub(crate) fn connect<F: Front, N: Log>(
+pub(crate) fn connect<F: Front, A: Moves<F>, N: Log>(
     rt: &N,
     alloc: Global,
+    acts: &mut A,
     clients: ClientsAt,
     poller: &mut Poller<F>,
     mut client: F::Client,
     names: Names,
 ) -> Result<Berth<F::Client, F::Target>, Cause>
+    ensures acts { Registered A.made names.client.slot result acts.old acts.new }
     ensures pair { IfOk result (λ berth. berth.pair ≡ fresh names.client.slot names.client.generation poller.old.opening.ring
         poller.old.second berth.pair.up.lead) }
     ensures second { IfOk result (λ berth. berth.second ≡ poller.old.second) }
@@ -184,7 +198,7 @@ pub(crate) fn connect<F: Front, N: Log>(
     ensures same { poller.new ≡ poller.old }
 {
     let second = poller.second;
-    match reach(rt, alloc, poller, &mut client, names) {
+    match reach(rt, alloc, acts, poller, &mut client, names) {
         Ok((pair, target)) => Ok(Berth {
             pair,
             second,
@@ -203,20 +217,28 @@ pub(crate) fn connect<F: Front, N: Log>(
 /// target's connection if it had been started. It is what the front answered, or `Address` if the line is to be sent
 /// and an address is missing, or `Memory`.
 #[tactic(auto, using(crate::proofs::Connections::refused_drops, crate::proofs::Connections::lacking_drops, crate::proofs::Connections::memory_drops))]
-fn reach<F: Front, N: Log>(
+fn reach<F: Front, A: Moves<F>, N: Log>(
     rt: &N,
     alloc: Global,
+    acts: &mut A,
     poller: &mut Poller<F>,
     client: &mut F::Client,
     names: Names,
 ) -> Result<(Pair, F::Target), Cause>
+    ensures acts { Registered A.made names.client.slot result acts.old acts.new }
     ensures pair { IfOk result (λ made. made.0 ≡ fresh names.client.slot names.client.generation poller.old.opening.ring
         poller.old.second made.0.up.lead) }
     ensures lead { IfOk result (λ made. LeadTold (F.may_tell client.old) poller.old.opening.proxy (Some made.0.up.lead)) }
     ensures cause { IfErr result (λ cause. DropsFor (F.may_refuse client.old) (F.may_tell client.old) poller.old.opening.proxy cause) }
     ensures same { poller.new ≡ poller.old }
 {
-    let Opened { target, route } = poller.front.open(rt, client, names.client, names.target)?;
+    let Opened { target, route } = acts.register(
+        rt,
+        &mut poller.front,
+        client,
+        names.client,
+        names.target,
+    )?;
     let opening = poller.opening;
     let lead = lead(alloc, opening.proxy, &route)?;
     let pair = Pair::new(
@@ -250,8 +272,9 @@ fn log_unopened<F: Front, N: Log>(rt: &N, clients: ClientsAt, client: &F::Client
 }
 
 /// Places a prepared connection in its slot, which has it from then on.
-fn place<F: Front + Counting, R: Wait + Logs>(
+fn place<F: Front + Counting, A: Moves<F>, R: Wait + Logs>(
     rt: &R,
+    acts: &mut A,
     shared: &Shared<F>,
     own: &mut Own,
     poller: &mut Poller<F>,
@@ -264,7 +287,9 @@ fn place<F: Front + Counting, R: Wait + Logs>(
     ensures between { Between shared.now.claims own.new poller.new }
     ensures worn { IfErr result (λ fault. OnlyWorn fault own.new.seat) }
     ensures placed { OnOk result (Placed (OpeningLogged (R.logged rt.now) F.counted)
+        (λ made. AreMade A.made berth.pair.slot made acts.old acts.new)
         (record { slot = berth.pair.slot; generation = berth.pair.generation }) poller.old poller.new own.old own.new) }
+    ensures in_order { OnErr result (AreMade A.made berth.pair.slot placing acts.old acts.new) }
     ensures poller { poller.new ≡ record poller.old {
       table = poller.new.table;
       opened = poller.new.opened;
@@ -277,12 +302,12 @@ fn place<F: Front + Counting, R: Wait + Logs>(
     if let Some(from) = F::peer(&berth.client) {
         log_peer(rt, shared.clients, slot, generation, &from);
     }
-    match shared.claims.adopt(&mut own.seat, slot) {
+    match acts.adopt(&shared.claims, &mut own.seat, slot) {
         Adopted::NotFree => poller.count_lost(uncounted),
         Adopted::Adopted => {
             let ticket = Ticket { slot, generation };
-            poller.count_opened(shared, ticket, uncounted);
-            start(rt, shared, own, ticket, berth)?;
+            poller.count_opened(acts, shared, ticket, uncounted);
+            start(rt, acts, shared, own, ticket, berth)?;
             poller.end_episodes(rt);
             log_open(rt, slot, generation);
         }
@@ -292,8 +317,9 @@ fn place<F: Front + Counting, R: Wait + Logs>(
 
 /// Puts a connection into the place of its slot, which is held, posts the note that starts it, and releases the slot.
 /// The notes of the previous connection are discarded.
-pub(crate) fn start<F: Front, R: Wait>(
+pub(crate) fn start<F: Front, A: Moves<F>, R: Wait>(
     rt: &R,
+    acts: &mut A,
     shared: &Shared<F>,
     own: &mut Own,
     ticket: Ticket,
@@ -303,19 +329,19 @@ pub(crate) fn start<F: Front, R: Wait>(
     requires inside { ticket.slot < shared.now.claims.words }
     requires holder { HoldsOnly ticket.slot own.old.seat }
     requires room { length own.old.hand.tickets < own.old.hand.capacity }
+    ensures made { AreMade A.made ticket.slot (drop 2 placing) acts.old acts.new }
     ensures idle { HoldsNothing own.new.seat }
     ensures only { OnlyAt ticket.slot own.old.seat own.new.seat }
     ensures worn { IfErr result (λ fault. OnlyWorn fault own.new.seat) }
     ensures started { OnOk result (Started ticket own.old own.new) }
-    ensures ready { own.new.ready ≡ own.old.ready }
-    ensures free { own.new.free ≡ own.old.free }
+    ensures queues { SameQueues own.old own.new }
 {
-    shared.claims.take(&mut own.seat, ticket.slot);
+    acts.discard(&shared.claims, &mut own.seat, ticket.slot);
     // A place that is not empty, which happens in no run, keeps what it has, and the connection is closed.
-    let _ = shared.berths.put_in(rt, &own.seat, ticket.slot, berth);
+    let _ = acts.put_in(rt, &shared.places, &own.seat, ticket.slot, berth);
     // A holder's own post never answers Wake: the release does.
-    let posted = shared.claims.post(&mut own.seat, ticket.slot);
-    let_go(shared, own, ticket);
+    let posted = acts.post(&shared.claims, &mut own.seat, ticket.slot);
+    let_go(acts, shared, own, ticket);
     match posted {
         Posted::Worn => Err(ServerFault::Worn),
         Posted::Wake | Posted::Quiet => Ok(()),
@@ -323,17 +349,17 @@ pub(crate) fn start<F: Front, R: Wait>(
 }
 
 /// Releases the slot of a connection that is in its place, and keeps the ticket in hand if notes wait.
-fn let_go<F: Front>(shared: &Shared<F>, own: &mut Own, ticket: Ticket)
+fn let_go<F: Front, A: Acts>(acts: &mut A, shared: &Shared<F>, own: &mut Own, ticket: Ticket)
     requires same { own.old.seat.table ≡ shared.now.claims }
     requires inside { ticket.slot < shared.now.claims.words }
     requires holder { HoldsOnly ticket.slot own.old.seat }
     requires room { length own.old.hand.tickets < own.old.hand.capacity }
+    ensures made { A.made act.Release ticket.slot acts.old acts.new }
     ensures idle { HoldsNothing own.new.seat }
     ensures left { LetGo ticket own.old own.new }
-    ensures ready { own.new.ready ≡ own.old.ready }
-    ensures free { own.new.free ≡ own.old.free }
+    ensures queues { SameQueues own.old own.new }
 {
-    if shared.claims.release(&mut own.seat, ticket.slot) == Released::Wake {
+    if acts.release(&shared.claims, &mut own.seat, ticket.slot) == Released::Wake {
         own.hand.keep_ticket(ticket);
     }
 }

@@ -1,5 +1,6 @@
 //! What a poller keeps between its rounds.
 ghost use Rattle.std.specs.Prelude.{◌≡◌, ◌-◌, ◌<◌, ◌≤◌, ◌↔◌, [], length, IfOk, OnOk, OnErr, IsTrue, replicate, slice_set, true, false};
+ghost use Rattle.dispatch.specs.Acts as act;
 ghost use Rattle.dispatch.specs.Limits.{last_generation};
 ghost use Rattle.dispatch.specs.Splits.{IsIn};
 ghost use Rattle.rounds.specs.Drops.{all_told_at, dropped_for, AreTold};
@@ -11,7 +12,7 @@ use crate::dropping::Dropped;
 use crate::episodes::Episodes;
 use crate::limits::MAX_ACCEPTS;
 use crate::opening::Opening;
-use dispatch::{Counting, Front, HeavyMarks, MAX_BATCH, Part, Shared};
+use dispatch::{Acts, Counting, Front, HeavyMarks, MAX_BATCH, Part, Shared};
 use ready::Ticket;
 use relay_log::{Cause, Logs};
 use statistics::Event;
@@ -60,7 +61,7 @@ pub struct Poller<F: Front> {
 /// A connection was accepted, and is counted nowhere yet. Nothing but [`Poller::accept`] makes one, and only
 /// `count_opened`, `count_dropped` and `count_lost` of that poller take it. It cannot be dropped, so each accepted
 /// connection is counted once.
-pub(crate) struct Uncounted(());
+pub struct Uncounted(());
 
 impl<F: Front> Model for Poller<F> {
     ghost use Rattle.std.specs.Prelude.{◌≤◌, length, vec_capacity};
@@ -283,19 +284,26 @@ impl<F: Front> Poller<F> {
     /// A round opens an accepted connection in a slot that its thread holds: the slot has the ticket's generation
     /// from now on. The statistics have it, too.
     #[tactic(auto, using(crate::proofs::Pollers::own_set))]
-    pub(crate) fn count_opened(&mut self, shared: &Shared<F>, ticket: Ticket, uncounted: Uncounted)
+    pub(crate) fn count_opened<A: Acts>(
+        &mut self,
+        acts: &mut A,
+        shared: &Shared<F>,
+        ticket: Ticket,
+        uncounted: Uncounted,
+    )
     where
         F: Counting,
         requires inside { ticket.slot < length self.old.table }
         requires own { IsIn self.old.part ticket.slot }
         requires generation { ticket.generation ≤ last_generation }
+        ensures made { A.made act.Enter ticket.slot acts.old acts.new }
         ensures poller { self.new ≡ record self.old {
           table = slice_set self.old.table ticket.slot ticket.generation;
           opened = counted_up self.old.opened 1;
         } }
         ensures counted { F.counted ticket.slot Event.Opened }
     {
-        self.table[ticket.slot] = ticket.generation;
+        acts.enter(&mut self.table, ticket);
         self.opened = self.opened.saturating_add(1);
         shared.count_opened(ticket.slot);
         uncounted.spend();

@@ -383,7 +383,7 @@ fn accept_next<F: Front, R: Wait + Log>(
     }
     match poller.accept() {
         Ok((client, uncounted)) => {
-            open(rt, alloc, shared, own, poller, client, uncounted)?;
+            open(rt, alloc, &mut (), shared, own, poller, client, uncounted)?;
             Ok(true)
         }
         Err(error) => Ok(not_accepted(rt, shared, poller, &error) != Accepted::Starved),

@@ -9,9 +9,8 @@ ghost use Rattle.dispatch.specs.Splits.{each_part, part_of, parts_of};
 ghost use Rattle.server.specs.Begins.{HasBegun};
 ghost use Rattle.settings.specs.Pollers.{pollers_for};
 
-use berths::Berths;
 use claims::Claims;
-use dispatch::{ClientsAt, Front, Fullness, Parts, ServerFault, Shared, Split};
+use dispatch::{ClientsAt, Front, Fullness, Parts, Places, ServerFault, Shared, Split};
 use ready::{FreeQueue, ReadyQueue};
 use rounds::{Opening, Poller};
 use settings::{Settings, pollers_for};
@@ -228,11 +227,11 @@ where
     ensures ready { IfOk result (λ made. made.1.ready.items ≡ replicate threads (unused settings.now.slots)) }
     ensures refused { IfErr result (λ fault. fault ≡ ServerFault.NoMemory) }
 {
-    let berths = Berths::new(alloc, settings.slots)?;
+    let places = Places::new(alloc, settings.slots)?;
     let (claims, parts) = open_claims(alloc, settings.slots, threads)?;
     let shared = Shared {
         claims,
-        berths,
+        places,
         waker,
         budget: settings.budget as usize,
         statistics: None,

@@ -73,7 +73,7 @@ pub(crate) fn take_out<F: Front, A: Moves<F>, R: Wait>(
     ensures empty { IfErr result (λ back. back ≡ ticket.slot) }
 {
     let slot = ticket.slot;
-    match acts.take_out(rt, &shared.berths, &own.seat, slot) {
+    match acts.take_out(rt, &shared.places, &own.seat, slot) {
         Some(berth) => Ok(Visit { ticket, berth }),
         None => Err(Back { slot }),
     }
@@ -107,7 +107,7 @@ pub(crate) fn put_in<F: Front, A: Moves<F>, R: Wait>(
     let Visit { ticket, berth } = visit;
     let slot = ticket.slot;
     acts.count_moved(shared, slot, &berth.pair);
-    let _ = acts.put_in(rt, &shared.berths, &own.seat, slot, berth);
+    let _ = acts.put_in(rt, &shared.places, &own.seat, slot, berth);
     Back { slot }
 }
 

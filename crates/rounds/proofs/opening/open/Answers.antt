@@ -1,10 +1,12 @@
-use Rattle.std.proofs.Common.{rules, ◌≡◌, ◌+◌, ◌<◌, ◌≤◌, ℕ, List, slice_index, length, refl, subst, inl, inr, ◌++◌, ◌∷◌, [], ap, sym, ◌∙◌}
+use Rattle.std.proofs.Common.{rules, Option, OnErr, IfSome, ◌≡◌, ◌+◌, ◌<◌, ◌≤◌, ℕ, List, slice_index, length, refl, subst, inl, inr, ◌++◌, ◌∷◌, [], ap, sym, ◌∙◌}
+use Rattle.dispatch.specs.Acts.{Act, AreMade, open_slot}
+use Rattle.dispatch.specs.Acts as act
 use Rattle.dispatch.specs.Hands.{HandState, ticket_room}
 use Rattle.dispatch.specs.Limits.{last_generation}
 use Rattle.rounds.specs.Pollers.{PollerState}
 use Rattle.token.specs.declared.token.Token.{Token}
 use Rattle.rounds.specs.Openings.{next_in, DropCounted, OpeningLogged}
-use Rattle.rounds.proofs.Connections.{some_first, opened_never, opened_not, opened_there, on_ok, same_dropped, opens_lost, opens_dropped, opens_placed, lost_counts, dropped_counts, placed_counts, no_names, room_still}
+use Rattle.rounds.proofs.Connections.{some_first, opened_never, opened_not, opened_there, on_ok, same_dropped, opens_lost, opens_dropped, opens_placed, lost_counts, dropped_counts, placed_counts, registered_once, on_err, no_names, room_still}
 use Rattle.rounds.proofs.opening.open.Goals as goal
 
 pub returns-in_default : goal.returns-in_default
@@ -31,8 +33,9 @@ returns-in_default-next_names g c =
         sized = ap (λ (s : PollerState). length s.table) c.count_lost-in_default-next_names.ensures ∙ c.requires.between.sized;
       };
       worn = tt;
-      counted = lost_counts c.args.poller.now c.count_lost-in_default-next_names.new.self _ _ c.args.own.now.seat c.args.own.now.seat c.args.own.now.hand.slots c.in-Some.slot first
-          c.count_lost-in_default-next_names.ensures (inr spent);
+      counted = lost_counts c.args.poller.now c.count_lost-in_default-next_names.new.self _ _ (λ (s : ℕ) (acts : List Act). AreMade g.A.Acts.made s acts c.args.acts.now c.args.acts.now)
+          c.args.own.now.seat c.args.own.now.seat c.args.own.now.hand.slots c.in-Some.slot first c.count_lost-in_default-next_names.ensures (inr spent) refl;
+      in_order = tt;
       done = record {
         done = opened_never c.args.poller.now c.count_lost-in_default-next_names.new.self c.args.own.now c.take_slot.new.self c.take_slot.ensures.left c.in-Some.slot first
             (inr spent) c.count_lost-in_default-next_names.ensures;
@@ -54,8 +57,11 @@ returns-in-Err g c =
         sized = ap (λ (s : PollerState). length s.table) c.count_dropped.ensures.poller ∙ ap (λ (s : PollerState). length s.table) c.in-Err.ensures.told ∙ c.requires.between.sized;
       };
       worn = tt;
-      counted = dropped_counts c.args.poller.now c.prepare.new.poller c.count_dropped.new.self _ _ c.args.own.now.seat c.args.own.now.seat c.args.own.now.hand.slots c.in-Some.slot
-          c.in-Err.dropped c.count_dropped.ensures.counted first c.in-Err.ensures.told c.count_dropped.ensures.poller;
+      counted = dropped_counts c.args.poller.now c.prepare.new.poller c.count_dropped.new.self _ _
+          (λ (s : ℕ) (acts : List Act). AreMade g.A.Acts.made s acts c.args.acts.now c.prepare.new.acts) c.args.own.now.seat c.args.own.now.seat c.args.own.now.hand.slots c.in-Some.slot
+          c.in-Err.dropped c.count_dropped.ensures.counted first c.in-Err.ensures.told c.count_dropped.ensures.poller
+          (registered_once g.A.Acts.made c.args.acts.now c.prepare.new.acts named c.in-Err.ensures.acts);
+      in_order = tt;
       done = record {
         done = opened_not c.args.poller.now c.count_dropped.new.self c.args.own.now c.take_slot.new.self c.take_slot.ensures.left c.in-Some.slot first c.prepare.new.hand here
             (same_dropped c.args.poller.now c.prepare.new.poller c.count_dropped.new.self _ _ c.in-Err.ensures.told c.count_dropped.ensures.poller);
@@ -71,6 +77,8 @@ returns-in-Ok g c =
     let first = sym c.take_slot.ensures.value ∙ c.in-Some.is in
     let hand = c.in-Ok.ensures.prepared ∙ c.take_slot.ensures.left in
     let here : c.in-Ok.berth.pair.slot ≡ c.in-Some.slot = c.in-Ok.ensures.slot ∙ ap (λ (t : Token). t.slot) c.in-Some-next_names.ensures.client in
+    let registered : g.A.Acts.made act.Register c.in-Ok.berth.pair.slot c.args.acts.now c.prepare.new.acts =
+    subst (λ (s : ℕ). g.A.Acts.made act.Register s c.args.acts.now c.prepare.new.acts) (sym c.in-Ok.ensures.slot) c.in-Ok.ensures.acts in
     let numbered : c.in-Ok.berth.pair.generation ≡ slice_index c.args.poller.now.table c.in-Some.slot + 1 =
     c.in-Ok.ensures.generation ∙ ap (λ (t : Token). t.generation) c.in-Some-next_names.ensures.client
     ∙ ap (λ (table : List ℕ). slice_index table c.in-Some.slot + 1) c.table.ensures.table in
@@ -80,9 +88,13 @@ returns-in-Ok g c =
       between = c.place.ensures.between;
       worn = c.place.ensures.worn;
       counted = placed_counts c.place.result c.args.poller.now c.prepare.new.poller c.place.new.poller (OpeningLogged (g.R.Logs.logged c.args.rt.now) g.F.Counting.counted)
-          (DropCounted g.F.Counting.counted) c.args.own.now.seat c.place.new.own.seat c.args.own.now.hand.slots
+          (DropCounted g.F.Counting.counted) (λ (s : ℕ) (acts : List Act). AreMade g.A.Acts.made s acts c.prepare.new.acts c.place.new.acts)
+          (λ (s : ℕ) (acts : List Act). AreMade g.A.Acts.made s acts c.args.acts.now c.place.new.acts) c.args.own.now.seat c.place.new.own.seat c.args.own.now.hand.slots
           c.in-Some.slot (record { slot = c.in-Ok.berth.pair.slot; generation = c.in-Ok.berth.pair.generation }) first c.in-Ok.ensures.same next
-          (on_ok c.place.result (λ x. x.counted) c.place.ensures.placed);
+          (λ acts made. (c.prepare.new.acts, registered, made)) (on_ok c.place.result (λ x. x.counted) c.place.ensures.placed);
+      in_order = subst (λ (o : Option ℕ). OnErr c.place.result (IfSome o (λ (s : ℕ). AreMade g.A.Acts.made s open_slot c.args.acts.now c.place.new.acts))) (sym first)
+          (on_err c.place.result (λ made. subst (λ (s : ℕ). AreMade g.A.Acts.made s open_slot c.args.acts.now c.place.new.acts) here (c.prepare.new.acts, registered, made))
+          c.place.ensures.in_order);
       done = on_ok c.place.result
           (λ x. record {
             done = opened_there c.args.poller.now c.place.new.poller c.args.own.now c.prepare.new.hand hand c.in-Some.slot first

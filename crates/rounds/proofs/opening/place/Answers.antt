@@ -5,12 +5,13 @@ use Rattle.claims.specs.Seats.{Adds}
 use Rattle.claims.proofs.Seats.{account_after, adds_both, holds_nothing_again}
 use Rattle.rounds.specs.Acts.{opening}
 use Rattle.dispatch.proofs.Holding.{holds_from}
+use Rattle.dispatch.specs.Acts.{AreMade, Adopt, placing}
 use Rattle.ready.specs.declared.ticket.Ticket.{Ticket}
 use Rattle.dispatch.specs.Hands.{HandState}
 use Rattle.dispatch.specs.Splits.{IsIn}
 use Rattle.rounds.specs.Pollers.{PollerState}
 use Rattle.rounds.specs.Openings.{Connected, OpeningLogged}
-use Rattle.rounds.proofs.Connections.{is_opened, not_ok, not_placed, passed_up, placed, places_lost, places_opened, places_told, room_less, still_sized}
+use Rattle.rounds.proofs.Connections.{if_fails, is_opened, not_ok, not_placed, passed_up, placed, places_lost, places_opened, places_told, room_less, still_sized}
 use Rattle.rounds.proofs.opening.place.Goals as goal
 
 pub returns-in_ok-start-in-Adopted : goal.returns-in_ok-start-in-Adopted
@@ -37,18 +38,21 @@ returns-in_ok-start-in-Adopted g c =
             (subst (λ (t : Ticket). t.generation ≡ slice_index c.args.poller.now.table t.slot + 1) (sym named) c.requires.next.generation)
             (adds_both ticket.slot (exchange.Adopted change.0 ∷ []) (drop 1 (opening 0 started.noted)) c.args.own.now.seat c.adopt.new.seat c.start.new.own.seat change.1
             started.seat)
-            started.hand c.start.ensures.ready c.start.ensures.free));
+            started.hand c.start.ensures.queues.ready c.start.ensures.queues.free));
         counted = inl (
           is_opened c.args.poller.now c.count_opened.new.self ticket c.count_opened.ensures.poller c.end_episodes.new.self c.end_episodes.ensures,
           subst (λ (t : Ticket). OpeningLogged (g.R.Logs.logged c.args.rt.now) g.F.Counting.counted t) named (c.log_open.ensures, c.count_opened.ensures.counted),
+          subst (λ (s : ℕ). AreMade g.A.Acts.made s placing c.args.acts.now c.start.new.acts) c.slot-slot.ensures
+              (c.adopt.new.self, c.adopt.ensures.made, (c.count_opened.new.acts, c.count_opened.ensures.made, c.start.ensures.made)),
         );
-        free = c.start.ensures.free;
+        free = c.start.ensures.queues.free;
         slots = ap (λ (h : HandState). h.slots) c.in_ok-start-in-Adopted.ensures.started.hand;
         room = room_less c.args.own.now.hand c.start.new.own.hand ticket c.in_ok-start-in-Adopted.ensures.started.hand;
       };
       poller = places_told c.args.poller.now c.count_opened.new.self c.end_episodes.new.self _ (places_opened c.args.poller.now c.count_opened.new.self _ _ c.count_opened.ensures.poller)
           c.end_episodes.ensures;
-      ready = c.start.ensures.ready;
+      ready = c.start.ensures.queues.ready;
+      in_order = tt;
     }
 
 pub returns-in_err-start-in-Adopted : goal.returns-in_err-start-in-Adopted
@@ -63,8 +67,10 @@ returns-in_err-start-in-Adopted g c =
       };
       worn = passed_up c.from_residual.result c.in_err-start-in-Adopted.field-0.0 _ c.from_residual.ensures.1 c.in_err-start-in-Adopted.ensures.worn;
       placed = not_ok c.from_residual.result _ failed;
+      in_order = if_fails c.from_residual.result (subst (λ (s : ℕ). AreMade g.A.Acts.made s placing c.args.acts.now c.start.new.acts) c.slot-slot.ensures
+          (c.adopt.new.self, c.adopt.ensures.made, (c.count_opened.new.acts, c.count_opened.ensures.made, c.start.ensures.made)));
       poller = places_opened c.args.poller.now c.count_opened.new.self _ _ c.count_opened.ensures.poller;
-      ready = c.start.ensures.ready;
+      ready = c.start.ensures.queues.ready;
     }
 
 pub returns-in-NotFree : goal.returns-in-NotFree
@@ -90,6 +96,7 @@ returns-in-NotFree g c =
             ap (λ (s : PollerState). s.episodes) c.count_lost.ensures,
           ),
           change,
+          subst (λ (s : ℕ). AreMade g.A.Acts.made s (Adopt ∷ []) c.args.acts.now c.adopt.new.self) c.slot-slot.ensures (c.adopt.new.self, c.adopt.ensures.made, refl),
         );
         free = refl;
         slots = refl;
@@ -97,6 +104,7 @@ returns-in-NotFree g c =
       };
       poller = places_lost c.args.poller.now c.count_lost.new.self _ c.count_lost.ensures;
       ready = refl;
+      in_order = tt;
     }
 
 pub start-requires-clause-holder : goal.start-requires-clause-holder

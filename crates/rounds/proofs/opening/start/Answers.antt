@@ -19,13 +19,13 @@ returns-in-Worn-clause-worn g c = (
 )
 
 pub let_go-requires-clause-holder : goal.let_go-requires-clause-holder
-let_go-requires-clause-holder g c = holds_behind_post c.args.ticket.slot c.post-posted.result c.take.new.seat c.post-posted.new.seat
-    (holds_still c.args.ticket.slot (Take c.take.result ∷ []) c.args.own.now.seat c.take.new.seat c.take.ensures.change c.requires.holder refl) c.post-posted.ensures.change
+let_go-requires-clause-holder g c = holds_behind_post c.args.ticket.slot c.post-posted.result c.discard.new.seat c.post-posted.new.seat
+    (holds_still c.args.ticket.slot (Take c.discard.result ∷ []) c.args.own.now.seat c.discard.new.seat c.discard.ensures.change c.requires.holder refl) c.post-posted.ensures.change
 
 pub put_in-requires-clause-holder : goal.put_in-requires-clause-holder
-put_in-requires-clause-holder g c = (holds_still c.args.ticket.slot (Take c.take.result ∷ []) c.args.own.now.seat c.take.new.seat c.take.ensures.change c.requires.holder refl).here
+put_in-requires-clause-holder g c = (holds_still c.args.ticket.slot (Take c.discard.result ∷ []) c.args.own.now.seat c.discard.new.seat c.discard.ensures.change c.requires.holder refl).here
 
 pub returns-in-Wake-clause-started : goal.returns-in-Wake-clause-started
 returns-in-Wake-clause-started g c =
-    started_by c.args.ticket c.take.result c.post-posted.result c.args.own.now c.take.new.seat c.post-posted.new.seat c.let_go.new.own c.requires.holder c.take.ensures.change
+    started_by c.args.ticket c.discard.result c.post-posted.result c.args.own.now c.discard.new.seat c.post-posted.new.seat c.let_go.new.own c.requires.holder c.discard.ensures.change
     c.post-posted.ensures.change c.in-Wake.is c.let_go.ensures.left
